@@ -35,5 +35,5 @@ def staticcheck(tmp_path_factory: pytest.TempPathFactory) -> str:
 @pytest.fixture(scope="session")
 def packages(library: Path) -> Packages:
     needs(TOOLS)
-    needs_packages()
+    needs_packages(tests=True)
     return Packages(library)

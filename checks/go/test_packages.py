@@ -123,15 +123,15 @@ def reaches_all(packages: Packages, folder: Path, *these: str) -> None:
 
 @pytest.mark.alone
 @pytest.mark.long(40)
-@pytest.mark.xdist_group("stormrun")
+@pytest.mark.xdist_group("storms")
 def test_storms(packages: Packages) -> None:
-    """The tests of storm/run and storm/run/platform."""
+    """The tests that are storms."""
     packages.test(*BY_THE_CLOCK, race=True)
 
 
 @pytest.mark.alone
 @pytest.mark.long(30)
-@pytest.mark.xdist_group("stormrun")
+@pytest.mark.xdist_group("storms")
 def test_tests_of_times(packages: Packages) -> None:
     """The tests of the packages that are about times."""
     packages.test(*TIMED, race=True)

@@ -90,7 +90,8 @@ def test_other_packages(tmp_path: Path) -> None:
     """A profile says nothing of packages that it hasn't. A package that isn't looked at has no place in the list."""
     found = profiled(tmp_path, {**BLOCKS, **NEVER})
     assert differences(found, f"{LISTED}broker Tie: all of it\n") == []
-    assert ["conform" in it for it in differences(found, f"{LISTED}conform Run: all of it\n")] == [True]
+    other = f"{LISTED}storm/conform Run: all of it\n"
+    assert ["storm/conform" in it for it in differences(found, other)] == [True]
 
 
 @pytest.mark.parametrize("text", [FAILED, "# A reason\nno statement", f"# One\n{FAILED}\n# Another\n{FAILED}"])

@@ -71,8 +71,15 @@ NEEDS = {
     "github.com/rs/zerolog": "golang-github-rs-zerolog-dev",
     "github.com/prometheus/client_golang": "golang-github-prometheus-client-golang-dev",
     "github.com/pires/go-proxyproto": "golang-github-pires-go-proxyproto-dev",
+    "github.com/coreos/go-systemd": "golang-github-coreos-go-systemd-dev",
 }
 """The packages of others, and the Debian packages that have them."""
+
+TESTS_NEED = {
+    "github.com/getkin/kin-openapi": "golang-github-getkin-kin-openapi-dev",
+    "github.com/google/go-cmp": "golang-github-google-go-cmp-dev",
+}
+"""The same of those that no program imports, only tests."""
 
 
 class Packages:
@@ -147,9 +154,9 @@ def _flags(tags: str, race: bool) -> str:
     return f"-tags={','.join([*SHIPPED.split(), *tags.split()])} {'-race' if race else '-trimpath'}"
 
 
-def needs_packages() -> None:
-    """Skips the test unless what the packages in go/ import is installed."""
-    for name, package in NEEDS.items():
+def needs_packages(tests: bool = False) -> None:
+    """Skips the test unless what the programs in go/ import is installed, and what their tests import, if `tests`."""
+    for name, package in {**NEEDS, **(TESTS_NEED if tests else {})}.items():
         if not (SOURCES / "src" / name).is_dir():
             pytest.skip(f"{name} isn't installed (Debian: {package})")
 

@@ -22,8 +22,8 @@ ROOT = "pippinterm/"
 PACKAGES = (
     *(f"broker{it}" for it in ("", "/journal", "/postgres", "/sqlite")),
     *(f"broker/backend/{it}" for it in ("command", "folders", "postgres")),
-    *(f"internal/{it}" for it in ("filelock", "pg", "sqlitefile")),
     *(f"platform{it}" for it in ("", "/journal", "/postgres", "/sqlite", "/vault")),
+    *(f"internal/{it}" for it in ("filelock", "pg", "sqlitefile")),
 )
 """The broker, the platform, their stores, backends and locks, and the vault."""
 

@@ -29,7 +29,7 @@ func (t There) String() string {
 }
 
 // A Backend creates and deletes what is sold. At most one call of a key runs at a time. Calls of different keys run side
-// by side, each in a goroutine of its own. Each call may come again after a crash, so it begins with what exists. What
+// by side, each in a goroutine of its own. Each call may be repeated after a crash, so it begins with what exists. What
 // counts is what Look finds afterwards: an error says only why.
 //
 // The context isn't cancelled if the platform goes away.
@@ -38,7 +38,7 @@ type Backend interface {
 	Look(ctx context.Context, request Request) (There, error)
 
 	// Create creates all of it, if nothing exists, or a part. Once it returns nil, that outlives a power cut. An error
-	// may be a *Rejected.
+	// may be a *Rejection.
 	Create(ctx context.Context, request Request) error
 
 	// Delete deletes all of it, or a part. Once it returns nil, that outlives a power cut.
@@ -80,9 +80,9 @@ type LockBackend interface {
 	Locks() Locks
 }
 
-// A Rejected says that the backend refuses a creation, and that nothing of it exists. The platform is told so, and
-// doesn't clean up.
-type Rejected struct {
+// A Rejection says that the backend refuses a creation, and that nothing of it exists. The platform gets that answer,
+// and doesn't clean up.
+type Rejection struct {
 	// Status is 400 or 422. Any other number counts as 400.
 	Status int
 	// Code is a code for programs, such as QuotaExceeded, or empty. AsyncRequired and ConcurrencyError are the
@@ -93,9 +93,9 @@ type Rejected struct {
 }
 
 // Error is the description.
-func (r *Rejected) Error() string { return "rejected: " + r.Description }
+func (r *Rejection) Error() string { return "rejected: " + r.Description }
 
-// Public marks an error whose description the platform is told. The text of any other error goes to the log alone.
+// Public marks an error whose description the platform gets. The text of any other error goes to the log alone.
 func Public(err error, description string) error {
 	return &publicError{error: err, description: description}
 }
@@ -107,9 +107,10 @@ type publicError struct {
 
 func (p *publicError) Unwrap() error { return p.error }
 
-// Description is what the platform is told of an error: the description of a *Rejected or of Public, and otherwise empty.
+// Description is what the platform gets to read of an error: the description of a *Rejection or of Public, and otherwise
+// empty.
 func Description(err error) string {
-	var rejected *Rejected
+	var rejected *Rejection
 	if errors.As(err, &rejected) {
 		return rejected.Description
 	}

@@ -10,12 +10,12 @@ import (
 	"net"
 	"net/http"
 	"strconv"
-	"strings"
 	"sync"
 	"sync/atomic"
 	"time"
 
 	"pippinterm/internal/budget"
+	"pippinterm/internal/httpserver"
 	"pippinterm/osb"
 )
 
@@ -23,15 +23,15 @@ import (
 type Config struct {
 	Users       *Users
 	LongestBody int // in bytes, 1 or more; a longer body is answered with 413
-	// ParsedAtOnce is how many bytes of bodies are parsed at once, LongestBody or more, or 0 for four times LongestBody. A
-	// body takes up to 85 times its length while it is parsed. A request waits at most 30 seconds for its turn, and is
-	// answered with 503 then. So does one whose body has to wait because the bodies of other requests, from before they
-	// are read until they are answered, have 16 MiB or four times LongestBody. Of both, a user gets as much as the others
-	// leave free.
+	// ParsedAtOnce is how many bytes of bodies are parsed at once, LongestBody or more, or 0 for four times
+	// LongestBody. A body takes up to 85 times its length while it is parsed. A request waits at most 30 seconds for
+	// its turn, and is answered with 503 then. So does one whose body has to wait because the bodies of other requests,
+	// from before they are read until they are answered, have 16 MiB or four times LongestBody. Of both, a user gets as
+	// much as the others leave free.
 	ParsedAtOnce int
-	// AtOnce is how many requests are carried out at once, 1 or more; others wait. Of 2 or more, a quarter, and at least
-	// one, is kept for requests that do no work. A request that may do work waits at most 30 seconds for its turn, and
-	// is answered with 503 then. Rules.LocksAtOnce should be less than three quarters.
+	// AtOnce is how many requests are carried out at once, 1 or more; others wait. Of 2 or more, a quarter, and at
+	// least one, is kept for requests that do no work. A request that may do work waits at most 30 seconds for its
+	// turn, and is answered with 503 then. Rules.LocksAtOnce should be less than three quarters.
 	AtOnce  int
 	Limiter Limiter // of the passwords that can be tried, or nil for no limit
 	// Touch is called with a key that somebody has to go on with: Sweeper.Touch.
@@ -48,9 +48,9 @@ type Handler struct {
 	service     *Service
 	bodies      *budget.Budget // bytes of bodies in memory, from before they are read until their requests are answered
 	parsed      *budget.Budget // bytes of bodies that are parsed
-	slots       chan struct{}  // a place for each request that is carried out
-	working     chan struct{}  // a place for each of them that may do work
-	patience    time.Duration  // how long a request waits for a place in working
+	slots       chan struct{}  // a slot for each request that is carried out
+	working     chan struct{}  // a slot for each of them that may do work
+	patience    time.Duration  // how long a request waits for a slot in working
 	isStopping  atomic.Bool
 	stopped     chan struct{} // is closed by the first Stop
 	stop        sync.Once
@@ -118,7 +118,7 @@ func (h *Handler) Stop() {
 	h.stop.Do(func() { close(h.stopped) })
 }
 
-// Wait waits until no request is carried out, and returns whether that came about within the time. Call Stop before.
+// Wait waits until no request is carried out, and returns whether that happened within the time. Call Stop before.
 // Afterwards no request is carried out any more.
 func (h *Handler) Wait(within time.Duration) bool {
 	late := time.NewTimer(within)
@@ -138,6 +138,7 @@ type exchange struct {
 	Exchange
 	request *http.Request
 	header  http.Header // of the answer
+	path    path        // once the request is read
 	arrived time.Time
 }
 
@@ -151,9 +152,9 @@ type reply struct {
 func (h *Handler) ServeHTTP(w http.ResponseWriter, r *http.Request) {
 	began := time.Now()
 	x := &exchange{request: r, header: w.Header(), arrived: began, Exchange: Exchange{
-		RequestID: h.requestID(r), Route: "other", Method: atMost(r.Method, 20), Target: LoggedTarget(r.RequestURI),
-		Address: hostOf(r.RemoteAddr), Traceparent: first(r.Header, "Traceparent"),
-		VcapRequest: first(r.Header, "X-Vcap-Request-Id"),
+		RequestID: h.requestID(r), Route: otherRoute, Method: atMost(r.Method, 20),
+		Target: httpserver.LoggedTarget(r.RequestURI), Address: hostOf(r.RemoteAddr),
+		Traceparent: first(r.Header, "Traceparent"), VcapRequest: first(r.Header, "X-Vcap-Request-Id"),
 	}}
 	x.header[requestIdentity] = []string{x.RequestID}
 	if h.store != nil {
@@ -164,11 +165,11 @@ func (h *Handler) ServeHTTP(w http.ResponseWriter, r *http.Request) {
 		x.header.Set("Connection", "close")
 	}
 	given := h.answer(x)
-	x.header["Content-Length"] = []string{strconv.Itoa(len(given.body))} // so that it ends before the body has come
+	x.header["Content-Length"] = []string{strconv.Itoa(len(given.body))} // so that it ends before the body has arrived
 	w.WriteHeader(given.status)
-	_, _ = w.Write(given.body) // a platform that has gone isn't told
+	_, _ = w.Write(given.body) // a platform that has gone gets no answer
 	x.Status, x.Duration = given.status, time.Since(began)
-	h.Observer.Answered(x.Exchange)
+	h.Observer.OnExchange(x.Exchange)
 }
 
 const requestIdentity = "X-Broker-Api-Request-Identity" // as net/http writes it
@@ -186,6 +187,9 @@ func (h *Handler) answer(x *exchange) reply {
 	if osb.AsksForCatalogue("", x.request.RequestURI) {
 		return h.catalogue(x)
 	}
+	if h.isForAnother(x.request) {
+		return h.otherError(x, http.StatusMisdirectedRequest, otherStore)
+	}
 	size := h.sizeOf(x.request)
 	if !h.bodies.Take(x.User, size, h.patience) {
 		return h.busy(x)
@@ -196,32 +200,42 @@ func (h *Handler) answer(x *exchange) reply {
 		h.bodies.Give(x.User, size-len(body))
 		size = len(body)
 	}
-	if err != nil { // it was cut on its way, came too slowly, or has a malformed chunk
+	if err != nil { // it was cut on its way, was too slow, or has a malformed chunk
 		x.header.Set("Connection", "close")
 		return h.otherError(x, http.StatusRequestTimeout, cutBody)
 	}
-	asked, isParsed, err := h.parse(x, body)
+	visit, isParsed, err := h.parse(x, body)
 	switch {
 	case !isParsed:
 		return h.busy(x)
 	case err != nil:
-		return h.refused(x, err)
+		return h.refuse(x, err)
 	}
-	asked.Arrived = x.arrived
-	return h.carriedOut(x, asked)
+	visit.Arrived = x.arrived
+	return h.carryOut(x, visit)
 }
 
-// parse reads what a request asks, once its body may be parsed, and returns whether that came about in time.
-func (h *Handler) parse(x *exchange, body []byte) (asked Asked, isParsed bool, err error) {
+// isForAnother is whether a request names another store: it is meant for a broker over that one.
+func (h *Handler) isForAnother(r *http.Request) bool {
+	for _, name := range r.Header[StoreHeader] {
+		if h.store != nil && name != h.store[0] {
+			return true
+		}
+	}
+	return false
+}
+
+// parse reads what a request asks, once its body may be parsed, and returns whether that happened in time.
+func (h *Handler) parse(x *exchange, body []byte) (visit Visit, isParsed bool, err error) {
 	if !h.parsed.Take(x.User, len(body), h.patience) {
-		return asked, false, nil
+		return visit, false, nil
 	}
 	defer h.parsed.Give(x.User, len(body))
-	asked, err = h.read(x, body)
+	visit, err = h.read(x, body)
 	if len(body) >= largeBody {
 		osb.ReturnMemory()
 	}
-	return asked, true, err
+	return visit, true, err
 }
 
 // largeBody is the length of a body from which on it pays to return the memory that its parsing took: it takes longer
@@ -249,8 +263,8 @@ const mostDiscarded = 32 << 20
 // reads the rest too, so that a platform that sends all of the body before it reads gets the answer: the connection
 // would be closed otherwise while the platform still sends.
 //
-// After an error the answer is 408, also if a chunk is malformed, though 400 would be usual for that. A platform takes a
-// 400 as the broker's decision about the request, and doesn't clean up. But chunks are of one connection (RFC 9112,
+// After an error the answer is 408, also if a chunk is malformed, though 400 would be usual for that. A platform takes
+// a 400 as the broker's decision about the request, and doesn't clean up. But chunks are of one connection (RFC 9112,
 // section 7): a proxy chunks the same request anew, so another copy of it may be carried out. This project's platform
 // takes a 408 for no answer, and cleans up. Besides, net/http reports a trailer that was cut as a malformed one.
 func (h *Handler) body(r *http.Request) ([]byte, error) {
@@ -273,14 +287,14 @@ func (h *Handler) catalogue(x *exchange) reply {
 	x.Route = "catalog"
 	if x.request.Method != http.MethodGet {
 		x.header.Set("Allow", http.MethodGet)
-		return h.refused(x, osb.ErrRefusedMethod)
+		return h.refuse(x, osb.ErrRefusedMethod)
 	}
 	return reply{http.StatusOK, h.service.document()}
 }
 
-// carriedOut carries a request out, and has gone on with what isn't finished.
-func (h *Handler) carriedOut(x *exchange, asked Asked) reply {
-	if h.mayWork(asked) {
+// carryOut carries a request out, and has gone on with what isn't finished.
+func (h *Handler) carryOut(x *exchange, visit Visit) reply {
+	if h.mayWork(visit) {
 		if !h.takeTurn() {
 			return h.busy(x)
 		}
@@ -291,39 +305,39 @@ func (h *Handler) carriedOut(x *exchange, asked Asked) reply {
 	}
 	h.slots <- struct{}{}
 	defer func() { <-h.slots }()
-	ctx := h.Journal.Arrived(h.ctx, x.request, x.RequestID, asked)
-	answered, given := h.handled(ctx, x, asked)
-	if given.status != int(answered.Status) { // it has failed
-		answered = Answered{Answer: osb.Answer{Status: uint16(given.status), Body: osb.BodyOtherError}}
+	ctx := h.Journal.OnArrival(h.ctx, x.request, x.RequestID, visit)
+	response, given := h.handle(ctx, x, visit)
+	if given.status != int(response.Status) { // it has failed
+		response = Response{Answer: osb.Answer{Status: uint16(given.status), Body: osb.BodyOtherError}}
 	}
-	h.Journal.Answered(ctx, x.header, answered)
+	h.Journal.OnAnswer(ctx, x.header, response)
 	return given
 }
 
-// handled has the service handle a request.
-func (h *Handler) handled(ctx context.Context, x *exchange, asked Asked) (answered Answered, given reply) {
+// handle has the service handle a request.
+func (h *Handler) handle(ctx context.Context, x *exchange, visit Visit) (response Response, given reply) {
 	err := safely(func() (err error) {
-		answered, err = h.service.Handle(ctx, asked)
+		response, err = h.service.Handle(ctx, visit)
 		return err
 	})
 	if err != nil {
-		return Answered{}, h.failed(x, fmt.Errorf("%v: %w", asked.Key, err))
+		return Response{}, h.fail(x, fmt.Errorf("%v: %w", visit.Key, err))
 	}
-	h.follow(ctx, x, asked, answered)
-	return answered, h.told(x, answered, h.sentence(asked, answered))
+	h.follow(ctx, x, visit, response)
+	return response, h.write(x, response, h.sentence(visit, response))
 }
 
 // mayWork is whether a request may do work before it is answered: the creations and deletions of synchronous plans.
-func (h *Handler) mayWork(asked Asked) bool {
-	if asked.IsFetch {
+func (h *Handler) mayWork(visit Visit) bool {
+	if visit.IsFetch {
 		return false
 	}
-	of := plan{asked.Asked.Service, asked.Asked.Plan}
-	work := osb.WorkOf(asked.Asked.Kind, h.service.catalogue.mode(asked.Key.IsBinding, of))
+	of := plan{visit.Asked.Service, visit.Asked.Plan}
+	work := osb.WorkOf(visit.Asked.Kind, h.service.catalogue.mode(visit.Key.IsBinding, of))
 	return work == osb.WorkMake || work == osb.WorkDelete
 }
 
-// takeTurn waits until a request may do work, and returns whether that came about in time.
+// takeTurn waits until a request may do work, and returns whether that happened in time.
 func (h *Handler) takeTurn() bool {
 	select {
 	case h.working <- struct{}{}:
@@ -342,21 +356,16 @@ func (h *Handler) takeTurn() bool {
 
 // follow has somebody go on with a key: an operation has begun, or work is pending whose worker may be dead. After the
 // deletion of an instance was put off, it deletes the bindings whose creation has failed.
-func (h *Handler) follow(ctx context.Context, x *exchange, asked Asked, answered Answered) {
-	kind, status := asked.Asked.Kind, answered.Status
-	isConcurrent := answered.Body == osb.BodyConcurrencyError
-	switch {
-	case kind == osb.KindProvision && (status == http.StatusAccepted || status == http.StatusServiceUnavailable),
-		kind == osb.KindDeprovision && (status == http.StatusAccepted || isConcurrent),
-		kind == osb.KindPoll && answered.Body == osb.BodyInProgress:
-		h.Touch(asked.Key)
+func (h *Handler) follow(ctx context.Context, x *exchange, visit Visit, response Response) {
+	if response.IsUnfinished {
+		h.Touch(visit.Key)
 	}
-	if kind != osb.KindDeprovision || !isConcurrent || asked.Key.IsBinding {
+	if !response.IsBound {
 		return
 	}
 	var begun []Key
 	err := safely(func() (err error) {
-		begun, err = h.service.UnbindFailed(ctx, asked.Key.Instance)
+		begun, err = h.service.UnbindFailed(ctx, visit.Key.Instance)
 		return err
 	})
 	for _, key := range begun {
@@ -373,7 +382,7 @@ func (h *Handler) admit(x *exchange) (reply, bool) {
 	user, err := h.Users.judge(authorization)
 	if errors.Is(err, osb.ErrUnauthorized) {
 		if h.Limiter != nil {
-			h.wait(h.Limiter.Failed(x.Address))
+			h.wait(h.Limiter.FailedLogin(x.Address))
 		}
 		x.header.Set("WWW-Authenticate", `Basic realm="service broker", charset="UTF-8"`)
 		x.header.Set("Connection", "close") // nobody without a password keeps a connection
@@ -388,13 +397,13 @@ func (h *Handler) admit(x *exchange) (reply, bool) {
 		err = version(x.request.Header["X-Broker-Api-Version"])
 	}
 	if err != nil {
-		return h.refused(x, err), false
+		return h.refuse(x, err), false
 	}
 	return reply{}, true
 }
 
-// wait has the answer to a failed login wait for its turn. The right password doesn't wait. That tells them apart, but
-// a client that goes away meanwhile ends nothing: its connection stays taken until then, so passwords aren't tried
+// wait has the answer to a failed login wait for its turn. The right password doesn't wait. That distinguishes them,
+// but a client that goes away meanwhile ends nothing: its connection stays taken until then, so passwords aren't tried
 // faster.
 func (h *Handler) wait(turn time.Duration) {
 	if turn <= 0 {
@@ -431,25 +440,6 @@ func (h *Handler) requestID(r *http.Request) string {
 		return given[0]
 	}
 	return strconv.FormatUint(h.first, 16) + "-" + strconv.FormatUint(atomic.AddUint64(&h.next, 1), 16)
-}
-
-// LoggedTarget returns what may be logged of the target of a request: at most 1000 bytes, without the user and the
-// password that the host of a whole URL can have.
-func LoggedTarget(target string) string {
-	target = withoutUser(target)
-	if scheme, rest, isURL := strings.Cut(target, "//"); isURL && !strings.ContainsAny(scheme, "/?#") {
-		target = scheme + "//" + withoutUser(rest)
-	}
-	return atMost(target, 1000)
-}
-
-// withoutUser removes USER:PASSWORD@ from a text that begins with a host.
-func withoutUser(text string) string {
-	end := strings.IndexAny(text, "/?#")
-	if end < 0 {
-		end = len(text)
-	}
-	return text[strings.LastIndexByte(text[:end], '@')+1:]
 }
 
 // hostOf is the host of an address HOST:PORT.

@@ -1,30 +1,34 @@
 package broker
 
-import "time"
+import (
+	"context"
+	"net/http"
+	"time"
+)
 
-// An Observer is told what happens, for a log and for metrics. Its methods return at once, and are called by any number
-// of goroutines. No password, no credentials and no body is handed to it.
+// An Observer gets events, for a log and for metrics. Its methods return at once, and are called by any number of
+// goroutines. No password, no credentials and no body is handed to it.
 type Observer interface {
-	// Answered is called once for each request, after its answer was written.
-	Answered(Exchange)
-	// Failed is called if something went wrong that an operator has to know.
-	Failed(Failure)
-	// CallFailed is called after each call of the backend or of the Locks that fails, also if the same call is repeated.
-	// The name is look, create, delete, look-binding, create-binding, delete-binding or credentials, as for a command, or
-	// sync or lock. A creation that the backend rejects hasn't failed, nor has a lock that somebody else has.
-	CallFailed(call string)
-	// Committed is called after each commit of a store that writes several changes together, with their number.
-	Committed(changes int)
-	// Finished is called when an operation that went on after its answer has ended, well (ok) or badly. It is called
-	// too when pending work has ended that a dead worker had left.
-	Finished(key Key, ok bool)
+	// OnExchange is called once for each request, after its answer was written.
+	OnExchange(Exchange)
+	// OnFailure is called if something went wrong that an operator has to know.
+	OnFailure(Failure)
+	// OnCallFailure is called after each call of the backend or of the Locks that fails, also if the same call is
+	// repeated. The name is look, create, delete, look-binding, create-binding, delete-binding or credentials, as for a
+	// command, or sync or lock. A creation that the backend rejects hasn't failed, nor has a lock that somebody else has.
+	OnCallFailure(call string)
+	// OnCommit is called after each commit of a store that writes several changes together, with their number.
+	OnCommit(changes int)
+	// OnEnd is called when an operation that went on after its answer has ended, well (ok) or badly. It is called
+	// too when pending work of a dead worker has ended.
+	OnEnd(key Key, ok bool)
 }
 
-// A ReturnObserver is an Observer that is told of ids that return (Rules.IDsReturnAfter).
+// A ReturnObserver is an Observer that gets the ids that return (Rules.IDsReturnAfter).
 type ReturnObserver interface {
 	Observer
-	// Returned is called once a creation was let in although its id has a tombstone.
-	Returned(Return)
+	// OnReturn is called once a creation was let in although its id has a tombstone.
+	OnReturn(Return)
 }
 
 // A Return is a creation that was let in although its id has a tombstone.
@@ -41,7 +45,7 @@ type Exchange struct {
 	IsNamed     bool
 	Route       string // catalog, provision, deprovision, poll, bind, unbind, poll-binding, fetch-binding, or other
 	Method      string // at most 20 bytes
-	Target      string // path and query as they came, at most 1,000 bytes
+	Target      string // path and query as they arrived, at most 1,000 bytes
 	Status      int
 	Reason      string // why the request was rejected or failed, or empty
 	Duration    time.Duration
@@ -59,24 +63,43 @@ type Failure struct {
 	Key       Key    // what it is about, if IsNamed is true
 	IsNamed   bool
 	Err       error
-	// IsRejection is whether the backend has rejected a creation (Rejected), so that nothing is wrong with the broker.
+	// IsRejection is whether the backend has rejected a creation (Rejection), so that nothing is wrong with the broker.
 	IsRejection bool
 }
 
 // Silent is an Observer that does nothing.
 type Silent struct{}
 
-// Answered does nothing.
-func (Silent) Answered(Exchange) {}
+// OnExchange does nothing.
+func (Silent) OnExchange(Exchange) {}
 
-// Failed does nothing.
-func (Silent) Failed(Failure) {}
+// OnFailure does nothing.
+func (Silent) OnFailure(Failure) {}
 
-// CallFailed does nothing.
-func (Silent) CallFailed(string) {}
+// OnCallFailure does nothing.
+func (Silent) OnCallFailure(string) {}
 
-// Committed does nothing.
-func (Silent) Committed(int) {}
+// OnCommit does nothing.
+func (Silent) OnCommit(int) {}
 
-// Finished does nothing.
-func (Silent) Finished(Key, bool) {}
+// OnEnd does nothing.
+func (Silent) OnEnd(Key, bool) {}
+
+// A Journal gets each request that is carried out. What was rejected before, for example because its password is wrong,
+// isn't among them. Its methods are called by any number of goroutines.
+type Journal interface {
+	// OnArrival is called before anything of a request is carried out. All of it is carried out with the context that
+	// OnArrival returns.
+	OnArrival(ctx context.Context, r *http.Request, requestID string, visit Visit) context.Context
+	// OnAnswer is called with that context before the first byte of the answer leaves. header is that of the answer, to
+	// which it may add.
+	OnAnswer(ctx context.Context, header http.Header, response Response)
+}
+
+type noJournal struct{}
+
+func (noJournal) OnArrival(ctx context.Context, _ *http.Request, _ string, _ Visit) context.Context {
+	return ctx
+}
+
+func (noJournal) OnAnswer(context.Context, http.Header, Response) {}

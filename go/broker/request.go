@@ -1,13 +1,17 @@
 package broker
 
 import (
+	"bytes"
 	"encoding/json"
+	"errors"
 	"fmt"
+	"net/http"
+	"strings"
 
 	"pippinterm/osb"
 )
 
-// A Request is what a platform asked for when it had an instance or a binding created, in full. It is stored in the
+// A Request is what a platform asked for when it created an instance or a binding, in full. It is stored in the
 // transaction that writes the pending work, and forgotten once the instance or the binding has ended: so a Backend gets
 // it after a crash too, and for a deletion.
 type Request struct {
@@ -27,7 +31,7 @@ type Request struct {
 
 	Origin
 
-	// Deletion is where the Deprovision or the Unbind came from, and nil until one begins.
+	// Deletion is the source of the Deprovision or the Unbind, and nil until one begins.
 	Deletion *Origin `json:"deletion,omitempty"`
 }
 
@@ -55,6 +59,16 @@ func (r Request) Member(name string) json.RawMessage {
 	return text
 }
 
+// text is what is stored of the request. It has the body as it was sent, without blanks: json.Marshal would write six
+// bytes for each < of it.
+func (r *Request) text() (json.RawMessage, error) {
+	text := bytes.Buffer{}
+	encoder := json.NewEncoder(&text)
+	encoder.SetEscapeHTML(false)
+	err := encoder.Encode(r)
+	return bytes.TrimSuffix(text.Bytes(), []byte("\n")), err
+}
+
 // requestOf is the request that is stored for a key. Of an instance that a version before 0.3 created only the ids are
 // known.
 func requestOf(key Key, row osb.BrokerRow, stored json.RawMessage) (Request, error) {
@@ -74,4 +88,389 @@ func requestOf(key Key, row osb.BrokerRow, stored json.RawMessage) (Request, err
 		return request, fmt.Errorf("what is stored of the request for %v: %w", key, err)
 	}
 	return request, nil
+}
+
+// Names are the ids of a request as they stand in its path. An empty one stands for the number's GUID.
+//
+// A Key has the numbers of the ids. Two ids can have one number: a text that is no GUID has the number that its SHA-256
+// begins with, and another platform's id may be the GUID of that number. So whoever knows the one can name the other.
+// A request that names another id than the one that is held is about something that doesn't exist.
+type Names struct{ Instance, Binding string }
+
+// names are those of a Request.
+func (r Request) names() Names { return Names{r.InstanceID, r.BindingID} }
+
+// of are the names under a key: all ids are filled in.
+func (n Names) of(key Key) Names {
+	if n.Instance == "" {
+		n.Instance = key.Instance.String()
+	}
+	if key.IsBinding && n.Binding == "" {
+		n.Binding = key.Binding.String()
+	}
+	return n
+}
+
+// namesAnother returns whether a request names another id than the one that is held under its key.
+func (a Visit) namesAnother(held Entry) (bool, error) {
+	if !held.Holding.IsHeld() {
+		return false, nil
+	}
+	return a.Names.of(a.Key).differ(a.Key, held)
+}
+
+// instance is the holding of a binding's instance. If the request names another instance, it is the zero Holding.
+func (a Visit) instance(snapshot Snapshot) (osb.Holding, error) {
+	key := InstanceKey(a.Key.Instance)
+	differ, err := Names{Instance: a.Names.of(a.Key).Instance}.differ(key, snapshot.Instance)
+	if err != nil || differ {
+		return osb.Holding{}, err
+	}
+	return snapshot.Instance.Holding, nil
+}
+
+// differ returns whether the names aren't those with which an entry was created.
+func (n Names) differ(key Key, entry Entry) (bool, error) {
+	if bytes.HasPrefix(entry.Request, n.head()) {
+		return false, nil
+	}
+	request, err := requestOf(key, osb.BrokerRow{}, entry.Request)
+	return err == nil && request.names() != n, err
+}
+
+// head is how the text of a Request with these names begins, unless a name has to be escaped in JSON.
+func (n Names) head() []byte {
+	head := append(make([]byte, 0, 128), `{"instance_id":"`...)
+	head = append(append(head, n.Instance...), `",`...)
+	if n.Binding != "" {
+		head = append(append(append(head, `"binding_id":"`...), n.Binding...), `",`...)
+	}
+	return head
+}
+
+// unknown answers a request that names something that doesn't exist, under a number that somebody else has.
+func (a Visit) unknown() Response {
+	response := Response{
+		Answer:      osb.Answer{Status: http.StatusGone, Body: osb.BodyOtherError},
+		Description: "Nothing exists under this id.",
+	}
+	switch {
+	case a.IsFetch:
+		response.Status = http.StatusNotFound
+	case a.Asked.Kind == osb.KindProvision:
+		response.Status = http.StatusConflict
+		response.Description = "This id has the same number as the id of something else. Choose another id."
+	}
+	return response
+}
+
+// stopping is the body of each answer of a broker that is being stopped.
+var stopping = []byte(`{"description":"The broker is being stopped. Send the request again later.","error":"ServiceUnavailable"}`)
+
+// read reads what a request asks, and judges what the plan asks of it.
+func (h *Handler) read(x *exchange, body []byte) (visit Visit, err error) {
+	x.path = pathOf(x.request.RequestURI)
+	err = osb.ErrRefusedTarget
+	if x.path.isBinding {
+		visit, err = h.readBinding(x, body)
+	}
+	if errors.Is(err, osb.ErrRefusedTarget) { // an instance may have that name
+		x.path.isBinding = false
+		visit, err = h.readInstance(x, body)
+	}
+	if err != nil {
+		if !errors.Is(err, osb.ErrRefusedTarget) && !errors.Is(err, osb.ErrRefusedMethod) {
+			x.Route = x.path.route(x.request.Method)
+		}
+		return visit, err
+	}
+	x.Key, x.IsNamed = visit.Key, true
+	return visit, nil
+}
+
+// A path is what the handler knows of the path of a request, beside what the library reads there.
+type path struct{ isBinding, isLastOperation bool }
+
+func pathOf(target string) path {
+	text, _, _ := strings.Cut(target, "?")
+	text = strings.TrimRight(text, "/")
+	return path{strings.Contains(text, "/service_bindings"), strings.HasSuffix(text, "/last_operation")}
+}
+
+// route is the route of a request that was rejected, although there is its target with this method.
+func (p path) route(method string) string {
+	kind := osb.KindPoll
+	switch method {
+	case http.MethodPut:
+		kind = osb.KindProvision
+	case http.MethodDelete:
+		kind = osb.KindDeprovision
+	}
+	switch {
+	case !p.isBinding:
+		return routes[kind]
+	case kind == osb.KindPoll && !p.isLastOperation:
+		return "fetch-binding"
+	}
+	return bindingRoutes[kind]
+}
+
+func (h *Handler) readInstance(x *exchange, body []byte) (visit Visit, err error) {
+	received, err := osb.ReceiveRequest("", h.LongestBody, x.request.Method, x.request.RequestURI, body)
+	if err != nil {
+		return visit, err
+	}
+	visit.Asked, visit.Key, visit.Names.Instance =
+		received.Asked, InstanceKey(received.Asked.ID), received.Names.Instance
+	x.Route = routes[visit.Asked.Kind]
+	if visit.Asked.Kind != osb.KindProvision {
+		visit.Origin = h.origin(x)
+		return visit, nil
+	}
+	if visit.Attributes, err = osb.AttributesDigest(body); err != nil {
+		return visit, err
+	}
+	if err := h.conflict(plan{visit.Asked.Service, visit.Asked.Plan}, body); err != nil {
+		return visit, err
+	}
+	return h.creation(x, visit, body, Request{ServiceID: received.Names.Service, PlanID: received.Names.Plan})
+}
+
+var routes = map[osb.Kind]string{
+	osb.KindProvision: "provision", osb.KindPoll: "poll", osb.KindDeprovision: "deprovision",
+}
+
+// conflict judges the maintenance_info of a Provision.
+func (h *Handler) conflict(of plan, body []byte) error {
+	version, hasVersion := h.service.catalogue.versions[of]
+	if !hasVersion {
+		return nil
+	}
+	return osb.MaintenanceConflict(&version, body)
+}
+
+// errPredecessor refuses a Bind that names a predecessor, since no plan is binding_rotatable.
+var errPredecessor = errors.New("binding rotation isn't served: no plan is binding_rotatable")
+
+func (h *Handler) readBinding(x *exchange, body []byte) (visit Visit, err error) {
+	received, err := osb.ReceiveBindingRequest("", h.LongestBody, x.request.Method, x.request.RequestURI, body)
+	if err != nil {
+		return visit, err
+	}
+	visit.Asked, visit.IsFetch = received.Asked.Asked, received.Asked.IsFetch
+	visit.Key = BindingKey(received.Asked.Instance, visit.Asked.ID)
+	visit.Names = Names{Instance: received.Names.Instance, Binding: received.Names.Binding}
+	if x.Route = bindingRoutes[visit.Asked.Kind]; visit.IsFetch {
+		x.Route = "fetch-binding"
+	}
+	if visit.Asked.Kind != osb.KindProvision {
+		visit.Origin = h.origin(x)
+		return visit, nil
+	}
+	if received.Parts.PredecessorBindingID != nil {
+		return visit, errPredecessor
+	}
+	if visit.Attributes, err = bindingDigest(received.Parts, body); err != nil {
+		return visit, err
+	}
+	return h.creation(x, visit, body, Request{ServiceID: received.Names.Service, PlanID: received.Names.Plan})
+}
+
+var bindingRoutes = map[osb.Kind]string{
+	osb.KindProvision: "bind", osb.KindPoll: "poll-binding", osb.KindDeprovision: "unbind",
+}
+
+// creation adds what is stored of a creation.
+func (h *Handler) creation(x *exchange, visit Visit, body []byte, request Request) (Visit, error) {
+	request.Key = visit.Key
+	request.InstanceID, request.BindingID = visit.Names.Instance, visit.Names.Binding
+	request.Body, request.Origin = body, h.origin(x)
+	var err error
+	visit.Request, err = request.text()
+	visit.Creation = &request
+	return visit, err
+}
+
+// bindingDigest is the digest of what a Bind asks for: of its parameters, and of its bind_resource if there is one.
+// That bind_resource counts is this project's choice.
+func bindingDigest(parts osb.BindingParts, body []byte) (osb.Digest, error) {
+	if parts.BindResource == nil {
+		return osb.AttributesDigest(body)
+	}
+	both, err := json.Marshal(struct {
+		BindResource json.RawMessage `json:"bind_resource"`
+		Parameters   json.RawMessage `json:"parameters,omitempty"`
+	}{parts.BindResource, parts.Parameters})
+	if err != nil {
+		return osb.Digest{}, err
+	}
+	return osb.ParametersDigest(both)
+}
+
+// origin is who sent a request. A header that can't be read names nobody.
+func (h *Handler) origin(x *exchange) Origin {
+	origin := Origin{RequestID: x.RequestID}
+	values := x.request.Header["X-Broker-Api-Originating-Identity"]
+	if len(values) != 1 {
+		return origin
+	}
+	identity, err := osb.OriginatingIdentity(values[0])
+	if err != nil {
+		return origin
+	}
+	x.Identity = identity.Platform
+	origin.Identity = &Identity{Platform: identity.Platform, Value: identity.Object}
+	return origin
+}
+
+// write writes an answer, with its own description if it has one, and else with the sentence, which may be empty.
+func (h *Handler) write(x *exchange, response Response, sentence string) reply {
+	status := int(response.Status)
+	if x.Reason == "" {
+		x.Reason = response.Description
+	}
+	switch {
+	case response.Binding != nil:
+		return reply{status, response.Binding}
+	case response.Rejected != nil && isOwnCode(response.Rejected.Code):
+		return h.writeRejection(x, status, response.Rejected)
+	case response.Description != "":
+		body, err := osb.WriteDescribedAnswer(response.Answer, nil, &response.Description)
+		if err == nil {
+			return reply{status, body}
+		}
+		h.report(x, "description_not_sent", err)
+	}
+	body, err := h.wordingBody(wording{response.Answer, sentence})
+	if err != nil {
+		return h.fail(x, err)
+	}
+	if status >= http.StatusBadRequest && x.Reason == "" {
+		x.Reason = reasonIn(body)
+	}
+	return reply{status, body}
+}
+
+// otherError writes an error of this status, which says the sentence.
+func (h *Handler) otherError(x *exchange, status uint16, sentence string) reply {
+	return h.write(x, Response{Answer: osb.Answer{Status: status, Body: osb.BodyOtherError}}, sentence)
+}
+
+// A wording is an answer with a sentence of this package, or with none. There are few, so the library writes the body
+// of each once.
+type wording struct {
+	osb.Answer
+	sentence string
+}
+
+// wordingBody is the body of an answer.
+func (h *Handler) wordingBody(it wording) ([]byte, error) {
+	if body, isKnown := h.wordings.Load(it); isKnown {
+		return body.([]byte), nil
+	}
+	var sentence *string
+	if it.sentence != "" {
+		sentence = &it.sentence
+	}
+	body, err := osb.WriteDescribedAnswer(it.Answer, nil, sentence)
+	if err == nil {
+		h.wordings.Store(it, body)
+	}
+	return body, err
+}
+
+// reasonIn is the description that a body has, or empty.
+func reasonIn(body []byte) string {
+	details, err := osb.ReadDetails(body)
+	if err != nil || details.Description == nil {
+		return ""
+	}
+	return *details.Description
+}
+
+// isOwnCode is whether a code is the backend's own: the others are the standard's, by which a platform decides.
+func isOwnCode(code string) bool {
+	return code != "" && code != "AsyncRequired" && code != "ConcurrencyError"
+}
+
+// writeRejection writes a rejection with the backend's code.
+func (h *Handler) writeRejection(x *exchange, status int, rejected *Rejection) reply {
+	description := []rune(rejected.Description)
+	if len(description) == 0 {
+		description = []rune(notByUs)
+	}
+	if len(description) > 1000 {
+		description = description[:1000]
+	}
+	body, err := json.Marshal(struct {
+		Description string `json:"description"`
+		Error       string `json:"error"`
+	}{string(description), rejected.Code})
+	if err != nil {
+		return h.fail(x, err)
+	}
+	return reply{status, body}
+}
+
+// refuse answers what the library refused, or what has no memory.
+func (h *Handler) refuse(x *exchange, err error) reply {
+	x.Reason = err.Error()
+	if errors.Is(err, errPredecessor) {
+		return h.otherError(x, http.StatusBadRequest, predecessor)
+	}
+	var refusal osb.Status
+	if !errors.As(err, &refusal) {
+		return h.fail(x, err)
+	}
+	status, write := osb.BindingRefusalStatus(refusal), osb.BindingRefusalBody
+	if status == 0 {
+		status, write = osb.RefusalStatus(refusal), osb.RefusalBody
+	}
+	if status == 0 {
+		return h.fail(x, err)
+	}
+	if refusal == osb.ErrRefusedMethod && x.header.Get("Allow") == "" {
+		x.header.Set("Allow", x.path.methods())
+	}
+	if sentence := h.refusal(refusal); sentence != "" {
+		return h.otherError(x, status, sentence)
+	}
+	body, err := write(refusal)
+	if err != nil {
+		return h.fail(x, err)
+	}
+	return reply{int(status), body}
+}
+
+// methods are those that the library takes at a path of which it rejects a method.
+func (p path) methods() string {
+	switch {
+	case p.isLastOperation:
+		return http.MethodGet
+	case p.isBinding:
+		return http.MethodGet + ", " + http.MethodPut + ", " + http.MethodDelete
+	}
+	return http.MethodPut + ", " + http.MethodDelete
+}
+
+// fail answers 500, or 503 if the store or the locks are away or there is no memory, and reports why. The work may have
+// been done, so it is never a 4xx. Both statuses tell a platform that the outcome isn't known.
+func (h *Handler) fail(x *exchange, err error) reply {
+	h.report(x, "request_failed", err)
+	if !errors.Is(err, osb.ErrMemory) {
+		status, sentence := http.StatusInternalServerError, failedHere
+		if errors.Is(err, ErrAway) {
+			status, sentence = http.StatusServiceUnavailable, awayNow
+		}
+		answer := osb.Answer{Status: uint16(status), Body: osb.BodyOtherError}
+		if body, err := h.wordingBody(wording{answer, sentence}); err == nil {
+			return reply{status, body}
+		}
+	}
+	body, _ := osb.RefusalBody(osb.ErrMemory) // it takes none of the library's memory, and is a refusal
+	return reply{http.StatusServiceUnavailable, body}
+}
+
+func (h *Handler) report(x *exchange, event string, err error) {
+	h.Observer.OnFailure(Failure{Event: event, RequestID: x.RequestID, Key: x.Key, IsNamed: x.IsNamed, Err: err})
 }

@@ -10,12 +10,12 @@ import (
 )
 
 // An id returns if a creation is let in although the id has a tombstone. That is this project's choice, and off unless
-// Rules.IDsReturnAfter is set. A life of an id begins with a creation, and ends with a tombstone. What it rests on is in
-// docs/broker-guide.md: no request of an old life comes later than that time after its end.
+// Rules.IDsReturnAfter is set. A life of an id begins with a creation, and ends with a tombstone. What it rests on is
+// in docs/broker-guide.md: no request of an old life arrives later than that time after its end.
 
-// ShortestReturn is the least that Rules.IDsReturnAfter may be, if it isn't 0. A minute of it is longestStay. PostgreSQL
-// ends a transaction that is idle for another minute, and the time of a tombstone is taken before its commit. The other
-// three minutes are left for a request that is under way.
+// ShortestReturn is the least that Rules.IDsReturnAfter may be, if it isn't 0. A minute of it is longestStay.
+// PostgreSQL ends a transaction that is idle for another minute, and the time of a tombstone is taken before its
+// commit. The other three minutes are left for a request that is under way.
 const ShortestReturn = 5 * time.Minute
 
 // longestStay is how long a broker keeps a request before it begins with it, if ids return. So a request that a broker
@@ -27,42 +27,42 @@ const longestStay = time.Minute
 var errLate = Away(errors.New("the request has waited in the broker for over a minute, and its id may have returned " +
 	"meanwhile"))
 
-// returned is what a request finds. If the id returns with it, that is what is held of an id for which no request has
-// come, in the next life of the instance.
-func (r Rules) returned(held Held, asked Asked) (found Held, returned *Return) {
-	isCreation := !asked.IsFetch && asked.Asked.Kind == osb.KindProvision
-	if r.IDsReturnAfter == 0 || !isCreation || !held.Holding.HasTombstone() || held.EndedAgo < r.IDsReturnAfter {
-		return held, nil
+// enter returns what a request finds. If the id returns with it, that is what is held of an id without any request, in
+// the next life of the instance.
+func (r Rules) enter(snapshot Snapshot, visit Visit) (found Snapshot, returned *Return) {
+	isCreation := !visit.IsFetch && visit.Asked.Kind == osb.KindProvision
+	if r.IDsReturnAfter == 0 || !isCreation || !snapshot.Holding.HasTombstone() || snapshot.EndedAgo < r.IDsReturnAfter {
+		return snapshot, nil
 	}
-	request, _ := requestOf(asked.Key, osb.BrokerRow{}, asked.Request) // for the log alone
-	returned = &Return{RequestID: request.RequestID, Key: asked.Key, EndedAgo: held.EndedAgo}
-	life := held.Life
-	if !asked.Key.IsBinding {
+	request, _ := requestOf(visit.Key, osb.BrokerRow{}, visit.Request) // for the log alone
+	returned = &Return{RequestID: request.RequestID, Key: visit.Key, EndedAgo: snapshot.EndedAgo}
+	life := snapshot.Life
+	if !visit.Key.IsBinding {
 		life++
 	}
-	held.Entry, held.EndedAgo = Entry{Life: life}, 0
-	return held, returned
+	snapshot.Entry, snapshot.EndedAgo = Entry{Life: life}, 0
+	return snapshot, returned
 }
 
-// renewed is what is written if a deletion finds a tombstone, if ids return: the tombstone again, which the store gives
+// renewal is what is written if a deletion finds a tombstone, if ids return: the tombstone again, which the store gives
 // the time of now. Otherwise it is nil. The platform may have sent the deletion after a creation that has timed out and
 // is still under way. That creation mustn't find an old tombstone: nobody would know what it creates.
-func (r Rules) renewed(held Held, asked Asked) *Entry {
-	if r.IDsReturnAfter == 0 || asked.Asked.Kind != osb.KindDeprovision || !held.Holding.HasTombstone() {
+func (r Rules) renewal(snapshot Snapshot, visit Visit) *Entry {
+	if r.IDsReturnAfter == 0 || visit.Asked.Kind != osb.KindDeprovision || !snapshot.Holding.HasTombstone() {
 		return nil
 	}
-	return &held.Entry
+	return &snapshot.Entry
 }
 
 // isLate is whether the broker has kept a request for too long. It is asked while the row is locked, or after it was
 // read.
-func (s *Service) isLate(asked Asked) bool {
-	return s.rules.IDsReturnAfter != 0 && !asked.Arrived.IsZero() && time.Since(asked.Arrived) > s.stay
+func (s *Service) isLate(visit Visit) bool {
+	return s.rules.IDsReturnAfter != 0 && !visit.Arrived.IsZero() && time.Since(visit.Arrived) > s.stay
 }
 
 // inLife is what is held in the life of the instance that goes on. The tombstone of a binding counts in the life of its
 // instance in which it was written. A binding that is held is of this life, since no instance ends before its bindings.
-func (h Held) inLife(key Key) Held {
+func (h Snapshot) inLife(key Key) Snapshot {
 	if !key.IsBinding || h.Life == h.Instance.Life {
 		return h
 	}
@@ -75,11 +75,11 @@ func (h Held) inLife(key Key) Held {
 
 func (s *Service) tellReturn(it Return) {
 	if observer, ok := s.observer.(ReturnObserver); ok {
-		observer.Returned(it)
+		observer.OnReturn(it)
 	}
 }
 
-// reuse is what a person is told of an id that has ended.
+// reuse is what a person reads of an id that has ended.
 func (r Rules) reuse() string {
 	if r.IDsReturnAfter == 0 {
 		return "An id is never used again: choose a new one."

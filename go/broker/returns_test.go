@@ -13,8 +13,8 @@ import (
 	"pippinterm/osb"
 )
 
-// A clocked store has a clock that the test sets ahead. It calls hooks that aren't nil.
-type clocked struct {
+// A clockStore has a clock that the test sets ahead. It calls hooks that aren't nil.
+type clockStore struct {
 	broker.Store
 	turn        sync.Mutex
 	ahead       time.Duration
@@ -25,36 +25,36 @@ type clocked struct {
 	afterCommit func() error
 }
 
-func (c *clocked) at(held broker.Held) broker.Held {
+func (c *clockStore) at(snapshot broker.Snapshot) broker.Snapshot {
 	c.turn.Lock()
 	defer c.turn.Unlock()
-	if held.EndedAgo > 0 || c.isWild {
-		held.EndedAgo += c.ahead
+	if snapshot.EndedAgo > 0 || c.isWild {
+		snapshot.EndedAgo += c.ahead
 	}
-	return held
+	return snapshot
 }
 
-func (c *clocked) set(ahead time.Duration) {
+func (c *clockStore) set(ahead time.Duration) {
 	c.turn.Lock()
 	defer c.turn.Unlock()
 	c.ahead = ahead
 }
 
-func (c *clocked) Read(ctx context.Context, key broker.Key) (broker.Held, error) {
-	held, err := c.Store.Read(ctx, key)
+func (c *clockStore) Read(ctx context.Context, key broker.Key) (broker.Snapshot, error) {
+	snapshot, err := c.Store.Read(ctx, key)
 	if hook := c.afterRead; hook != nil {
 		c.afterRead = nil
 		hook(key)
 	}
-	return c.at(held), err
+	return c.at(snapshot), err
 }
 
-func (c *clocked) Change(ctx context.Context, key broker.Key, fence int64, step broker.Step) error {
+func (c *clockStore) Change(ctx context.Context, key broker.Key, fence int64, step broker.Step) error {
 	if c.beforeStep != nil {
 		c.beforeStep(key)
 	}
-	err := c.Store.Change(ctx, key, fence, func(held broker.Held) (*broker.Entry, error) {
-		next, err := step(c.at(held))
+	err := c.Store.Change(ctx, key, fence, func(snapshot broker.Snapshot) (*broker.Entry, error) {
+		next, err := step(c.at(snapshot))
 		if err == nil && c.afterStep != nil {
 			err = c.afterStep()
 		}
@@ -66,13 +66,13 @@ func (c *clocked) Change(ctx context.Context, key broker.Key, fence int64, step 
 	return err
 }
 
-// returning keeps the returns that it is told of.
+// returning keeps the returns that it gets.
 type returning struct {
-	*observed
+	*recorder
 	returns []broker.Return
 }
 
-func (r *returning) Returned(it broker.Return) {
+func (r *returning) OnReturn(it broker.Return) {
 	r.turn.Lock()
 	defer r.turn.Unlock()
 	r.returns = append(r.returns, it)
@@ -81,7 +81,7 @@ func (r *returning) Returned(it broker.Return) {
 // Lives are those of a broker whose ids return after an hour, if nothing else is said.
 type lives struct {
 	*bench
-	clock *clocked
+	clock *clockStore
 	seen  *returning
 }
 
@@ -90,7 +90,7 @@ var anHour = broker.Rules{IDsReturnAfter: time.Hour}
 func newLives(t *testing.T, backend broker.Backend, rules broker.Rules) *lives {
 	t.Helper()
 	b := newBench(t, backend, newMemoryLocks())
-	l := &lives{bench: b, clock: &clocked{Store: b.store}, seen: &returning{observed: b.observed}}
+	l := &lives{bench: b, clock: &clockStore{Store: b.store}, seen: &returning{recorder: b.observed}}
 	b.Service = l.service(t, backend, newMemoryLocks(), rules)
 	return l
 }
@@ -108,7 +108,7 @@ func (l *lives) expect(t *testing.T, status int, method, target, body string) *r
 	t.Helper()
 	given := message{method: method, target: target, body: []byte(body)}.serve(handlerFor(t, l.Service))
 	if given.status != status {
-		t.Errorf("%s %s is answered %d %s, and %d is wanted", method, target, given.status, given.body, status)
+		t.Errorf("%s %s: got %d %s, want %d", method, target, given.status, given.body, status)
 	}
 	return given
 }
@@ -127,10 +127,10 @@ func TestNoIDReturnsByDefault(t *testing.T) {
 	l.clock.set(1e6 * time.Hour)
 	given := l.expect(t, 409, "PUT", instances+"i", bodyOf(now, ""))
 	if !strings.Contains(string(given.body), "An id is never used again") || len(l.seen.returns) > 0 {
-		t.Errorf("%s, and returned is %v", given.body, l.seen.returns)
+		t.Errorf("got %s, and %v returned, want a rejection and none", given.body, l.seen.returns)
 	}
 	if entry := l.entry(t, keyOf("i")); !entry.Holding.HasTombstone() || entry.Life != 0 {
-		t.Errorf("%+v", entry)
+		t.Errorf("got %+v, want a tombstone of life 0", entry)
 	}
 }
 
@@ -143,21 +143,21 @@ func TestAnIDReturns(t *testing.T) {
 		l.clock.set(time.Hour - time.Minute)
 		given := l.expect(t, 409, "PUT", one, bodyOf(now, ""))
 		if !strings.Contains(string(given.body), "used again 3600 seconds after its end") {
-			t.Errorf("%s", given.body)
+			t.Errorf("got %s, want when the id can be used again", given.body)
 		}
 		l.clock.set(time.Hour)
 		l.expect(t, 201, "PUT", one, bodyOf(now, `,"parameters":{"life":`+string(rune('0'+life))+`}`))
 		l.expect(t, 200, "PUT", one, bodyOf(now, `,"parameters":{"life":`+string(rune('0'+life))+`}`))
 		if entry := l.entry(t, keyOf("i")); entry.Life != life || shelf.there(keyOf("i")) != broker.Whole {
-			t.Errorf("in life %d: %+v", life, entry)
+			t.Errorf("life %d: got %+v, want the instance in it", life, entry)
 		}
 		if got := l.seen.returns; len(got) != int(life) || got[life-1].Key != keyOf("i") || got[life-1].RequestID == "" ||
 			got[life-1].EndedAgo < time.Hour || got[life-1].EndedAgo > time.Hour+time.Minute {
-			t.Errorf("returned is %+v", got)
+			t.Errorf("the returns: got %+v, want that of this life, an hour after its end", got)
 		}
 		l.expect(t, 200, "DELETE", one+names(now), "")
 		if entry := l.entry(t, keyOf("i")); entry.Life != life || !entry.Holding.HasTombstone() {
-			t.Errorf("after life %d: %+v", life, entry)
+			t.Errorf("after life %d: got %+v, want a tombstone", life, entry)
 		}
 	}
 }
@@ -173,11 +173,11 @@ func TestWhatLetsNoIDReturn(t *testing.T) {
 	l.expect(t, 400, "PUT", one, bodyOf("ff", ""))
 	l.expect(t, 422, "PUT", one, bodyOf(later, ""))
 	if entry := l.entry(t, keyOf("i")); !entry.Holding.HasTombstone() || entry.Life != 0 || len(l.seen.returns) > 0 {
-		t.Errorf("%+v, and returned is %v", entry, l.seen.returns)
+		t.Errorf("got %+v, and %v returned, want a tombstone and none", entry, l.seen.returns)
 	}
 	l.expect(t, 202, "PUT", one+query, bodyOf(later, ""))
 	if row, isHeld := l.holding(t, keyOf("i")).Row(); !isHeld || row.Phase != osb.PhaseMaking {
-		t.Errorf("held is %v", row)
+		t.Errorf("got %v held, want a row in making", row)
 	}
 }
 
@@ -192,18 +192,16 @@ func TestADeletionThatHasNotEnded(t *testing.T) {
 	l.expect(t, 500, "DELETE", one+names(now), "")
 	l.expect(t, 503, "PUT", one, bodyOf(now, ""))
 	if !l.isPending(t, key) || l.entry(t, key).Life != 0 {
-		t.Errorf("%+v", l.entry(t, key))
+		t.Errorf("got %+v, want pending work in life 0", l.entry(t, key))
 	}
 	two := instances + "j"
 	backend.because("")
 	l.expect(t, 202, "PUT", two+query, bodyOf(later, ""))
-	if err := l.TakeUp(context.Background(), keyOf("j")); err != nil {
-		t.Fatal(err)
-	}
+	check(t, l.TakeUp(context.Background(), keyOf("j")))
 	l.expect(t, 202, "DELETE", two+names(later)+"&accepts_incomplete=true", "")
 	l.expect(t, 422, "PUT", two+query, bodyOf(later, ""))
 	if row, _ := l.holding(t, keyOf("j")).Row(); row.Phase != osb.PhaseDeleting || len(l.seen.returns) > 0 {
-		t.Errorf("held is %v, and returned is %v", row, l.seen.returns)
+		t.Errorf("got %v held, and %v returned, want a row in deleting and none", row, l.seen.returns)
 	}
 }
 
@@ -213,34 +211,32 @@ var errKilled = errors.New("the broker is killed")
 func TestABrokerIsKilledWhileAnIDReturns(t *testing.T) {
 	key := keyOf("i")
 	killed := func() error { return errKilled }
-	for _, it := range []struct {
+	for _, test := range []struct {
 		name      string
-		kill      func(*clocked)
+		kill      func(*clockStore)
 		isWritten bool
 	}{
-		{"before the commit", func(c *clocked) { c.afterStep = killed }, false},
-		{"after the commit", func(c *clocked) { c.afterCommit = killed }, true},
+		{"before the commit", func(c *clockStore) { c.afterStep = killed }, false},
+		{"after the commit", func(c *clockStore) { c.afterCommit = killed }, true},
 	} {
-		t.Run(it.name, func(t *testing.T) {
+		t.Run(test.name, func(t *testing.T) {
 			shelf := newShelf(calm)
 			l := newLives(t, shelf, anHour)
 			l.ends(t)
 			l.clock.set(time.Hour)
-			it.kill(l.clock)
+			test.kill(l.clock)
 			l.expect(t, 500, "PUT", instances+"i", bodyOf(now, ""))
 			l.clock.afterStep, l.clock.afterCommit = nil, nil
 			entry := l.entry(t, key)
-			if l.isPending(t, key) != it.isWritten || entry.Holding.HasTombstone() == it.isWritten ||
-				(entry.Life == 1) != it.isWritten || shelf.there(key) != broker.None || len(l.seen.returns) > 0 {
-				t.Errorf("%+v, and returned is %v", entry, l.seen.returns)
+			if l.isPending(t, key) != test.isWritten || entry.Holding.HasTombstone() == test.isWritten ||
+				(entry.Life == 1) != test.isWritten || shelf.there(key) != broker.None || len(l.seen.returns) > 0 {
+				t.Errorf("got %+v, and %v returned, want life 1 exactly if it is written, and no return", entry, l.seen.returns)
 			}
-			if !it.isWritten {
+			if !test.isWritten {
 				return
 			}
 			l.Service = l.service(t, shelf, newMemoryLocks(), anHour) // the next one
-			if err := l.TakeUp(context.Background(), key); err != nil {
-				t.Fatal(err)
-			}
+			check(t, l.TakeUp(context.Background(), key))
 			l.expect(t, 200, "PUT", instances+"i", bodyOf(now, ""))
 		})
 	}
@@ -265,7 +261,7 @@ func TestTwoBrokersFindOneTombstone(t *testing.T) {
 	for n := range statuses {
 		n := n
 		mine := *l
-		mine.clock = &clocked{Store: l.store, ahead: time.Hour, beforeStep: func(broker.Key) {
+		mine.clock = &clockStore{Store: l.store, ahead: time.Hour, beforeStep: func(broker.Key) {
 			once[n].Do(func() { gate.Done(); gate.Wait() })
 		}}
 		handler := handlerFor(t, mine.service(t, shelf, locks, anHour))
@@ -279,7 +275,8 @@ func TestTwoBrokersFindOneTombstone(t *testing.T) {
 	all.Wait()
 	isOne := statuses[0] == 201 && statuses[1] == 409 || statuses[0] == 409 && statuses[1] == 201
 	if entry := l.entry(t, keyOf("i")); !isOne || created != 1 || entry.Life != 1 || len(l.seen.returns) != 1 {
-		t.Errorf("answered is %v, created %d times, returned %v: %+v", statuses, created, l.seen.returns, entry)
+		t.Errorf("got the answers %v, %d creations, the returns %v and %+v, want one creation in life 1", statuses, created,
+			l.seen.returns, entry)
 	}
 }
 
@@ -296,14 +293,14 @@ func TestABindingReturns(t *testing.T) {
 	l.clock.set(time.Hour)
 	second := l.expect(t, 201, "PUT", bound, bodyOf(now, ""))
 	if string(first.body) == string(second.body) {
-		t.Errorf("%s", second.body)
+		t.Errorf("got %s twice, want another object in the second life", second.body)
 	}
 	l.expect(t, 200, "GET", bound, "")
 	if got := l.seen.returns; len(got) != 1 || got[0].Key != key {
-		t.Errorf("returned is %v", got)
+		t.Errorf("the returns: got %v, want one", got)
 	}
 	if life := l.entry(t, keyOf("i")).Life; life != 0 {
-		t.Errorf("the instance is in life %d", life)
+		t.Errorf("the life of the instance: got %d, want 0", life)
 	}
 }
 
@@ -330,7 +327,7 @@ func TestBindingsOfTheOldLife(t *testing.T) {
 	l, bound := boundTwice(t)
 	l.expect(t, 201, "PUT", bound, bodyOf(now, ""))
 	if entry := l.entry(t, key); !entry.Holding.IsHeld() || entry.Life != 1 {
-		t.Errorf("%+v", entry)
+		t.Errorf("got %+v, want an instance that is held in life 1", entry)
 	}
 	l.expect(t, 422, "DELETE", instances+"i"+names(now), "")
 	l.expect(t, 200, "DELETE", bound+names(now), "")
@@ -342,7 +339,7 @@ func TestBindingsOfTheOldLife(t *testing.T) {
 	l.expect(t, 410, "DELETE", bound+names(now), "")
 	l.expect(t, 409, "PUT", bound, bodyOf(now, "")) // by the tombstone that the Unbind has left in this life
 	if entry := l.entry(t, key); !entry.Holding.HasTombstone() || entry.Life != 1 {
-		t.Errorf("%+v", entry)
+		t.Errorf("got %+v, want a tombstone of life 1", entry)
 	}
 }
 
@@ -351,13 +348,11 @@ func TestABindingOfAnEarlierVersion(t *testing.T) {
 	key := broker.BindingKey(keyOf("i").Instance, keyOf("b").Instance)
 	l, bound := boundTwice(t)
 	l.expect(t, 201, "PUT", bound, bodyOf(now, ""))
-	err := l.store.Change(context.Background(), key, 0, func(held broker.Held) (*broker.Entry, error) {
-		held.Life = 0
-		return &held.Entry, nil
+	err := l.store.Change(context.Background(), key, 0, func(snapshot broker.Snapshot) (*broker.Entry, error) {
+		snapshot.Life = 0
+		return &snapshot.Entry, nil
 	})
-	if err != nil {
-		t.Fatal(err)
-	}
+	check(t, err)
 	l.expect(t, 200, "GET", bound, "")
 	l.expect(t, 422, "DELETE", instances+"i"+names(now), "")
 	l.expect(t, 200, "DELETE", bound+names(now), "")
@@ -377,7 +372,7 @@ func TestALateWorkerOfTheOldLife(t *testing.T) {
 			t.Error(err)
 		}
 		if given, err := other.Handle(ctx, deprovision(now)); err != nil || given.Status != 200 {
-			t.Errorf("%+v, %v", given, err)
+			t.Errorf("got %+v and the error %v, want 200", given, err)
 		}
 		l.clock.set(time.Hour)
 		hangs := l.service(t, away{backend.shelf}, losable{newMemoryLocks()}, anHour)
@@ -386,10 +381,10 @@ func TestALateWorkerOfTheOldLife(t *testing.T) {
 		}
 	}
 	if given, err := old.Handle(ctx, provision(now)); !errors.Is(err, broker.ErrLostLock) {
-		t.Errorf("it answers %+v, %v", given, err)
+		t.Errorf("got %+v, %v, want %v", given, err, broker.ErrLostLock)
 	}
 	if entry := l.entry(t, key); !l.isPending(t, key) || entry.Life != 1 {
-		t.Errorf("%+v", entry)
+		t.Errorf("got %+v, want pending work in life 1", entry)
 	}
 }
 
@@ -400,21 +395,21 @@ func TestALateRequestOfTheOldLife(t *testing.T) {
 	for _, rules := range []broker.Rules{anHour, {}} {
 		l := newLives(t, newShelf(calm), rules)
 		if given, err := l.Handle(ctx, provision(now)); err != nil || given.Status != http.StatusCreated {
-			t.Fatal(given, err)
+			t.Fatalf("got %+v, %v, want 201", given, err)
 		}
 		late := deprovision(now)
 		late.Arrived = time.Now().Add(-2 * time.Minute)
 		given, err := l.Handle(ctx, late)
 		isPutOff := errors.Is(err, broker.ErrAway)
 		if isPutOff != (rules.IDsReturnAfter > 0) || isPutOff == (given.Status == http.StatusOK) {
-			t.Errorf("%+v, %v", given, err)
+			t.Errorf("got %+v and the error %v, want it put off if ids return, and else 200", given, err)
 		}
 		if l.holding(t, keyOf("i")).IsHeld() != isPutOff {
-			t.Errorf("%+v", l.entry(t, keyOf("i")))
+			t.Errorf("got %+v, want the instance held if the deletion is put off", l.entry(t, keyOf("i")))
 		}
 	}
 	l := newLives(t, newShelf(calm), anHour)
-	l.SetStay(-1) // the handler knows when its request has come
+	l.SetStay(-1) // the handler knows when its request has arrived
 	l.expect(t, 503, "PUT", instances+"i", bodyOf(now, ""))
 	l.expect(t, 503, "GET", instances+"i/last_operation", "")
 }
@@ -431,11 +426,9 @@ func TestALateEndOfWaiting(t *testing.T) {
 		l.clock.set(time.Hour)
 		l.expect(t, 202, "PUT", one+query, bodyOf(later, ""))
 	}
-	if err := l.TakeUp(ctx, key); err != nil {
-		t.Fatal(err)
-	}
+	check(t, l.TakeUp(ctx, key))
 	if row, _ := l.holding(t, key).Row(); row.Phase != osb.PhaseWaiting || l.entry(t, key).Life != 1 {
-		t.Errorf("held is %+v", l.entry(t, key))
+		t.Errorf("got %+v held, want a row in waiting of life 1", l.entry(t, key))
 	}
 }
 
@@ -446,35 +439,33 @@ func TestALateUnbindOfAFailedBinding(t *testing.T) {
 	l := newLives(t, newShelf(func() int { return mood }), anHour)
 	l.expect(t, 202, "PUT", one+query, bodyOf(later, ""))
 	key := broker.BindingKey(keyOf("i").Instance, keyOf("b").Instance)
-	if err := l.TakeUp(ctx, keyOf("i")); err != nil {
-		t.Fatal(err)
-	}
+	check(t, l.TakeUp(ctx, keyOf("i")))
 	mood = 0
 	l.expect(t, 202, "PUT", bound+query, bodyOf(later, ""))
-	if err := l.TakeUp(ctx, key); err != nil {
-		t.Fatal(err)
-	}
+	check(t, l.TakeUp(ctx, key))
 	l.SetStay(-1)
 	if begun, err := l.UnbindFailed(ctx, key.Instance); !errors.Is(err, broker.ErrAway) || len(begun) > 0 {
-		t.Errorf("begun is %v, %v", begun, err)
+		t.Errorf("got %v begun, %v, want none and %v", begun, err, broker.ErrAway)
 	}
 	if row, _ := l.holding(t, key).Row(); row.Phase != osb.PhaseFailed {
-		t.Errorf("held is %+v", l.entry(t, key))
+		t.Errorf("got %+v held, want a failed row", l.entry(t, key))
 	}
 }
 
 // The catalogue of a broker whose ids return doesn't say that none ever does.
 func TestCatalogueOfIDsThatReturn(t *testing.T) {
-	for _, it := range []struct {
+	for _, test := range []struct {
 		rules broker.Rules
 		says  string
 	}{{broker.Rules{}, `"x-osb-tombstones":true`}, {anHour, `"x-osb-tombstones":false`}} {
-		l := newLives(t, newShelf(calm), it.rules)
-		given := l.expect(t, 200, "GET", "/v2/catalog", "")
-		if !strings.Contains(string(given.body), it.says) || strings.Count(string(given.body), "x-osb-tombstones") != 1 ||
-			!strings.Contains(string(given.body), "00000000-0000-0000-0000-0000000000c4") {
-			t.Errorf("%s", given.body)
-		}
+		t.Run(test.says, func(t *testing.T) {
+			l := newLives(t, newShelf(calm), test.rules)
+			given := l.expect(t, 200, "GET", "/v2/catalog", "")
+			if !strings.Contains(string(given.body), test.says) || strings.Count(string(given.body), "x-osb-tombstones") != 1 ||
+				!strings.Contains(string(given.body), "00000000-0000-0000-0000-0000000000c4") {
+				t.Errorf("got %s, want the catalogue with %s once", given.body, test.says)
+			}
+		})
 	}
 }
 
@@ -504,22 +495,22 @@ func TestADeletionRenewsATombstone(t *testing.T) {
 		l := newLives(t, newShelf(calm), rules)
 		l.expect(t, 201, "PUT", one, bodyOf(now, ""))
 		l.expect(t, 201, "PUT", bound, bodyOf(now, ""))
-		for _, it := range []struct {
+		for _, test := range []struct {
 			target string
 			key    broker.Key
 		}{{bound, binding}, {one, keyOf("i")}} {
-			l.expect(t, 200, "DELETE", it.target+names(now), "")
+			l.expect(t, 200, "DELETE", test.target+names(now), "")
 			time.Sleep(pause)
-			l.expect(t, 410, "GET", it.target+"/last_operation", "")
-			l.expect(t, 409, "PUT", it.target, bodyOf(now, ""))
-			if age := l.age(t, it.key); age < pause {
-				t.Errorf("%v: the age is %v after a Poll and a creation with %+v", it.key, age, rules)
+			l.expect(t, 410, "GET", test.target+"/last_operation", "")
+			l.expect(t, 409, "PUT", test.target, bodyOf(now, ""))
+			if age := l.age(t, test.key); age < pause {
+				t.Errorf("%v: got the age %v after a Poll and a creation with %+v, want at least %v", test.key, age, rules, pause)
 			}
 			again := time.Now()
-			l.expect(t, 410, "DELETE", it.target+names(now), "")
-			age := l.age(t, it.key)
+			l.expect(t, 410, "DELETE", test.target+names(now), "")
+			age := l.age(t, test.key)
 			if isYoung := age <= time.Since(again)+inexact; isYoung != (rules.IDsReturnAfter > 0) {
-				t.Errorf("%v: the age is %v after a deletion with %+v", it.key, age, rules)
+				t.Errorf("%v: got the age %v after a deletion with %+v, want a new one exactly if ids return", test.key, age, rules)
 			}
 		}
 	}
@@ -528,11 +519,11 @@ func TestADeletionRenewsATombstone(t *testing.T) {
 // age is how old a tombstone is.
 func (l *lives) age(t *testing.T, key broker.Key) time.Duration {
 	t.Helper()
-	held, err := l.store.Read(context.Background(), key)
-	if err != nil || !held.Holding.HasTombstone() {
-		t.Fatalf("%v has no tombstone: %+v, %v", key, held.Entry, err)
+	snapshot, err := l.store.Read(context.Background(), key)
+	if err != nil || !snapshot.Holding.HasTombstone() {
+		t.Fatalf("%v: got %+v, %v, want a tombstone", key, snapshot.Entry, err)
 	}
-	return held.EndedAgo
+	return snapshot.EndedAgo
 }
 
 // A noting backend keeps the requests by which instances were created.
@@ -572,13 +563,13 @@ func TestALateOperationOfTheOldLife(t *testing.T) {
 	}
 	takeUp()
 	l.expect(t, 200, "GET", one+"/last_operation", "")
-	for life, it := range backend.created {
-		if !strings.Contains(string(it.Body), `{"life":`+string(rune('0'+life))+`}`) {
-			t.Errorf("in life %d it is created by %s", life, it.Body)
+	for life, request := range backend.created {
+		if !strings.Contains(string(request.Body), `{"life":`+string(rune('0'+life))+`}`) {
+			t.Errorf("life %d: got the body %s, want its number", life, request.Body)
 		}
 	}
 	if row, _ := l.holding(t, key).Row(); len(backend.created) != 2 || row.Phase != osb.PhaseReady {
-		t.Errorf("created %d times: %+v", len(backend.created), l.entry(t, key))
+		t.Errorf("got %d creations and %+v, want 2 and a row that is ready", len(backend.created), l.entry(t, key))
 	}
 }
 
@@ -596,10 +587,11 @@ func TestAnOperationThatHasEnded(t *testing.T) {
 		}
 	}
 	if err := l.TakeUp(ctx, key); !errors.Is(err, broker.ErrLostWork) {
-		t.Errorf("the error is %v", err)
+		t.Errorf("got %v, want %v", err, broker.ErrLostWork)
 	}
 	row, _ := l.holding(t, key).Row()
 	if row.Phase != osb.PhaseReady || backend.there(key) != broker.Whole || len(backend.created) != 1 {
-		t.Errorf("%v exists, created %d times: %+v", backend.there(key), len(backend.created), row)
+		t.Errorf("got it %v, %d creations and %+v, want it whole, 1 and a row that is ready", backend.there(key),
+			len(backend.created), row)
 	}
 }

@@ -1,3 +1,11 @@
+// Package broker is a broker under the Open Service Broker API 2.17: an http.Handler over a Store, a Backend and Locks.
+// What becomes of an instance or a binding is decided by the proved library (package osb). Here is the order in which
+// it is written, worked and answered.
+//
+// A request goes these ways (docs/instance.md, docs/binding.md). In one transaction its work becomes pending, or it is
+// answered. The work is done, outside of any transaction, under the lock of its key. In a second transaction the work
+// ends. Then the answer is sent. Whatever fails on the way ends the request: what was committed until then stays, and
+// the Sweeper goes on with it.
 package broker
 
 import (
@@ -34,9 +42,9 @@ type Rules struct {
 	// LocksAtOnce is how many requests may take a lock at once, or 0 for any number. If it is less than the number of
 	// requests that are carried out at once, a silent server of the locks doesn't hold up requests that need no lock.
 	LocksAtOnce int
-	// LongestPause is how long a key whose work fails again and again rests at most before a Sweeper goes on with it, or
-	// 0 for DefaultLongestPause. The first rest is as long as the time between two sweeps, and each further one is twice
-	// as long.
+	// LongestPause is how long a key whose work fails again and again rests at most before a Sweeper goes on with it,
+	// or 0 for DefaultLongestPause. The first rest is as long as the time between two sweeps, and each further one is
+	// twice as long.
 	LongestPause time.Duration
 	// IDsReturnAfter is how old a tombstone has to be to stand in the way of a creation no longer, or 0 if it stands in
 	// the way for good. If it isn't 0, it is ShortestReturn or more, and longer than any request of the old life is
@@ -55,8 +63,8 @@ func NewService(
 	}
 }
 
-// An Asked is what a request asks of an instance or of a binding.
-type Asked struct {
+// A Visit is one arrival of a request: what it asks of an instance or of a binding.
+type Visit struct {
 	Key        Key
 	Names      Names
 	Asked      osb.Asked // of a binding: under the ID of the binding
@@ -68,12 +76,15 @@ type Asked struct {
 	Arrived    time.Time       // when the broker got the request, or the zero Time if that doesn't count
 }
 
-// An Answered is what a request is answered.
-type Answered struct {
+// A Response is the answer to a visit, and what is left to do then.
+type Response struct {
 	osb.Answer
 	Binding     json.RawMessage // the object of a binding, which is the whole body then, or nil
 	Description string          // for a person, or empty
-	Rejected    *Rejected       // the backend's, or nil
+	Rejected    *Rejection      // the backend's, or nil
+
+	IsUnfinished bool // whether somebody has to go on with the key (Entry.IsUnfinished); not of a Fetch
+	IsBound      bool // whether a deletion was put off because the instance has bindings
 }
 
 // Handle carries a request out, with the work that it means, and returns the answer to send.
@@ -81,18 +92,18 @@ type Answered struct {
 // The lock is taken first if it is free: then nobody else can have done the work between its record and its beginning,
 // and it needn't be read once more. If it isn't free, the store answers without it, most often that work is pending.
 // If the locks are away, the store answers what needs no work, and all else fails.
-func (s *Service) Handle(ctx context.Context, asked Asked) (Answered, error) {
-	if asked.IsFetch {
-		return s.fetch(ctx, asked)
+func (s *Service) Handle(ctx context.Context, visit Visit) (Response, error) {
+	if visit.IsFetch {
+		return s.fetch(ctx, visit)
 	}
-	if asked.Asked.Kind == osb.KindPoll {
-		if answered, isDone, err := s.poll(ctx, asked); err != nil || isDone {
-			return answered, err
+	if visit.Asked.Kind == osb.KindPoll {
+		if response, isDone, err := s.poll(ctx, visit); err != nil || isDone {
+			return response, err
 		}
 	}
-	lock, away := s.tryLock(ctx, asked.Key)
+	lock, away := s.tryLock(ctx, visit.Key)
 	if away != nil && !errors.Is(away, ErrAway) {
-		return Answered{}, away
+		return Response{}, away
 	}
 	defer func() {
 		if lock != nil {
@@ -100,39 +111,39 @@ func (s *Service) Handle(ctx context.Context, asked Asked) (Answered, error) {
 		}
 	}()
 	for {
-		begun, err := s.record(ctx, asked, away)
+		begun, err := s.record(ctx, visit, away)
 		if err != nil || begun.work == osb.WorkNone {
 			return begun.answered, err
 		}
 		isSure := lock != nil && !s.locks.CanBeLost()
 		if lock == nil {
-			if lock, err = s.lock(ctx, asked.Key); err != nil {
-				return Answered{}, err
+			if lock, err = s.lock(ctx, visit.Key); err != nil {
+				return Response{}, err
 			}
 		}
-		answered, err := s.do(ctx, lock, asked.Key, begun.pending, isSure)
+		response, err := s.do(ctx, lock, visit.Key, begun.pending, isSure)
 		if !errors.Is(err, errDoneBefore) {
-			return answered, err
+			return response, err
 		}
 		// Whoever had the lock before has done this work: it is as if the request arrived again.
 	}
 }
 
-// tryLock takes the lock of a key if it is free. The observer is told if that fails.
+// tryLock takes the lock of a key if it is free. The observer gets the failure.
 func (s *Service) tryLock(ctx context.Context, key Key) (Lock, error) {
 	lock, err := s.gate.tryLock(ctx, key)
 	if err != nil && ctx.Err() == nil {
-		s.observer.CallFailed("lock")
+		s.observer.OnCallFailure("lock")
 	}
 	return lock, err
 }
 
-// longestWait is how long a request waits for the lock of its key. Whoever has the lock may have left it to a process that
-// never ends.
+// longestWait is how long a request waits for the lock of its key. Whoever has the lock may have left it to a process
+// that never ends.
 const longestWait = 10 * time.Second
 
-// lock waits for the lock of a key. If somebody else has it for too long, the work stays pending. The observer is told if
-// the locks fail.
+// lock waits for the lock of a key. If somebody else has it for too long, the work stays pending. If the locks
+// fail, the observer gets the failure.
 func (s *Service) lock(ctx context.Context, key Key) (Lock, error) {
 	within, cancel := context.WithTimeout(ctx, longestWait)
 	defer cancel()
@@ -143,7 +154,7 @@ func (s *Service) lock(ctx context.Context, key Key) (Lock, error) {
 	case within.Err() != nil:
 		return nil, fmt.Errorf("%w: somebody else has the lock of %v", ErrNobodyKnows, key)
 	}
-	s.observer.CallFailed("lock")
+	s.observer.OnCallFailure("lock")
 	return nil, err
 }
 
@@ -151,55 +162,55 @@ func (s *Service) lock(ctx context.Context, key Key) (Lock, error) {
 var errDoneBefore = fmt.Errorf("%w, and was done before", ErrLostWork)
 
 // poll answers a Poll that changes nothing, which waits for nobody.
-func (s *Service) poll(ctx context.Context, asked Asked) (answered Answered, isDone bool, err error) {
-	held, err := s.read(ctx, asked.Key)
+func (s *Service) poll(ctx context.Context, visit Visit) (response Response, isDone bool, err error) {
+	snapshot, err := s.read(ctx, visit.Key)
 	if err != nil {
-		return answered, false, err
+		return response, false, err
 	}
-	next, begun, err := s.begin(held, asked)
+	next, begun, err := s.begin(snapshot, visit)
 	if err != nil {
-		return answered, false, err
+		return response, false, err
 	}
 	return begun.answered, next == nil, nil
 }
 
 // fetch answers the Fetch of a binding with what is stored.
-func (s *Service) fetch(ctx context.Context, asked Asked) (Answered, error) {
-	held, err := s.read(ctx, asked.Key)
+func (s *Service) fetch(ctx context.Context, visit Visit) (Response, error) {
+	snapshot, err := s.read(ctx, visit.Key)
 	if err != nil {
-		return Answered{}, err
+		return Response{}, err
 	}
-	if s.isLate(asked) {
-		return Answered{}, errLate
+	if s.isLate(visit) {
+		return Response{}, errLate
 	}
-	if isAnother, err := asked.namesAnother(held.Entry); err != nil || isAnother {
-		return asked.unknown(), err
+	if isAnother, err := visit.namesAnother(snapshot.Entry); err != nil || isAnother {
+		return visit.unknown(), err
 	}
-	answer, err := held.Holding.Fetch()
+	answer, err := snapshot.Holding.Fetch()
 	if err != nil {
-		return Answered{}, err
+		return Response{}, err
 	}
-	row, _ := held.Holding.Row()
+	row, _ := snapshot.Holding.Row()
 	if answer.Status == http.StatusOK && !s.catalogue.retrievable[row.Service] {
 		answer = osb.Answer{Status: http.StatusNotFound, Body: osb.BodyOtherError}
 	}
 	if answer.Status != http.StatusOK {
-		return Answered{Answer: answer}, nil
+		return Response{Answer: answer}, nil
 	}
-	return s.withBinding(asked.Key, answer, held.Binding)
+	return s.withBinding(visit.Key, answer, snapshot.Binding)
 }
 
 // withBinding is an answer with the object of a binding.
-func (s *Service) withBinding(key Key, answer osb.Answer, object json.RawMessage) (Answered, error) {
+func (s *Service) withBinding(key Key, answer osb.Answer, object json.RawMessage) (Response, error) {
 	if object == nil {
-		return Answered{}, fmt.Errorf("%v is ready, and its credentials aren't stored", key)
+		return Response{}, fmt.Errorf("%v is ready, and its credentials aren't stored", key)
 	}
-	return Answered{Answer: answer, Binding: object}, nil
+	return Response{Answer: answer, Binding: object}, nil
 }
 
-// begun is what comes of a request at once.
-type begun struct {
-	answered Answered
+// beginning is the immediate result of a request.
+type beginning struct {
+	answered Response
 	work     osb.Work
 	pending  pending // what was written, if work is due
 	returned *Return // if the id returns with what was written
@@ -221,23 +232,23 @@ func (p pending) requestOf(key Key) (Request, error) {
 
 // record is the first transaction of a request: it is answered, or its work becomes pending. If away isn't nil, work
 // can't be done now: then nothing is written if work is due, and the error is away.
-func (s *Service) record(ctx context.Context, asked Asked, away error) (given begun, err error) {
-	place := ""
-	err = s.change(ctx, asked.Key, 0, func(held Held) (next *Entry, err error) {
-		next, given, err = s.begin(held, asked)
+func (s *Service) record(ctx context.Context, visit Visit, away error) (given beginning, err error) {
+	point := ""
+	err = s.change(ctx, visit.Key, 0, func(snapshot Snapshot) (next *Entry, err error) {
+		next, given, err = s.begin(snapshot, visit)
 		if err == nil && away != nil && given.work != osb.WorkNone {
 			return nil, away
 		}
-		if place = ""; err == nil && next != nil {
-			if place = "begin"; given.work == osb.WorkNone {
-				place = "mark"
+		if point = ""; err == nil && next != nil {
+			if point = "begin"; given.work == osb.WorkNone {
+				point = "mark"
 			}
-			crash.At(place + "-next")
+			crash.At(point + "-next")
 		}
 		return next, err
 	})
-	if err == nil && place != "" {
-		crash.At(place + "-written")
+	if err == nil && point != "" {
+		crash.At(point + "-written")
 	}
 	if err == nil && given.returned != nil {
 		s.tellReturn(*given.returned)
@@ -249,33 +260,33 @@ func (s *Service) record(ctx context.Context, asked Asked, away error) (given be
 // since the entry was written. Otherwise it is read once more.
 //
 // Errors: errDoneBefore, and then nothing was done; those of the store and the backend.
-func (s *Service) do(ctx context.Context, lock Lock, key Key, due pending, isSure bool) (answered Answered, err error) {
+func (s *Service) do(ctx context.Context, lock Lock, key Key, due pending, isSure bool) (response Response, err error) {
 	work, isPending := due.entry.Holding.Work()
 	if !isPending {
-		return answered, ErrLostWork
+		return response, ErrLostWork
 	}
 	fence, err := s.fence(ctx, key)
 	if err != nil {
-		return answered, err
+		return response, err
 	}
 	if !isSure {
-		held, err := s.read(ctx, key)
+		snapshot, err := s.read(ctx, key)
 		if err != nil {
-			return answered, err
+			return response, err
 		}
-		if now, isPending := held.Holding.Work(); !isPending || now != work {
-			return answered, errDoneBefore
+		if now, isPending := snapshot.Holding.Work(); !isPending || now != work {
+			return response, errDoneBefore
 		}
-		due = pending{entry: held.Entry}
+		due = pending{entry: snapshot.Entry}
 	}
 	request, err := due.requestOf(key)
 	if err != nil {
-		return answered, err
+		return response, err
 	}
 	mode := s.catalogue.mode(key.IsBinding, plan{work.Service, work.Plan})
 	done, err := s.worker.do(lock.Context(ctx), osb.WorkOf(work.Kind, mode), request)
 	if err != nil {
-		return answered, err
+		return response, err
 	}
 	return s.end(ctx, key, fence, work, done)
 }
@@ -293,34 +304,35 @@ func rowOf(holding osb.Holding) osb.BrokerRow {
 // end is the second transaction of a request: its work ends.
 func (s *Service) end(
 	ctx context.Context, key Key, fence int64, pending osb.Request, done result,
-) (answered Answered, err error) {
-	err = s.change(ctx, key, fence, func(held Held) (*Entry, error) {
-		if recorded, isPending := held.Holding.Work(); !isPending || recorded != pending {
+) (response Response, err error) {
+	err = s.change(ctx, key, fence, func(snapshot Snapshot) (*Entry, error) {
+		if recorded, isPending := snapshot.Holding.Work(); !isPending || recorded != pending {
 			return nil, ErrLostWork
 		}
 		crash.At("end-next")
-		entry := held.Entry
+		entry := snapshot.Entry
 		mode := s.catalogue.mode(key.IsBinding, plan{pending.Service, pending.Plan})
-		holding, answer, err := held.Holding.End(mode, done.outcome)
+		holding, answer, err := snapshot.Holding.End(mode, done.outcome)
 		if err != nil {
 			return nil, err
 		}
 		entry.Holding = holding
-		entry.ended(key, done)
-		answered = Answered{Answer: answer, Description: done.description, Rejected: done.rejected}
+		entry.noteEnd(key, done)
+		response = Response{Answer: answer, Description: done.description, Rejected: done.rejected}
 		if pending.Kind == osb.KindProvision && key.IsBinding && answer.Status == http.StatusCreated {
-			answered, err = s.withBinding(key, answer, entry.Binding)
+			response, err = s.withBinding(key, answer, entry.Binding)
 		}
+		response.IsUnfinished = entry.IsUnfinished()
 		return &entry, err
 	})
 	if err == nil {
 		crash.At("end-written")
 	}
-	return answered, err
+	return response, err
 }
 
-// ended writes down, beside a holding whose work or operation has ended, what came of it.
-func (e *Entry) ended(key Key, done result) {
+// noteEnd writes down, beside a holding whose work or operation has ended, the outcome.
+func (e *Entry) noteEnd(key Key, done result) {
 	row, isHeld := e.Holding.Row()
 	if !e.Holding.IsHeld() {
 		*e = Entry{Holding: e.Holding, Life: e.Life}
@@ -346,23 +358,141 @@ func (s *Service) fence(ctx context.Context, key Key) (int64, error) {
 
 // change is one transaction over what is held, if it fits.
 func (s *Service) change(ctx context.Context, key Key, fence int64, step Step) error {
-	return s.store.Change(ctx, key, fence, func(held Held) (*Entry, error) {
-		held = held.inLife(key)
-		if !s.catalogue.fits(key, held.Holding) {
+	return s.store.Change(ctx, key, fence, func(snapshot Snapshot) (*Entry, error) {
+		snapshot = snapshot.inLife(key)
+		if !s.catalogue.fits(key, snapshot.Holding) {
 			return nil, ErrMisfit
 		}
-		return step(held)
+		return step(snapshot)
 	})
 }
 
-func (s *Service) read(ctx context.Context, key Key) (Held, error) {
-	held, err := s.store.Read(ctx, key)
-	held = held.inLife(key)
-	if err == nil && !s.catalogue.fits(key, held.Holding) {
+func (s *Service) read(ctx context.Context, key Key) (Snapshot, error) {
+	snapshot, err := s.store.Read(ctx, key)
+	snapshot = snapshot.inLife(key)
+	if err == nil && !s.catalogue.fits(key, snapshot.Holding) {
 		err = ErrMisfit
 	}
-	return held, err
+	return snapshot, err
 }
 
 // now is the time that is stored, in milliseconds.
 func now() time.Time { return time.Now().UTC().Truncate(time.Millisecond) }
+
+// begin is what becomes of what is held, or nil if that stays, and the immediate result of the request.
+func (s *Service) begin(snapshot Snapshot, visit Visit) (next *Entry, given beginning, err error) {
+	if s.isLate(visit) {
+		return nil, given, errLate
+	}
+	snapshot, returned := s.rules.enter(snapshot, visit)
+	if isAnother, err := visit.namesAnother(snapshot.Entry); err != nil || isAnother {
+		return nil, beginning{answered: visit.unknown()}, err
+	}
+	request, err := visit.Asked.Request(snapshot.Holding.Row())
+	if err != nil {
+		return nil, given, err
+	}
+	holding, happened, isBound, err := s.beginHolding(snapshot, visit, request)
+	if err != nil {
+		return nil, given, err
+	}
+	given = beginning{work: happened.Work}
+	if happened.Work == osb.WorkNone {
+		if given.answered, err = s.respond(snapshot, visit, happened.Answer); err != nil {
+			return nil, given, err
+		}
+		if isBound && visit.Asked.Kind == osb.KindDeprovision {
+			given.answered.Description = "The instance has bindings. Delete them first."
+			given.answered.IsBound = true
+		}
+		given.answered.IsUnfinished = Entry{Holding: holding}.IsUnfinished()
+	}
+	if holding == snapshot.Holding {
+		return s.rules.renewal(snapshot, visit), given, nil
+	}
+	entry := snapshot.Entry
+	entry.Holding = holding
+	of, err := entry.noteBeginning(visit)
+	if err != nil {
+		return nil, given, err
+	}
+	given.pending, given.returned = pending{entry, of}, returned
+	return &entry, given, nil
+}
+
+// beginHolding asks the proved library. Nothing of an instance begins while one of its bindings is held: then isBound
+// is true.
+func (s *Service) beginHolding(
+	snapshot Snapshot, visit Visit, request osb.Request,
+) (holding osb.Holding, happened osb.Begun, isBound bool, err error) {
+	mode := s.catalogue.mode(visit.Key.IsBinding, plan{request.Service, request.Plan})
+	rules := osb.Rules{FirstPoll: s.rules.FirstPoll, Attributes: visit.Attributes}
+	if visit.Key.IsBinding {
+		instance, err := visit.instance(snapshot)
+		if err == nil {
+			holding, happened, err = snapshot.Holding.BeginBinding(beside(instance, request), mode, request, rules)
+		}
+		return holding, happened, false, err
+	}
+	holding, happened, err = snapshot.Holding.Begin(mode, request, rules)
+	if err != nil || holding == snapshot.Holding || visit.Asked.Kind == osb.KindPoll {
+		return holding, happened, false, err
+	}
+	if isBound, err = snapshot.AnyBinding(); err != nil || !isBound {
+		return holding, happened, isBound, err // BeginIf returns what Begin has, if something may begin
+	}
+	holding, happened, err = snapshot.Holding.BeginIf(mode, request, rules, false)
+	return holding, happened, isBound, err
+}
+
+// respond returns an answer that needs no work, with what is stored beside the holding.
+func (s *Service) respond(snapshot Snapshot, visit Visit, answer osb.Answer) (Response, error) {
+	isBind := visit.Key.IsBinding && visit.Asked.Kind == osb.KindProvision
+	if isBind && answer.Status == http.StatusOK && answer.Body == osb.BodyEmpty {
+		return s.withBinding(visit.Key, answer, snapshot.Binding)
+	}
+	if answer.Body == osb.BodyFailed {
+		return Response{Answer: answer, Description: snapshot.Description}, nil
+	}
+	if visit.Asked.Kind == osb.KindProvision && answer.Status == http.StatusInternalServerError {
+		return failedBefore(snapshot, visit, answer)
+	}
+	return Response{Answer: answer}, nil
+}
+
+// failedBefore answers the creation of what has failed. It says why, unless a deletion has failed since.
+func failedBefore(snapshot Snapshot, visit Visit, answer osb.Answer) (Response, error) {
+	request, err := requestOf(visit.Key, rowOf(snapshot.Holding), snapshot.Request)
+	if err != nil || request.Deletion != nil {
+		return Response{Answer: answer}, err
+	}
+	return Response{Answer: answer, Description: snapshot.Description}, nil
+}
+
+// noteBeginning writes down, beside a holding that has changed, what the worker needs. It returns what the entry's
+// Request is the text of, or nil if that has to be read.
+func (e *Entry) noteBeginning(visit Visit) (*Request, error) {
+	e.Since = now()
+	switch {
+	case !e.Holding.IsHeld(): // only a tombstone
+		*e = Entry{Holding: e.Holding, Life: e.Life}
+	case visit.Asked.Kind == osb.KindProvision:
+		e.Request, e.Binding, e.Description = visit.Request, nil, ""
+		return visit.Creation, nil
+	case visit.Asked.Kind == osb.KindDeprovision:
+		return e.noteDeletion(visit)
+	}
+	return nil, nil
+}
+
+func (e *Entry) noteDeletion(visit Visit) (*Request, error) {
+	row, _ := e.Holding.Row()
+	request, err := requestOf(visit.Key, row, e.Request)
+	if err != nil {
+		return nil, err
+	}
+	origin := visit.Origin
+	request.Deletion = &origin
+	e.Request, err = request.text()
+	return &request, err
+}

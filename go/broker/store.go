@@ -2,8 +2,11 @@ package broker
 
 import (
 	"context"
+	"crypto/rand"
 	"encoding/json"
 	"errors"
+	"fmt"
+	"strings"
 	"time"
 
 	"pippinterm/osb"
@@ -37,8 +40,8 @@ func (e Entry) IsUnfinished() bool {
 	return isHeld && (row.Phase == osb.PhaseMaking || row.Phase == osb.PhaseDeleting || row.Phase == osb.PhaseWaiting)
 }
 
-// A Held is what a transaction reads.
-type Held struct {
+// A Snapshot is what a transaction reads.
+type Snapshot struct {
 	Entry
 	// EndedAgo is how long ago the tombstone was written, by the clock of the store. It is 0 if there is no tombstone,
 	// and if nobody knows.
@@ -50,9 +53,9 @@ type Held struct {
 	AnyBinding func() (bool, error)
 }
 
-// A Step is what a transaction does with what it has read: it returns the Entry to write, or nil to write nothing. If it
-// fails, nothing is written.
-type Step func(Held) (*Entry, error)
+// A Step is what a transaction does with what it has read: it returns the Entry to write, or nil to write nothing. If
+// it fails, nothing is written.
+type Step func(Snapshot) (*Entry, error)
 
 // A Store keeps a row for each instance and each binding. No row of an instance is ever deleted. Any number of
 // goroutines use a Store, and any number of processes use the database.
@@ -63,12 +66,12 @@ type Step func(Held) (*Entry, error)
 // If the store can't be used now, and may be back soon, the error of a method is ErrAway (Away).
 type Store interface {
 	// Read returns what is committed and on disk.
-	Read(ctx context.Context, key Key) (Held, error)
+	Read(ctx context.Context, key Key) (Snapshot, error)
 
-	// Change is one transaction over the row of a key. It commits what step returns, and only then returns nil: what was
-	// committed outlives a power cut. It may call step more than once; the last call counts. Two things are locked
-	// until the transaction ends: the row itself, and for a binding the row of its instance. So no binding begins
-	// while an instance's Change runs, nor the other way round.
+	// Change is one transaction over the row of a key. It commits what step returns, and only then returns nil: what
+	// was committed outlives a power cut. It may call step more than once; the last call counts. Two things are locked
+	// until the transaction ends: the row itself, and for a binding the row of its instance. So no binding begins while
+	// an instance's Change runs, nor the other way round.
 	//
 	// If fence isn't zero, Change fails with ErrLostLock unless fence is the last that Fence returned for the key.
 	Change(ctx context.Context, key Key, fence int64, step Step) error
@@ -77,8 +80,8 @@ type Store interface {
 	// be lost while the work goes on.
 	Fence(ctx context.Context, key Key) (int64, error)
 
-	// Unfinished returns the keys whose Entry is unfinished.
-	Unfinished(ctx context.Context) ([]Key, error)
+	// UnfinishedKeys returns the keys whose Entry is unfinished.
+	UnfinishedKeys(ctx context.Context) ([]Key, error)
 
 	// HeldBindings returns the bindings of an instance that are held.
 	HeldBindings(ctx context.Context, instance osb.ID) ([]osb.ID, error)
@@ -103,7 +106,8 @@ type Stats struct {
 }
 
 // Locks let one worker at a time be at a key, among all processes. A Lock lives as long as the work that is done under
-// it, also if the work outlives its process. If the Locks can't be used now, and may be back soon, the error is ErrAway.
+// it, also if the work outlives its process. If the Locks can't be used now, and may be back soon, the error is
+// ErrAway.
 type Locks interface {
 	// Lock waits for the lock.
 	Lock(ctx context.Context, key Key) (Lock, error)
@@ -113,7 +117,7 @@ type Locks interface {
 	CanBeLost() bool
 }
 
-// A Lock is had until Unlock.
+// A Lock is held until Unlock.
 type Lock interface {
 	// Context returns a context for the Backend, which carries whatever holds the lock.
 	Context(ctx context.Context) context.Context
@@ -121,7 +125,7 @@ type Lock interface {
 }
 
 var (
-	// ErrMisfit reports that what is held can't come about at its plan. Nothing was changed, and an operator has to look.
+	// ErrMisfit reports that what is held isn't possible at its plan. Nothing was changed, and an operator has to look.
 	ErrMisfit = errors.New("what is held can't come about at its plan")
 	// ErrLostWork reports that the work isn't pending any more: somebody else has ended it.
 	ErrLostWork = errors.New("the work isn't pending any more")
@@ -148,3 +152,143 @@ type away struct{ error }
 func (a away) Unwrap() error { return a.error }
 
 func (away) Is(target error) bool { return target == ErrAway }
+
+// A Key names what a Store keeps a row for: an instance, or a binding of an instance. The key of a binding is the pair
+// of its instance's id and its own (docs/binding.md).
+type Key struct {
+	Instance  osb.ID
+	Binding   osb.ID // the zero ID for an instance
+	IsBinding bool
+}
+
+// InstanceKey is the key of an instance.
+func InstanceKey(instance osb.ID) Key { return Key{Instance: instance} }
+
+// BindingKey is the key of a binding of an instance.
+func BindingKey(instance, binding osb.ID) Key {
+	return Key{Instance: instance, Binding: binding, IsBinding: true}
+}
+
+// ID is the number that stands in the requests of the key: that of the instance, or of the binding.
+func (k Key) ID() osb.ID {
+	if k.IsBinding {
+		return k.Binding
+	}
+	return k.Instance
+}
+
+// String is the number of the instance as a GUID, and of a binding that of its instance, a slash, and its own.
+func (k Key) String() string {
+	if k.IsBinding {
+		return k.Instance.String() + "/" + k.Binding.String()
+	}
+	return k.Instance.String()
+}
+
+// A NamedStore is a Store that has a name of its own from its first use on.
+type NamedStore interface {
+	Store
+
+	// Name returns the name, or "" before the first use.
+	Name(ctx context.Context) (string, error)
+	// Begin gives the store a name for good, unless it has one, and returns the name that it has. Only a name that
+	// begins with UntiedBefore replaces another name, and only the name Untied.
+	Begin(ctx context.Context, name string) (string, error)
+	// ID returns the id of the store: a random GUID that the first call makes up, and that stays for good. So the
+	// answers of a broker say of which store they are (Catalogue.OfStore).
+	ID(ctx context.Context) (string, error)
+	// Tie calls tie while nobody else can be in a Tie of this store. isUsed is whether a backend keeps the store's
+	// name, or the store has rows. The rows of a store whose name begins with UntiedBefore don't count. If tie returns
+	// nil, the store notes for good that a backend keeps its name.
+	Tie(ctx context.Context, tie func(isUsed bool) error) error
+}
+
+// A TiedBackend keeps the name of the store whose resources it has, where the resources are. So no other store takes
+// them for its own, and the store is never used with other resources.
+type TiedBackend interface {
+	// Owner returns the name that is kept, or "".
+	Owner(ctx context.Context) (string, error)
+	// Own keeps the name of a store for good, unless there is one, and returns the name that is kept. It fails if there
+	// are resources already of which it isn't known whose they are.
+	Own(ctx context.Context, store string) (string, error)
+}
+
+// A LateTiedBackend is a TiedBackend that kept no name in earlier versions. Its store may have the name Untied, and
+// rows. Tie gives that store a new name, and ties it to the first backend that is used with it.
+type LateTiedBackend interface {
+	TiedBackend
+	IsLateTied()
+}
+
+// The names of stores that don't belong to a TiedBackend from their first use on.
+const (
+	Untied       = "untied"  // the backend keeps no name
+	UntiedBefore = "untied-" // the name begins so: it was Untied, until a LateTiedBackend is used
+)
+
+// ErrParted reports that a store and a backend don't belong together. At most a new store has been given its name.
+var ErrParted = errors.New("the store and the backend don't belong together")
+
+// Tie checks that a store and a backend belong together, and ties a new store to a new backend. If mustExist is true, a
+// new store is an error.
+//
+// Errors: ErrParted, and those of the store and the backend.
+func Tie(ctx context.Context, store NamedStore, backend Backend, mustExist bool) error {
+	tied, isTied := backend.(TiedBackend)
+	name, err := store.Name(ctx)
+	if err != nil {
+		return err
+	}
+	if name == "" {
+		if mustExist {
+			return fmt.Errorf("%w: the store is new, and --existing wants one that has been begun", ErrParted)
+		}
+		if name, err = store.Begin(ctx, newName(isTied)); err != nil {
+			return err
+		}
+	}
+	_, isLate := backend.(LateTiedBackend)
+	if name == Untied && isLate {
+		if name, err = store.Begin(ctx, UntiedBefore+newName(true)); err != nil {
+			return err
+		}
+	}
+	if (name == Untied) == isTied || strings.HasPrefix(name, UntiedBefore) && !isLate {
+		return fmt.Errorf("%w: the store's instances are another backend's, one that keeps the store's name, or doesn't",
+			ErrParted)
+	}
+	if !isTied {
+		return nil
+	}
+	return store.Tie(ctx, func(isUsed bool) error { return tieTo(ctx, tied, name, isUsed) })
+}
+
+func newName(isTied bool) string {
+	if !isTied {
+		return Untied
+	}
+	var id osb.ID
+	if _, err := rand.Read(id[:]); err != nil {
+		panic(err) // the kernel has no random bytes
+	}
+	return id.String()
+}
+
+func tieTo(ctx context.Context, backend TiedBackend, name string, isUsed bool) error {
+	owner, err := backend.Owner(ctx)
+	if err != nil {
+		return err
+	}
+	if owner == "" {
+		if isUsed {
+			return fmt.Errorf("%w: the store %s has begun with other resources, or these aren't all", ErrParted, name)
+		}
+		if owner, err = backend.Own(ctx, name); err != nil {
+			return err
+		}
+	}
+	if owner != name {
+		return fmt.Errorf("%w: the store is %s, and the resources belong to the store %s", ErrParted, name, owner)
+	}
+	return nil
+}

@@ -3,7 +3,11 @@ package broker_test
 import (
 	"context"
 	"errors"
+	"fmt"
+	"net/http"
+	"net/http/httptest"
 	"path/filepath"
+	"strconv"
 	"strings"
 	"sync"
 	"testing"
@@ -11,18 +15,19 @@ import (
 
 	"pippinterm/broker"
 	"pippinterm/broker/sqlite"
+	"pippinterm/osb"
 )
 
 // A bench is a service over a store of its own, which nobody sweeps.
 type bench struct {
 	*broker.Service
 	store    *sqlite.Store
-	observed *observed
+	observed *recorder
 }
 
 func newBench(t *testing.T, backend broker.Backend, locks broker.Locks) *bench {
 	t.Helper()
-	it := &bench{observed: &observed{}}
+	it := &bench{observed: &recorder{}}
 	var err error
 	if it.store, err = sqlite.Open(context.Background(), filepath.Join(t.TempDir(), "store"), it.observed); err != nil {
 		t.Fatal(err)
@@ -34,11 +39,9 @@ func newBench(t *testing.T, backend broker.Backend, locks broker.Locks) *bench {
 
 func (b *bench) isPending(t *testing.T, key broker.Key) bool {
 	t.Helper()
-	held, err := b.store.Read(context.Background(), key)
-	if err != nil {
-		t.Fatal(err)
-	}
-	_, isPending := held.Holding.Work()
+	snapshot, err := b.store.Read(context.Background(), key)
+	check(t, err)
+	_, isPending := snapshot.Holding.Work()
 	return isPending
 }
 
@@ -66,18 +69,18 @@ func sweeping(t *testing.T, sweeper *broker.Sweeper, looked <-chan broker.Key, f
 	return end
 }
 
-// soon is what comes from a channel.
+// soon is the next value of a channel.
 func soon[T any](t *testing.T, from <-chan T) (got T) {
 	t.Helper()
 	select {
 	case got = <-from:
 	case <-time.After(time.Minute):
-		t.Fatal("nothing comes")
+		t.Fatal("got nothing in a minute, want it sooner")
 	}
 	return got
 }
 
-// A blind backend fails to look as long as there is a reason. It is told of each Look.
+// A blind backend fails to look as long as there is a reason. It gets each Look.
 type blind struct {
 	*shelf
 	turn   sync.Mutex
@@ -111,20 +114,18 @@ func (b *bench) leave(t *testing.T, backend *blind, name string) broker.Key {
 	creation := message{method: "PUT", target: instances + name, body: []byte(bodyOf(now, ""))}
 	given := creation.serve(handlerFor(t, b.Service))
 	if key := keyOf(name); given.status != 500 || !b.isPending(t, key) {
-		t.Fatalf("the creation of %s isn't pending: %d %s", name, given.status, given.body)
+		t.Fatalf("the creation of %s: got %d %s, want it pending with 500", name, given.status, given.body)
 	}
 	return keyOf(name)
 }
 
-// A key whose lock somebody else has is passed over: the only worker goes on with another, and comes back later.
+// A key whose lock somebody else has is passed over: the only worker goes on with another, and tries it again later.
 func TestSweeperPassesOverALockedKey(t *testing.T) {
 	backend, locks := &blind{shelf: newShelf(calm)}, newMemoryLocks()
 	b := newBench(t, backend, locks)
 	locked, free := b.leave(t, backend, "i"), b.leave(t, backend, "j")
 	lock, err := locks.Lock(context.Background(), locked)
-	if err != nil {
-		t.Fatal(err)
-	}
+	check(t, err)
 	var once sync.Once
 	unlock := func() { once.Do(lock.Unlock) }
 	defer unlock()
@@ -135,41 +136,41 @@ func TestSweeperPassesOverALockedKey(t *testing.T) {
 	end := sweeping(t, sweeper, backend.looked, nil)
 	for round := 0; round < 2; round++ { // before the creation, and after it
 		if got := soon(t, backend.looked); got != free {
-			t.Errorf("%v is gone on with, and somebody else has its lock", got)
+			t.Errorf("got %v gone on with, whose lock is another's, want the free one", got)
 		}
 	}
 	unlock()
 	for round := 0; round < 2; round++ {
 		if got := soon(t, backend.looked); got != locked {
-			t.Errorf("%v is gone on with, and has ended", got)
+			t.Errorf("got %v gone on with, which has ended, want the locked one", got)
 		}
 	}
 	end()
 	if b.isPending(t, locked) || b.isPending(t, free) || len(b.observed.failures) > 0 {
-		t.Errorf("something is pending, or was told: %v", b.observed.failures)
+		t.Errorf("got something pending, or the failures %v, want neither", b.observed.failures)
 	}
 }
 
 func calm() int { return 9 }
 
-// A swept store has as unfinished what the test gives, one list for each sweep.
-type swept struct {
+// A sweptStore has as unfinished what the test gives, one list for each sweep.
+type sweptStore struct {
 	*sqlite.Store
 	found chan []broker.Key
 }
 
-func (s swept) Unfinished(context.Context) ([]broker.Key, error) { return <-s.found, nil }
+func (s sweptStore) UnfinishedKeys(context.Context) ([]broker.Key, error) { return <-s.found, nil }
 
-// A tried lock is never free. Its keys are told to the test.
-type tried chan broker.Key
+// triedLocks are never free. The test gets their keys.
+type triedLocks chan broker.Key
 
-func (t tried) CanBeLost() bool { return false }
+func (t triedLocks) CanBeLost() bool { return false }
 
-func (t tried) Lock(context.Context, broker.Key) (broker.Lock, error) {
+func (t triedLocks) Lock(context.Context, broker.Key) (broker.Lock, error) {
 	return nil, errors.New("it isn't free")
 }
 
-func (t tried) TryLock(_ context.Context, key broker.Key) (broker.Lock, error) {
+func (t triedLocks) TryLock(_ context.Context, key broker.Key) (broker.Lock, error) {
 	t <- key
 	return nil, nil
 }
@@ -177,32 +178,32 @@ func (t tried) TryLock(_ context.Context, key broker.Key) (broker.Lock, error) {
 // At first all that is unfinished is taken up, and later what was so a sweep ago: newer work has a worker.
 func TestSweeperTakesUpWhatIsOld(t *testing.T) {
 	one, other, third := keyOf("1"), keyOf("2"), keyOf("3")
-	locks, found := make(tried, 20), make(chan []broker.Key)
+	locks, found := make(triedLocks, 20), make(chan []broker.Key)
 	b := newBench(t, newShelf(calm), locks)
-	service := broker.NewService(catalogueFor(t, catalogue), swept{b.store, found}, newShelf(calm), locks,
+	service := broker.NewService(catalogueFor(t, catalogue), sweptStore{b.store, found}, newShelf(calm), locks,
 		broker.Rules{}, b.observed)
 	end := sweeping(t, broker.NewSweeper(service, b.observed), nil, found)
-	for _, it := range []struct{ found, taken []broker.Key }{
+	for _, test := range []struct{ found, taken []broker.Key }{
 		{[]broker.Key{one}, []broker.Key{one}},        // the first sweep takes up everything
 		{[]broker.Key{other, one}, []broker.Key{one}}, // the other is new
 		{[]broker.Key{third, other, one}, []broker.Key{other, one}},
 		{[]broker.Key{other}, []broker.Key{other}},
 		{[]broker.Key{third, one, other}, []broker.Key{other}}, // two have ended meanwhile, and are new again
 	} {
-		found <- it.found
-		for _, key := range it.taken {
+		found <- test.found
+		for _, key := range test.taken {
 			if got := soon(t, locks); got != key {
-				t.Fatalf("of %v, %v is taken up, and %v is wanted", it.found, got, key)
+				t.Fatalf("of %v: got %v taken up, want %v", test.found, got, key)
 			}
 		}
 	}
 	end()
 	if len(locks) > 0 {
-		t.Errorf("%v is taken up too", <-locks)
+		t.Errorf("got %v taken up too, want no other", <-locks)
 	}
 }
 
-// What fails stays pending, and is told once for each reason. It is done once the reason is gone.
+// What fails stays pending, and is reported once for each reason. It is done once the reason is gone.
 func TestSweeperTellsOnce(t *testing.T) {
 	backend := &blind{shelf: newShelf(calm)}
 	b := newBench(t, backend, newMemoryLocks())
@@ -220,7 +221,7 @@ func TestSweeperTellsOnce(t *testing.T) {
 	backend.because("another reason")
 	tryOften()
 	if !b.isPending(t, key) {
-		t.Error("it isn't pending any more")
+		t.Error("got it ended, want it pending")
 	}
 	backend.because("")
 	for b.isPending(t, key) {
@@ -233,18 +234,18 @@ func TestSweeperTellsOnce(t *testing.T) {
 	told := b.observed.failures
 	if len(told) != 2 || !strings.Contains(told[0].Err.Error(), "one reason") ||
 		!strings.Contains(told[1].Err.Error(), "another reason") {
-		t.Fatalf("told is %v", told)
+		t.Fatalf("the reports: got %v, want both reasons", told)
 	}
-	for _, it := range told {
-		if it.Event != "not_ended" || it.Key != key || !it.IsNamed || !errors.Is(it.Err, broker.ErrNobodyKnows) {
-			t.Errorf("told is %+v", it)
+	for _, failure := range told {
+		if failure.Event != "not_ended" || failure.Key != key || !failure.IsNamed || !errors.Is(failure.Err, broker.ErrNobodyKnows) {
+			t.Errorf("the report: got %+v, want not_ended of the key", failure)
 		}
 	}
 }
 
 // Run returns once what it has begun has ended. It begins nothing afterwards.
 func TestSweeperEnds(t *testing.T) {
-	locks := make(tried)
+	locks := make(triedLocks)
 	b := newBench(t, newShelf(calm), locks)
 	sweeper := broker.NewSweeper(b.Service, b.observed)
 	stop, cancel := context.WithCancel(context.Background())
@@ -263,7 +264,7 @@ func TestSweeperEnds(t *testing.T) {
 	sweeper.Touch(keyOf("j"))
 	select {
 	case key := <-locks:
-		t.Errorf("%v is begun after the end", key)
+		t.Errorf("after the end: got %v begun, want none", key)
 	case <-time.After(20 * time.Millisecond):
 	}
 }
@@ -284,12 +285,341 @@ func TestSweeperWaits(t *testing.T) {
 	cancel()
 	select {
 	case <-swept:
-		t.Error("it doesn't wait")
+		t.Error("got an end of the sweeper, want it to wait")
 	case <-time.After(20 * time.Millisecond):
 	}
 	soon(t, backend.looked)
 	soon(t, swept)
 	if b.isPending(t, key) {
-		t.Error("what was begun hasn't ended")
+		t.Error("got it pending, want the end of what was begun")
 	}
+}
+
+// A stuckBackend hangs in the Look of the keys that are named, until it is let go. Then their Look fails.
+type stuckBackend struct {
+	*blind
+	turn         sync.Mutex
+	hangs        map[broker.Key]bool
+	running      int             // Looks that hang
+	most         int             // at once
+	begun, ended chan broker.Key // of Looks that hang
+	letGo        chan struct{}   // closed, or one receive for each Look
+}
+
+func newStuck(keys ...broker.Key) *stuckBackend {
+	s := &stuckBackend{
+		blind: &blind{shelf: newShelf(calm)}, hangs: map[broker.Key]bool{},
+		begun: make(chan broker.Key, 1000), ended: make(chan broker.Key, 1000), letGo: make(chan struct{}),
+	}
+	for _, key := range keys {
+		s.hangs[key] = true
+	}
+	return s
+}
+
+func (s *stuckBackend) Look(ctx context.Context, request broker.Request) (broker.There, error) {
+	s.turn.Lock()
+	isHung := s.hangs[request.Key]
+	if isHung {
+		s.running++
+		if s.running > s.most {
+			s.most = s.running
+		}
+	}
+	s.turn.Unlock()
+	if !isHung {
+		return s.blind.Look(ctx, request)
+	}
+	s.begun <- request.Key
+	<-s.letGo
+	s.turn.Lock()
+	s.running--
+	s.turn.Unlock()
+	s.ended <- request.Key
+	return broker.None, errors.New("it hung")
+}
+
+func (s *stuckBackend) mostAtOnce() int {
+	s.turn.Lock()
+	defer s.turn.Unlock()
+	return s.most
+}
+
+// leaveAll leaves creations pending, and returns their keys.
+func (b *bench) leaveAll(t *testing.T, backend *stuckBackend, what string, number int) (keys []broker.Key) {
+	t.Helper()
+	for at := 0; at < number; at++ {
+		keys = append(keys, b.leave(t, backend.blind, fmt.Sprintf("%s%d", what, at)))
+	}
+	return keys
+}
+
+// sweepingWith runs a sweeper with workers. end lets all that hangs go, and waits for the end.
+func sweepingWith(
+	t *testing.T, sweeper *broker.Sweeper, backend *stuckBackend, workers int, every time.Duration,
+) (end func()) {
+	stop, cancel := context.WithCancel(context.Background())
+	swept := make(chan struct{})
+	go func() {
+		defer close(swept)
+		sweeper.Run(context.Background(), stop, workers, every)
+	}()
+	var once sync.Once
+	end = func() {
+		once.Do(func() {
+			cancel()
+			close(backend.letGo)
+			<-swept
+		})
+	}
+	t.Cleanup(end)
+	return end
+}
+
+// failAll lets calls go that hang, until each of the keys has failed.
+func (s *stuckBackend) failAll(t *testing.T, keys []broker.Key) {
+	t.Helper()
+	for failed, late := map[broker.Key]bool{}, time.After(time.Minute); len(failed) < len(keys); {
+		select {
+		case s.letGo <- struct{}{}:
+		case key := <-s.ended:
+			failed[key] = true
+		case <-late:
+			t.Fatalf("got only %d keys that have failed, want all", len(failed))
+		}
+	}
+}
+
+// becomes waits until work isn't pending any more.
+func (b *bench) becomes(t *testing.T, key broker.Key) {
+	t.Helper()
+	for end := time.Now().Add(time.Minute); b.isPending(t, key); time.Sleep(time.Millisecond) {
+		if time.Now().After(end) {
+			t.Fatalf("%v: got it pending after the time for it, want its end", key)
+		}
+	}
+}
+
+// As many calls hang as there are workers, of keys that nobody knew to hang. The work of another key is done meanwhile.
+func TestHungCallsDontHoldUpOthers(t *testing.T) {
+	for _, workers := range []int{1, 2, 4} {
+		t.Run(fmt.Sprint(workers), func(t *testing.T) {
+			backend := newStuck()
+			b := newBench(t, backend, newMemoryLocks())
+			hung, good := b.leaveAll(t, backend, "bad", workers), b.leaveAll(t, backend, "good", 3)
+			for _, key := range hung {
+				backend.hangs[key] = true
+			}
+			sweeper := broker.NewSweeper(b.Service, b.observed)
+			for _, key := range append(hung, good...) {
+				sweeper.Touch(key)
+			}
+			end := sweepingWith(t, sweeper, backend, workers, time.Hour)
+			for _, key := range good {
+				b.becomes(t, key)
+			}
+			if len(backend.ended) > 0 {
+				t.Error("got an end of a call that hangs, want none")
+			}
+			end()
+		})
+	}
+}
+
+// However many calls hang, no more are under way at once than are written down.
+func TestMostRuns(t *testing.T) {
+	for workers, most := range map[int]int{1: 3, 2: 4, 3: 6, 4: 8} {
+		backend := newStuck()
+		b := newBench(t, backend, newMemoryLocks())
+		sweeper := broker.NewSweeper(b.Service, b.observed)
+		for _, key := range b.leaveAll(t, backend, "bad", most+3) {
+			backend.hangs[key] = true
+			sweeper.Touch(key)
+		}
+		end := sweepingWith(t, sweeper, backend, workers, time.Hour)
+		for n := 0; n < most; n++ {
+			soon(t, backend.begun)
+		}
+		time.Sleep(20 * time.Millisecond) // for one too many
+		if got := backend.mostAtOnce(); got != most || broker.MostRuns(workers) != most {
+			t.Errorf("with %d workers: got %d calls that hang at once, want %d", workers, got, most)
+		}
+		end()
+	}
+}
+
+// Keys whose last call failed take at most half of the workers, however many there are. The work of others goes on.
+func TestFailedKeysTakeHalf(t *testing.T) {
+	for workers, most := range map[int]int{1: 1, 2: 1, 4: 2, 5: 2} {
+		backend := newStuck()
+		b := newBench(t, backend, newMemoryLocks())
+		failing := b.leaveAll(t, backend, "bad", 6)
+		good := b.leaveAll(t, backend, "good", 20)
+		for _, key := range failing {
+			backend.hangs[key] = true
+		}
+		sweeper := broker.NewSweeper(b.Service, b.observed)
+		for _, key := range failing {
+			sweeper.Touch(key)
+		}
+		end := sweepingWith(t, sweeper, backend, workers, 10*time.Millisecond)
+		backend.failAll(t, failing)
+		backend.turn.Lock()
+		backend.most = backend.running
+		backend.turn.Unlock()
+		for end := time.Now().Add(time.Minute); backend.mostAtOnce() < most; time.Sleep(time.Millisecond) {
+			if time.Now().After(end) {
+				t.Fatalf("with %d workers: got %d calls of keys that failed at once, want %d", workers, backend.mostAtOnce(), most)
+			}
+		}
+		for _, key := range good {
+			sweeper.Touch(key)
+			b.becomes(t, key)
+		}
+		if got := backend.mostAtOnce(); got != most {
+			t.Errorf("with %d workers: got %d calls of keys that failed at once, want %d", workers, got, most)
+		}
+		end()
+	}
+}
+
+// What is unfinished when a sweeper starts leaves half of the workers to the work of requests that arrive later,
+// however many of its calls hang. A few that hang hold up nothing.
+func TestUnfinishedAtTheStart(t *testing.T) {
+	for _, test := range []struct{ workers, hanging, most int }{
+		{1, 20, 1}, {2, 20, 3}, {4, 20, 6}, {2, 2, 2}, {4, 5, 5},
+	} {
+		t.Run(fmt.Sprint(test.workers, " workers, ", test.hanging, " hanging"), func(t *testing.T) {
+			backend := newStuck()
+			b := newBench(t, backend, newMemoryLocks())
+			for _, key := range b.leaveAll(t, backend, "bad", test.hanging) {
+				backend.hangs[key] = true
+			}
+			old := b.leaveAll(t, backend, "old", 5)
+			sweeper := broker.NewSweeper(b.Service, b.observed)
+			end := sweepingWith(t, sweeper, backend, test.workers, time.Hour)
+			for n := 0; n < test.most; n++ {
+				soon(t, backend.begun)
+			}
+			for _, key := range b.leaveAll(t, backend, "good", 10) {
+				sweeper.Touch(key)
+				b.becomes(t, key)
+			}
+			if test.hanging <= test.most {
+				for _, key := range old {
+					b.becomes(t, key)
+				}
+			}
+			if got := backend.mostAtOnce(); got != test.most {
+				t.Errorf("with %d workers: got %d calls of what was unfinished at once, want %d", test.workers, got, test.most)
+			}
+			end()
+		})
+	}
+}
+
+// silentLocks are locks whose server is silent while there is a channel, until it is closed.
+type silentLocks struct {
+	*memoryLocks
+	turn   sync.Mutex
+	silent chan struct{}
+	tries  int
+}
+
+func (l *silentLocks) TryLock(ctx context.Context, key broker.Key) (broker.Lock, error) {
+	l.turn.Lock()
+	silent := l.silent
+	l.tries++
+	l.turn.Unlock()
+	if silent != nil {
+		<-silent
+		return nil, broker.Away(errScripted)
+	}
+	return l.memoryLocks.TryLock(ctx, key)
+}
+
+func (l *silentLocks) is(silent chan struct{}) {
+	l.turn.Lock()
+	defer l.turn.Unlock()
+	l.silent, l.tries = silent, 0
+}
+
+func (l *silentLocks) count() int {
+	l.turn.Lock()
+	defer l.turn.Unlock()
+	return l.tries
+}
+
+// While the locks are silent, a Poll is answered, and so is whatever needs no work. All else is answered with 503, and
+// at once from then on. Once the locks answer again, everything is as before. The handler has 4 threads.
+func TestLocksThatAreSilent(t *testing.T) {
+	store, err := sqlite.Open(context.Background(), filepath.Join(t.TempDir(), "store"), broker.Silent{})
+	check(t, err)
+	t.Cleanup(func() { _ = store.Close() })
+	locks := &silentLocks{memoryLocks: newMemoryLocks()}
+	rules := broker.Rules{LocksAtOnce: 2} // of the 3 threads that may do work
+	service := broker.NewService(catalogueFor(t, catalogue), store, newShelf(calm), locks, rules, broker.Silent{})
+	handler := handlerFor(t, service)
+	ask := func(method, target, body string) int {
+		request := httptest.NewRequest(method, instances+target, strings.NewReader(body))
+		request.SetBasicAuth("u", "p")
+		request.Header.Set(osb.VersionHeader, osb.VersionSent)
+		given := httptest.NewRecorder()
+		handler.ServeHTTP(given, request)
+		return given.Code
+	}
+	want := func(status int, within time.Duration, method, target, body string) {
+		t.Helper()
+		begun := time.Now()
+		got := ask(method, target, body)
+		if took := time.Since(begun); got != status || took > within {
+			t.Errorf("%s %s: got %d after %v, want %d within %v", method, target, got, took, status, within)
+		}
+	}
+	const soon = time.Minute
+	want(201, soon, "PUT", "there", bodyOf(now, ""))
+	silent := make(chan struct{})
+	var once sync.Once
+	answer := func() { once.Do(func() { close(silent) }) }
+	defer answer()
+	locks.is(silent)
+	var waiting sync.WaitGroup
+	answers := make(chan int, 8)
+	for n := 0; n < cap(answers); n++ {
+		waiting.Add(1)
+		go func(id string) {
+			defer waiting.Done()
+			answers <- ask("PUT", id, bodyOf(now, ""))
+		}("new-" + strconv.Itoa(n))
+	}
+	for count := 0; count < 2; count = locks.count() {
+		time.Sleep(time.Millisecond)
+	}
+	want(200, soon, "GET", "there/last_operation", "") // it needs no lock
+	for n := 0; n < 6; n++ {                           // for these there was no slot
+		select {
+		case status := <-answers:
+			if status != http.StatusServiceUnavailable {
+				t.Errorf("a Provision: got %d, want %d", status, http.StatusServiceUnavailable)
+			}
+		case <-time.After(soon):
+			t.Fatal("requests without a slot: got them to wait, want 503 soon")
+		}
+	}
+	begun := time.Now()
+	want(200, soon, "PUT", "there", bodyOf(now, ""))
+	want(410, soon, "DELETE", "never"+names(now), "")
+	want(503, soon, "PUT", "new", bodyOf(now, ""))
+	want(503, soon, "DELETE", "there"+names(now), "")
+	if took := time.Since(begun); took >= 8*time.Second { // each would wait two seconds for a slot
+		t.Errorf("got four answers after %v, want them at once", took)
+	}
+	if count := locks.count(); count != 2 {
+		t.Errorf("the silent locks: got %d tried at once, want 2", count)
+	}
+	locks.is(nil)
+	answer()
+	waiting.Wait()
+	want(201, soon, "PUT", "new", bodyOf(now, ""))
+	want(200, soon, "DELETE", "there"+names(now), "")
 }

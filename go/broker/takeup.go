@@ -11,11 +11,12 @@ import (
 	"pippinterm/osb"
 )
 
-// longWork is how long a worker may be at a key before that is reported. Five runs of a command take 25 minutes at most, by
-// default.
+// longWork is how long a worker may be at a key before that is reported. Five runs of a command take 25 minutes at
+// most, by default.
 const longWork = 30 * time.Minute
 
-// ErrStillTaken reports that the lock of unfinished work has been taken for long. The work goes on, or its process hangs.
+// ErrStillTaken reports that the lock of unfinished work has been taken for long. The work goes on, or its process
+// hangs.
 var ErrStillTaken = fmt.Errorf("another worker has the lock, and the work began more than %v ago. "+
 	"See whether its process hangs", longWork)
 
@@ -36,8 +37,8 @@ func wentOf(err error) went {
 	return wentNowhere
 }
 
-// TakeUp goes on with a key: it does pending work that a dead worker has left, goes on with the operation that runs, and
-// gives up a creation that has waited too long for its first Poll. If somebody else is at the key, it does nothing.
+// TakeUp goes on with a key: it does pending work that a dead worker has left, goes on with the operation that runs,
+// and gives up a creation that has waited too long for its first Poll. If somebody else is at the key, it does nothing.
 //
 // Errors: those of the store, the locks and the backend; ErrStillTaken. What isn't done stays as it is, to be taken up
 // again.
@@ -56,69 +57,69 @@ func (s *Service) takeUp(ctx context.Context, key Key) (went, error) {
 		return wentNowhere, s.stillTaken(ctx, key)
 	}
 	defer lock.Unlock()
-	held, err := s.read(ctx, key)
+	snapshot, err := s.read(ctx, key)
 	if err != nil {
 		return wentNowhere, err
 	}
 	done := wentNowhere
-	if _, isPending := held.Holding.Work(); isPending {
-		if done, err = s.endPending(ctx, lock, key, held); err != nil {
+	if _, isPending := snapshot.Holding.Work(); isPending {
+		if done, err = s.endPending(ctx, lock, key, snapshot); err != nil {
 			return done, err
 		}
-		if held, err = s.read(ctx, key); err != nil {
+		if snapshot, err = s.read(ctx, key); err != nil {
 			return done, err
 		}
 	}
-	row, isHeld := held.Holding.Row()
+	row, isHeld := snapshot.Holding.Row()
 	switch {
 	case !isHeld:
 		return done, nil
 	case row.Phase == osb.PhaseMaking || row.Phase == osb.PhaseDeleting:
-		return s.operate(ctx, lock, key, held)
-	case row.Phase == osb.PhaseWaiting && time.Since(held.Since) >= s.rules.WaitForPoll:
+		return s.operate(ctx, lock, key, snapshot)
+	case row.Phase == osb.PhaseWaiting && time.Since(snapshot.Since) >= s.rules.WaitForPoll:
 		return done, s.giveUpWaiting(ctx, key)
 	}
 	return done, nil
 }
 
 // endPending does the pending work of a key under its lock.
-func (s *Service) endPending(ctx context.Context, lock Lock, key Key, held Held) (went, error) {
-	answered, err := s.do(ctx, lock, key, pending{entry: held.Entry}, !s.locks.CanBeLost())
+func (s *Service) endPending(ctx context.Context, lock Lock, key Key, snapshot Snapshot) (went, error) {
+	response, err := s.do(ctx, lock, key, pending{entry: snapshot.Entry}, !s.locks.CanBeLost())
 	if err != nil {
 		return wentOf(err), err
 	}
-	isDone := answered.Status < http.StatusMultipleChoices
+	isDone := response.Status < http.StatusMultipleChoices
 	switch {
-	case answered.Status == http.StatusAccepted: // an operation has begun
+	case response.IsUnfinished: // an operation has begun
 		return wentNowhere, nil
-	case isDone || answered.Rejected != nil:
-		s.observer.Finished(key, isDone)
+	case isDone || response.Rejected != nil:
+		s.observer.OnEnd(key, isDone)
 		return wentWell, nil
 	}
-	s.observer.Finished(key, false)
+	s.observer.OnEnd(key, false)
 	return wentBadly, nil
 }
 
 // stillTaken returns ErrStillTaken if somebody else has been at the key for long.
 func (s *Service) stillTaken(ctx context.Context, key Key) error {
-	held, err := s.read(ctx, key)
-	if err == nil && held.IsUnfinished() && !held.Since.IsZero() && time.Since(held.Since) > longWork {
+	snapshot, err := s.read(ctx, key)
+	if err == nil && snapshot.IsUnfinished() && !snapshot.Since.IsZero() && time.Since(snapshot.Since) > longWork {
 		err = ErrStillTaken
 	}
 	return err
 }
 
 // operate goes on with the operation that runs, and ends it.
-func (s *Service) operate(ctx context.Context, lock Lock, key Key, held Held) (went, error) {
+func (s *Service) operate(ctx context.Context, lock Lock, key Key, snapshot Snapshot) (went, error) {
 	fence, err := s.fence(ctx, key)
 	if err != nil {
 		return wentNowhere, err
 	}
-	if held, err = s.sure(ctx, key, held); err != nil {
+	if snapshot, err = s.sure(ctx, key, snapshot); err != nil {
 		return wentNowhere, err
 	}
-	row, _ := held.Holding.Row()
-	request, err := requestOf(key, row, held.Request)
+	row, _ := snapshot.Holding.Row()
+	request, err := requestOf(key, row, snapshot.Request)
 	if err != nil {
 		return wentNowhere, err
 	}
@@ -129,7 +130,7 @@ func (s *Service) operate(ctx context.Context, lock Lock, key Key, held Held) (w
 	if err := s.finish(ctx, key, fence, row, done); err != nil {
 		return wentNowhere, err
 	}
-	s.observer.Finished(key, done.isDone())
+	s.observer.OnEnd(key, done.isDone())
 	if !done.isDone() && done.rejected == nil {
 		return wentBadly, nil
 	}
@@ -138,18 +139,18 @@ func (s *Service) operate(ctx context.Context, lock Lock, key Key, held Held) (w
 
 // finish ends the operation of a row.
 func (s *Service) finish(ctx context.Context, key Key, fence int64, row osb.BrokerRow, done result) error {
-	err := s.change(ctx, key, fence, func(held Held) (*Entry, error) {
-		if now, isHeld := held.Holding.Row(); !isHeld || now != row {
+	err := s.change(ctx, key, fence, func(snapshot Snapshot) (*Entry, error) {
+		if now, isHeld := snapshot.Holding.Row(); !isHeld || now != row {
 			return nil, ErrLostWork
 		}
 		crash.At("finish-next")
-		holding, err := held.Holding.Finish(done.isDone())
+		holding, err := snapshot.Holding.Finish(done.isDone())
 		if err != nil {
 			return nil, err
 		}
-		entry := held.Entry
+		entry := snapshot.Entry
 		entry.Holding = holding
-		entry.ended(key, done)
+		entry.noteEnd(key, done)
 		return &entry, nil
 	})
 	if err == nil {
@@ -162,36 +163,36 @@ func (s *Service) finish(ctx context.Context, key Key, fence int64, row osb.Brok
 // written: meanwhile somebody else may have ended the operation, and the life whose request was read.
 //
 // Errors: ErrLostWork if another operation runs or none; those of the store.
-func (s *Service) sure(ctx context.Context, key Key, before Held) (Held, error) {
+func (s *Service) sure(ctx context.Context, key Key, before Snapshot) (Snapshot, error) {
 	if !s.locks.CanBeLost() {
 		return before, nil
 	}
 	row, _ := before.Holding.Row()
-	held, err := s.read(ctx, key)
-	if now, isHeld := held.Holding.Row(); err == nil && (!isHeld || now != row) {
+	snapshot, err := s.read(ctx, key)
+	if now, isHeld := snapshot.Holding.Row(); err == nil && (!isHeld || now != row) {
 		err = ErrLostWork
 	}
-	return held, err
+	return snapshot, err
 }
 
-// giveUpWaiting ends a creation whose first Poll hasn't come in time: it has failed, and nothing of it was made.
+// giveUpWaiting ends a creation that had no first Poll in time: it has failed, and nothing of it was made.
 func (s *Service) giveUpWaiting(ctx context.Context, key Key) error {
 	var late *Failure
-	err := s.change(ctx, key, 0, func(held Held) (*Entry, error) {
+	err := s.change(ctx, key, 0, func(snapshot Snapshot) (*Entry, error) {
 		late = nil
-		row, isHeld := held.Holding.Row()
-		if !isHeld || row.Phase != osb.PhaseWaiting || time.Since(held.Since) < s.rules.WaitForPoll {
-			return nil, nil // the Poll has come meanwhile, or the row is that of another life
+		row, isHeld := snapshot.Holding.Row()
+		if !isHeld || row.Phase != osb.PhaseWaiting || time.Since(snapshot.Since) < s.rules.WaitForPoll {
+			return nil, nil // the Poll has arrived meanwhile, or the row is that of another life
 		}
-		request, _ := requestOf(key, row, held.Request) // for the log alone
+		request, _ := requestOf(key, row, snapshot.Request) // for the log alone
 		crash.At("wait-next")
-		holding, err := held.Holding.GiveUpWaiting()
+		holding, err := snapshot.Holding.GiveUpWaiting()
 		if err != nil {
 			return nil, err
 		}
-		entry := held.Entry
+		entry := snapshot.Entry
 		entry.Holding = holding
-		entry.ended(key, result{description: noPoll})
+		entry.noteEnd(key, result{description: noPoll})
 		late = &Failure{
 			Event: "creation_timed_out", RequestID: request.RequestID, Key: key, IsNamed: true, Err: errNoPoll,
 		}
@@ -201,14 +202,14 @@ func (s *Service) giveUpWaiting(ctx context.Context, key Key) error {
 		crash.At("wait-written")
 	}
 	if err == nil && late != nil {
-		s.observer.Failed(*late)
+		s.observer.OnFailure(*late)
 	}
 	return err
 }
 
 // UnbindFailed deletes the bindings of an instance whose creation has failed: a platform that doesn't unbind what has
 // failed could never delete their instance otherwise. It is called after the deletion of an instance was put off, and
-// doesn't touch a binding that the platform was told exists. It returns the keys whose deletion has begun and somebody
+// doesn't touch a binding that was reported to the platform. It returns the keys whose deletion has begun and somebody
 // has to go on with. That is this project's choice.
 func (s *Service) UnbindFailed(ctx context.Context, instance osb.ID) (begun []Key, err error) {
 	bindings, err := s.store.HeldBindings(ctx, instance)
@@ -217,15 +218,15 @@ func (s *Service) UnbindFailed(ctx context.Context, instance osb.ID) (begun []Ke
 	}
 	for _, binding := range bindings {
 		key, arrived := BindingKey(instance, binding), time.Now()
-		held, err := s.read(ctx, key)
+		snapshot, err := s.read(ctx, key)
 		if err != nil {
 			return begun, err
 		}
-		row, isHeld := held.Holding.Row()
+		row, isHeld := snapshot.Holding.Row()
 		if !isHeld || row.Phase != osb.PhaseFailed {
 			continue
 		}
-		request, err := requestOf(key, row, held.Request)
+		request, err := requestOf(key, row, snapshot.Request)
 		if err != nil {
 			return begun, err
 		}
@@ -233,11 +234,11 @@ func (s *Service) UnbindFailed(ctx context.Context, instance osb.ID) (begun []Ke
 			Kind: osb.KindDeprovision, AcceptsIncomplete: true, HasService: true, HasPlan: true,
 			ID: binding, Service: row.Service, Plan: row.Plan,
 		}
-		answered, err := s.Handle(ctx, Asked{Key: key, Names: request.names(), Asked: unbind, Arrived: arrived})
+		response, err := s.Handle(ctx, Visit{Key: key, Names: request.names(), Asked: unbind, Arrived: arrived})
 		if err != nil {
 			return begun, err
 		}
-		if answered.Status == http.StatusAccepted {
+		if response.IsUnfinished {
 			begun = append(begun, key)
 		}
 	}

@@ -81,18 +81,18 @@ func loginsOf(passwords map[string][]string) (logins []login, err error) {
 // Errors: osb.ErrUnauthorized, osb.ErrMemory.
 func (u *Users) judge(values []string) (string, error) {
 	value, found, logins := strings.Join(values, ", "), "", u.current()
-	for _, it := range logins {
-		if subtle.ConstantTimeCompare([]byte(value), []byte(it.header)) == 1 {
-			found = it.user
+	for _, login := range logins {
+		if subtle.ConstantTimeCompare([]byte(value), []byte(login.header)) == 1 {
+			found = login.user
 		}
 	}
 	if found != "" {
 		return found, nil
 	}
-	for _, it := range logins { // other spellings of the same header
-		err := osb.BasicAuth(value, it.user, it.password)
+	for _, login := range logins { // other spellings of the same header
+		err := osb.BasicAuth(value, login.user, login.password)
 		if err == nil {
-			found = it.user
+			found = login.user
 		} else if errors.Is(err, osb.ErrMemory) {
 			return "", err
 		}
@@ -105,6 +105,6 @@ func (u *Users) judge(values []string) (string, error) {
 
 // A Limiter limits how many passwords can be tried from an address.
 type Limiter interface {
-	// Failed counts a login from this address that failed, and returns how long its answer has to wait, or 0.
-	Failed(address string) time.Duration
+	// FailedLogin counts a login from this address that failed, and returns how long its answer has to wait, or 0.
+	FailedLogin(address string) time.Duration
 }

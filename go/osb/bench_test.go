@@ -36,6 +36,7 @@ func newSteps(b *testing.B) steps {
 	s := steps{failed: osb.Answer{Status: 500, Body: osb.BodyOtherError}}
 	accepted := osb.Answer{Status: 202, Body: osb.BodyEmpty}
 	var errs [8]error
+	var received osb.Received
 	s.wanted, s.sent = osb.Create(instance, service, plan, true)
 	s.cleaning, errs[0] = s.wanted.Answer(1, s.failed)
 	s.polling, errs[1] = s.wanted.Answer(1, accepted)
@@ -43,12 +44,11 @@ func newSteps(b *testing.B) steps {
 	s.running, _, errs[3] = s.begun.End(osb.ModeAsync, osb.OutcomeDone)
 	s.record, errs[4] = s.wanted.MarshalJSON()
 	s.holding, errs[5] = s.begun.MarshalJSON()
-	s.asked, errs[6] = osb.ReadRequest("", 1000, "PUT", target, []byte(provisionBody))
+	received, errs[6] = osb.ReceiveRequest("", 1000, "PUT", target, []byte(provisionBody))
+	s.asked = received.Asked
 	s.ready, errs[7] = s.wanted.Answer(1, osb.Answer{Status: 201, Body: osb.BodyEmpty})
 	for _, err := range errs {
-		if err != nil {
-			b.Fatal(err)
-		}
+		check(b, err)
 	}
 	return s
 }
@@ -56,7 +56,7 @@ func newSteps(b *testing.B) steps {
 func (s steps) ofRecords() []step {
 	row := osb.PlatformRow{Service: service, Plan: plan, State: osb.StateReady, InFlight: osb.KindNone}
 	return []step{
-		{"Mitigates", func() error { osb.Mitigates(s.failed); return nil }},
+		{"DecideDeprovision", func() error { osb.DecideDeprovision(s.failed); return nil }},
 		{"IDOfText", func() error { return second(osb.IDOfText("postgres-small")) }},
 		{"ParseID", func() error { return second(osb.ParseID("00000000-0000-0000-0000-000000000001")) }},
 		{"ID.String", func() error { _ = instance.String(); return nil }},
@@ -106,19 +106,13 @@ func (s steps) ofTheWire() []step {
 	catalogue := []byte(`{"services":[{"id":"` + service.String() + `","plans":[{"id":"` + plan.String() + `"}]}]}`)
 	return []step{
 		{"WriteMethod", func() error { return second(osb.WriteMethod(osb.KindPoll)) }},
-		{"WriteTarget", func() error { return second(osb.WriteTarget("", s.sent.Request, nil)) }},
-		{"WriteBody", func() error { return second(osb.WriteBody(s.sent.Request, "org", "space", []byte("{}"))) }},
 		{"WriteNamedTarget", func() error { return second(osb.WriteNamedTarget("", s.sent.Request, texts, nil)) }},
 		{"WriteNamedBody", func() error {
 			return second(osb.WriteNamedBody(osb.KindProvision, texts, "org", "space", []byte("{}")))
 		}},
 		{"ReadDetails", func() error { return second(osb.ReadDetails([]byte(`{"description":"The disk is full."}`))) }},
 		{"ReadAnswer", func() error { return second(osb.ReadAnswer(osb.KindProvision, 201, []byte("{}"))) }},
-		{"ReadOperation", func() error { return second(osb.ReadOperation([]byte(`{"operation":"making 1"}`))) }},
 		{"RetryAfter", func() error { return second(osb.RetryAfter("120")) }},
-		{"ReadRequest", func() error {
-			return second(osb.ReadRequest("", 1000, "PUT", target, []byte(provisionBody)))
-		}},
 		{"ReceiveRequest", func() error {
 			return second(osb.ReceiveRequest("", 1000, "PUT", target, []byte(provisionBody)))
 		}},
@@ -126,10 +120,8 @@ func (s steps) ofTheWire() []step {
 		{"AttributesDigest", func() error { return second(osb.AttributesDigest([]byte(`{"parameters":{"size":1}}`))) }},
 		{"ParametersDigest", func() error { return second(osb.ParametersDigest([]byte(`{"size":1}`))) }},
 		{"Asked.Request", func() error { return second(s.asked.Request(osb.BrokerRow{}, false)) }},
-		{"AskedOperation", func() error { return second(osb.AskedOperation(target + "/last_operation?operation=making+1")) }},
-		{"WriteAnswer", func() error { return second(osb.WriteAnswer(s.failed, nil)) }},
-		{"WriteAnswer with an operation", func() error {
-			return second(osb.WriteAnswer(osb.Answer{Status: 202, Body: osb.BodyEmpty}, &operation))
+		{"WriteDescribedAnswer with an operation", func() error {
+			return second(osb.WriteDescribedAnswer(osb.Answer{Status: 202, Body: osb.BodyEmpty}, &operation, nil))
 		}},
 		{"WriteDescribedAnswer", func() error { return second(osb.WriteDescribedAnswer(s.failed, nil, &description)) }},
 		{"RefusalBody", func() error { return second(osb.RefusalBody(osb.ErrRefusedBody)) }},
@@ -143,21 +135,18 @@ func (s steps) ofTheWire() []step {
 		{"CheckCatalogue", func() error { return osb.CheckCatalogue([]byte(sold), all) }},
 		{"ServedCatalogue", func() error { return second(osb.ServedCatalogue(catalogue)) }},
 		{"AsksForCatalogue", func() error { osb.AsksForCatalogue("", "/v2/catalog"); return nil }},
-		{"PlanVersion", func() error { return second(osb.PlanVersion([]byte(sold), hashed("a0"), hashed("b1"))) }},
+		{"PlanVersion", func() error { return second(osb.PlanVersion([]byte(sold), hashID("a0"), hashID("b1"))) }},
 		{"MaintenanceConflict", func() error { return osb.MaintenanceConflict(&version, []byte(provisionBody)) }},
 	}
 }
 
 func (s steps) ofBindings() []step {
-	of, asked, object := hashed(boundNames.Instance), namedBind(osb.KindProvision), []byte(`{"credentials":{}}`)
+	of, asked, object := hashID(boundNames.Instance), namedBind(osb.KindProvision), []byte(`{"credentials":{}}`)
 	return []step{
 		{"WriteBindingTarget", func() error { return second(osb.WriteBindingTarget("", asked, of, boundNames, nil)) }},
 		{"WriteFetchTarget", func() error { return second(osb.WriteFetchTarget("", asked, of, boundNames)) }},
 		{"WriteBindingBody", func() error {
 			return second(osb.WriteBindingBody(osb.KindProvision, boundNames, []byte("{}")))
-		}},
-		{"ReadBindingRequest", func() error {
-			return second(osb.ReadBindingRequest("", 1000, "PUT", boundPath, []byte(bindBody)))
 		}},
 		{"ReceiveBindingRequest", func() error {
 			return second(osb.ReceiveBindingRequest("", 1000, "PUT", boundPath, []byte(bindBody)))
@@ -168,14 +157,12 @@ func (s steps) ofBindings() []step {
 		{"ReadBinding", func() error { return second(osb.ReadBinding(osb.KindProvision, 201, object)) }},
 		{"ReadFetched", func() error { return second(osb.ReadFetched(200, object)) }},
 		{"BindingModes", func() error { return second(osb.BindingModes([]byte(sold))) }},
-		{"BindingsRetrievable", func() error { return second(osb.BindingsRetrievable([]byte(sold), hashed("a0"))) }},
+		{"BindingsRetrievable", func() error { return second(osb.BindingsRetrievable([]byte(sold), hashID("a0"))) }},
 	}
 }
 
 func repeat(b *testing.B, call func() error) {
 	for round := 0; round < b.N; round++ {
-		if err := call(); err != nil {
-			b.Fatal(err)
-		}
+		check(b, call())
 	}
 }

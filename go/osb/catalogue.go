@@ -1,7 +1,11 @@
 package osb
 
-// #include <osb.h>
+/*
+#include <osb.h>
+*/
 import "C"
+
+import "encoding/json"
 
 // A Plan is one that a broker sells.
 type Plan struct {
@@ -30,7 +34,7 @@ func plansRead(read func(places *C.struct_osb_plan, count C.size_t, needed *C.si
 		places = make([]C.struct_osb_plan, needed)
 		status = read(&places[0], C.size_t(len(places)), &needed)
 	}
-	if err := done(status); err != nil {
+	if err := errorOf(status); err != nil {
 		return nil, err
 	}
 	plans := make([]Plan, needed)
@@ -57,7 +61,7 @@ type Endpoints struct {
 // ErrSameNumber; and ErrMemory.
 func CheckCatalogue(document []byte, serves Endpoints) error {
 	endpoints := serves.c()
-	return done(C.osb_catalogue_check(pointer(document), size(document), &endpoints))
+	return errorOf(C.osb_catalogue_check(pointer(document), size(document), &endpoints))
 }
 
 // ServedCatalogue is the document that a broker serves as its catalogue: the object that is given, with no spaces, and
@@ -66,13 +70,13 @@ func CheckCatalogue(document []byte, serves Endpoints) error {
 //
 // Errors: ErrNotAnObject if the document isn't UTF-8, isn't JSON, or is no object; ErrMemory.
 func ServedCatalogue(document []byte) ([]byte, error) {
-	return written(func(buffer *C.uint8_t, bytes C.size_t, needed *C.size_t) C.uint32_t {
+	return textFrom(func(buffer *C.uint8_t, bytes C.size_t, needed *C.size_t) C.uint32_t {
 		return C.osb_served_catalogue(pointer(document), size(document), buffer, bytes, needed)
 	})
 }
 
 // AsksForCatalogue is whether a target asks for the catalogue: the path is the prefix and /v2/catalog, or stands for
-// that as in ReadRequest (section Catalog Management). It is false too if the prefix isn't UTF-8.
+// that as in ReceiveRequest (section Catalog Management). It is false too if the prefix isn't UTF-8.
 func AsksForCatalogue(prefix, target string) bool {
 	before, line := []byte(prefix), []byte(target)
 	return bool(C.osb_asks_for_catalogue(pointer(before), size(before), pointer(line), size(line)))
@@ -83,7 +87,7 @@ func AsksForCatalogue(prefix, target string) bool {
 //
 // Errors: ErrNoPlanVersion, ErrMemory.
 func PlanVersion(document []byte, service, plan ID) (string, error) {
-	text, err := written(func(buffer *C.uint8_t, bytes C.size_t, needed *C.size_t) C.uint32_t {
+	text, err := textFrom(func(buffer *C.uint8_t, bytes C.size_t, needed *C.size_t) C.uint32_t {
 		return C.osb_plan_version(pointer(document), size(document), service.c(), plan.c(), buffer, bytes, needed)
 	})
 	return string(text), err
@@ -97,5 +101,55 @@ func PlanVersion(document []byte, service, plan ID) (string, error) {
 // ErrMemory.
 func MaintenanceConflict(version *string, body []byte) error {
 	sold, hasVersion := optional(version)
-	return done(C.osb_maintenance_conflict(hasVersion, pointer(sold), size(sold), pointer(body), size(body)))
+	return errorOf(C.osb_maintenance_conflict(hasVersion, pointer(sold), size(sold), pointer(body), size(body)))
+}
+
+// Details are what the body of an answer says besides the answer. Each is nil if the body has no member of that name
+// and type.
+type Details struct {
+	Description  *string // the reason, for a person
+	Error        *string // the code of an error, the standard's or the broker's own
+	DashboardURL *string // where the instance is managed
+	// Operation is what the broker calls its operation, if that has at most 10,000 characters. A platform sends
+	// it back in its Polls.
+	Operation *string
+	Metadata  json.RawMessage // in the form of Parts
+	// InstanceUsable is whether the instance can be used after an update or a deletion that failed.
+	InstanceUsable *bool
+	// UpdateRepeatable is whether an update that failed may be sent again.
+	UpdateRepeatable *bool
+}
+
+// ReadDetails reads what the body of an answer says besides the answer, to any request and with any status (sections
+// Provisioning, Polling Last Operation for Service Instances, Deprovisioning and Service Broker Errors). A body that is
+// no object says nothing.
+//
+// Errors: ErrMemory.
+func ReadDetails(body []byte) (Details, error) {
+	var read C.struct_osb_details
+	text, err := textFrom(func(buffer *C.uint8_t, bytes C.size_t, needed *C.size_t) C.uint32_t {
+		return C.osb_read_details(pointer(body), size(body), &read, buffer, bytes, needed)
+	})
+	if err != nil {
+		return Details{}, err
+	}
+	rest := texts(text)
+	return Details{
+		Description:      rest.nextString(read.has_description, read.description),
+		Error:            rest.nextString(read.has_error, read.error),
+		DashboardURL:     rest.nextString(read.has_dashboard_url, read.dashboard_url),
+		Operation:        rest.nextString(read.has_operation, read.operation),
+		Metadata:         rest.next(read.has_metadata, read.metadata),
+		InstanceUsable:   optionalBool(read.has_instance_usable, read.instance_usable),
+		UpdateRepeatable: optionalBool(read.has_update_repeatable, read.update_repeatable),
+	}, nil
+}
+
+// optionalBool is a boolean that may be missing.
+func optionalBool(isThere, value C.bool) *bool {
+	if !isThere {
+		return nil
+	}
+	given := bool(value)
+	return &given
 }

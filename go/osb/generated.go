@@ -62,8 +62,6 @@ const (
 	ErrImpossible Status = C.OSB_IMPOSSIBLE
 	// The response isn't surely the broker's: a timeout takes its place.
 	ErrNoAnswer Status = C.OSB_NO_ANSWER
-	// No operation is named.
-	ErrNoOperation Status = C.OSB_NO_OPERATION
 	// The value is no number of seconds.
 	ErrNoSeconds Status = C.OSB_NO_SECONDS
 	// The value doesn't name this user and this password.
@@ -188,7 +186,6 @@ var meanings = map[Status]string{
 	ErrNothingBegun:             "no work is pending",
 	ErrImpossible:               "each member is one of its kind, and together they can't come about",
 	ErrNoAnswer:                 "the response isn't surely the broker's: a timeout takes its place",
-	ErrNoOperation:              "no operation is named",
 	ErrNoSeconds:                "the value is no number of seconds",
 	ErrUnauthorized:             "the value doesn't name this user and this password",
 	ErrNotRefused:               "the status is no refusal",

@@ -7,8 +7,8 @@ import "database/sql/driver"
 
 // A Holding is what a broker keeps of one instance, for a row of a database: a row or none, pending work or none, the
 // digest of the attributes of both, and a tombstone if the instance has ended. It is a value, may be copied and
-// compared, and owns nothing. The zero Holding holds nothing: an id that no request has come for has that. Each call
-// returns the next holding, or with an error the holding as it was.
+// compared, and owns nothing. The zero Holding holds nothing: an id without any request has that. Each call returns the
+// next holding, or with an error the holding as it was.
 type Holding struct {
 	row                           BrokerRow
 	work                          Request
@@ -34,8 +34,8 @@ type BrokerRow struct {
 	Phase         Phase
 }
 
-// A Begun is what comes of a request at once: an answer to send if Work is WorkNone, and else the work that is due and
-// pending.
+// A Begun is the immediate result of a request: an answer to send if Work is WorkNone, and else the work that is due
+// and pending.
 type Begun struct {
 	Answer Answer
 	Work   Work
@@ -53,9 +53,9 @@ func (h Holding) HasTombstone() bool { return h.hasTombstone }
 // Attributes is the digest of the attributes of row and work.
 func (h Holding) Attributes() Digest { return h.attributes }
 
-// Fits is whether the holding can come about at a plan of the mode, that of the row's plan, or if there is no row that
-// of the pending request's. A program asks it of each holding that comes from its database: at another mode End would
-// forget what was made.
+// Fits is whether the holding is possible at a plan of the mode, that of the row's plan, or if there is no row that of
+// the pending request's. A program asks it of each holding of its database: at another mode End would forget what was
+// made.
 func (h Holding) Fits(mode Mode) bool {
 	holding := h.c()
 	return bool(C.osb_holding_fits(&holding, C.uint8_t(mode)))
@@ -92,7 +92,7 @@ func (h Holding) BeginIf(mode Mode, request Request, rules Rules, mayBegin bool)
 func (h Holding) next(holding *C.struct_osb_holding, begun *C.struct_osb_begun, status C.uint32_t) (
 	Holding, Begun, error,
 ) {
-	if err := done(status); err != nil {
+	if err := errorOf(status); err != nil {
 		return h, Begun{}, err
 	}
 	return holdingOf(*holding), begunOf(*begun), nil
@@ -128,31 +128,31 @@ func (h Holding) IsThere(service, plan ID) bool {
 func (h Holding) End(mode Mode, outcome Outcome) (Holding, Answer, error) {
 	holding := h.c()
 	var answer C.struct_osb_answer
-	if err := done(C.osb_holding_end(&holding, C.uint8_t(mode), C.uint8_t(outcome), &answer)); err != nil {
+	if err := errorOf(C.osb_holding_end(&holding, C.uint8_t(mode), C.uint8_t(outcome), &answer)); err != nil {
 		return h, Answer{}, err
 	}
 	return holdingOf(holding), answerOf(answer), nil
 }
 
-// Finish ends the operation that runs on the instance, well (ok) or badly. What comes back is written to the database
-// before anyone is told.
+// Finish ends the operation that runs on the instance, well (ok) or badly. The result is written to the database before
+// anything is reported.
 //
 // Errors: ErrBadHolding, ErrNothingRunning.
 func (h Holding) Finish(ok bool) (Holding, error) {
 	holding := h.c()
-	if err := done(C.osb_holding_finish(&holding, C.bool(ok))); err != nil {
+	if err := errorOf(C.osb_holding_finish(&holding, C.bool(ok))); err != nil {
 		return h, err
 	}
 	return holdingOf(holding), nil
 }
 
 // GiveUpWaiting gives up an instance that has waited too long for its first Poll: it has failed then, and nothing of it
-// was made. Write the holding to the database before anyone is told.
+// was made. Write the holding to the database before anything is reported.
 //
 // Errors: ErrBadHolding, ErrNotWaiting.
 func (h Holding) GiveUpWaiting() (Holding, error) {
 	holding := h.c()
-	if err := done(C.osb_holding_give_up_waiting(&holding)); err != nil {
+	if err := errorOf(C.osb_holding_give_up_waiting(&holding)); err != nil {
 		return h, err
 	}
 	return holdingOf(holding), nil
@@ -163,7 +163,7 @@ func (h Holding) GiveUpWaiting() (Holding, error) {
 // Errors: ErrBadHolding, ErrMemory.
 func (h Holding) MarshalJSON() ([]byte, error) {
 	holding := h.c()
-	return written(func(buffer *C.uint8_t, bytes C.size_t, needed *C.size_t) C.uint32_t {
+	return textFrom(func(buffer *C.uint8_t, bytes C.size_t, needed *C.size_t) C.uint32_t {
 		return C.osb_holding_to_text(&holding, buffer, bytes, needed)
 	})
 }
@@ -173,7 +173,7 @@ func (h Holding) MarshalJSON() ([]byte, error) {
 // Errors: ErrNotUTF8, ErrNotJSON, ErrNotAnObject, ErrBadVersion, ErrBadOuter, ErrBadMember, ErrImpossible, ErrMemory.
 func (h *Holding) UnmarshalJSON(text []byte) error {
 	var holding C.struct_osb_holding
-	if err := done(C.osb_holding_from_text(pointer(text), size(text), &holding)); err != nil {
+	if err := errorOf(C.osb_holding_from_text(pointer(text), size(text), &holding)); err != nil {
 		return err
 	}
 	*h = holdingOf(holding)

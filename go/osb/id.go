@@ -1,6 +1,8 @@
 package osb
 
-// #include <osb.h>
+/*
+#include <osb.h>
+*/
 import "C"
 
 import (
@@ -23,7 +25,7 @@ type ID [16]byte
 func IDOfText(text string) (ID, error) {
 	given := []byte(text)
 	var id C.struct_osb_id
-	if err := done(C.osb_id_of_text(pointer(given), size(given), &id)); err != nil {
+	if err := errorOf(C.osb_id_of_text(pointer(given), size(given), &id)); err != nil {
 		return ID{}, err
 	}
 	return idOf(id), nil
@@ -79,7 +81,7 @@ func (id ID) textOfLibrary() (text [36]byte) {
 // UnmarshalText reads an id as ParseID does. Where it is refused the id is as before.
 func (id *ID) UnmarshalText(text []byte) error {
 	var read C.struct_osb_id
-	if err := done(C.osb_id_from_text(pointer(text), size(text), &read)); err != nil {
+	if err := errorOf(C.osb_id_from_text(pointer(text), size(text), &read)); err != nil {
 		return err
 	}
 	*id = idOf(read)
@@ -116,4 +118,47 @@ func idOf(id C.struct_osb_id) ID {
 	binary.BigEndian.PutUint64(read[:8], uint64(id.high))
 	binary.BigEndian.PutUint64(read[8:], uint64(id.low))
 	return read
+}
+
+// Names are the texts of a request's ids, as the platform and the catalogue have them: each is any string of 1 to 255
+// bytes of UTF-8, and IDOfText is its number.
+type Names struct {
+	Instance string // instance_id, which stands in the path
+	Service  string // service_id
+	Plan     string // plan_id
+}
+
+// WriteNamedTarget writes the target of a request: the path, which begins with the prefix (empty, or what the
+// broker's URL has before /v2, with no question mark), and the query. The texts of the ids are escaped as a path and
+// a query need it (sections Provisioning, Polling Last Operation for Service Instances and Deprovisioning). Each text
+// must be that of the request's id, so no other instance is asked for. The operation is the broker's, or nil; give
+// one to a Poll alone.
+//
+// Errors: ErrNotUTF8 (prefix, any text, or operation), ErrBadKind, ErrNotInstanceText, ErrNotServiceText,
+// ErrNotPlanText, ErrMemory. An instance named "." or ".." is ErrNotInstanceText too, since HTTP clients resolve such a
+// path.
+func WriteNamedTarget(prefix string, request Request, names Names, operation *string) (string, error) {
+	before, asked := []byte(prefix), request.c()
+	instance, service, plan := []byte(names.Instance), []byte(names.Service), []byte(names.Plan)
+	named, hasOperation := optional(operation)
+	text, err := textFrom(func(buffer *C.uint8_t, bytes C.size_t, needed *C.size_t) C.uint32_t {
+		return C.osb_write_named_target(pointer(before), size(before), &asked, pointer(instance), size(instance),
+			pointer(service), size(service), pointer(plan), size(plan), hasOperation, pointer(named), size(named),
+			buffer, bytes, needed)
+	})
+	return string(text), err
+}
+
+// WriteNamedBody writes the body of a request of the kind with the texts of its ids: of a Provision an object of the
+// service, the plan, the organization and the space, neither of which may be empty, and the members of further, the
+// text of an object ({} for none), as context, parameters or maintenance_info; else an empty text (section
+// Provisioning). It doesn't compare the texts with a request: WriteNamedTarget does.
+//
+// Errors: ErrNotUTF8 (any text), ErrBadKind, ErrNotJSON and ErrNotAnObject (further), ErrMemory.
+func WriteNamedBody(kind Kind, names Names, organization, space string, further []byte) ([]byte, error) {
+	service, plan, org, place := []byte(names.Service), []byte(names.Plan), []byte(organization), []byte(space)
+	return textFrom(func(buffer *C.uint8_t, bytes C.size_t, needed *C.size_t) C.uint32_t {
+		return C.osb_write_named_body(C.uint8_t(kind), pointer(service), size(service), pointer(plan), size(plan),
+			pointer(org), size(org), pointer(place), size(place), pointer(further), size(further), buffer, bytes, needed)
+	})
 }

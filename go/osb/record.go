@@ -40,7 +40,7 @@ func Create(id, service, plan ID, acceptsIncomplete bool) (Record, Sent) {
 func RecordFromRow(row PlatformRow) (Record, error) {
 	var record C.struct_osb_record
 	given := row.c()
-	if err := done(C.osb_record_from_row(&given, &record)); err != nil {
+	if err := errorOf(C.osb_record_from_row(&given, &record)); err != nil {
 		return Record{}, err
 	}
 	return recordOf(record), nil
@@ -68,7 +68,7 @@ func (r Record) Attempt() uint64 { return r.attempt }
 func (r Record) Send(id ID) (Record, Sent, error) {
 	record := r.c()
 	var request C.struct_osb_request
-	if err := done(C.osb_record_send(&record, id.c(), &request)); err != nil {
+	if err := errorOf(C.osb_record_send(&record, id.c(), &request)); err != nil {
 		return r, Sent{}, err
 	}
 	return recordOf(record), Sent{Request: requestOf(request), Attempt: uint64(record.attempt)}, nil
@@ -141,7 +141,7 @@ func (r Record) IsGone() bool {
 
 // next is the record that a call gave, or the one before where it wasn't done.
 func (r Record) next(record *C.struct_osb_record, status C.uint32_t) (Record, error) {
-	if err := done(status); err != nil {
+	if err := errorOf(status); err != nil {
 		return r, err
 	}
 	return recordOf(*record), nil
@@ -152,7 +152,7 @@ func (r Record) next(record *C.struct_osb_record, status C.uint32_t) (Record, er
 // Errors: ErrBadRecord, ErrMemory.
 func (r Record) MarshalJSON() ([]byte, error) {
 	record := r.c()
-	return written(func(buffer *C.uint8_t, bytes C.size_t, needed *C.size_t) C.uint32_t {
+	return textFrom(func(buffer *C.uint8_t, bytes C.size_t, needed *C.size_t) C.uint32_t {
 		return C.osb_record_to_text(&record, buffer, bytes, needed)
 	})
 }
@@ -162,7 +162,7 @@ func (r Record) MarshalJSON() ([]byte, error) {
 // Errors: ErrNotUTF8, ErrNotJSON, ErrNotAnObject, ErrBadVersion, ErrBadOuter, ErrBadMember, ErrImpossible, ErrMemory.
 func (r *Record) UnmarshalJSON(text []byte) error {
 	var record C.struct_osb_record
-	if err := done(C.osb_record_from_text(pointer(text), size(text), &record)); err != nil {
+	if err := errorOf(C.osb_record_from_text(pointer(text), size(text), &record)); err != nil {
 		return err
 	}
 	*r = recordOf(record)

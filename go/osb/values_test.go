@@ -1,303 +1,311 @@
 package osb_test
 
 import (
+	"database/sql"
+	"database/sql/driver"
+	"encoding"
+	"encoding/json"
 	"errors"
+	"fmt"
+	"net/http"
 	"testing"
 
 	"pippinterm/osb"
 )
 
-// The words of a holding in these tables.
-const (
-	front     = `{"attributes":"0000000000000000000000000000000000000000000000000000000000000000","row":`
-	none      = front + `null,"tombstone":false,"version":2,"work":null}`
-	tombstone = front + `null,"tombstone":true,"version":2,"work":null}`
-	ready     = front + readyRow + `,"tombstone":false,"version":2,"work":null}`
-	running   = front + makingRow + `,"tombstone":false,"version":2,"work":null}`
-
-	syncIDs   = `"plan":"00000000-0000-0000-0000-0000000000b1","service":"00000000-0000-0000-0000-0000000000a0"`
-	asyncIDs  = `"plan":"00000000-0000-0000-0000-0000000000b2","service":"00000000-0000-0000-0000-0000000000a0"`
-	readyRow  = `{"phase":"ready",` + syncIDs + `}`
-	makingRow = `{"phase":"making",` + asyncIDs + `}`
-
-	provisionWork = `{"accepts_incomplete":true,"id":"00000000-0000-0000-0000-000000000001","kind":"provision",`
-	deleteWork    = `{"accepts_incomplete":true,"id":"00000000-0000-0000-0000-000000000001","kind":"deprovision",`
+// What each type is to the standard library.
+var (
+	_ encoding.TextMarshaler   = osb.ID{}
+	_ encoding.TextUnmarshaler = (*osb.ID)(nil)
+	_ driver.Valuer            = osb.ID{}
+	_ sql.Scanner              = (*osb.ID)(nil)
+	_ json.Marshaler           = osb.Record{}
+	_ json.Unmarshaler         = (*osb.Record)(nil)
+	_ driver.Valuer            = osb.Record{}
+	_ sql.Scanner              = (*osb.Record)(nil)
+	_ json.Marshaler           = osb.Holding{}
+	_ json.Unmarshaler         = (*osb.Holding)(nil)
+	_ driver.Valuer            = osb.Holding{}
+	_ sql.Scanner              = (*osb.Holding)(nil)
 )
 
-// A holding with a row in a phase, of the asynchronous plan.
-func asyncRow(phase string) string {
-	return front + `{"phase":"` + phase + `",` + asyncIDs + `},"tombstone":false,"version":2,"work":null}`
-}
+// The text of a record that was just created, from docs/instance.md.
+const createdText = `{"attempt":1,"out":"provision","plan":"00000000-0000-0000-0000-0000000000b1",` +
+	`"service":"00000000-0000-0000-0000-0000000000a0","state":"wanted","version":1}`
 
-// A holding with this work, and a row or null.
-func working(row, work string) string {
-	return front + row + `,"tombstone":false,"version":2,"work":` + work + `}`
-}
-
-func holdingOf(t *testing.T, text string) osb.Holding {
-	t.Helper()
-	var holding osb.Holding
-	if err := holding.UnmarshalJSON([]byte(text)); err != nil {
-		t.Fatalf("%s: %v", text, err)
+func TestID(t *testing.T) {
+	id, err := osb.ParseID("12345678-9ABC-def0-1234-56789abcdef0")
+	if err != nil || id.String() != "12345678-9abc-def0-1234-56789abcdef0" {
+		t.Errorf("got %v, %v, want the id in lower case", id, err)
 	}
-	return holding
+	if id != (osb.ID{0x12, 0x34, 0x56, 0x78, 0x9a, 0xbc, 0xde, 0xf0, 0x12, 0x34, 0x56, 0x78, 0x9a, 0xbc, 0xde, 0xf0}) {
+		t.Errorf("bytes: got %x, want those of the text", id[:])
+	}
+	for _, text := range []string{"", "1", "12345678-9abc-def0-1234-56789abcdef", "12345678_9abc-def0-1234-56789abcdef0"} {
+		before := id
+		if err := id.UnmarshalText([]byte(text)); !errors.Is(err, osb.ErrNotAnID) || id != before {
+			t.Errorf("%q: got %v, want ErrNotAnID, and no change", text, err)
+		}
+	}
+	as, err := json.Marshal(map[osb.ID]osb.ID{id: id})
+	if err != nil || string(as) != `{"`+id.String()+`":"`+id.String()+`"}` {
+		t.Errorf("got %s, %v, want the id twice", as, err)
+	}
+	var back map[osb.ID]osb.ID
+	if err := json.Unmarshal(as, &back); err != nil || back[id] != id {
+		t.Errorf("got %v, %v, want %v", back, err, id)
+	}
+	defer func() {
+		if recover() == nil {
+			t.Error("MustParseID of no id: got no panic, want one")
+		}
+	}()
+	osb.MustParseID("no id")
 }
 
-func textOf(t *testing.T, holding osb.Holding) string {
-	t.Helper()
+// Each value is read again from JSON and from a column, as a string and as bytes.
+func TestRoundTrips(t *testing.T) {
+	record, _ := osb.Create(instance, service, plan, false)
+	holding := holdingOf(t, "ready:sync deprovision:sync")
+	held, err := holding.MarshalJSON()
+	check(t, err)
+	for _, row := range []struct {
+		value driver.Valuer
+		text  string
+		fresh func() (sql.Scanner, func() driver.Valuer)
+	}{
+		{instance, instance.String(), func() (sql.Scanner, func() driver.Valuer) {
+			var read osb.ID
+			return &read, func() driver.Valuer { return read }
+		}},
+		{record, createdText, func() (sql.Scanner, func() driver.Valuer) {
+			var read osb.Record
+			return &read, func() driver.Valuer { return read }
+		}},
+		{holding, string(held), func() (sql.Scanner, func() driver.Valuer) {
+			var read osb.Holding
+			return &read, func() driver.Valuer { return read }
+		}},
+	} {
+		t.Run(fmt.Sprintf("%T", row.value), func(t *testing.T) {
+			column, err := row.value.Value()
+			if err != nil || column != row.text || !driver.IsValue(column) {
+				t.Errorf("got %v, %v, want %s", column, err, row.text)
+			}
+			if said := fmt.Sprint(row.value); said != row.text {
+				t.Errorf("got %s, want %s", said, row.text)
+			}
+			for _, column := range []any{row.text, []byte(row.text)} {
+				scanner, read := row.fresh()
+				if err := scanner.Scan(column); err != nil || read() != row.value {
+					t.Errorf("%s: got %v, %v, want %v", column, read(), err, row.value)
+				}
+			}
+			for _, column := range []any{nil, int64(1)} {
+				if scanner, _ := row.fresh(); scanner.Scan(column) == nil {
+					t.Errorf("%v: got no error, want one", column)
+				}
+			}
+		})
+	}
+}
+
+func TestJSON(t *testing.T) {
+	type row struct {
+		ID      osb.ID
+		Record  osb.Record
+		Holding osb.Holding
+	}
+	record, _ := osb.Create(instance, service, plan, true)
+	given := row{instance, record, holdingOf(t, "ready:sync")}
+	text, err := json.Marshal(given)
+	wanted := `{"ID":"00000000-0000-0000-0000-000000000001","Record":` + createdText + `,"Holding":` + given.Holding.String() + `}`
+	if err != nil || string(text) != wanted {
+		t.Errorf("got %s, %v, want %s", text, err, wanted)
+	}
+	var back row
+	if err := json.Unmarshal(text, &back); err != nil || back != given {
+		t.Errorf("got %+v, %v, want %+v", back, err, given)
+	}
+}
+
+// The parts of a record and of a holding, one of each.
+func TestParts(t *testing.T) {
+	record := recordOf(t, "polling 2 poll")
+	if record.Service() != service || record.Plan() != plan || record.Attempt() != 2 {
+		t.Errorf("got %v, want the service, the plan and the attempt 2", record)
+	}
+	if record.State() != osb.StatePolling || record.InFlight() != osb.KindPoll {
+		t.Errorf("got %v and %v, want polling and poll", record.State(), record.InFlight())
+	}
+	holding := holdingOf(t, "ready:sync deprovision:sync #01")
+	row, held := holding.Row()
+	if !held || row != (osb.BrokerRow{Service: service, Plan: plan, Phase: osb.PhaseReady}) {
+		t.Errorf("got %+v, %v, want the ready row", row, held)
+	}
+	if work, due := holding.Work(); !due || work != requestOf(t, "deprovision:sync") {
+		t.Errorf("got %+v, %v, want the Deprovision", work, due)
+	}
+	if holding.HasTombstone() || !holdingOf(t, "tombstone").HasTombstone() {
+		t.Errorf("got %v, want that a tombstone alone has one", holding.HasTombstone())
+	}
+	if holding.Attributes() != digestOf(t, "01") {
+		t.Errorf("got %x, want the digest of 01", holding.Attributes())
+	}
+}
+
+// What has no name among the numbers is printed as its number.
+func TestWords(t *testing.T) {
+	for _, row := range []struct {
+		value interface{ String() string }
+		word  string
+	}{
+		{osb.KindPoll, "poll"}, {osb.KindNone, "none"}, {osb.Kind(200), "Kind(200)"},
+		{osb.WorkNone, "none"}, {osb.WorkStartDeleting, "start-deleting"}, {osb.Work(200), "Work(200)"},
+	} {
+		t.Run(row.word, func(t *testing.T) {
+			if row.value.String() != row.word {
+				t.Errorf("got %v, want %s", row.value, row.word)
+			}
+		})
+	}
+}
+
+// Both sides of one instance of an asynchronous plan, with all that HTTP carries between them. What is kept of it goes
+// through its text after each step, as through a database.
+type both struct {
+	t       *testing.T
+	record  osb.Record
+	holding osb.Holding
+}
+
+// arrive has a request written, read by the broker, and answered. It returns the answer as it is sent.
+func (b *both) arrive(request osb.Request) (status int, body []byte) {
+	b.t.Helper()
+	method, err := osb.WriteMethod(request.Kind)
+	check(b.t, err)
+	texts := guids(request)
+	target, err := osb.WriteNamedTarget("/postgres", request, texts, nil)
+	check(b.t, err)
+	sent, err := osb.WriteNamedBody(request.Kind, texts, "org", "space", []byte("{}"))
+	check(b.t, err)
+	received, err := osb.ReceiveRequest("/postgres", 1000, method, target, sent)
+	check(b.t, err)
+	read, err := received.Asked.Request(b.holding.Row())
+	check(b.t, err)
+	holding, begun, err := b.holding.Begin(osb.ModeAsync, read, osb.Rules{})
+	check(b.t, err)
+	answer := begun.Answer
+	if begun.Work != osb.WorkNone {
+		holding = b.reload(holding) // pending, as after a crash
+		holding, answer, err = holding.End(osb.ModeAsync, osb.OutcomeDone)
+		check(b.t, err)
+	}
+	b.holding = b.reload(holding)
+	body, err = osb.WriteDescribedAnswer(answer, nil, nil)
+	check(b.t, err)
+	return int(answer.Status), body
+}
+
+// reload is the holding that is read from the text of a holding.
+func (b *both) reload(holding osb.Holding) (read osb.Holding) {
+	b.t.Helper()
 	text, err := holding.MarshalJSON()
+	check(b.t, err)
+	check(b.t, read.UnmarshalJSON(text))
+	return read
+}
+
+// take has the platform take an answer to a request, and fails unless the record is in this state then.
+func (b *both) take(sent osb.Sent, status int, body []byte, state osb.State) {
+	b.t.Helper()
+	answer, err := osb.ReadAnswer(sent.Request.Kind, uint16(status), body)
+	check(b.t, err)
+	record, err := b.record.Answer(sent.Attempt, answer)
+	check(b.t, err)
+	text, err := record.MarshalJSON()
+	check(b.t, err)
+	check(b.t, b.record.UnmarshalJSON(text))
+	if b.record.State() != state {
+		b.t.Fatalf("%d %s: got %v, want %v", status, body, b.record.State(), state)
+	}
+}
+
+// step sends what is due, and takes the answer.
+func (b *both) step(state osb.State, holding string) {
+	b.t.Helper()
+	record, sent, err := b.record.Send(instance)
+	check(b.t, err)
+	b.record = record
+	status, body := b.arrive(sent.Request)
+	b.take(sent, status, body, state)
+	b.holds(holding)
+}
+
+func (b *both) holds(holding string) {
+	b.t.Helper()
+	if b.holding != holdingOf(b.t, holding) {
+		b.t.Fatalf("got %s, want %s", b.holding, holding)
+	}
+}
+
+// finish ends the operation of the broker.
+func (b *both) finish() {
+	b.t.Helper()
+	holding, err := b.holding.Finish(true)
+	check(b.t, err)
+	b.holding = holding
+}
+
+// check ends the test at an error.
+func check(t testing.TB, err error) {
+	t.Helper()
 	if err != nil {
 		t.Fatal(err)
 	}
-	return string(text)
 }
 
-func request(kind osb.Kind, plan osb.ID) osb.Request {
-	return osb.Request{Kind: kind, AcceptsIncomplete: true, ID: instance, Service: service, Plan: plan}
+// What one side writes, the other reads, over a whole life: it is created, polled, deleted and polled. A copy of the
+// Provision that arrives then is rejected, and nothing is held.
+func TestBothSides(t *testing.T) {
+	record, created := osb.Create(instance, service, async, true)
+	b := &both{t: t, record: record}
+	status, body := b.arrive(created.Request)
+	b.take(created, status, body, osb.StatePolling)
+	b.holds("making:async")
+	b.step(osb.StatePolling, "making:async")
+	b.finish()
+	b.step(osb.StateReady, "ready:async")
+	record, err := b.record.Remove()
+	check(t, err)
+	b.record = record
+	b.step(osb.StateCleaningPolling, "deleting:async")
+	b.step(osb.StateCleaningPolling, "deleting:async")
+	b.finish()
+	b.step(osb.StateGone, "tombstone")
+	if status, body = b.arrive(created.Request); status != http.StatusConflict {
+		t.Errorf("got %d %s, want 409", status, body)
+	}
+	b.holds("tombstone")
 }
 
-// The table of begin in docs/instance.md, line by line; of its line 5 each work that there is.
-func TestBegin(t *testing.T) {
-	busy := working("null", provisionWork+syncIDs+`}`)
-	for _, row := range []struct {
-		line   string
-		before string
-		mode   osb.Mode
-		kind   osb.Kind
-		plan   osb.ID
-		answer osb.Answer
-		work   osb.Work
-		after  string
-	}{
-		{"1", busy, osb.ModeSync, osb.KindProvision, plan, osb.Answer{Status: 503, Body: osb.BodyOtherError}, 0, busy},
-		{"1, of another plan", working(`{"phase":"failed",`+asyncIDs+`}`, deleteWork+asyncIDs+`}`), osb.ModeSync,
-			osb.KindProvision, plan, osb.Answer{Status: 503, Body: osb.BodyOtherError}, 0,
-			working(`{"phase":"failed",`+asyncIDs+`}`, deleteWork+asyncIDs+`}`)},
-		{"2", busy, osb.ModeSync, osb.KindDeprovision, plan,
-			osb.Answer{Status: 422, Body: osb.BodyConcurrencyError}, 0, busy},
-		{"3", busy, osb.ModeSync, osb.KindPoll, plan, osb.Answer{Status: 200, Body: osb.BodyInProgress}, 0, busy},
-		{"4", tombstone, osb.ModeSync, osb.KindProvision, plan,
-			osb.Answer{Status: 409, Body: osb.BodyOtherError}, 0, tombstone},
-		{"5, make", none, osb.ModeSync, osb.KindProvision, plan, osb.Answer{}, osb.WorkMake, busy},
-		{"5, start making", none, osb.ModeAsync, osb.KindProvision, async, osb.Answer{}, osb.WorkStartMaking,
-			working("null", provisionWork+asyncIDs+`}`)},
-		{"5, delete", ready, osb.ModeSync, osb.KindDeprovision, plan, osb.Answer{}, osb.WorkDelete,
-			working(readyRow, deleteWork+syncIDs+`}`)},
-		{"5, start deleting", asyncRow("failed"), osb.ModeAsync, osb.KindDeprovision, async, osb.Answer{},
-			osb.WorkStartDeleting, working(`{"phase":"failed",`+asyncIDs+`}`, deleteWork+asyncIDs+`}`)},
-		{"6", none, osb.ModeSync, osb.KindDeprovision, plan, osb.Answer{Status: 410, Body: osb.BodyOtherError}, 0, tombstone},
-		{"7, not on sale", none, osb.ModeNone, osb.KindProvision, plan,
-			osb.Answer{Status: 400, Body: osb.BodyOtherError}, 0, none},
-		{"7, there already", ready, osb.ModeSync, osb.KindProvision, plan,
-			osb.Answer{Status: 200, Body: osb.BodyEmpty}, 0, ready},
-		{"7, a Poll", running, osb.ModeAsync, osb.KindPoll, async,
-			osb.Answer{Status: 200, Body: osb.BodyInProgress}, 0, running},
-	} {
-		after, begun, err := holdingOf(t, row.before).Begin(row.mode, request(row.kind, row.plan), osb.Rules{})
-		if err != nil || begun != (osb.Begun{Answer: row.answer, Work: row.work}) || textOf(t, after) != row.after {
-			t.Errorf("line %s: %+v, %v, %s", row.line, begun, err, textOf(t, after))
-		}
+// The Provision arrives only after its deletion was answered with 410: it is rejected, and nothing is held.
+func TestProvisionAfterThe410(t *testing.T) {
+	record, created := osb.Create(instance, service, async, true)
+	b := &both{t: t}
+	var err error
+	b.record, err = record.Timeout(created.Attempt)
+	check(t, err)
+	b.step(osb.StateGone, "tombstone")
+	if status, body := b.arrive(created.Request); status != http.StatusConflict {
+		t.Errorf("got %d %s, want 409", status, body)
 	}
+	b.holds("tombstone")
 }
 
-// The table of end in docs/instance.md, line by line.
-func TestEnd(t *testing.T) {
-	making, starting := working("null", provisionWork+syncIDs+`}`), working("null", provisionWork+asyncIDs+`}`)
-	deleting := working(readyRow, deleteWork+syncIDs+`}`)
-	startDeleting := working(`{"phase":"ready",`+asyncIDs+`}`, deleteWork+asyncIDs+`}`)
-	for _, row := range []struct {
-		before  string
-		mode    osb.Mode
-		outcome osb.Outcome
-		status  uint16
-		after   string
-	}{
-		{making, osb.ModeSync, osb.OutcomeDone, 201, ready},
-		{starting, osb.ModeAsync, osb.OutcomeDone, 202, running},
-		{making, osb.ModeSync, osb.OutcomeAfter, 500, ready},
-		{starting, osb.ModeAsync, osb.OutcomeAfter, 500, running},
-		{making, osb.ModeSync, osb.OutcomeBefore, 500, none},
-		{deleting, osb.ModeSync, osb.OutcomeDone, 200, tombstone},
-		{deleting, osb.ModeSync, osb.OutcomeAfter, 500, tombstone},
-		{startDeleting, osb.ModeAsync, osb.OutcomeDone, 202, asyncRow("deleting")},
-		{startDeleting, osb.ModeAsync, osb.OutcomeAfter, 500, asyncRow("deleting")},
-		{deleting, osb.ModeSync, osb.OutcomeBefore, 500, ready},
-	} {
-		before := holdingOf(t, row.before)
-		if !before.Fits(row.mode) {
-			t.Errorf("%s doesn't fit %v", row.before, row.mode)
-		}
-		after, answer, err := before.End(row.mode, row.outcome)
-		if err != nil || answer.Status != row.status || textOf(t, after) != row.after {
-			t.Errorf("%s, %v: %+v, %v, %s", row.before, row.outcome, answer, err, textOf(t, after))
-		}
-	}
-}
-
-// A backend refuses a Provision, and nothing else.
-func TestRefusedWork(t *testing.T) {
-	making, deleting := working("null", provisionWork+syncIDs+`}`), working(readyRow, deleteWork+syncIDs+`}`)
-	for outcome, status := range map[osb.Outcome]uint16{osb.OutcomeRefused400: 400, osb.OutcomeRefused422: 422} {
-		after, answer, err := holdingOf(t, making).End(osb.ModeSync, outcome)
-		if err != nil || answer != (osb.Answer{Status: status, Body: osb.BodyOtherError}) || textOf(t, after) != tombstone {
-			t.Errorf("%v: %+v, %v, %v", outcome, answer, err, after)
-		}
-		after, _, err = holdingOf(t, deleting).End(osb.ModeSync, outcome)
-		if !errors.Is(err, osb.ErrNotAProvision) || textOf(t, after) != deleting {
-			t.Errorf("%v: %v, %v", outcome, err, after)
-		}
-	}
-}
-
-// With the rule of the first Poll, an instance is made only once it was polled.
-func TestFirstPoll(t *testing.T) {
-	rules := osb.Rules{FirstPoll: true}
-	waiting, begun, err := osb.Holding{}.Begin(osb.ModeAsync, request(osb.KindProvision, async), rules)
-	if answer := (osb.Answer{Status: 202, Body: osb.BodyEmpty}); err != nil || begun != (osb.Begun{Answer: answer}) ||
-		textOf(t, waiting) != asyncRow("waiting") {
-		t.Errorf("%+v, %v, %v", begun, err, waiting)
-	}
-	making, begun, err := waiting.Begin(osb.ModeAsync, request(osb.KindPoll, async), rules)
-	if answer := (osb.Answer{Status: 200, Body: osb.BodyInProgress}); err != nil || begun != (osb.Begun{Answer: answer}) ||
-		textOf(t, making) != asyncRow("making") {
-		t.Errorf("%+v, %v, %v", begun, err, making)
-	}
-	if failed, err := waiting.GiveUpWaiting(); err != nil || textOf(t, failed) != asyncRow("failed") {
-		t.Errorf("%v, %v", err, failed)
-	}
-	if same, err := making.GiveUpWaiting(); !errors.Is(err, osb.ErrNotWaiting) || same != making {
-		t.Errorf("%v, %v", err, same)
-	}
-}
-
-// The table of finish in docs/instance.md.
-func TestFinish(t *testing.T) {
-	for _, row := range []struct {
-		before string
-		ok     bool
-		after  string
-	}{
-		{asyncRow("making"), true, asyncRow("ready")},
-		{asyncRow("making"), false, asyncRow("failed")},
-		{asyncRow("deleting"), true, tombstone},
-		{asyncRow("deleting"), false, asyncRow("delete-failed")},
-	} {
-		after, err := holdingOf(t, row.before).Finish(row.ok)
-		if err != nil || textOf(t, after) != row.after {
-			t.Errorf("%s, %v: %v, %s", row.before, row.ok, err, textOf(t, after))
-		}
-	}
-}
-
-// The parts of a holding, one of each.
-func TestParts(t *testing.T) {
-	holding := holdingOf(t, working(readyRow, deleteWork+syncIDs+`}`))
-	row, held := holding.Row()
-	if !held || row != (osb.BrokerRow{Service: service, Plan: plan, Phase: osb.PhaseReady}) {
-		t.Errorf("row: %+v, %v", row, held)
-	}
-	if work, due := holding.Work(); !due || work != request(osb.KindDeprovision, plan) {
-		t.Errorf("work: %+v, %v", work, due)
-	}
-	if holding.HasTombstone() || !holdingOf(t, tombstone).HasTombstone() {
-		t.Error("the tombstone")
-	}
-	if holdingOf(t, none) != (osb.Holding{}) {
-		t.Error("none isn't the zero holding")
-	}
-	if holding.Fits(osb.ModeNone) || holdingOf(t, running).Fits(osb.ModeSync) {
-		t.Error("a holding fits a plan that can't have it")
-	}
-}
-
-// Work of each kind. python/osb_tests/test_values.py has each mode.
-func TestWorkOf(t *testing.T) {
-	for _, row := range []struct {
-		kind osb.Kind
-		mode osb.Mode
-		work osb.Work
-	}{
-		{osb.KindProvision, osb.ModeSync, osb.WorkMake},
-		{osb.KindDeprovision, osb.ModeAsync, osb.WorkStartDeleting},
-		{osb.KindProvision, osb.ModeNone, osb.WorkNone},
-	} {
-		if work := osb.WorkOf(row.kind, row.mode); work != row.work {
-			t.Errorf("%v, %v: %v", row.kind, row.mode, work)
-		}
-	}
-}
-
-// One record through each of its calls, by the table of docs/instance.md.
-func TestRecord(t *testing.T) {
-	record, sent := osb.Create(instance, service, async, true)
-	if sent != (osb.Sent{Request: request(osb.KindProvision, async), Attempt: 1}) {
-		t.Errorf("create: %+v", sent)
-	}
-	if record.Service() != service || record.Plan() != async || record.Attempt() != 1 {
-		t.Errorf("create: %+v", record)
-	}
-	step := func(what string, next osb.Record, err error, state osb.State, out osb.Kind) {
-		t.Helper()
-		record = next
-		if err != nil || record.State() != state || record.InFlight() != out {
-			t.Errorf("%s: %v, %v, %v", what, err, record.State(), record.InFlight())
-		}
-	}
-	step("create", record, nil, osb.StateWanted, osb.KindProvision)
-	next, err := record.Answer(1, osb.Answer{Status: 202, Body: osb.BodyEmpty})
-	step("answer", next, err, osb.StatePolling, osb.KindNone)
-	next, sent, err = record.Send(instance)
-	step("send", next, err, osb.StatePolling, osb.KindPoll)
-	if sent.Attempt != 2 {
-		t.Errorf("send: %d", sent.Attempt)
-	}
-	next, err = record.Timeout(2)
-	step("timeout", next, err, osb.StatePolling, osb.KindNone)
-	expired, err := record.Expire()
-	step("expire", expired, err, osb.StateCleaning, osb.KindNone)
-	next, err = next.Remove()
-	step("remove", next, err, osb.StateCleaning, osb.KindNone)
-	next, sent, err = record.Send(instance)
-	step("send", next, err, osb.StateCleaning, osb.KindDeprovision)
-	next, err = record.Answer(sent.Attempt, osb.Answer{Status: 410, Body: osb.BodyMalformed})
-	step("answer", next, err, osb.StateGone, osb.KindNone)
-
-	record, _ = osb.Create(instance, service, async, true)
-	next, err = record.Timeout(1)
-	step("timeout", next, err, osb.StateCleaning, osb.KindNone)
-	next, sent, err = record.Send(instance)
-	step("send", next, err, osb.StateCleaning, osb.KindDeprovision)
-	next, err = record.Answer(sent.Attempt, osb.Answer{Status: 202, Body: osb.BodyEmpty})
-	step("answer", next, err, osb.StateCleaningPolling, osb.KindNone)
-	next, err = record.Retry()
-	step("retry", next, err, osb.StateCleaning, osb.KindNone)
-
-	row := osb.PlatformRow{Service: service, Plan: plan, State: osb.StateWanted, InFlight: osb.KindProvision}
-	next, err = osb.RecordFromRow(row)
-	step("from a row", next, err, osb.StateCleaning, osb.KindNone)
-	if record.Attempt() != 0 {
-		t.Errorf("from a row: %d", record.Attempt())
-	}
-}
-
-// A line of each of the platform's tables, from docs/platform.md. python/osb_tests/test_rules.py has all lines of those
-// for answers.
-func TestTables(t *testing.T) {
-	unread, succeeded := osb.Answer{Status: 201}, osb.Answer{Status: 200, Body: osb.BodySucceeded}
-	if osb.DecideProvision(unread) != osb.StateCleaning || !osb.Mitigates(unread) || osb.Mitigates(succeeded) {
-		t.Error("the answer to a Provision")
-	}
-	if !succeeded.IsWellFormed(osb.KindPoll) || succeeded.IsWellFormed(osb.KindProvision) {
-		t.Error("well formed")
-	}
-	if osb.DecidePoll(osb.StateCleaningPolling, succeeded) != osb.StateGone ||
-		osb.DecidePoll(99, succeeded) != osb.StateNone {
-		t.Error("the answer to a Poll")
-	}
-	if osb.DecideDeprovision(osb.Answer{Status: 202, Body: osb.BodyEmpty}) != osb.StateCleaningPolling {
-		t.Error("the answer to a Deprovision")
-	}
-	if osb.DecideTimeout(osb.StateWanted) != osb.StateCleaning || osb.DecideRestart(osb.StateReady) != osb.StateReady {
-		t.Error("no answer")
+// The library that is linked has the version of the header over which the package was compiled.
+func TestLinkedVersion(t *testing.T) {
+	if osb.Version() != osb.HeaderVersion || osb.HeaderVersion < 300 {
+		t.Errorf("got the library's version %d, want the header's %d, at least 300", osb.Version(), osb.HeaderVersion)
 	}
 }

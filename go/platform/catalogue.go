@@ -83,19 +83,19 @@ func ReadCatalogue(document []byte) (*Catalogue, error) {
 	}
 	read := &Catalogue{HasTombstones: written.Tombstones == true, Store: StoreOf(document)}
 	modes := readModes(document)
-	for _, it := range written.Services {
-		number, err := osb.IDOfText(it.ID)
+	for _, service := range written.Services {
+		number, err := osb.IDOfText(service.ID)
 		if err != nil {
 			continue
 		}
 		retrievable, err := osb.BindingsRetrievable(document, number)
 		if err != nil {
-			return nil, fmt.Errorf("the service %q: %w", it.ID, err)
+			return nil, fmt.Errorf("the service %q: %w", service.ID, err)
 		}
 		read.Services = append(read.Services, CatalogueService{
-			ID: it.ID, Name: it.Name, Description: it.Description, Number: number,
-			IsRetrievable: retrievable, InstancesRetrievable: it.Retrievable == true,
-			Plans: modes.plans(number, it),
+			ID: service.ID, Name: service.Name, Description: service.Description, Number: number,
+			IsRetrievable: retrievable, InstancesRetrievable: service.Retrievable == true,
+			Plans: modes.plans(number, service),
 		})
 	}
 	return read, nil
@@ -108,32 +108,32 @@ type modes struct{ works, binds map[[2]osb.ID]bool }
 func readModes(document []byte) modes {
 	given := modes{works: map[[2]osb.ID]bool{}, binds: map[[2]osb.ID]bool{}}
 	if plans, err := osb.CataloguePlans(document); err == nil {
-		for _, it := range plans {
-			given.works[[2]osb.ID{it.Service, it.Plan}] = it.IsAsynchronous
+		for _, plan := range plans {
+			given.works[[2]osb.ID{plan.Service, plan.Plan}] = plan.IsAsynchronous
 		}
 	}
 	if plans, err := osb.BindingModes(document); err == nil {
-		for _, it := range plans {
-			given.binds[[2]osb.ID{it.Service, it.Plan}] = it.IsAsynchronous
+		for _, plan := range plans {
+			given.binds[[2]osb.ID{plan.Service, plan.Plan}] = plan.IsAsynchronous
 		}
 	}
 	return given
 }
 
 func (m modes) plans(service osb.ID, of writtenService) (plans []CataloguePlan) {
-	for _, it := range of.Plans {
-		number, err := osb.IDOfText(it.ID)
+	for _, plan := range of.Plans {
+		number, err := osb.IDOfText(plan.ID)
 		if err != nil {
 			continue
 		}
-		bindable, isSaid := it.Bindable.(bool)
+		bindable, isSaid := plan.Bindable.(bool)
 		if !isSaid {
 			bindable = of.Bindable == true
 		}
 		key := [2]osb.ID{service, number}
 		plans = append(plans, CataloguePlan{
-			ID: it.ID, Name: it.Name, Description: it.Description, Number: number, IsBindable: bindable,
-			IsAsynchronous: m.works[key], BindsAsynchronously: m.binds[key], LongestPoll: seconds(it.Longest),
+			ID: plan.ID, Name: plan.Name, Description: plan.Description, Number: number, IsBindable: bindable,
+			IsAsynchronous: m.works[key], BindsAsynchronously: m.binds[key], LongestPoll: seconds(plan.Longest),
 		})
 	}
 	return plans
@@ -189,8 +189,8 @@ func (s *CatalogueService) Plan(named string) *CataloguePlan {
 	return nil
 }
 
-// numbered returns the service and the plan of these numbers, or nil for what there isn't.
-func (c *Catalogue) numbered(service, plan osb.ID) (*CatalogueService, *CataloguePlan) {
+// plan returns the service and the plan of these numbers, or nil for what there isn't.
+func (c *Catalogue) plan(service, plan osb.ID) (*CatalogueService, *CataloguePlan) {
 	for at := range c.Services {
 		it := &c.Services[at]
 		if it.Number != service {

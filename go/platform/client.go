@@ -21,7 +21,7 @@ type Outgoing struct {
 	JournalTime string
 }
 
-// An Incoming is what came back.
+// An Incoming is the result of an exchange.
 type Incoming struct {
 	Answer     osb.Answer      // the answer that is taken, if Lost is nil
 	Details    osb.Details     // description, error code, dashboard URL and more
@@ -45,7 +45,7 @@ type Client interface {
 	// and follows no redirect. It takes no answer that Broker.CheckStore rejects. Lost is ErrUnreachable (by errors.Is) if there is no connection.
 	Exchange(ctx context.Context, out Outgoing) Incoming
 	// Catalogue asks for the catalogue of a broker. It takes none that Broker.CheckCatalogue rejects. An error is why it
-	// wasn't had; status is the answer's, or 0.
+	// couldn't be fetched; status is the answer's, or 0.
 	Catalogue(ctx context.Context, broker Broker) (document json.RawMessage, status int, err error)
 	// Clock is the time on a clock that is never set, and that goes on while the machine is suspended.
 	Clock() time.Time
@@ -58,3 +58,83 @@ type Vault interface {
 	// Fingerprint is the same for the same key, and shows nothing of it.
 	Fingerprint() string
 }
+
+// An Observer gets events, for a log and for metrics. Its methods return at once, and are called by any number of
+// goroutines. No password, no credentials and no body is handed to it, and no text or error of more than 1,000 bytes
+// that a broker may have written.
+type Observer interface {
+	// OnRequest is called before a request is sent, once it is recorded as in flight.
+	OnRequest(Exchange)
+	// OnAnswer is called once for each OnRequest, when its answer has arrived, or none in time. It isn't written yet:
+	// if it can't be, a Failure follows.
+	OnAnswer(Exchange)
+	// OnChange is called after a row has changed to another state, once that is written. A state that passes within a
+	// step isn't reported.
+	OnChange(key Key, before, after State)
+	// OnFailure is called if something went wrong that an operator has to know.
+	OnFailure(Failure)
+	// OnOrphan is called after an answer to the last deletion of a row that is gone (docs/platform-guide.md). isFound is
+	// whether the broker had what was recorded as gone. If not, nobody knows whether the broker has it.
+	OnOrphan(key Key, status int, isFound bool)
+	// OnCatalogue is called once a broker has answered its catalogue, so that its orders go on.
+	OnCatalogue(broker string)
+}
+
+// An Exchange is a request to a broker, and its result. Before it is sent, only the first five members count.
+type Exchange struct {
+	RequestID string // the value of X-Broker-API-Request-Identity
+	Broker    string
+	Key       Key
+	Kind      string // provision, poll, deprovision, bind, unbind, fetch
+	Attempt   uint64 // the number of the request, or 0 of a Fetch and of the last deletion of a row that is gone
+
+	Status      int    // of the answer, or 0 if none arrived
+	Error       string // the code in the answer
+	Description string // the answer's, for a person
+	Lost        error  // why no answer was taken, or nil
+	RetryAfter  time.Duration
+	Duration    time.Duration
+}
+
+// A Failure is something that went wrong.
+type Failure struct {
+	// Event is what went wrong. It is one of the following, and doesn't change:
+	//
+	//	store_failed        a transaction, or a reading, failed; reported once for each reason until one succeeds,
+	//	                    and after a transaction until one has written something
+	//	step_failed         nothing could be decided about a row; it is looked at again
+	//	answer_not_written  a request was sent, and its answer wasn't written: the lease runs out, and it is given up
+	//	lease_lost          another worker had given up the request before its answer arrived, or an operator had
+	//	                    abandoned the row
+	//	credentials_lost    the credentials of a binding couldn't be sealed; the binding isn't recorded ready
+	//	broker_unreached    the catalogue of a broker couldn't be fetched; reported once for each reason
+	//	other_store         a broker names another store than the one that is recorded: nothing is sent until that ends
+	//	broker_refuses      a broker has answered 401 or 403: nothing is sent until its catalogue is answered
+	Event     string
+	Broker    string // its name, or empty
+	Key       Key    // what it is about, if IsNamed is true
+	IsNamed   bool
+	RequestID string // of the request that it is about, or empty
+	Err       error
+}
+
+// Silent is an Observer that does nothing.
+type Silent struct{}
+
+// OnRequest does nothing.
+func (Silent) OnRequest(Exchange) {}
+
+// OnAnswer does nothing.
+func (Silent) OnAnswer(Exchange) {}
+
+// OnChange does nothing.
+func (Silent) OnChange(Key, State, State) {}
+
+// OnFailure does nothing.
+func (Silent) OnFailure(Failure) {}
+
+// OnOrphan does nothing.
+func (Silent) OnOrphan(Key, int, bool) {}
+
+// OnCatalogue does nothing.
+func (Silent) OnCatalogue(string) {}

@@ -30,6 +30,8 @@ type sending struct {
 	since   time.Time // since when the row is due
 	terms   terms
 	unsure  error // why nobody knows whether the row was written, or nil: then nothing is sent
+	// isBeside is whether it takes a place beside the usual ones.
+	isBeside bool
 }
 
 // isLast is whether it is the last deletion, of which nothing is in the record.
@@ -64,28 +66,28 @@ func needsAllGone(e Entry, t terms) bool { return !e.Key.IsBinding && e.IsSent &
 
 // decide decides on a row that is due and that nobody has leased. allGone counts if needsAllGone. The decision is made
 // of one reading of the row. So a worker that was paused before writes nothing that isn't right.
-func decide(now time.Time, held Held, allGone bool, t terms) decision {
-	held.Lease = Lease{}
-	made := decideHeld(now, held, allGone, t)
+func decide(now time.Time, snapshot Snapshot, allGone bool, t terms) decision {
+	snapshot.Lease = Lease{}
+	made := decideOf(now, snapshot, allGone, t)
 	if made.send == nil {
 		return made
 	}
 	claim, err := newID()
 	if err != nil {
-		return stuck(now, held.Entry, err, t)
+		return restStuck(now, snapshot.Entry, err, t)
 	}
 	made.entry.Lease.Claim, made.send.out.Entry.Lease.Claim = claim.String(), claim.String()
 	return made
 }
 
-// decideHeld is decide without the id of the claim.
-func decideHeld(now time.Time, held Held, allGone bool, t terms) decision {
-	e := held.Entry
+// decideOf is decide without the id of the claim.
+func decideOf(now time.Time, snapshot Snapshot, allGone bool, t terms) decision {
+	e := snapshot.Entry
 	switch {
 	case e.State == Withdrawn || e.State == Abandoned:
 		return resting(e, e.State)
 	case !e.IsSent:
-		return decideOrder(now, e, held.Instance, t)
+		return decideOrder(now, e, snapshot.Instance, t)
 	case e.State == Gone:
 		return decideGone(now, e, t)
 	}
@@ -103,8 +105,8 @@ func holding(until time.Time, e Entry, before State) decision {
 	return decision{entry: e, before: before}
 }
 
-// stuck is the decision of a row of which nothing can be decided. It doesn't keep others waiting.
-func stuck(now time.Time, e Entry, err error, t terms) decision {
+// restStuck is the decision of a row of which nothing can be decided. It doesn't keep others waiting.
+func restStuck(now time.Time, e Entry, err error, t terms) decision {
 	e.Due = now.Add(t.pace.wait(e.Unchanged, t.longest))
 	return decision{entry: e, before: e.State, err: err}
 }
@@ -125,17 +127,17 @@ func decideOrder(now time.Time, e Entry, instance *Entry, t terms) decision {
 	if e.Key.IsBinding && instance.State != Ready {
 		return waiting(now, e, Ordered, t)
 	}
-	record, sent, err := created(e, instance, t)
+	record, sent, err := createRecord(e, instance, t)
 	if err != nil {
-		return stuck(now, e, err, t)
+		return restStuck(now, e, err, t)
 	}
 	e.IsSent, e.SentUntil, e.Unchanged = true, now.Add(t.exchange), 0
 	e.come(now, record)
-	return leased(now, e, Ordered, sent, t)
+	return leaseFor(now, e, Ordered, sent, t)
 }
 
-// created is the first record of an order, and its request.
-func created(e Entry, instance *Entry, t terms) (osb.Record, osb.Sent, error) {
+// createRecord is the first record of an order, and its request.
+func createRecord(e Entry, instance *Entry, t terms) (osb.Record, osb.Sent, error) {
 	if e.Key.IsBinding {
 		return instance.Record.CreateBinding(e.Key.Binding, t.isRetrievable)
 	}
@@ -155,7 +157,7 @@ func mayBeReady(instance *Entry) bool {
 	return false
 }
 
-// decideGone sends the last deletion, once its time has come.
+// decideGone sends the last deletion, once it is due.
 func decideGone(now time.Time, e Entry, t terms) decision {
 	if !e.HasLast || t.hold == 0 {
 		e.HasLast = false
@@ -164,7 +166,7 @@ func decideGone(now time.Time, e Entry, t terms) decision {
 	if until := e.lastDue(t); now.Before(until) {
 		return holding(until, e, Gone)
 	}
-	return leased(now, e, Gone, osb.Sent{Request: osb.Request{
+	return leaseFor(now, e, Gone, osb.Sent{Request: osb.Request{
 		Kind: osb.KindDeprovision, AcceptsIncomplete: true,
 		ID: e.Key.ID(), Service: e.Record.Service(), Plan: e.Record.Plan(),
 	}}, t)
@@ -175,7 +177,7 @@ func decideRecord(now time.Time, e Entry, allGone bool, t terms) decision {
 	read := e
 	isBound, err := e.bringUp(now, allGone, t)
 	if err != nil {
-		return stuck(now, read, err, t)
+		return restStuck(now, read, err, t)
 	}
 	if hasComeOn(read.State, e.State) {
 		e.Unchanged = 0
@@ -191,14 +193,14 @@ func decideRecord(now time.Time, e Entry, allGone bool, t terms) decision {
 	}
 	record, sent, err := e.Record.Send(e.Key.ID())
 	if err != nil {
-		return stuck(now, read, err, t)
+		return restStuck(now, read, err, t)
 	}
 	e.Record = record
-	return leased(now, e, read.State, sent, t)
+	return leaseFor(now, e, read.State, sent, t)
 }
 
-// leased is the decision to send a request. Whole milliseconds outlive every database.
-func leased(now time.Time, e Entry, before State, sent osb.Sent, t terms) decision {
+// leaseFor is the decision to send a request. Whole milliseconds outlive every database.
+func leaseFor(now time.Time, e Entry, before State, sent osb.Sent, t terms) decision {
 	until, since := now.Add(t.exchange+t.margin).Truncate(time.Millisecond), e.DueSince
 	if since.IsZero() {
 		since = e.Due
@@ -280,7 +282,7 @@ func (e *Entry) expire(now time.Time, t terms) error {
 	return nil
 }
 
-// come has the row come to the state of a record. What goes with the state that was left is forgotten.
+// come changes the row to the state of a record. What goes with the state that was left is forgotten.
 func (e *Entry) come(now time.Time, record osb.Record) {
 	e.Record = record
 	state := StateOf(record)
@@ -309,7 +311,7 @@ func (e *Entry) heldUntil(t terms) time.Time {
 // lastDue is when the last deletion of a row that is gone is due: once the hold has passed again.
 func (e *Entry) lastDue(t terms) time.Time { return later(e.Since, e.SentUntil).Add(t.hold) }
 
-// hasComeOn is whether a row has come on. A deletion may begin and fail again and again, and comes on by neither.
+// hasComeOn is whether a row has made progress. A deletion may begin and fail again and again: neither is progress.
 func hasComeOn(before, after State) bool {
 	return before != after && !(isDeleting(before) && isDeleting(after))
 }

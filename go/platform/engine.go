@@ -6,9 +6,12 @@ import (
 	"errors"
 	"fmt"
 	mathrand "math/rand"
+	"os"
+	"strings"
 	"sync"
 	"time"
 
+	"pippinterm/internal/crash"
 	"pippinterm/osb"
 )
 
@@ -25,7 +28,7 @@ const (
 // Options are how an Engine works. Of each that is zero, the default counts.
 type Options struct {
 	Worker   string        // the name of this worker; no other process over the Store has it
-	AtOnce   int           // how many requests are in flight at once; 16
+	AtOnce   int           // how many requests are in flight at once, without those beside (MostInFlight); 16
 	Exchange time.Duration // how long an exchange may last; 60 s
 	Margin   time.Duration // how much longer a step may take before another worker takes it over; 30 s
 	Look     time.Duration // how often it looks for what others have written; 1 s
@@ -44,7 +47,7 @@ type Options struct {
 }
 
 func (o Options) withDefaults() Options {
-	for _, it := range []struct {
+	for _, test := range []struct {
 		of      *time.Duration
 		standby time.Duration
 	}{
@@ -52,8 +55,8 @@ func (o Options) withDefaults() Options {
 		{&o.FirstPace, 2 * time.Second}, {&o.LongestPace, 2 * time.Minute}, {&o.LongestPoll, 7 * 24 * time.Hour},
 		{&o.Hold, 5 * time.Minute}, {&o.Catalogues, time.Hour},
 	} {
-		if *it.of <= 0 {
-			*it.of = it.standby
+		if *test.of <= 0 {
+			*test.of = test.standby
 		}
 	}
 	if o.AtOnce <= 0 {
@@ -85,7 +88,7 @@ type Engine struct {
 func NewEngine(store Store, client Client, vault Vault, options Options, observer Observer) *Engine {
 	return &Engine{
 		Options: options.withDefaults(), store: store, client: client, vault: vault, observer: observer,
-		once: &once{observer: observer, told: map[string]string{}}, health: &storeHealth{observer: observer},
+		once: &once{observer: observer, reasons: map[string]string{}}, health: &storeHealth{observer: observer},
 		retry: 50 * time.Millisecond, newID: newID,
 	}
 }
@@ -117,11 +120,12 @@ type run struct {
 	ctx   context.Context
 	group sync.WaitGroup
 	sites *sites
-	// inFlight are the requests that aren't answered yet, in all and of each broker. running are these, and those whose
-	// answers are being written: at most twice as many as may be in flight, so that one transaction of the Store can
-	// have the answers to some and the requests that follow.
+	// inFlight are the requests that aren't answered yet, in all and of each broker. running are these, those that are
+	// beside, and those whose answers are being written: at most twice as many as may be in flight, so that one
+	// transaction of the Store can have the answers to some and the requests that follow.
 	inFlight, running int
 	busy              map[string]int  // only brokers that have requests in flight
+	beside            map[string]int  // of each broker, the requests in flight that take no usual place
 	silent            map[string]bool // whether the last request to a broker wasn't answered
 	answered          chan heardOf    // of each request that is answered, or that won't be; it never blocks
 	ended             chan again      // of each exchange whose answer is written; it never blocks
@@ -139,7 +143,10 @@ type again struct {
 }
 
 func newRun(ctx context.Context, e *Engine) *run {
-	r := &run{Engine: e, ctx: ctx, busy: map[string]int{}, silent: map[string]bool{}, rest: backOff{first: e.retry}}
+	r := &run{
+		Engine: e, ctx: ctx, busy: map[string]int{}, beside: map[string]int{}, silent: map[string]bool{},
+		rest: backOff{first: e.retry},
+	}
 	r.answered, r.ended = make(chan heardOf, 2*e.AtOnce), make(chan again, 2*e.AtOnce)
 	r.sites = newSites(ctx, e, &r.group)
 	return r
@@ -274,7 +281,7 @@ func (r *run) ask(names []string) {
 
 // begin claims what is due, and begins its exchanges.
 func (r *run) begin(names []string, most int) {
-	claim := r.claim(r.ctx, r.sites, names, most)
+	claim := r.claim(r.ctx, r.sites, names, most, r.spare())
 	r.start(claim.sendings)
 	r.known = time.Time{}
 	if claim.err == nil && claim.claimed > 0 {
@@ -297,16 +304,15 @@ const shortRest = 10 * time.Millisecond
 
 // start begins an exchange for each request.
 func (r *run) start(sendings []*sending) {
-	for _, it := range sendings {
-		it := it
+	for _, sending := range sendings {
+		it := sending
 		r.running++
-		r.inFlight++
-		r.busy[it.out.Broker.Name]++
+		r.take(it)
 		r.group.Add(1)
 		go func() {
 			defer r.group.Done()
 			r.ended <- r.exchange(r.ctx, r.sites, it, func(isAnswered bool) {
-				r.answered <- heardOf{it.out.Broker.Name, isAnswered}
+				r.answered <- heardOf{it.out.Broker.Name, it.isBeside, isAnswered}
 			})
 		}()
 	}
@@ -322,15 +328,15 @@ func newID() (osb.ID, error) {
 	return id, nil
 }
 
-// once tells of a failure once for each reason, until it is over. Any number of goroutines use it.
+// once reports a failure once for each reason, until it is over. Any number of goroutines use it.
 type once struct {
 	observer Observer
 	mu       sync.Mutex
-	told     map[string]string
+	reasons  map[string]string
 }
 
-// failed is whether there is an error. It tells the observer if the error is another one than before.
-func (o *once) failed(event, broker string, err error) bool {
+// hasFailed is whether there is an error. It reports the error if it is another one than before.
+func (o *once) hasFailed(event, broker string, err error) bool {
 	if errors.Is(err, context.Canceled) {
 		return true
 	}
@@ -339,11 +345,261 @@ func (o *once) failed(event, broker string, err error) bool {
 		reason = err.Error()
 	}
 	o.mu.Lock()
-	isNew := o.told[name] != reason
-	o.told[name] = reason
+	isNew := o.reasons[name] != reason
+	o.reasons[name] = reason
 	o.mu.Unlock()
 	if err != nil && isNew {
-		o.observer.Failed(Failure{Event: event, Broker: broker, Err: brief(err)})
+		o.observer.OnFailure(Failure{Event: event, Broker: broker, Err: brief(err)})
 	}
 	return err != nil
+}
+
+// heardOf is whether a request to a broker was answered.
+type heardOf struct {
+	broker               string
+	isBeside, isAnswered bool
+}
+
+// take takes a place for a request.
+func (r *run) take(it *sending) {
+	of := r.busy
+	if it.isBeside {
+		of = r.beside
+	} else {
+		r.inFlight++
+	}
+	of[it.out.Broker.Name]++
+}
+
+// free takes in that a request is answered, or won't be. That an order hangs again says nothing of its broker.
+func (r *run) free(it heardOf) {
+	if it.isBeside {
+		r.beside[it.broker]--
+		r.silent[it.broker] = r.silent[it.broker] && !it.isAnswered
+		return
+	}
+	r.inFlight--
+	if r.busy[it.broker]--; r.busy[it.broker] == 0 {
+		delete(r.busy, it.broker)
+	}
+	r.silent[it.broker] = !it.isAnswered
+}
+
+// places returns the brokers to which something may be sent, and how many requests. If there are several brokers, those
+// that don't answer don't keep the orders of all others waiting:
+//
+//   - Each takes half of the places at most. If its last request wasn't answered, it takes one.
+//   - For each that has no request in flight a place is kept, but half of the places at most.
+func (r *run) places() (names []string, most int) {
+	reached, known := r.sites.names()
+	most = least(r.AtOnce-r.inFlight, 2*r.AtOnce-r.running)
+	for _, name := range reached {
+		left := r.left(name, known)
+		if left <= 0 {
+			continue
+		}
+		names, most = append(names, name), least(most, left)
+	}
+	if len(names) == 0 {
+		most = 0
+	}
+	return names, most
+}
+
+// left is how many more requests may be sent to a broker, of so many brokers.
+func (r *run) left(name string, known int) int {
+	share, busy := r.AtOnce, r.busy[name]
+	free, others := r.AtOnce-r.inFlight, known-len(r.busy) // others are those without a request in flight
+	if busy == 0 {
+		others--
+	}
+	half := (r.AtOnce + 1) / 2
+	switch {
+	case known <= 1:
+	case r.silent[name]:
+		share = 1
+	default:
+		share = half
+	}
+	kept := least(others, half)
+	if busy == 0 { // its own place may be one of those that are kept
+		return least(share, greatest(1, free-kept))
+	}
+	return least(share-busy, free-kept)
+}
+
+// MostInFlight returns how many requests of an engine with these Options.AtOnce are in flight at once, at most: those of
+// rows whose last request the broker hasn't taken up are beside the others.
+func MostInFlight(atOnce int) int { return atOnce + mostBeside(atOnce) }
+
+func mostBeside(atOnce int) int { return greatest(1, atOnce/2) }
+
+// A spare is how many requests a claim may give places beside the usual ones: in all, and to each broker.
+type spare struct {
+	all int
+	to  map[string]int
+}
+
+// spare are the places for rows whose last request the broker hasn't taken up. Each of these may hang again. So they
+// take no usual place. Beside these there are half as many, and at least one. If there are several brokers, each has half
+// of these, and one if it is silent.
+func (r *run) spare() *spare {
+	names, known := r.sites.names()
+	found := &spare{all: mostBeside(r.AtOnce), to: map[string]int{}}
+	for _, goal := range r.beside {
+		found.all -= goal
+	}
+	for _, name := range names {
+		share := mostBeside(r.AtOnce)
+		switch {
+		case known <= 1:
+		case r.silent[name]:
+			share = 1
+		default:
+			share = (share + 1) / 2
+		}
+		found.to[name] = share - r.beside[name]
+	}
+	return found
+}
+
+// hasFor is whether there is a place for one more request to a broker, after these decisions.
+func (s *spare) hasFor(broker string, decided map[Key]decision) bool {
+	all, left := s.all, s.to[broker]
+	for _, decision := range decided {
+		if decision.send == nil || !decision.send.isBeside {
+			continue
+		}
+		if all--; decision.entry.Broker == broker {
+			left--
+		}
+	}
+	return all > 0 && left > 0
+}
+
+// isPutOff is whether the broker hasn't taken up the last request of a row. A request that its worker has left is none.
+func (e Entry) isPutOff() bool { return !e.DueSince.IsZero() && e.Lease.Worker == "" }
+
+// besides has what was decided on a row take a place beside the usual ones, if the row was put off. If there is none, the
+// row rests again for as long as after its last request: what has failed less often is due again sooner. A nil spare
+// has the row take a usual place.
+func (s *spare) besides(now time.Time, e Entry, made *decision, decided map[Key]decision) {
+	switch {
+	case s == nil || made.send == nil || !e.isPutOff():
+	case s.hasFor(e.Broker, decided):
+		made.send.isBeside = true
+	default:
+		e.Due = now.Add(made.send.terms.wait(e.Unchanged, 0))
+		*made = decision{entry: e, before: e.State}
+	}
+}
+
+func least(one, other int) int {
+	if one < other {
+		return one
+	}
+	return other
+}
+
+func greatest(one, other int) int {
+	if one > other {
+		return one
+	}
+	return other
+}
+
+// atMostAnHour is how much of a Retry-After counts: a gateway may have written it.
+func atMostAnHour(named time.Duration) time.Duration {
+	if named > time.Hour {
+		return time.Hour
+	}
+	return named
+}
+
+// A pace is how quickly a row is gone on with.
+type pace struct {
+	first   time.Duration // until the next request, if the broker names no time
+	longest time.Duration // what that grows to by doubling, each time that nothing has changed
+	// share is chance, from 0 to 1. Up to a half is added to each time, so that many rows aren't due at once. A time
+	// that the broker has named gets no longer than an hour by that.
+	share func() float64
+}
+
+// wait is the time until the next request: the back-off, or what the broker has named if that is longer. unchanged is
+// how many requests in turn have changed nothing.
+func (p pace) wait(unchanged int, named time.Duration) time.Duration {
+	chosen := p.first
+	for n := 0; n < unchanged && chosen < p.longest; n++ {
+		chosen *= 2
+	}
+	if chosen > p.longest {
+		chosen = p.longest
+	}
+	if named = atMostAnHour(named); chosen < named {
+		return atMostAnHour(p.spread(named))
+	}
+	return p.spread(chosen)
+}
+
+// spread adds up to a half to a time.
+func (p pace) spread(chosen time.Duration) time.Duration {
+	return chosen + time.Duration(float64(chosen)*p.share()/2)
+}
+
+// later is the later of two times.
+func later(one, other time.Time) time.Time {
+	if one.Before(other) {
+		return other
+	}
+	return one
+}
+
+// earlier is the earlier of two times.
+func earlier(one, other time.Time) time.Time {
+	if other.Before(one) {
+		return other
+	}
+	return one
+}
+
+// Points are the names of the platform's crash points, in the order in which an order reaches them.
+var Points = []string{
+	"order-next",    // an order, or a change that an operator asks for, is about to be committed
+	"order-written", // it is committed, and nothing is reported yet
+	"claim-next",    // it is decided on a row that is due, and nothing is committed yet
+	"claim-written", // it is committed; the request is recorded as in flight, and isn't sent yet
+	"send-next",     // the request is about to be sent
+	"send-running",  // some milliseconds later: it is being sent, or its answer awaited
+	"fetch-next",    // a Poll was answered succeeded, and the Fetch isn't sent yet
+	"take-next",     // an answer, or a timeout, is in the record, and nothing is committed yet
+	"take-written",  // it is committed
+}
+
+// A point is one of Points.
+type point string
+
+// at is between two things that have to happen in an order.
+func (p point) at() {
+	crash.At(string(p))
+}
+
+// soon is the middle of what is done next.
+func (p point) soon() {
+	crash.Soon(string(p))
+}
+
+// CheckPoint returns an error that names all Points if the program has crash points and OSB_CRASH_AT names none of
+// them: the process would never be killed. It returns nil if the variable is missing or empty.
+func CheckPoint() error {
+	wanted := os.Getenv("OSB_CRASH_AT")
+	if !hasPoints || wanted == "" {
+		return nil
+	}
+	for _, point := range Points {
+		if point == wanted {
+			return nil
+		}
+	}
+	return fmt.Errorf("OSB_CRASH_AT is %q, which is no crash point. Choose one of: %s", wanted,
+		strings.Join(Points, ", "))
 }

@@ -5,9 +5,18 @@ import (
 	"encoding/json"
 	"errors"
 	"fmt"
+	"os"
+	"path/filepath"
+	"regexp"
+	"sort"
+	"strings"
 	"sync"
+	"sync/atomic"
 	"testing"
 	"time"
+
+	"pippinterm/internal/diff"
+	"pippinterm/osb"
 )
 
 // patience is how long a test waits for what has to happen.
@@ -57,27 +66,27 @@ func (l *line) set(change func()) {
 	change()
 }
 
-func (l *line) Sent(it Exchange) { l.set(func() { l.sent = append(l.sent, it) }) }
+func (l *line) OnRequest(it Exchange) { l.set(func() { l.sent = append(l.sent, it) }) }
 
-func (l *line) Answered(it Exchange) { l.set(func() { l.answered = append(l.answered, it) }) }
+func (l *line) OnAnswer(it Exchange) { l.set(func() { l.answered = append(l.answered, it) }) }
 
-func (l *line) Changed(_ Key, before, after State) {
+func (l *line) OnChange(_ Key, before, after State) {
 	l.set(func() { l.told = append(l.told, fmt.Sprintf("%s to %s", before, after)) })
 }
 
-func (l *line) Orphan(_ Key, status int, isFound bool) {
+func (l *line) OnOrphan(_ Key, status int, isFound bool) {
 	l.set(func() { l.told = append(l.told, fmt.Sprintf("orphan %d %v", status, isFound)) })
 }
 
-func (l *line) Failed(it Failure) { l.set(func() { l.failures = append(l.failures, it) }) }
+func (l *line) OnFailure(it Failure) { l.set(func() { l.failures = append(l.failures, it) }) }
 
-func (l *line) Reached(string) { l.set(func() { l.reached++ }) }
+func (l *line) OnCatalogue(string) { l.set(func() { l.reached++ }) }
 
 // failed counts the failures of an event.
-func (l *line) failed(event string) (count int) {
+func (l *line) hasFailed(event string) (count int) {
 	l.set(func() {
-		for _, it := range l.failures {
-			if it.Event == event {
+		for _, failure := range l.failures {
+			if failure.Event == event {
 				count++
 			}
 		}
@@ -111,8 +120,8 @@ func (p *plant) addBroker(name string) {
 	check(p.t, p.orders.AddBroker(background, Broker{Name: name, URL: "https://" + name, User: "u"}, []byte("secret")))
 }
 
-// started has the engine run until the end of the test, and returns what stops it and returns its error.
-func (p *plant) started(ctx context.Context) (stop func() error) {
+// start has the engine run until the end of the test, and returns what stops it and returns its error.
+func (p *plant) start(ctx context.Context) (stop func() error) {
 	ending, ended := make(chan struct{}), make(chan error, 1)
 	go func() { ended <- p.engine.Run(ctx, ending) }()
 	var once sync.Once
@@ -150,7 +159,7 @@ func (p *plant) until(what string, isSo func() bool) {
 	p.t.Helper()
 	for end := time.Now().Add(patience); !isSo(); time.Sleep(time.Millisecond) {
 		if time.Now().After(end) {
-			p.t.Fatalf("it doesn't come to %s", what)
+			p.t.Fatalf("got no end of the wait for %s, want it", what)
 		}
 		p.seller.goOn()
 	}
@@ -170,7 +179,7 @@ func (p *plant) untilState(key Key, want State) Entry {
 
 func TestRun(t *testing.T) {
 	p := newPlant(t, Options{})
-	stop := p.started(background)
+	stop := p.start(background)
 	for _, plan := range planNames {
 		instance := p.create(NewInstance{Plan: plan})
 		p.untilState(instance, Ready)
@@ -180,28 +189,28 @@ func TestRun(t *testing.T) {
 			check(t, err)
 			bindings = append(bindings, e.Key)
 		}
-		for _, it := range bindings {
-			p.untilState(it, Ready)
-			object, err := p.orders.Credentials(background, it)
-			if err != nil || string(object) != p.seller.object(it) {
-				t.Errorf("the credentials are %s (%v)", object, err)
+		for _, binding := range bindings {
+			p.untilState(binding, Ready)
+			object, err := p.orders.Credentials(background, binding)
+			if err != nil || string(object) != p.seller.object(binding) {
+				t.Errorf("the credentials: got %s (%v), want %s", object, err, p.seller.object(binding))
 			}
 		}
 		if _, err := p.orders.Remove(background, instance, false); err == nil {
-			t.Error("an instance with bindings is removed")
+			t.Error("an instance with bindings: got no error, want one")
 		}
 		_, err := p.orders.Remove(background, instance, true)
 		check(t, err)
 		p.untilState(instance, Gone)
-		for _, it := range bindings {
-			p.untilState(it, Gone)
+		for _, binding := range bindings {
+			p.untilState(binding, Gone)
 		}
 	}
 	if err := stop(); err != nil {
 		t.Error(err)
 	}
-	if len(p.seller.things) > 0 || p.failed("store_failed") > 0 {
-		t.Errorf("there is still %v, and %v failed", p.seller.things, p.failures)
+	if len(p.seller.things) > 0 || p.hasFailed("store_failed") > 0 {
+		t.Errorf("got %v left, and the failures %v, want none", p.seller.things, p.failures)
 	}
 	p.checkIdentities()
 }
@@ -210,11 +219,11 @@ func TestRun(t *testing.T) {
 func (p *plant) checkIdentities() {
 	p.t.Helper()
 	identities := map[string]bool{}
-	for _, it := range p.sent {
-		identities[it.RequestID] = true
+	for _, request := range p.sent {
+		identities[request.RequestID] = true
 	}
 	if len(identities) != len(p.sent) || len(p.sent) == 0 {
-		p.t.Errorf("%d requests have %d identities", len(p.sent), len(identities))
+		p.t.Errorf("got %d requests with %d identities, want as many", len(p.sent), len(identities))
 	}
 }
 
@@ -224,6 +233,677 @@ func TestOptions(t *testing.T) {
 	if got.AtOnce != 16 || got.Exchange != time.Minute || got.Margin != 30*time.Second || got.Look != time.Second ||
 		got.FirstPace != 2*time.Second || got.LongestPace != 2*time.Minute || got.LongestPoll != 168*time.Hour ||
 		got.Hold != 300*time.Second || got.Unsettled != RemoveUnsettled || got.Share == nil {
-		t.Errorf("got %+v", got)
+		t.Errorf("got %+v, want the documented defaults", got)
 	}
 }
+
+// Besides AtOnce, half as many may be in flight, and at least one.
+func TestMostInFlight(t *testing.T) {
+	for atOnce, want := range map[int]int{1: 2, 2: 3, 16: 24, 1024: 1536} {
+		if got := MostInFlight(atOnce); got != want {
+			t.Errorf("MostInFlight(%d): got %d, want %d", atOnce, got, want)
+		}
+	}
+}
+
+// No more requests are in flight at once than there are places.
+func TestRunAtOnce(t *testing.T) {
+	p := newPlant(t, Options{AtOnce: 3})
+	check(t, p.engine.RunOnce(background))
+	var now, most atomic.Int32
+	usual := p.line.exchange
+	p.line.exchange = func(ctx context.Context, out Outgoing) Incoming {
+		if n := now.Add(1); n > most.Load() {
+			most.Store(n)
+		}
+		time.Sleep(2 * time.Millisecond)
+		defer now.Add(-1)
+		return usual(ctx, out)
+	}
+	var keys []Key
+	for n := 0; n < 20; n++ {
+		keys = append(keys, p.create(NewInstance{}))
+	}
+	p.start(background)
+	for _, key := range keys {
+		p.untilState(key, Ready)
+	}
+	if most.Load() > 3 || most.Load() < 2 {
+		t.Errorf("got %d in flight at once, want 2 or 3", most.Load())
+	}
+}
+
+// While answers are being written, further requests are sent, as long as no more than twice as many aren't written.
+func TestRunWritesBeside(t *testing.T) {
+	p := newPlant(t, Options{AtOnce: 2})
+	check(t, p.engine.RunOnce(background))
+	writes := make(chan struct{})
+	p.store.between = func(point string, _ Key) {
+		if point == "change-commit" {
+			<-writes
+		}
+	}
+	var sent atomic.Int32
+	usual := p.line.exchange
+	p.line.exchange = func(ctx context.Context, out Outgoing) Incoming {
+		sent.Add(1)
+		return usual(ctx, out)
+	}
+	var keys []Key
+	for n := 0; n < 10; n++ {
+		keys = append(keys, p.create(NewInstance{}))
+	}
+	p.start(background)
+	p.until("four requests", func() bool { return sent.Load() == 4 })
+	time.Sleep(20 * time.Millisecond)
+	if sent.Load() != 4 {
+		t.Errorf("got %d requests sent, want 4", sent.Load())
+	}
+	close(writes)
+	for _, key := range keys {
+		p.untilState(key, Ready)
+	}
+}
+
+// A broker that doesn't answer keeps the orders of another one from nothing.
+func TestRunBesideOneThatHangs(t *testing.T) {
+	p := newPlant(t, Options{AtOnce: 4})
+	p.addBroker("drawer")
+	check(t, p.engine.RunOnce(background))
+	answer := make(chan struct{})
+	usual := p.line.exchange
+	var hanging atomic.Int32
+	p.line.exchange = func(ctx context.Context, out Outgoing) Incoming {
+		if out.Broker.Name == "drawer" {
+			hanging.Add(1)
+			<-answer
+		}
+		return usual(ctx, out)
+	}
+	for n := 0; n < 10; n++ {
+		p.create(NewInstance{Broker: "drawer"})
+	}
+	p.start(background)
+	t.Cleanup(func() { close(answer) })
+	p.until("requests that hang", func() bool { return hanging.Load() == 2 })
+	for n := 0; n < 5; n++ {
+		p.untilState(p.create(NewInstance{}), Ready)
+	}
+	if hanging.Load() != 2 {
+		t.Errorf("got %d places taken, want 2", hanging.Load())
+	}
+}
+
+// Brokers that don't answer keep the orders of another one from nothing, as long as there are fewer of them than places.
+// So it is at once if no more of them than half of the places begin to hang, and otherwise once a request to each
+// wasn't answered.
+func TestRunBesideThoseThatHang(t *testing.T) {
+	for _, test := range []struct {
+		places, brokers, hanging int
+		areKnown                 bool // whether a request to each wasn't answered before
+	}{
+		{4, 3, 2, false}, {4, 20, 2, false}, {3, 3, 2, false}, {16, 9, 8, false}, {16, 30, 8, false},
+		{2, 3, 1, false}, {4, 8, 3, true}, {16, 30, 15, true},
+	} {
+		t.Run(fmt.Sprintf("%d of %d over %d", test.hanging, test.brokers, test.places), func(t *testing.T) {
+			p := newPlant(t, Options{AtOnce: test.places})
+			hanging := map[string]*atomic.Int32{}
+			for n := 1; n < test.brokers; n++ {
+				name := fmt.Sprintf("hook-%d", n)
+				if p.addBroker(name); n <= test.hanging {
+					hanging[name] = new(atomic.Int32)
+				}
+			}
+			check(t, p.engine.RunOnce(background))
+			answer := make(chan struct{})
+			usual := p.line.exchange
+			var isHanging atomic.Bool
+			isHanging.Store(!test.areKnown)
+			p.line.exchange = func(ctx context.Context, out Outgoing) Incoming {
+				if count := hanging[out.Broker.Name]; count != nil {
+					count.Add(1)
+					if isHanging.Load() {
+						<-answer
+					}
+					return Incoming{Lost: errLate}
+				}
+				return usual(ctx, out)
+			}
+			for name := range hanging {
+				for n := 0; n < test.places; n++ {
+					p.create(NewInstance{Broker: name})
+				}
+			}
+			p.start(background)
+			t.Cleanup(func() { close(answer) })
+			areAsked := func() bool {
+				for _, count := range hanging {
+					if count.Load() == 0 {
+						return false
+					}
+				}
+				return true
+			}
+			p.until("requests to those that hang", areAsked)
+			isHanging.Store(true)
+			for n := 0; n < 5; n++ {
+				p.untilState(p.create(NewInstance{}), Ready)
+			}
+		})
+	}
+}
+
+// However many orders of a broker hang each time, they take half of the places beside the others: another order of the
+// same broker is carried out at once, and so is one of another broker.
+func TestRunBesideOrdersThatHang(t *testing.T) {
+	for _, test := range []struct{ places, brokers, hanging, most int }{
+		{4, 1, 9, 2}, {8, 2, 4, 2}, {8, 2, 20, 2}, {16, 3, 20, 4}, {1, 1, 3, 1}, {1, 2, 3, 1},
+	} {
+		t.Run(fmt.Sprintf("%d of %d over %d", test.hanging, test.brokers, test.places), func(t *testing.T) {
+			p := newPlant(t, Options{AtOnce: test.places})
+			for n := 1; n < test.brokers; n++ {
+				p.addBroker(fmt.Sprintf("hook-%d", n))
+			}
+			check(t, p.engine.RunOnce(background))
+			var turn sync.Mutex
+			hangs, lost, now := map[Key]bool{}, map[Key]int{}, 0
+			for n := 0; n < test.hanging; n++ {
+				hangs[p.create(NewInstance{})] = true
+			}
+			letGo, isOver := make(chan struct{}), make(chan struct{})
+			usual := p.line.exchange
+			p.line.exchange = func(ctx context.Context, out Outgoing) Incoming {
+				if !hangs[out.Entry.Key] {
+					return usual(ctx, out)
+				}
+				turn.Lock()
+				now++
+				turn.Unlock()
+				select {
+				case <-letGo:
+				case <-isOver:
+				}
+				turn.Lock()
+				defer turn.Unlock()
+				now--
+				lost[out.Entry.Key]++
+				return Incoming{Lost: errLate}
+			}
+			p.start(background)
+			t.Cleanup(func() { close(isOver) })
+			p.until("each to have hung once", func() bool {
+				select {
+				case letGo <- struct{}{}:
+				default:
+				}
+				turn.Lock()
+				defer turn.Unlock()
+				return len(lost) == test.hanging
+			})
+			count := func() int { turn.Lock(); defer turn.Unlock(); return now }
+			silent := test.most // hang while nothing shows that the broker answers others
+			if test.brokers > 1 {
+				silent = 1
+			}
+			p.until("orders that hang again", func() bool { return count() >= silent })
+			time.Sleep(20 * time.Millisecond) // for one too many
+			if got := count(); got > silent { // one that was let go last may only be gone now
+				t.Errorf("got %d orders of a silent broker that hang at once, want %d", got, silent)
+			}
+			for n := 0; n < 3; n++ {
+				p.untilState(p.create(NewInstance{}), Ready)
+				if test.brokers > 1 {
+					p.untilState(p.create(NewInstance{Broker: "hook-1"}), Ready)
+				}
+			}
+			p.until("all that may hang", func() bool { return count() >= test.most })
+			time.Sleep(20 * time.Millisecond)
+			if count() != test.most {
+				t.Errorf("got %d hang at once, want %d", count(), test.most)
+			}
+		})
+	}
+}
+
+// One broker of several with much to do goes on at once when one of its requests is answered. It isn't left for the next
+// look.
+func TestRunGoesOnWithoutALook(t *testing.T) {
+	p := newPlant(t, Options{AtOnce: 4})
+	p.addBroker("drawer")
+	check(t, p.engine.RunOnce(background))
+	usual := p.line.exchange
+	p.line.exchange = func(ctx context.Context, out Outgoing) Incoming {
+		time.Sleep(2 * shortRest) // meanwhile nothing is found that is due
+		return usual(ctx, out)
+	}
+	var keys []Key
+	for n := 0; n < 20; n++ {
+		keys = append(keys, p.create(NewInstance{}))
+	}
+	p.engine.Look = time.Hour
+	p.start(background)
+	for _, key := range keys {
+		p.untilState(key, Ready)
+	}
+}
+
+// While all places are taken, and while no broker is reached, a run waits until it looks again: it isn't busy.
+func TestPumpWithoutPlaces(t *testing.T) {
+	p := newPlant(t, Options{AtOnce: 3})
+	p.engine.Look = time.Hour
+	r := newRun(background, p.engine)
+	for _, running := range []int{0, 2 * p.engine.AtOnce} {
+		r.running, r.inFlight = running, running
+		if wait := r.pump(); wait != p.engine.Look {
+			t.Errorf("with %d that run: got a wait of %v, want %v", running, wait, p.engine.Look)
+		}
+	}
+}
+
+func TestWait(t *testing.T) {
+	share := 0.0
+	p := pace{first: 2 * time.Second, longest: 120 * time.Second, share: func() float64 { return share }}
+	for _, test := range []struct {
+		unchanged int
+		named     time.Duration
+		share     float64
+		want      time.Duration
+	}{
+		{0, 0, 0, 2 * time.Second}, {1, 0, 0, 4 * time.Second}, {5, 0, 0, 64 * time.Second},
+		{6, 0, 0, 120 * time.Second},
+		{1000000, 0, 0, 120 * time.Second}, {0, 0, 1, 3 * time.Second}, {0, 0, 0.5, 2500 * time.Millisecond},
+		{0, time.Second, 0, 2 * time.Second}, {0, 9 * time.Second, 0, 9 * time.Second},
+		{6, 9 * time.Second, 0, 120 * time.Second},
+		{0, 1000 * time.Hour, 0, time.Hour}, {0, time.Hour, 1, time.Hour},
+		{0, 50 * time.Minute, 1, time.Hour}, {0, 40 * time.Minute, 0.5, 50 * time.Minute},
+	} {
+		t.Run(fmt.Sprintf("%+v", test), func(t *testing.T) {
+			share = test.share
+			if got := p.wait(test.unchanged, test.named); got != test.want {
+				t.Errorf("%+v: got %v, want %v", test, got, test.want)
+			}
+		})
+	}
+	p.first = time.Hour
+	if share = 0; p.wait(0, 0) != 120*time.Second {
+		t.Errorf("the first wait: got %v, want the longest", p.wait(0, 0))
+	}
+}
+
+// The list has each point that the sources have, and no other.
+func TestPoints(t *testing.T) {
+	named := regexp.MustCompile(`\bpoint\("([a-z-]+)"\)\.(?:at|soon)\(\)`)
+	files, err := filepath.Glob("*.go")
+	check(t, err)
+	called := map[string]bool{}
+	for _, file := range files {
+		source, err := os.ReadFile(file)
+		check(t, err)
+		if strings.HasSuffix(file, "_test.go") {
+			continue
+		}
+		for _, match := range named.FindAllStringSubmatch(string(source), -1) {
+			called[match[1]] = true
+		}
+	}
+	var found []string
+	for broker := range called {
+		found = append(found, broker)
+	}
+	listed := append([]string(nil), Points...)
+	sort.Strings(found)
+	sort.Strings(listed)
+	if strings.Join(found, " ") != strings.Join(listed, " ") {
+		t.Errorf("the list: got %v, want what the sources have: %v", listed, found)
+	}
+}
+
+func TestCheckPoint(t *testing.T) {
+	for _, point := range append([]string{""}, Points...) {
+		t.Setenv("OSB_CRASH_AT", point)
+		if err := CheckPoint(); err != nil {
+			t.Errorf("%q: got %v, want no error", point, err)
+		}
+	}
+	t.Setenv("OSB_CRASH_AT", "claim-nxt")
+	if err := CheckPoint(); (err != nil) != hasPoints {
+		t.Errorf("got %v, want an error exactly with crash points", err)
+	}
+}
+
+// What is in flight at the stop is answered and written before Run returns, and nothing else is begun.
+func TestRunStops(t *testing.T) {
+	p := newPlant(t, Options{AtOnce: 1})
+	arrived, answer := make(chan struct{}, 10), make(chan struct{})
+	usual := p.line.exchange
+	p.line.exchange = func(ctx context.Context, out Outgoing) Incoming {
+		arrived <- struct{}{}
+		<-answer
+		return usual(ctx, out)
+	}
+	ending, ended := make(chan struct{}), make(chan error, 1)
+	go func() { ended <- p.engine.Run(background, ending) }()
+	first := p.create(NewInstance{})
+	second := p.create(NewInstance{})
+	<-arrived
+	close(ending)
+	select {
+	case err := <-ended:
+		t.Fatalf("while a request is in flight: got %v, want it to wait", err)
+	case <-time.After(20 * time.Millisecond):
+	}
+	close(answer)
+	check(t, <-ended)
+	one, err := p.store.Read(background, first)
+	check(t, err)
+	other, err := p.store.Read(background, second)
+	check(t, err)
+	if one.State != Ready && other.State != Ready || len(arrived) > 0 {
+		t.Errorf("got %s and %s, and %d further requests, want one ready and none", one.State, other.State, len(arrived))
+	}
+}
+
+// Once the context is done, Run returns, though the broker doesn't answer, and the store is away.
+func TestRunEnds(t *testing.T) {
+	p := newPlant(t, Options{})
+	arrived := make(chan struct{}, 10)
+	p.line.exchange = func(ctx context.Context, _ Outgoing) Incoming {
+		arrived <- struct{}{}
+		<-ctx.Done()
+		return Incoming{Lost: ctx.Err()}
+	}
+	ctx, cancel := context.WithCancel(background)
+	ended := make(chan error, 1)
+	go func() { ended <- p.engine.Run(ctx, nil) }()
+	p.create(NewInstance{})
+	<-arrived
+	p.store.setAway(ErrAway)
+	cancel()
+	select {
+	case err := <-ended:
+		if !errors.Is(err, context.Canceled) {
+			t.Errorf("got %v, want %v", err, context.Canceled)
+		}
+	case <-time.After(patience):
+		t.Fatal("Run: got no end in time, want one")
+	}
+}
+
+// A Run that has nothing to do returns the error of its context, too.
+func TestRunEndsWithNothingToDo(t *testing.T) {
+	p := newPlant(t, Options{})
+	ctx, cancel := context.WithTimeout(background, 50*time.Millisecond)
+	defer cancel()
+	if err := p.engine.Run(ctx, nil); !errors.Is(err, context.DeadlineExceeded) {
+		t.Errorf("got %v, want %v", err, context.DeadlineExceeded)
+	}
+}
+
+// A stop ends what is in flight once its lease is over, though the store is away.
+func TestRunStopsWhileTheStoreIsAway(t *testing.T) {
+	p := newPlant(t, Options{Exchange: 100 * time.Millisecond, Margin: 100 * time.Millisecond})
+	arrived := make(chan struct{}, 10)
+	usual := p.line.exchange
+	p.line.exchange = func(ctx context.Context, out Outgoing) Incoming {
+		p.store.setAway(ErrAway)
+		arrived <- struct{}{}
+		return usual(ctx, out)
+	}
+	stop := p.start(background)
+	p.create(NewInstance{})
+	<-arrived
+	if err := stop(); err != nil {
+		t.Error(err)
+	}
+}
+
+// A database that is away for a while ends nothing, and is reported once.
+func TestRunWhileTheStoreIsAway(t *testing.T) {
+	p := newPlant(t, Options{})
+	arrived, answer := make(chan struct{}, 10), make(chan struct{})
+	usual := p.line.exchange
+	p.line.exchange = func(ctx context.Context, out Outgoing) Incoming {
+		arrived <- struct{}{}
+		<-answer
+		return usual(ctx, out)
+	}
+	p.start(background)
+	key := p.create(NewInstance{})
+	<-arrived
+	p.store.setAway(fmt.Errorf("%w: no route", ErrAway))
+	close(answer)
+	p.until("a failure", func() bool { return p.hasFailed("store_failed") > 0 })
+	time.Sleep(50 * time.Millisecond)
+	if told := p.hasFailed("store_failed"); told != 1 {
+		t.Errorf("got %d reports, want 1", told)
+	}
+	p.store.setAway(nil)
+	p.untilState(key, Ready)
+	p.untilState(p.create(NewInstance{}), Ready)
+	if len(arrived) != 1 {
+		t.Errorf("got %d requests sent besides, want 1", len(arrived))
+	}
+}
+
+// What may have been recorded as in flight, though the claim has failed, is given up at once, and nothing is sent.
+func TestClaimInDoubt(t *testing.T) {
+	p := newPlant(t, Options{})
+	p.start(background)
+	p.until("the catalogue", func() bool { return p.hasCatalogue() })
+	p.store.mu.Lock()
+	p.store.doubt = ErrAway
+	p.store.mu.Unlock()
+	e, err := p.orders.Create(background, NewInstance{Service: "shelf", Plan: "now"})
+	for errors.Is(err, ErrAway) { // it was the order, or another claim, that was in doubt
+		p.store.mu.Lock()
+		p.store.doubt = nil
+		p.store.mu.Unlock()
+		e, err = p.orders.Create(background, NewInstance{Service: "shelf", Plan: "now"})
+	}
+	check(t, err)
+	p.until("an end", func() bool {
+		e, err := p.store.Read(background, e.Key)
+		return err == nil && (e.State == Ready || e.State == Gone)
+	})
+}
+
+// A claim that the database didn't write leaves the order as it was, and no lost lease is reported.
+func TestClaimNotWritten(t *testing.T) {
+	p := newPlant(t, Options{})
+	check(t, p.engine.RunOnce(background))
+	key := p.create(NewInstance{Tries: 1})
+	var isBroken atomic.Bool
+	p.store.between = func(point string, _ Key) {
+		if point == "claim-decided" && isBroken.CompareAndSwap(false, true) {
+			p.store.breakAll()
+		}
+	}
+	p.start(background)
+	p.untilState(key, Ready)
+	if !isBroken.Load() || p.hasFailed("store_failed") != 1 || p.hasFailed("lease_lost") != 0 {
+		t.Errorf("got broken %v, and the failures %v, want one of the store", isBroken.Load(), p.failures)
+	}
+	p.set(func() {
+		if got := len(p.sent); got != 1 {
+			t.Errorf("got %d requests, want 1: the one whose claim wasn't written isn't sent", got)
+		}
+	})
+}
+
+// A request whose time is over isn't sent: another worker may have its row by then.
+func TestNothingIsSentAfterItsTime(t *testing.T) {
+	p := newPlant(t, Options{})
+	p.exchange = func(context.Context, Outgoing) Incoming { return Incoming{Status: 201} }
+	late := &sending{out: Outgoing{Until: time.Now()}}
+	if in := p.engine.send(background, late, "provision"); !errors.Is(in.Lost, errLate) || len(p.sent) != 0 {
+		t.Errorf("got %v and %d requests, want %v and none", in.Lost, len(p.sent), errLate)
+	}
+}
+
+// Nothing is sent before the claim that records it is committed.
+func TestNothingIsSentBeforeItsClaim(t *testing.T) {
+	p := newPlant(t, Options{})
+	check(t, p.engine.RunOnce(background))
+	key := p.create(NewInstance{Tries: 1})
+	var requests, early atomic.Int64
+	usual := p.exchange
+	p.exchange = func(ctx context.Context, out Outgoing) Incoming {
+		requests.Add(1)
+		return usual(ctx, out)
+	}
+	var isDecided atomic.Bool
+	p.store.between = func(point string, _ Key) {
+		if point == "claim-decided" && isDecided.CompareAndSwap(false, true) {
+			early.Store(requests.Load())
+		}
+	}
+	p.start(background)
+	p.untilState(key, Ready)
+	if got := early.Load(); !isDecided.Load() || got != 0 {
+		t.Errorf("got %d requests before the first claim was committed, want none", got)
+	}
+}
+
+// Events are reported in their order. A state that passes within a step isn't.
+func TestTold(t *testing.T) {
+	p := newPlant(t, Options{})
+	check(t, p.engine.RunOnce(background))
+	key := p.create(NewInstance{})
+	check(t, p.engine.RunOnce(background))
+	_, err := p.orders.Remove(background, key, false)
+	check(t, err)
+	check(t, p.engine.RunOnce(background))
+	if got := strings.Join(p.told, ", "); got != "ordered to ready, ready to gone" {
+		t.Errorf("got %s, want \"ordered to ready, ready to gone\"", got)
+	}
+	if len(p.sent) != 2 || len(p.answered) != 2 {
+		t.Fatalf("got %d requests sent, and %d answered, want 2 and 2", len(p.sent), len(p.answered))
+	}
+	for at, want := range []Exchange{
+		{Broker: "shelf", Key: key, Kind: "provision", Attempt: 1, Status: 201},
+		{Broker: "shelf", Key: key, Kind: "deprovision", Attempt: 2, Status: 200},
+	} {
+		if want.RequestID = p.sent[at].RequestID; want.RequestID == "" {
+			t.Error("got no identity of a request, want one")
+		}
+		diff.Check(t, p.answered[at], want, "the exchange %d", at)
+	}
+}
+
+// A broker without tombstones creates an instance once it has answered that it has none. The last deletion finds it.
+func TestLastDeletion(t *testing.T) {
+	p := newPlant(t, Options{})
+	p.line.catalogue = func(Broker) (string, int, error) {
+		return strings.Replace(sold, `"x-osb-tombstones": true`, `"x-osb-tombstones": false`, 1), 200, nil
+	}
+	hold := 30 * time.Millisecond
+	p.engine.Hold, p.engine.Exchange = hold, 200*time.Millisecond
+	var late, deletions atomic.Int32
+	var begun atomic.Int64
+	p.line.exchange = func(_ context.Context, out Outgoing) Incoming {
+		if kindOf(out.Request.Kind, out.Entry.Key) == "provision" {
+			begun.Store(time.Now().UnixNano())
+			return Incoming{Lost: errors.New("the answer is lost")}
+		}
+		if held := time.Since(time.Unix(0, begun.Load())); held < hold {
+			t.Errorf("a deletion: got it sent after %v, want at least %v", held, hold)
+		}
+		deletions.Add(1)
+		status := []int{410, 202, 404, 200}[late.Load()]
+		late.Add(1)
+		return (&reply{status, []byte(`{}`)}).incoming(out)
+	}
+	p.start(background)
+	key := p.create(NewInstance{Tries: 1})
+	p.until("the end", func() bool {
+		e, err := p.store.Read(background, key)
+		check(t, err)
+		var told int
+		p.set(func() { told = len(p.told) })
+		return e.State == Gone && e.Rests() && told == 5
+	})
+	want := "ordered to cleaning, cleaning to gone, orphan 202 true, orphan 404 false, orphan 200 true"
+	p.set(func() {
+		if got := strings.Join(p.told, ", "); got != want || deletions.Load() != 4 {
+			t.Errorf("got %s, by %d deletions, want %s, by 4", got, deletions.Load(), want)
+		}
+	})
+}
+
+// A Fetch that is answered without a binding counts as lost, and is sent again.
+func TestFetchWithoutABinding(t *testing.T) {
+	p := newPlant(t, Options{})
+	var isFound atomic.Bool
+	usual := p.line.exchange
+	p.line.exchange = func(ctx context.Context, out Outgoing) Incoming {
+		if out.IsFetch && !isFound.Load() {
+			return Incoming{Status: 404}
+		}
+		return usual(ctx, out)
+	}
+	p.start(background)
+	instance := p.create(NewInstance{Plan: "bind-later"})
+	p.untilState(instance, Ready)
+	bound, err := p.orders.Bind(background, NewBinding{Instance: instance.Instance.String()})
+	check(t, err)
+	want := Reason{Kind: "fetch", Status: 404, Lost: "status 404: " + osb.ErrNoBinding.Error()}
+	p.until("a Fetch", func() bool {
+		e, err := p.store.Read(background, bound.Key)
+		check(t, err)
+		got := e.Last
+		got.At = time.Time{}
+		return got == want && e.State == Polling
+	})
+	isFound.Store(true)
+	p.untilState(bound.Key, Ready)
+}
+
+// Without a vault no binding is recorded ready, and none is left behind.
+func TestWithoutVault(t *testing.T) {
+	p := newPlant(t, Options{})
+	p.engine.vault = nil
+	p.start(background)
+	instance := p.create(NewInstance{})
+	p.untilState(instance, Ready)
+	e, err := p.orders.Bind(background, NewBinding{Instance: instance.String()})
+	check(t, err)
+	p.untilState(e.Key, Gone)
+	if p.hasFailed("credentials_lost") == 0 {
+		t.Error("the reports: got none, want credentials_lost")
+	}
+}
+
+// What is reported and kept of an error isn't long, as that of a certificate with many names. What it wraps is found.
+func TestToldBriefly(t *testing.T) {
+	p := newPlant(t, Options{})
+	check(t, p.engine.RunOnce(background))
+	cut := errors.New("cut")
+	long := fmt.Errorf("%s: %w", strings.Repeat("ä", 30_000), cut)
+	p.line.exchange = func(context.Context, Outgoing) Incoming { return Incoming{Lost: long} }
+	key := p.create(NewInstance{Tries: 1})
+	check(t, p.engine.RunOnce(background))
+	p.untilState(key, Cleaning)
+	if len(p.answered) == 0 || len(p.answered[0].Lost.Error()) > longestText || !errors.Is(p.answered[0].Lost, cut) {
+		t.Errorf("got %v, want a short text of the lost answer", p.answered)
+	}
+	p.engine.Exchange = 50 * time.Millisecond
+	p.line.catalogue = func(Broker) (string, int, error) { return "", 0, long }
+	err := p.engine.RunOnce(background)
+	if !errors.Is(err, ErrUnreached) || len(err.Error()) > longestText+100 {
+		t.Errorf("got %v, want a short %v", err, ErrUnreached)
+	}
+	if len(p.failures) == 0 {
+		t.Fatal("the reports: got none, want one")
+	}
+	for _, failure := range p.failures {
+		if len(failure.Err.Error()) > longestText || !errors.Is(failure.Err, cut) {
+			t.Errorf("%s: got %d bytes, want at most %d", failure.Event, len(failure.Err.Error()), longestText)
+		}
+	}
+	if kept := p.brokerNamed("shelf").Reason.Lost; len(kept) != longestText {
+		t.Errorf("got %d bytes kept, want %d", len(kept), longestText)
+	}
+}
+
+// NewMemory is a Store in memory by a clock that a test sets, for the tests that need package client.
+func NewMemory(clock func() time.Time) Store { return newMemory(clock) }

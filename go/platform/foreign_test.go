@@ -1,11 +1,23 @@
 package platform_test
 
 import (
+	"context"
+	"encoding/json"
+	"errors"
+	"fmt"
+	"io"
+	"net/http"
+	"net/http/httptest"
+	"net/url"
+	"sort"
 	"strings"
+	"sync"
 	"testing"
 	"time"
 
 	"pippinterm/platform"
+	"pippinterm/platform/client"
+	"pippinterm/platform/vault"
 )
 
 // A reason is what is recorded of a platform.Reason. lost must be a part of its Lost, and is empty if that is.
@@ -54,13 +66,13 @@ func retries(t *testing.T, s *scene) {
 // abandons is the last way out. Until then the record says what hinders it.
 func abandons(t *testing.T, s *scene) {
 	if state := s.rows()[0].State; state != platform.Cleaning {
-		t.Errorf("it is %s before it is abandoned", state)
+		t.Errorf("before it is abandoned: got %s, want %s", state, platform.Cleaning)
 	}
 	_, err := s.orders.Abandon(background, s.key, "asked the broker's people")
 	check(t, err)
 }
 
-// accepts has the broker take the login again, after an hour in which nothing came but requests for the catalogue.
+// accepts has the broker take the login again, after an hour in which only requests for the catalogue arrived.
 func accepts(_ *testing.T, s *scene) {
 	for n := 0; n < 6; n++ {
 		s.forward(10 * time.Minute)
@@ -139,8 +151,8 @@ var creations = []behaviour{{
 		failure: reason{kind: "provision", lost: "canceled"},
 		last:    reason{kind: "deprovision", status: 200}, orphans: []string{"200 true"},
 	},
-}, rejected("QuotaExceeded", "your quota is used"), rejected("RequiresApp", "bind it to an application"),
-	rejected("MaintenanceInfoConflict", "the plan has another version"), {
+}, rejection("QuotaExceeded", "your quota is used"), rejection("RequiresApp", "bind it to an application"),
+	rejection("MaintenanceInfoConflict", "the plan has another version"), {
 		name: "it is busy with a ConcurrencyError", // the order is sent again later, under another id
 		script: []step{
 			put(422, busy), remove(422, busy).at(360), remove(410, empty).at(364), put(201, empty).at(366),
@@ -204,7 +216,7 @@ var creations = []behaviour{{
 			tries: []platform.State{platform.Unsettled}, failure: reason{kind: "provision", status: 409},
 			last: reason{kind: "provision", status: 409},
 		},
-	}, refused(401), refused(403), {
+	}, refusal(401), refusal(403), {
 		name: "it answers 404, as a gateway does", // it counts as no answer
 		script: []step{
 			put(404, `{"description": "no route"}`), remove(404, empty).at(360), remove(404, empty).at(364),
@@ -215,7 +227,7 @@ var creations = []behaviour{{
 			failure: reason{kind: "provision", status: 404, description: "no route", lost: "404"},
 			last:    reason{kind: "deprovision", status: 410},
 		},
-	}, overloaded(429, "429"), overloaded(503, ""), {
+	}, overload(429, "429"), overload(503, ""), {
 		name: "it is overloaded at each try",
 		script: []step{
 			put(503, empty), remove(410, empty).at(360), put(503, empty).at(362), last(410, 660).of(1),
@@ -237,7 +249,7 @@ var creations = []behaviour{{
 		name:     "it knows nothing of the operation, without an end",
 		settings: platform.Settings{LongestPoll: seconds(600)},
 		script: []step{
-			put(202, empty), poll(404, `{"description": "what?"}`).repeated(9), remove(410, empty).at(600),
+			put(202, empty), poll(404, `{"description": "what?"}`).repeat(9), remove(410, empty).at(600),
 			last(410, 900),
 		},
 		want: ending{
@@ -247,7 +259,7 @@ var creations = []behaviour{{
 	}, {
 		name:   "its plan has a maximum_polling_duration",
 		plan:   `, "maximum_polling_duration": 400`,
-		script: []step{put(202, empty), poll(200, inProgress).repeated(8), remove(200, empty).at(400), last(410, 700)},
+		script: []step{put(202, empty), poll(200, inProgress).repeat(8), remove(200, empty).at(400), last(410, 700)},
 		want: ending{
 			tries: []platform.State{platform.Gone}, failure: reason{kind: "poll", lost: "longer than 6m40s"},
 			last: reason{kind: "deprovision", status: 410},
@@ -261,9 +273,9 @@ var creations = []behaviour{{
 			last: reason{kind: "deprovision", status: 410},
 		},
 	},
-	unnamed("its operation is a number", `42`),
-	unnamed("its operation is too long", `"`+strings.Repeat("ü", 12_000)+`"`),
-	unnamed("its operation has a NUL", `"a\u0000b"`),
+	renaming("its operation is a number", `42`),
+	renaming("its operation is too long", `"`+strings.Repeat("ü", 12_000)+`"`),
+	renaming("its operation has a NUL", `"a\u0000b"`),
 	{
 		name: "its operation is as long as it may be",
 		script: []step{
@@ -285,8 +297,8 @@ var creations = []behaviour{{
 	},
 }
 
-// rejected is a 422, after which nothing is sent but a deletion: the id is the platform's own.
-func rejected(code, description string) behaviour {
+// rejection is a 422, after which nothing is sent but a deletion: the id is the platform's own.
+func rejection(code, description string) behaviour {
 	return behaviour{
 		name: "it rejects with " + code,
 		script: []step{
@@ -301,8 +313,8 @@ func rejected(code, description string) behaviour {
 	}
 }
 
-// refused is a login that is refused for an hour. The order isn't lost.
-func refused(status int) behaviour {
+// refusal is a login that is refused for an hour. The order isn't lost.
+func refusal(status int) behaviour {
 	return behaviour{
 		name: "it refuses the login with " + map[int]string{401: "401", 403: "403"}[status],
 		script: []step{
@@ -319,8 +331,8 @@ func refused(status int) behaviour {
 	}
 }
 
-// overloaded is a broker that asks to wait for longer than the hold.
-func overloaded(status int, lost string) behaviour {
+// overload is a broker that asks to wait for longer than the hold.
+func overload(status int, lost string) behaviour {
 	return behaviour{
 		name: map[int]string{429: "it has had too many requests", 503: "it isn't available"}[status],
 		script: []step{
@@ -347,17 +359,643 @@ func unreadable(name string, status int, body, lost string) behaviour {
 	}
 }
 
-// unnamed is an operation that isn't one, so that its Polls name none, and are rejected.
-func unnamed(name, operation string) behaviour {
+// renaming is an operation that isn't one, so that its Polls name none, and are rejected.
+func renaming(name, operation string) behaviour {
 	return behaviour{
 		name: name, settings: platform.Settings{LongestPoll: seconds(600)},
 		script: []step{
 			put(202, `{"operation": `+operation+`}`),
-			poll(400, `{"description": "name the operation"}`).repeated(9), remove(200, empty).at(600), last(410, 900),
+			poll(400, `{"description": "name the operation"}`).repeat(9), remove(200, empty).at(600), last(410, 900),
 		},
 		want: ending{
 			tries: []platform.State{platform.Gone}, failure: reason{kind: "poll", lost: "longer than 10m0s"},
 			last: reason{kind: "deprovision", status: 410},
 		},
 	}
+}
+
+// long is more than is kept of any text.
+var long = strings.Repeat("ä", 30_000)
+
+// loud is an object in which everything is long.
+func loud(more string) string {
+	return fmt.Sprintf(`{"error": %q, "description": %q, "operation": %q, "dashboard_url": %q,
+		"metadata": {"labels": {"team": %q}}, "instance_usable": true%s}`, long, long, long, "https://d.example/"+long,
+		long+long, more)
+}
+
+// What a broker writes at length reaches neither the row nor the log as a whole.
+func TestForeignBounds(t *testing.T) {
+	for _, choice := range []behaviour{
+		{name: "a creation", script: []step{put(201, loud(``))}},
+		{name: "an operation", script: []step{
+			put(202, loud(``)), poll(200, loud(`, "state": "in progress"`)), poll(200, loud(`, "state": "failed"`)),
+			remove(202, loud(``)), poll(200, loud(`, "state": "succeeded"`)), last(410, 662),
+		}},
+		{name: "a rejection", script: []step{put(400, loud(``)), remove(500, loud(``)), last(410, 364)}},
+		{name: "a status line", script: []step{
+			{request: "PUT", status: 400, body: loud(``), phrase: long}, {request: "DELETE", status: 410, phrase: long},
+		}},
+		{name: "a header", script: []step{put(201, empty).retryAfter(strings.Repeat("9", 60_000))}},
+		{name: "an operation that is as long as it may be", script: []step{
+			put(202, `{"operation": "`+strings.Repeat("ä", 10_000)+`"}`),
+			poll(200, succeeded).naming(strings.Repeat("ä", 10_000)),
+		}},
+	} {
+		it := choice
+		t.Run(it.name, func(t *testing.T) {
+			s := newScene(t, small("", ""), platform.Settings{}, platform.Options{})
+			s.order(platform.NewInstance{})
+			it.script = append(it.script, operator(s.checkRow))
+			s.play(it.script)
+			s.checkTold(t)
+		})
+	}
+}
+
+// checkRow is that a row is short. It is called with an engine at rest, and by itself between two steps.
+func (s *scene) checkRow(t *testing.T, _ *scene) {
+	t.Helper()
+	for _, row := range s.rows() {
+		texts := map[string]int{
+			row.Last.Error: 1000, row.Last.Description: 1000, row.Last.Lost: 1000, row.Failure.Error: 1000,
+			row.Failure.Description: 1000, row.Failure.Lost: 1000, row.Dashboard: 10_000, string(row.Metadata): 64 << 10,
+		}
+		if row.Operation != nil {
+			texts[*row.Operation] = 20_000
+		}
+		for text, most := range texts {
+			if len(text) > most {
+				t.Errorf("the text kept: got %d bytes, want at most %d: %.50s", len(text), most, text)
+			}
+		}
+		if whole, err := json.Marshal(row); err != nil || len(whole) > 20_000 {
+			t.Errorf("the row: got %d bytes (%v), want at most 20000", len(whole), err)
+		}
+	}
+}
+
+// checkTold checks that what was reported for a log is short.
+func (s *scene) checkTold(t *testing.T) {
+	t.Helper()
+	s.mu.Lock()
+	defer s.mu.Unlock()
+	if len(s.exchanges) == 0 {
+		t.Error("the reports: got none, want one")
+	}
+	for _, exchange := range s.exchanges {
+		lost := ""
+		if exchange.Lost != nil {
+			lost = exchange.Lost.Error()
+		}
+		for _, text := range []string{exchange.Error, exchange.Description, lost} {
+			if len(text) > 1000 {
+				t.Errorf("the text reported: got %d bytes, want at most 1000: %.50s", len(text), text)
+			}
+		}
+	}
+	for _, failure := range s.failures {
+		if text := failure.Err.Error(); len(text) > 1000 {
+			t.Errorf("the error reported: got %d bytes, want at most 1000: %.50s", len(text), text)
+		}
+	}
+}
+
+// playAll plays behaviours, and compares what is recorded in the end with what is right.
+func playAll(t *testing.T, all []behaviour) {
+	for _, behaviour := range all {
+		it := behaviour
+		t.Run(it.name, func(t *testing.T) {
+			t.Parallel()
+			s := newScene(t, small(it.members, it.plan), it.settings, it.options)
+			s.order(platform.NewInstance{ID: it.id})
+			s.play(it.script)
+			s.checkEnding(t, it.want)
+		})
+	}
+}
+
+func (s *scene) checkEnding(t *testing.T, want ending) {
+	t.Helper()
+	rows := s.rows()
+	var states []string
+	for at, row := range rows {
+		states = append(states, string(row.State))
+		if !row.Rests() || row.Lease != (platform.Lease{}) || row.Try != at+1 {
+			t.Errorf("try %d: got %s, due %v, %v, want it at rest", row.Try, row.State, row.Due, row.Lease)
+		}
+	}
+	var wanted []string
+	for _, try := range want.tries {
+		wanted = append(wanted, string(try))
+	}
+	if got, want := strings.Join(states, ", "), strings.Join(wanted, ", "); got != want {
+		t.Fatalf("the tries: got %s, want %s", got, want)
+	}
+	first := rows[0]
+	checkReason(t, "the failure", first.Failure, want.failure)
+	checkReason(t, "the last reason", first.Last, want.last)
+	if first.Dashboard != want.dashboard || string(first.Metadata) != want.metadata || first.Because != want.because {
+		t.Errorf("kept: got %q, %q and %q, want %q, %q and %q", first.Dashboard, first.Metadata, first.Because,
+			want.dashboard, want.metadata, want.because)
+	}
+	if got, want := strings.Join(s.orphans, ", "), strings.Join(want.orphans, ", "); got != want {
+		t.Errorf("the orphans: got %q, want %q", got, want)
+	}
+}
+
+func checkReason(t *testing.T, what string, got platform.Reason, want reason) {
+	t.Helper()
+	isLost := got.Lost == want.lost || want.lost != "" && strings.Contains(got.Lost, want.lost)
+	if got.Kind != want.kind || got.Status != want.status || got.Error != want.code ||
+		got.Description != want.description || !isLost || got.At.IsZero() != (want == reason{}) {
+		t.Errorf("%s: got %+v, want %+v", what, got, want)
+	}
+}
+
+func TestForeignDeletions(t *testing.T) { playAll(t, deletions) }
+
+// deletions are what brokers answer to a Deprovision, and to its Polls. The instance is removed an hour after its
+// order, so nothing is held but the last deletion.
+var deletions = []behaviour{{
+	name: "it is busy twice",
+	script: creating(
+		remove(422, busy).at(3600), remove(422, busy).at(3602), remove(200, empty).at(3606), last(410, 3906),
+	),
+	want: endOf(platform.Gone, reason{kind: "deprovision", status: 410}),
+}, {
+	name: "it says later that the deletion has failed",
+	script: creating(
+		remove(202, `{"operation": "d"}`).at(3600),
+		poll(200, `{"state": "failed", "description": "it is in use", "instance_usable": true}`).naming("d").at(3602),
+		remove(410, empty).at(3606), last(410, 3906),
+	),
+	want: endOf(platform.Gone, reason{kind: "deprovision", status: 410}),
+}, {
+	name: "it says of a deletion that there is nothing any more", // to a Poll
+	script: creating(
+		remove(202, empty).at(3600), poll(200, inProgress).at(3602), poll(410, empty).at(3606), last(410, 3906),
+	),
+	want: endOf(platform.Gone, reason{kind: "deprovision", status: 410}),
+}, {
+	name:     "it deletes without an end", // the deletion is sent again once it has been polled for too long
+	settings: platform.Settings{LongestPoll: seconds(600)},
+	script: creating(
+		remove(202, empty).at(3600), poll(200, inProgress).repeat(9), remove(202, empty).at(4200),
+		poll(200, inProgress).at(4202), poll(200, inProgress).at(4322).repeat(4), remove(410, empty).at(4800),
+		last(410, 5100),
+	),
+	want: endOf(platform.Gone, reason{kind: "deprovision", status: 410}),
+}, {
+	name:     "it answers each Poll of a deletion with 404",
+	settings: platform.Settings{LongestPoll: seconds(600)},
+	script: creating(
+		remove(202, empty).at(3600), poll(404, empty).repeat(9), remove(410, empty).at(4200), last(410, 4500),
+	),
+	want: endOf(platform.Gone, reason{kind: "deprovision", status: 410}),
+}, {
+	name: "it deletes without an end, and an operator has the deletion sent again",
+	script: creating(
+		remove(202, empty).at(3600), poll(200, inProgress).repeat(5), operator(retries), remove(200, empty).at(3662),
+		last(410, 3962),
+	),
+	want: endOf(platform.Gone, reason{kind: "deprovision", status: 410}),
+}, {
+	name: "it answers a deletion with 200 and no body, and with 404 from then on",
+	script: creating(
+		remove(200, "").at(3600), remove(404, `{"description": "what?"}`).at(3602).repeat(20), operator(abandons),
+	),
+	want: endOf(platform.Abandoned, reason{kind: "deprovision", status: 404, description: "what?"}),
+}, {
+	name:   "it answers a deletion with 204", // which says nothing, so the deletion is sent again
+	script: creating(remove(204, "").at(3600), remove(410, empty).at(3602), last(410, 3902)),
+	want:   endOf(platform.Gone, reason{kind: "deprovision", status: 410}),
+}, {
+	name: "it rejects a deletion without an end",
+	script: creating(
+		remove(400, `{"error": "InUse", "description": "it has bindings"}`).at(3600).repeat(20), operator(abandons),
+	),
+	want: endOf(platform.Abandoned, reason{
+		kind: "deprovision", status: 400, code: "InUse", description: "it has bindings",
+	}),
+}, {
+	name: "it rejects a deletion until somebody has mended it",
+	script: creating(
+		remove(400, `{"description": "it has bindings"}`).at(3600).repeat(5), operator(retries),
+		remove(200, empty).at(3630), last(410, 3930),
+	),
+	want: endOf(platform.Gone, reason{kind: "deprovision", status: 410}),
+}, {
+	name: "it refuses the login of a deletion",
+	script: creating(
+		step{request: "DELETE", status: 401, body: empty, due: 3600, refuses: true}, operator(accepts),
+		remove(200, empty).at(7200), last(410, 7500),
+	),
+	want: endOf(platform.Gone, reason{kind: "deprovision", status: 410}),
+}, {
+	name: "it isn't available for a deletion, and asks to wait",
+	script: creating(
+		remove(503, empty).at(3600).retryAfter("900"), remove(200, empty).at(4500), last(410, 4800),
+	),
+	want: endOf(platform.Gone, reason{kind: "deprovision", status: 410}),
+}, {
+	name:   "it rejects the last deletion", // nobody knows what it has
+	script: creating(remove(410, empty).at(3600), last(400, 3900)),
+	want: func() ending {
+		want := endOf(platform.Gone, reason{kind: "deprovision", status: 400})
+		want.orphans = []string{"400 false"}
+		return want
+	}(),
+}}
+
+// creating is the script of an instance that is ready, and removed an hour later.
+func creating(script ...step) []step {
+	return append([]step{put(201, empty), operator(moves(3600)), operator(removes)}, script...)
+}
+
+func endOf(state platform.State, last reason) ending {
+	want := ending{tries: []platform.State{state}, last: last}
+	if state == platform.Abandoned {
+		want.because = "asked the broker's people"
+	}
+	return want
+}
+
+// What the catalogue lacks can't be ordered. The broker isn't asked.
+func TestForeignPlan(t *testing.T) {
+	s := newScene(t, small("", ""), platform.Settings{}, platform.Options{})
+	s.run()
+	for _, newInstance := range []platform.NewInstance{
+		{Service: "mysql"}, {Service: service, Plan: "huge"}, {Service: "database", Plan: "postgres-c2-id"},
+	} {
+		var fault *platform.Fault
+		_, err := s.orders.Create(background, newInstance)
+		if !errors.As(err, &fault) || fault.Kind != platform.Invalid || !strings.Contains(fault.Text, "name one of") {
+			t.Errorf("%+v: got %v, want a fault that lists the plans to name", newInstance, err)
+		}
+	}
+	s.play(nil)
+	if rows := s.rows(); len(rows) > 0 {
+		t.Errorf("got %v, want none", rows)
+	}
+}
+
+// A broker of another version, or that refuses the login, rejects everything. Nothing is ordered of it, its reason is
+// kept, and a run with an end doesn't wait for it.
+func TestForeignRefusals(t *testing.T) {
+	for _, test := range []struct {
+		status int
+		said   string
+	}{
+		{412, "version 2.17"}, {401, "rejects the user or the password"}, {403, "doesn't let this user in"},
+	} {
+		t.Run(fmt.Sprint(test.status), func(t *testing.T) {
+			s := newScene(t, small("", ""), platform.Settings{}, platform.Options{})
+			s.turnedAway = test.status
+			begun := time.Now()
+			err := s.engine.RunOnce(background)
+			if !errors.Is(err, platform.ErrUnreached) || !strings.Contains(err.Error(), test.said) {
+				t.Errorf("%d: got %v, want ErrUnreached with %q", test.status, err, test.said)
+			}
+			if waited := time.Since(begun); waited > 30*time.Second {
+				t.Errorf("%d: got a wait of %v, want at most 30 s", test.status, waited)
+			}
+			var fault *platform.Fault
+			if _, err := s.orders.Create(background, platform.NewInstance{}); !errors.As(err, &fault) {
+				t.Errorf("%d: an order: got %v, want a fault", test.status, err)
+			}
+			brokers, err := s.store.Brokers(background)
+			check(t, err)
+			if got := brokers[0].Reason; got.Status != test.status || !strings.Contains(got.Lost, test.said) {
+				t.Errorf("%d: got the reason %+v, want %q", test.status, got, test.said)
+			}
+		})
+	}
+}
+
+var background = context.Background()
+
+const (
+	service, plan  = "postgres", "postgres-c1-id"
+	user, password = "platform", "hunter2"
+)
+
+// small is a catalogue with one plan, and further members of the catalogue and of the plan.
+func small(members, ofPlan string) string {
+	return `{` + members + `"services": [{"id": "postgres", "name": "database", "description": "A database",
+		"bindable": false, "plans": [{"id": "postgres-c1-id", "name": "small", "description": "A small one"` +
+		ofPlan + `}]}]}`
+}
+
+// A step is a request that the broker must see next, and its answer, or what an operator does.
+type step struct {
+	request   string // PUT, GET of the last operation, or DELETE; empty for what an operator does
+	status    int
+	body      string
+	header    [2]string // a further header of the answer, or empty
+	operation string    // what the GET names
+	try       int       // of which try of the order; 0 for the latest
+	due       int       // when it must arrive, in seconds after the order; 0 stands for any time
+	times     int       // how often, one after the other; 0 stands for 1
+	phrase    string    // of the status line; empty for the usual one
+	hangs     bool      // no answer is given, and the platform hangs up
+	refuses   bool      // the login is refused from then on
+	does      func(t *testing.T, s *scene)
+}
+
+func put(status int, body string) step    { return step{request: "PUT", status: status, body: body} }
+func poll(status int, body string) step   { return step{request: "GET", status: status, body: body} }
+func remove(status int, body string) step { return step{request: "DELETE", status: status, body: body} }
+
+// last is the last deletion of a try: once the hold has passed again.
+func last(status int, due int) step { return remove(status, `{}`).at(due) }
+
+func operator(does func(t *testing.T, s *scene)) step { return step{does: does} }
+
+func (s step) at(due int) step              { s.due = due; return s }
+func (s step) repeat(times int) step        { s.times = times; return s }
+func (s step) of(try int) step              { s.try = try; return s }
+func (s step) naming(operation string) step { s.operation = operation; return s }
+func (s step) retryAfter(value string) step { s.header = [2]string{"Retry-After", value}; return s }
+
+// A scene is an engine, an operator, and a broker that answers by a script. Each try of the order is under another id.
+type scene struct {
+	platform.Silent
+	*client.Client
+	t      *testing.T
+	start  time.Time
+	store  platform.Store
+	orders *platform.Orders
+	engine *platform.Engine
+	key    platform.Key // of the first try
+
+	mu        sync.Mutex
+	now       time.Time
+	catalogue string
+	script    []step
+	seen      int // how often the first step of the script was seen
+	tries     []string
+	refusing  bool
+	hangUp    func() // ends the exchange that the next step doesn't answer
+	// turnedAway is the status of each answer to a request for the catalogue, or 0.
+	turnedAway int
+	orphans    []string
+	exchanges  []platform.Exchange
+	failures   []platform.Failure
+}
+
+// newScene is a scene that ends with the test.
+func newScene(t *testing.T, catalogue string, settings platform.Settings, options platform.Options) *scene {
+	t.Helper()
+	start := time.Date(2026, 5, 6, 7, 8, 9, 0, time.UTC)
+	s := &scene{t: t, start: start, now: start, catalogue: catalogue}
+	server := httptest.NewServer(http.HandlerFunc(s.serve))
+	t.Cleanup(server.Close)
+	sealed, err := vault.New(make([]byte, vault.ShortestKey))
+	check(t, err)
+	s.Client, err = client.New(client.Options{Password: client.NewPasswords(sealed, nil).Of})
+	check(t, err)
+	t.Cleanup(s.Client.Close)
+	s.store = platform.NewMemory(s.time)
+	s.orders = platform.NewOrders(s.store, sealed)
+	broker := platform.Broker{Name: "foreign", URL: server.URL, User: user, Settings: settings}
+	check(t, s.orders.AddBroker(background, broker, []byte(password)))
+	options.Worker, options.Share = "one", func() float64 { return 0 }
+	s.engine = platform.NewEngine(s.store, s, sealed, options, s)
+	return s
+}
+
+// check ends the test at an error.
+func check(t testing.TB, err error) {
+	t.Helper()
+	if err != nil {
+		t.Fatal(err)
+	}
+}
+
+// time is the time of the store.
+func (s *scene) time() time.Time {
+	s.mu.Lock()
+	defer s.mu.Unlock()
+	return s.now
+}
+
+func (s *scene) forward(by time.Duration) {
+	s.mu.Lock()
+	defer s.mu.Unlock()
+	s.now = s.now.Add(by)
+}
+
+// Exchange sends a request over HTTP. It hangs up once the broker has a request that it doesn't answer.
+func (s *scene) Exchange(ctx context.Context, out platform.Outgoing) platform.Incoming {
+	within, hangUp := context.WithCancel(ctx)
+	defer hangUp()
+	s.mu.Lock()
+	if len(s.script) > 0 && s.script[0].hangs {
+		s.hangUp = hangUp
+	}
+	s.mu.Unlock()
+	return s.Client.Exchange(within, out)
+}
+
+// serve is the broker.
+func (s *scene) serve(w http.ResponseWriter, r *http.Request) {
+	body, err := io.ReadAll(r.Body)
+	s.mu.Lock()
+	if err != nil {
+		s.t.Errorf("the body of %s %s: got %v, want no error", r.Method, r.URL, err)
+	}
+	given, hangUp := s.answer(r, body), s.hangUp
+	s.mu.Unlock()
+	if given.hangs {
+		hangUp()
+		<-r.Context().Done()
+		return
+	}
+	if given.header[0] != "" {
+		w.Header().Set(given.header[0], given.header[1])
+	}
+	if given.phrase != "" {
+		s.speak(w, given)
+		return
+	}
+	w.Header().Set("Content-Type", "application/json")
+	w.WriteHeader(given.status)
+	_, _ = io.WriteString(w, given.body) // the platform may have hung up
+}
+
+// speak writes an answer whose status line has a phrase of the broker's own.
+func (s *scene) speak(w http.ResponseWriter, given step) {
+	conn, _, err := w.(http.Hijacker).Hijack()
+	if err != nil {
+		s.t.Error(err)
+		return
+	}
+	defer conn.Close()
+	_, _ = fmt.Fprintf(conn, "HTTP/1.1 %d %s\r\nContent-Length: %d\r\n\r\n%s", given.status, given.phrase,
+		len(given.body), given.body)
+}
+
+// answer is the answer to a request, which must be the next of the script. The scene is locked.
+func (s *scene) answer(r *http.Request, body []byte) step {
+	if name, secret, _ := r.BasicAuth(); name != user || secret != password {
+		s.t.Errorf("%s %s: got the login %s:%s, want %s:%s", r.Method, r.URL, name, secret, user, password)
+	}
+	if version := r.Header.Get("X-Broker-API-Version"); version != "2.17" {
+		s.t.Errorf("%s %s: got the version %q, want \"2.17\"", r.Method, r.URL, version)
+	}
+	isCatalogue := r.URL.Path == "/v2/catalog"
+	if s.refusing {
+		if !isCatalogue {
+			s.t.Errorf("%s %s: got it while the login is refused, want the catalogue only", r.Method, r.URL)
+		}
+		return step{status: http.StatusUnauthorized, body: `{"description": "who are you?"}`}
+	}
+	if isCatalogue && s.turnedAway != 0 {
+		return step{status: s.turnedAway, body: empty}
+	}
+	if isCatalogue {
+		return step{status: http.StatusOK, body: s.catalogue}
+	}
+	since := s.now.Sub(s.start)
+	if len(s.script) == 0 || s.script[0].request != r.Method {
+		s.t.Errorf("%s %s: got it after %v, want what is left of the script: %v", r.Method, r.URL, since, s.script)
+		return step{status: http.StatusTeapot, body: `{}`}
+	}
+	next := s.script[0]
+	s.checkRequest(next, r, body)
+	if next.due != 0 && s.seen == 0 && since != time.Duration(next.due)*time.Second {
+		s.t.Errorf("%s %s: got it after %v, want %d s", r.Method, r.URL, since, next.due)
+	}
+	if s.seen++; s.seen >= next.times {
+		s.script, s.seen = s.script[1:], 0
+	}
+	s.refusing = next.refuses
+	return next
+}
+
+// checkRequest is that a request is the one of its try, and has what the standard asks for.
+func (s *scene) checkRequest(next step, r *http.Request, body []byte) {
+	parts := strings.Split(strings.TrimPrefix(r.URL.Path, "/v2/service_instances/"), "/")
+	query := r.URL.Query()
+	if next.request == "PUT" {
+		for _, try := range s.tries {
+			if try == parts[0] {
+				s.t.Errorf("the id %s: got it twice, want it once", try)
+			}
+		}
+		s.tries = append(s.tries, parts[0])
+		var sent map[string]any
+		if err := json.Unmarshal(body, &sent); err != nil {
+			s.t.Errorf("the body %s: got %v, want no error", body, err)
+		}
+		query.Set("service_id", fmt.Sprint(sent["service_id"]))
+		query.Set("plan_id", fmt.Sprint(sent["plan_id"]))
+	}
+	try := next.try
+	if try == 0 {
+		try = len(s.tries)
+	}
+	if parts[0] != s.tries[try-1] {
+		s.t.Errorf("%s %s: got another id, want that of try %d of %v", r.Method, r.URL, try, s.tries)
+	}
+	// in a Poll, this parameter says nothing: the standard doesn't have it there
+	want := url.Values{"service_id": {service}, "plan_id": {plan}, "accepts_incomplete": {"true"}}
+	if next.operation != "" {
+		want.Set("operation", next.operation)
+	}
+	if query.Encode() != want.Encode() {
+		s.t.Errorf("%s %s: got %s, want %s", r.Method, r.URL, query.Encode(), want.Encode())
+	}
+}
+
+// run has the engine do all that is due.
+func (s *scene) run() {
+	s.t.Helper()
+	err := s.engine.RunOnce(background)
+	s.mu.Lock()
+	defer s.mu.Unlock()
+	switch {
+	case s.refusing && !errors.Is(err, platform.ErrUnreached):
+		s.t.Fatalf("RunOnce while the login is refused: got %v, want %v", err, platform.ErrUnreached)
+	case !s.refusing && err != nil:
+		s.t.Fatal(err)
+	}
+}
+
+// play plays the script to its end, and until all rests.
+func (s *scene) play(script []step) {
+	s.t.Helper()
+	s.script = script
+	for round := 0; round < 1000; round++ {
+		s.run()
+		if act := s.act(); act != nil {
+			act(s.t, s)
+			continue
+		}
+		due, now, err := s.store.NextDue(background, []string{"foreign"})
+		check(s.t, err)
+		if due.IsZero() {
+			break
+		}
+		if wait := due.Sub(now); wait > 0 {
+			s.forward(wait)
+		}
+		if s.t.Failed() {
+			return
+		}
+	}
+	if len(s.script) > 0 {
+		s.t.Errorf("at the end: got %v left of the script, want none", s.script)
+	}
+}
+
+// act is what an operator does next, or nil.
+func (s *scene) act() func(*testing.T, *scene) {
+	s.mu.Lock()
+	defer s.mu.Unlock()
+	if len(s.script) == 0 || s.script[0].does == nil {
+		return nil
+	}
+	does := s.script[0].does
+	s.script = s.script[1:]
+	return does
+}
+
+// order orders an instance, once the catalogue is there.
+func (s *scene) order(wanted platform.NewInstance) {
+	s.t.Helper()
+	s.run()
+	entry, err := s.orders.Create(background, wanted)
+	check(s.t, err)
+	s.key = entry.Key
+}
+
+// rows are the tries of the order.
+func (s *scene) rows() []platform.Entry {
+	s.t.Helper()
+	found, err := s.store.List(background, platform.Filter{})
+	check(s.t, err)
+	sort.Slice(found, func(one, other int) bool { return found[one].Try < found[other].Try })
+	return found
+}
+
+// What the scene gets as an Observer.
+
+func (s *scene) OnAnswer(it platform.Exchange) {
+	s.mu.Lock()
+	defer s.mu.Unlock()
+	s.exchanges = append(s.exchanges, it)
+}
+
+func (s *scene) OnFailure(it platform.Failure) {
+	s.mu.Lock()
+	defer s.mu.Unlock()
+	s.failures = append(s.failures, it)
+}
+
+func (s *scene) OnOrphan(_ platform.Key, status int, isFound bool) {
+	s.mu.Lock()
+	defer s.mu.Unlock()
+	s.orphans = append(s.orphans, fmt.Sprint(status, " ", isFound))
 }

@@ -1,12 +1,16 @@
 package platform
 
 import (
+	"context"
+	"encoding/base64"
 	"encoding/json"
 	"errors"
+	"fmt"
 	"strings"
 	"testing"
 	"time"
 
+	"pippinterm/internal/diff"
 	"pippinterm/osb"
 )
 
@@ -53,37 +57,34 @@ func TestCreate(t *testing.T) {
 	d := newDesk(t)
 	e, err := d.orders.Create(background, NewInstance{
 		Service: "shelf", Plan: "later",
-		Parameters: json.RawMessage(`{"size": 1}`), Context: json.RawMessage(`{"a": []}`),
+		Parameters: json.RawMessage(`{"size": 1, "a": "<&>"}`), Context: json.RawMessage(`{"a": []}`),
 	})
 	check(t, err)
 	read, err := d.store.Read(background, e.Key)
 	check(t, err)
 	if e.State != Ordered || e.IsSent || !e.Due.Equal(d.dial.time()) || !e.Since.Equal(e.Due) || e.Key != read.Key {
-		t.Errorf("got %+v, and stored is %+v", e, read)
+		t.Errorf("got %+v, and %+v stored, want it ordered and due now", e, read)
 	}
 	number, err := osb.IDOfText(e.Names.Instance)
 	check(t, err)
 	want := Order{
 		Key: InstanceKey(number), Broker: "shelf", Service: id("a0"), Plan: id("c2"), IsOwnID: true,
-		Names:        Names{Instance: e.Names.Instance, Service: id("a0").String(), Plan: id("c2").String()},
-		Organization: "osb-platform", Space: "osb-platform", Try: 1, Tries: 3, First: number,
+		Names:      Names{Instance: e.Names.Instance, Service: id("a0").String(), Plan: id("c2").String()},
+		OrderTexts: OrderTexts{Organization: "osb-platform", Space: "osb-platform"}, Try: 1, Tries: 3, First: number,
 	}
 	var body map[string]any
 	check(t, json.Unmarshal(e.Body, &body))
-	if len(body) != 2 || body["parameters"].(map[string]any)["size"] != 1.0 || body["context"] == nil {
-		t.Errorf("the body is %s", e.Body)
+	if len(body) != 2 || body["parameters"].(map[string]any)["size"] != 1.0 || body["context"] == nil ||
+		!strings.Contains(string(e.Body), `"<&>"`) {
+		t.Errorf("the body: got %s, want parameters and context only", e.Body)
 	}
-	if got := e.Order; got.Key != want.Key || got.Names != want.Names || got.Service != want.Service ||
-		got.Plan != want.Plan || got.IsOwnID != want.IsOwnID || got.Tries != want.Tries || got.First != want.First ||
-		got.Try != 1 ||
-		got.Organization != want.Organization || got.Space != want.Space || got.Broker != "shelf" {
-		t.Errorf("got %+v, want %+v", got, want)
-	}
+	want.Body = e.Body
+	diff.Check(t, e.Order, want, "the order")
 }
 
 func TestCreateNamed(t *testing.T) {
 	d := newDesk(t)
-	identity := "kubernetes eyJ1aWQiOiAiMSJ9"
+	identity := longIdentity("six")
 	e, err := d.orders.Create(background, NewInstance{
 		Broker: "shelf", Service: id("a0").String(), Plan: id("c1").String(), ID: "a thing",
 		Organization: "o", Space: "s", Identity: identity, Tries: 7,
@@ -91,24 +92,24 @@ func TestCreateNamed(t *testing.T) {
 	check(t, err)
 	if e.IsOwnID || e.Names.Instance != "a thing" || e.Organization != "o" || e.Space != "s" || e.Tries != 7 ||
 		e.Identity != identity || string(e.Body) != `{}` {
-		t.Errorf("got %+v", e)
+		t.Errorf("got %+v, want what was asked for", e)
 	}
 	if key, err := ParseKey("a thing"); err != nil || key != e.Key {
-		t.Errorf("its key is %v: %v", e.Key, err)
+		t.Errorf("the key of the name: got %[2]v, want %[1]v", e.Key, err)
 	}
 	_, err = d.orders.Create(background, NewInstance{Service: "shelf", Plan: "now", ID: "a thing"})
 	wantFault(t, err, Conflict, "used already")
 	e, err = d.orders.Create(background, NewInstance{Service: "shelf", Plan: "now", ID: "another thing"})
 	check(t, err)
 	if e.Tries != 1 { // the next one would have another id
-		t.Errorf("%d tries", e.Tries)
+		t.Errorf("got %d tries, want 1", e.Tries)
 	}
 }
 
 func TestCreateRejected(t *testing.T) {
 	d := newDesk(t)
 	deep := json.RawMessage(`{"a": ` + strings.Repeat("[", 200) + strings.Repeat("]", 200) + `}`)
-	for _, it := range []struct {
+	for _, test := range []struct {
 		name   string
 		wanted NewInstance
 		kind   FaultKind
@@ -129,15 +130,16 @@ func TestCreateRejected(t *testing.T) {
 		{"what nests too deep", NewInstance{Service: "shelf", Plan: "now", Parameters: deep}, Invalid,
 			"parameters can't be sent: more than 126 arrays and objects lie within each other"},
 		{"an identity", NewInstance{Service: "shelf", Plan: "now", Identity: "me"}, Invalid, "identity"},
+		{"a long identity", NewInstance{Service: "shelf", Plan: "now", Identity: longIdentity("four")}, Invalid, "16385 bytes"},
 		{"too many tries", NewInstance{Service: "shelf", Plan: "now", Tries: 101}, Invalid, "1 to 100"},
 		{"too few tries", NewInstance{Service: "shelf", Plan: "now", Tries: -1}, Invalid, "1 to 100"},
 		{"a space of no text", NewInstance{Service: "shelf", Plan: "now", Space: "\xff"}, Invalid, "can't be sent"},
 	} {
-		_, err := d.orders.Create(background, it.wanted)
-		t.Run(it.name, func(t *testing.T) { wantFault(t, err, it.kind, it.part) })
+		_, err := d.orders.Create(background, test.wanted)
+		t.Run(test.name, func(t *testing.T) { wantFault(t, err, test.kind, test.part) })
 	}
 	if len(d.store.rows) > 0 {
-		t.Errorf("%d rows were written", len(d.store.rows))
+		t.Errorf("got %d rows written, want none", len(d.store.rows))
 	}
 }
 
@@ -171,13 +173,13 @@ func TestBind(t *testing.T) {
 					e.Broker != "shelf" || e.Names.Plan != instance.Names.Plan ||
 					string(e.Body) != `{"bind_resource":{"app_guid":"1"},"parameters":{}}` ||
 					!e.Due.Equal(d.dial.time()) {
-					t.Errorf("got %+v", e)
+					t.Errorf("got %+v, want a binding of the instance, ordered and due now", e)
 				}
 				continue
 			}
 			wantFault(t, err, Conflict, "instance")
 			if len(d.store.rows) != 1 {
-				t.Errorf("%s: it was written", state)
+				t.Errorf("%s: got an order written, want none", state)
 			}
 		}
 	}
@@ -187,18 +189,20 @@ func TestBind(t *testing.T) {
 func TestBindNamed(t *testing.T) {
 	d := newDesk(t)
 	instance := d.put(rowIn(anInstance, Ready)).Names.Instance
-	for _, it := range []struct {
+	for _, test := range []struct {
 		wanted NewBinding
 		tries  int
 	}{
 		{NewBinding{ID: "a binding"}, 1}, {NewBinding{ID: "another", Tries: 7}, 7}, {NewBinding{Tries: 1}, 1},
 		{NewBinding{}, DefaultTries}, {NewBinding{Tries: 100}, 100},
 	} {
-		it.wanted.Instance = instance
-		e, err := d.orders.Bind(background, it.wanted)
-		if err != nil || e.Tries != it.tries || e.IsOwnID != (it.wanted.ID == "") {
-			t.Errorf("%+v: %d tries, own %v, %v", it.wanted, e.Tries, e.IsOwnID, err)
-		}
+		t.Run(fmt.Sprintf("%+v", test.wanted), func(t *testing.T) {
+			test.wanted.Instance = instance
+			e, err := d.orders.Bind(background, test.wanted)
+			if err != nil || e.Tries != test.tries || e.IsOwnID != (test.wanted.ID == "") {
+				t.Errorf("%+v: got %d tries, own %v, %v, want %d", test.wanted, e.Tries, e.IsOwnID, err, test.tries)
+			}
+		})
 	}
 }
 
@@ -207,7 +211,7 @@ func TestBindRejected(t *testing.T) {
 	d.put(rowIn(anInstance, Ready))
 	d.put(rowIn(aBinding, Ready))
 	name := anInstance.String()
-	for _, it := range []struct {
+	for _, test := range []struct {
 		wanted NewBinding
 		kind   FaultKind
 		part   string
@@ -215,13 +219,16 @@ func TestBindRejected(t *testing.T) {
 		{NewBinding{Instance: "another"}, NotFound, "unknown"},
 		{NewBinding{Instance: "a/b"}, Invalid, "slash"},
 		{NewBinding{Instance: name, ID: aBinding.Binding.String()}, Conflict, "used already"},
+		{NewBinding{Instance: name, ID: "a/b"}, Invalid, "slash"},
 		{NewBinding{Instance: name, BindResource: json.RawMessage(`1`)}, Invalid, "bind_resource"},
 		{NewBinding{Instance: name, Identity: "me"}, Invalid, "identity"},
 		{NewBinding{Instance: name, Tries: 101}, Invalid, "1 to 100"},
 		{NewBinding{Instance: name, Tries: -1}, Invalid, "1 to 100"},
 	} {
-		_, err := d.orders.Bind(background, it.wanted)
-		wantFault(t, err, it.kind, it.part)
+		t.Run(test.part, func(t *testing.T) {
+			_, err := d.orders.Bind(background, test.wanted)
+			wantFault(t, err, test.kind, test.part)
+		})
 	}
 	_, err := NewOrders(d.store, nil).Bind(background, NewBinding{Instance: name})
 	wantFault(t, err, Conflict, "no key")
@@ -252,20 +259,20 @@ func TestRemove(t *testing.T) {
 				continue
 			case Gone, Withdrawn:
 				if err != nil || after.State != state || after.Due != before.Due || after.Removal != NotRemoved {
-					t.Errorf("%s: %+v, %v", state, after, err)
+					t.Errorf("%s: got %+v, %v, want no change", state, after, err)
 				}
 				continue
 			case Ordered:
 				if err != nil || after.State != Withdrawn || !after.Rests() || !after.Since.Equal(now) {
-					t.Errorf("%s: %+v, %v", state, after, err)
+					t.Errorf("%s: got %+v, %v, want withdrawn since %v, at rest", state, after, err, now)
 				}
 			default:
 				if err != nil || after.State != state || !after.Due.Equal(now) || after.Record != before.Record {
-					t.Errorf("%s: %+v, %v", state, after, err)
+					t.Errorf("%s: got %+v, %v, want the same state and record, due at %v", state, after, err, now)
 				}
 			}
 			if stored := d.store.rows[key]; stored.Removal != Removed || stored.State != after.State {
-				t.Errorf("%s: stored is %+v", state, stored)
+				t.Errorf("%s: got %+v stored, want the removal and the state", state, stored)
 			}
 		}
 	}
@@ -282,17 +289,18 @@ func TestRemoveWithBindings(t *testing.T) {
 	_, err := d.orders.Remove(background, anInstance, false)
 	wantFault(t, err, Conflict, "has bindings")
 	if d.store.rows[anInstance].Removal != NotRemoved {
-		t.Error("the removal is written")
+		t.Error("got the removal written, want none")
 	}
 	after, err := d.orders.Remove(background, anInstance, true)
 	check(t, err)
 	bound, ended := d.store.rows[aBinding], d.store.rows[other]
 	if after.Removal != RemovedWhole || bound.Removal != Removed || !bound.Due.Equal(d.dial.time()) ||
 		ended.Removal != NotRemoved {
-		t.Errorf("got %v, %v, due %v, %v", after.Removal, bound.Removal, bound.Due, ended.Removal)
+		t.Errorf("got %v, %v, due %v, %v, want all but the ended one removed", after.Removal, bound.Removal, bound.Due,
+			ended.Removal)
 	}
 	if after, err = d.orders.Remove(background, anInstance, false); err != nil || after.Removal != RemovedWhole {
-		t.Errorf("a second time: %v, %v", after.Removal, err)
+		t.Errorf("a second time: got %v, %v, want %v", after.Removal, err, RemovedWhole)
 	}
 }
 
@@ -303,57 +311,62 @@ func TestRemoveWhileBindingWaits(t *testing.T) {
 		"removed with bindings": func(o *Orders) (Entry, error) { return o.Remove(background, anInstance, true) },
 		"abandoned":             func(o *Orders) (Entry, error) { return o.Abandon(background, anInstance, "shut") },
 	} {
-		d := newDesk(t)
-		d.put(rowIn(anInstance, Ready))
-		d.put(with(rowIn(BindingKey(id("1"), id("b0")), Gone), func(e *Entry) { e.Due = time.Time{} }))
-		d.put(with(rowIn(aBinding, Ordered), func(e *Entry) { e.Try, e.Due = 2, d.dial.time().Add(time.Hour) }))
-		_, err := end(d.orders)
-		check(t, err)
-		e, err := d.store.Read(background, aBinding)
-		check(t, err)
-		if e.State != Ordered || e.Removal != Removed || !e.Due.Equal(d.dial.time()) {
-			t.Errorf("%s: got %s, removal %d, due %v", name, e.State, e.Removal, e.Due)
-		}
-		instance := d.store.rows[anInstance]
-		if got := decide(d.dial.time(), Held{Entry: e, Instance: &instance}, false, plain()); got.send != nil ||
-			got.entry.State != Withdrawn || !got.entry.Rests() {
-			t.Errorf("%s: got %+v", name, got.entry)
-		}
+		t.Run(name, func(t *testing.T) {
+			d := newDesk(t)
+			d.put(rowIn(anInstance, Ready))
+			d.put(with(rowIn(BindingKey(id("1"), id("b0")), Gone), func(e *Entry) { e.Due = time.Time{} }))
+			d.put(with(rowIn(aBinding, Ordered), func(e *Entry) { e.Try, e.Due = 2, d.dial.time().Add(time.Hour) }))
+			_, err := end(d.orders)
+			check(t, err)
+			e, err := d.store.Read(background, aBinding)
+			check(t, err)
+			if e.State != Ordered || e.Removal != Removed || !e.Due.Equal(d.dial.time()) {
+				t.Errorf("got %s, removal %d, due %v, want it ordered, removed and due now", e.State, e.Removal, e.Due)
+			}
+			instance := d.store.rows[anInstance]
+			if got := decide(d.dial.time(), Snapshot{Entry: e, Instance: &instance}, false, plain()); got.send != nil ||
+				got.entry.State != Withdrawn || !got.entry.Rests() {
+				t.Errorf("got %+v, want it withdrawn", got.entry)
+			}
+		})
 	}
 }
 
 func TestRetry(t *testing.T) {
-	for _, it := range []struct {
+	for _, test := range []struct {
 		row  Entry
 		want State // empty if nothing is to be done
 	}{
 		{rowIn(anInstance, CleaningPolling), Cleaning}, {rowIn(anInstance, Cleaning), Cleaning},
 		{rowIn(anInstance, Polling), Polling}, {rowIn(anInstance, Ordered), Ordered},
 		{with(rowIn(anInstance, Gone), func(e *Entry) { e.HasLast = true }), Gone},
-		{with(rowIn(anInstance, Ready), removed), Ready}, {rowIn(aBinding, CleaningPolling), Cleaning},
+		{with(rowIn(anInstance, Ready), remove), Ready}, {rowIn(aBinding, CleaningPolling), Cleaning},
+		{with(rowIn(anInstance, Unsettled), remove), Unsettled}, // it waits for its bindings
 		{inFlight(rowIn(anInstance, CleaningPolling)), ""}, {inFlight(rowIn(anInstance, Wanted)), ""},
 		{with(rowIn(anInstance, Ready), func(e *Entry) { e.Due = time.Time{} }), ""},
 		{with(rowIn(anInstance, Unsettled), func(e *Entry) { e.Due = time.Time{} }), ""},
 	} {
-		d := newDesk(t)
-		d.dial.now = at(50)
-		row := it.row
-		if it.want != "" {
-			row.Due, row.Unchanged = at(500), 6
-		}
-		d.put(rowIn(anInstance, Ready))
-		d.put(row)
-		after, err := d.orders.Retry(background, row.Key)
-		if it.want == "" {
-			wantFault(t, err, Conflict, "")
-			continue
-		}
-		if err != nil || after.State != it.want || !after.Due.Equal(at(50)) || after.Unchanged != 0 {
-			t.Errorf("%s: got %s, due %v, %v", row.State, after.State, after.Due, err)
-		}
-		if after.State != row.State && (after.Operation != nil || !after.Since.Equal(at(50))) {
-			t.Errorf("%s: got %+v", row.State, after)
-		}
+		t.Run(string(test.row.State)+" to "+string(test.want), func(t *testing.T) {
+			d := newDesk(t)
+			d.dial.now = at(50)
+			row := test.row
+			if test.want != "" {
+				row.Due, row.Unchanged = at(500), 6
+			}
+			d.put(rowIn(anInstance, Ready))
+			d.put(row)
+			after, err := d.orders.Retry(background, row.Key)
+			if test.want == "" {
+				wantFault(t, err, Conflict, "")
+				return
+			}
+			if err != nil || after.State != test.want || !after.Due.Equal(at(50)) || after.Unchanged != 0 {
+				t.Errorf("%s: got %s, due %v, %v, want %s, due now", row.State, after.State, after.Due, err, test.want)
+			}
+			if after.State != row.State && (after.Operation != nil || !after.Since.Equal(at(50))) {
+				t.Errorf("%s: got %+v, want no operation in a new state", row.State, after)
+			}
+		})
 	}
 }
 
@@ -364,7 +377,7 @@ func TestRetryAfterCrash(t *testing.T) {
 	d.put(inFlight(rowIn(anInstance, CleaningPolling)))
 	after, err := d.orders.Retry(background, anInstance)
 	if err != nil || after.State != Cleaning || after.Record.InFlight() != osb.KindNone || after.Last.Lost == "" {
-		t.Errorf("got %+v, %v", after, err)
+		t.Errorf("got %+v, %v, want it in cleaning with nothing in flight", after, err)
 	}
 }
 
@@ -372,20 +385,20 @@ func TestAbandon(t *testing.T) {
 	for _, key := range []Key{anInstance, aBinding} {
 		for _, state := range everyState {
 			d := newDesk(t)
-			d.put(with(rowIn(anInstance, Ready), removed))
+			d.put(with(rowIn(anInstance, Ready), remove))
 			before := d.put(rowIn(key, state))
 			d.dial.forward(time.Minute)
 			after, err := d.orders.Abandon(background, key, "the broker was closed")
 			if state == Gone || state == Withdrawn || state == Abandoned || state == Ordered {
-				wantFault(t, err, Conflict, named(before))
+				wantFault(t, err, Conflict, describe(before))
 				continue
 			}
 			if err != nil || after.State != Abandoned || !after.Rests() || after.Because != "the broker was closed" ||
 				after.Record != before.Record || after.Credentials != nil || !after.Since.Equal(d.dial.time()) {
-				t.Errorf("%s: got %+v, %v", state, after, err)
+				t.Errorf("%s: got %+v, %v, want it abandoned with its record", state, after, err)
 			}
 			if key.IsBinding && !d.store.rows[anInstance].Due.Equal(d.dial.time()) {
-				t.Errorf("%s: the instance isn't woken", state)
+				t.Errorf("%s: got an instance that isn't woken, want it due now", state)
 			}
 		}
 	}
@@ -410,22 +423,24 @@ func TestAbandonedBinding(t *testing.T) {
 			return d.orders.Abandon(background, anInstance, "the broker was closed")
 		},
 	} {
-		d := newDesk(t)
-		d.put(rowIn(anInstance, Ready))
-		d.put(rowIn(aBinding, CleaningPolling))
-		_, err := end(d)
-		wantFault(t, err, Conflict, "bind")
-		_, err = d.orders.Abandon(background, aBinding, "it is never deleted")
-		check(t, err)
-		d.put(rowIn(held, Ready))
-		_, err = end(d)
-		wantFault(t, err, Conflict, "bind")
-		d.put(rowIn(held, Gone))
-		after, err := end(d)
-		if isIt := after.Removal == Removed; err != nil || isIt != (name == "removed") ||
-			(after.State == Abandoned) != (name == "abandoned") {
-			t.Errorf("%s: got %s, %v, %v", name, after.State, after.Removal, err)
-		}
+		t.Run(name, func(t *testing.T) {
+			d := newDesk(t)
+			d.put(rowIn(anInstance, Ready))
+			d.put(rowIn(aBinding, CleaningPolling))
+			_, err := end(d)
+			wantFault(t, err, Conflict, "bind")
+			_, err = d.orders.Abandon(background, aBinding, "it is never deleted")
+			check(t, err)
+			d.put(rowIn(held, Ready))
+			_, err = end(d)
+			wantFault(t, err, Conflict, "bind")
+			d.put(rowIn(held, Gone))
+			after, err := end(d)
+			if isIt := after.Removal == Removed; err != nil || isIt != (name == "removed") ||
+				(after.State == Abandoned) != (name == "abandoned") {
+				t.Errorf("got %s, %v, %v, want what the name says", after.State, after.Removal, err)
+			}
+		})
 	}
 }
 
@@ -437,11 +452,11 @@ func TestAbandonedBesideOrdered(t *testing.T) {
 	ordered := d.put(rowIn(aBinding, Ordered))
 	instance, err := d.orders.Abandon(background, anInstance, "the broker was closed")
 	if err != nil || instance.State != Abandoned {
-		t.Fatalf("got %s, %v", instance.State, err)
+		t.Fatalf("got %s, %v, want %s", instance.State, err, Abandoned)
 	}
-	made := decide(d.dial.time(), Held{Entry: ordered, Instance: &instance}, false, terms{})
+	made := decide(d.dial.time(), Snapshot{Entry: ordered, Instance: &instance}, false, terms{})
 	if made.send != nil || made.entry.State != Withdrawn || !made.entry.Rests() {
-		t.Errorf("it is %s, and %+v is sent", made.entry.State, made.send)
+		t.Errorf("got %s, and %+v sent, want it withdrawn", made.entry.State, made.send)
 	}
 }
 
@@ -462,7 +477,7 @@ func TestSetBrokerBesideCatalogue(t *testing.T) {
 	move := func(b *Broker) error { b.URL = "https://there"; return nil }
 	check(t, d.orders.SetBroker(background, "shelf", move, nil))
 	if got := d.store.brokers["shelf"]; got.URL != "https://there" || string(got.Catalogue) != string(document) {
-		t.Errorf("got %+v", got)
+		t.Errorf("got %+v, want the new URL and its catalogue", got)
 	}
 }
 
@@ -476,7 +491,7 @@ func TestCreateWithoutBroker(t *testing.T) {
 	_, err := d.orders.Create(background, NewInstance{Service: "shelf", Plan: planNames[0]})
 	wantFault(t, err, NotFound, "shelf")
 	if len(d.store.rows) > 0 {
-		t.Errorf("written: %+v", d.store.rows)
+		t.Errorf("written: got %+v, want none", d.store.rows)
 	}
 }
 
@@ -486,7 +501,7 @@ func TestAbandonLast(t *testing.T) {
 	d.put(with(rowIn(anInstance, Gone), func(e *Entry) { e.HasLast, e.Due = true, at(500) }))
 	after, err := d.orders.Abandon(background, anInstance, "it answers 404 for ever")
 	if err != nil || after.State != Gone || after.HasLast || !after.Rests() || after.Because == "" {
-		t.Errorf("got %+v, %v", after, err)
+		t.Errorf("got %+v, %v, want it gone without a last deletion", after, err)
 	}
 }
 
@@ -496,7 +511,7 @@ func TestCredentials(t *testing.T) {
 	check(t, err)
 	d.put(with(rowIn(aBinding, Ready), func(e *Entry) { e.Credentials = sealed }))
 	if object, err := d.orders.Credentials(background, aBinding); err != nil || string(object) != `{"credentials": 1}` {
-		t.Errorf("got %s, %v", object, err)
+		t.Errorf("got %s, %v, want the credentials", object, err)
 	}
 	_, err = NewOrders(d.store, nil).Credentials(background, aBinding)
 	wantFault(t, err, Conflict, "no key")
@@ -507,10 +522,41 @@ func TestCredentials(t *testing.T) {
 	d.put(rowIn(aBinding, Cleaning))
 	_, err = d.orders.Credentials(background, aBinding)
 	wantFault(t, err, Conflict, "cleaning")
+	d.put(with(rowIn(aBinding, Ready), func(e *Entry) { e.Credentials = nil }))
+	if found, err := d.orders.Credentials(background, aBinding); err == nil {
+		t.Errorf("without any: got %s, want an error", found)
+	}
 	d.put(with(rowIn(aBinding, Ready), func(e *Entry) { e.Credentials = []byte(`["another", ""]`) }))
 	_, err = d.orders.Credentials(background, aBinding)
-	if err == nil || !strings.Contains(err.Error(), named(d.store.rows[aBinding])+" can't be decrypted") {
-		t.Errorf("what was sealed for another row: %v", err)
+	if err == nil || !strings.Contains(err.Error(), describe(d.store.rows[aBinding])+" can't be decrypted") {
+		t.Errorf("what was encrypted for another row: got %v, want that it can't be decrypted", err)
+	}
+}
+
+// The settings of a broker may have their bounds, and nothing beyond them.
+func TestSettingsOfABroker(t *testing.T) {
+	for name, test := range map[string]struct {
+		set   func(*Settings, *time.Duration)
+		least time.Duration
+	}{
+		"hold":         {func(s *Settings, to *time.Duration) { s.Hold = to }, 0},
+		"first pace":   {func(s *Settings, to *time.Duration) { s.FirstPace = to }, time.Millisecond},
+		"longest pace": {func(s *Settings, to *time.Duration) { s.LongestPace = to }, time.Millisecond},
+		"longest poll": {func(s *Settings, to *time.Duration) { s.LongestPoll = to }, time.Second},
+	} {
+		t.Run(name, func(t *testing.T) {
+			for to, isAllowed := range map[time.Duration]bool{
+				test.least - 1: false, test.least: true, longestSetting: true, longestSetting + 1: false,
+			} {
+				d, to := newDesk(t), to
+				err := d.orders.SetBroker(background, "shelf", func(b *Broker) error { test.set(&b.Settings, &to); return nil }, nil)
+				if isAllowed {
+					check(t, err)
+				} else {
+					wantFault(t, err, Invalid, "the "+name+" of a broker")
+				}
+			}
+		})
 	}
 }
 
@@ -519,7 +565,7 @@ func TestBrokers(t *testing.T) {
 	stored := d.store.brokers["shelf"]
 	password, err := seal{}.Open(stored.Password, PasswordContext(stored))
 	if err != nil || string(password) != "secret" || strings.Contains(stored.URL, "/v2") {
-		t.Errorf("the password is %q: %v", password, err)
+		t.Errorf("the password: got %q (%v), want \"secret\" outside the URL", password, err)
 	}
 	minute, none := time.Minute, time.Duration(0)
 	check(t, d.orders.SetBroker(background, "shelf", func(b *Broker) error {
@@ -528,17 +574,17 @@ func TestBrokers(t *testing.T) {
 	}, nil))
 	changed := d.store.brokers["shelf"]
 	if changed.URL != "https://shelf/v" || *changed.Settings.Hold != 0 || changed.Catalogue == nil {
-		t.Errorf("got %+v", changed)
+		t.Errorf("got %+v, want the new URL and hold, and its catalogue", changed)
 	}
 	if password, err := (seal{}).Open(changed.Password, PasswordContext(changed)); string(password) != "secret" {
-		t.Errorf("at the new URL the password is %q: %v, want the one before", password, err)
+		t.Errorf("the password at the new URL: got %q, %v, want the one before", password, err)
 	}
 	toUser := func(b *Broker) error { b.User = "another"; return nil }
 	wantFault(t, NewOrders(d.store, nil).SetBroker(background, "shelf", toUser, nil), Conflict, "give the program the key")
 	check(t, d.orders.SetBroker(background, "shelf", toUser, nil))
 	changed = d.store.brokers["shelf"]
 	if password, err := (seal{}).Open(changed.Password, PasswordContext(changed)); string(password) != "secret" {
-		t.Errorf("for the new user the password is %q: %v, want the one before", password, err)
+		t.Errorf("the password for the new user: got %q, %v, want the one before", password, err)
 	}
 	moved := changed
 	moved.URL = "https://evil" // by somebody who can write the store
@@ -550,16 +596,16 @@ func TestBrokers(t *testing.T) {
 	check(t, d.orders.SetBroker(background, "shelf", toURL("https://shelf/v"), nil)) // where it belongs
 	changed = d.store.brokers["shelf"]
 	if password, err := (seal{}).Open(changed.Password, PasswordContext(changed)); string(password) != "secret" {
-		t.Errorf("back at its URL the password is %q: %v, want the one before", password, err)
+		t.Errorf("the password back at its URL: got %q, %v, want the one before", password, err)
 	}
 	toFile := func(b *Broker) error { b.PasswordFile = "/run/p"; return nil }
 	check(t, d.orders.SetBroker(background, "shelf", toFile, nil))
 	if changed = d.store.brokers["shelf"]; changed.Password != nil || changed.PasswordFile != "/run/p" {
-		t.Errorf("got %+v", changed)
+		t.Errorf("got %+v, want the file instead of the password", changed)
 	}
 	check(t, d.orders.SetBroker(background, "shelf", func(*Broker) error { return nil }, []byte("new")))
 	if changed = d.store.brokers["shelf"]; changed.Password == nil || changed.PasswordFile != "" {
-		t.Errorf("got %+v", changed)
+		t.Errorf("got %+v, want the password instead of the file", changed)
 	}
 	file := Broker{Name: "file", URL: "http://there:1", User: "u", PasswordFile: "p"}
 	wantFault(t, d.orders.AddBroker(background, file, nil), Invalid, "reads the password")
@@ -582,7 +628,7 @@ func TestSetBrokerWithoutPassword(t *testing.T) {
 	move := func(b *Broker) error { b.URL = "https://there"; return nil }
 	check(t, d.orders.SetBroker(background, "default", move, nil))
 	if got := d.store.brokers["default"]; got.URL != "https://there" || got.Password != nil {
-		t.Errorf("got %+v", got)
+		t.Errorf("got %+v, want the new URL and no password", got)
 	}
 	forget := func(b *Broker) error { b.Password = nil; return nil }
 	wantFault(t, d.orders.SetBroker(background, "shelf", forget, nil), Invalid, "no password")
@@ -605,9 +651,11 @@ func TestBrokersRejected(t *testing.T) {
 		"the hold":          func(b *Broker) { b.Settings.Hold = &minus },
 		"the longest poll":  func(b *Broker) { b.Settings.LongestPoll = &long },
 	} {
-		broker := good
-		change(&broker)
-		wantFault(t, d.orders.AddBroker(background, broker, []byte("p")), Invalid, part)
+		t.Run(part, func(t *testing.T) {
+			broker := good
+			change(&broker)
+			wantFault(t, d.orders.AddBroker(background, broker, []byte("p")), Invalid, part)
+		})
 	}
 	wantFault(t, d.orders.AddBroker(background, good, nil), Invalid, "no password")
 	wantFault(t, d.orders.AddBroker(background, good, []byte{}), Invalid, "empty")
@@ -619,4 +667,296 @@ func TestBrokersRejected(t *testing.T) {
 	wantFault(t, d.orders.SetBroker(background, "", nothing, nil), Invalid, "name the broker")
 	rename := func(b *Broker) error { b.Name = "y"; return nil }
 	wantFault(t, d.orders.SetBroker(background, "shelf", rename, nil), Invalid, "keeps its name")
+	refused := errors.New("refused")
+	refuse := func(b *Broker) error { b.URL = "https://there"; return refused }
+	if err := d.orders.SetBroker(background, "shelf", refuse, nil); err != refused || d.store.brokers["shelf"].URL != "https://shelf" {
+		t.Errorf("got %v and the URL %s, want %v and https://shelf", err, d.store.brokers["shelf"].URL, refused)
+	}
+}
+
+// longIdentity is an identity of this platform that has 16,381 bytes more than its name.
+func longIdentity(platform string) string {
+	object := `{"uid":"` + strings.Repeat("a", 12275) + `"}`
+	return platform + " " + base64.StdEncoding.EncodeToString([]byte(object))
+}
+
+// An order takes an object as deep as the library writes it, and says which bound an object is beyond.
+func TestObjects(t *testing.T) {
+	nested := func(deep int) string {
+		return `{"a": ` + strings.Repeat("[", deep-1) + strings.Repeat("]", deep-1) + `}`
+	}
+	for text, part := range map[string]string{
+		`{"a": 1, "b": {"a": 1}, "c": [{"a": 1}, {"a": 1}], "A": 1}`: "",
+		`{"a": -1.7e308, "b": 1e-400, "c": "\ud83d\ude00"}`:          "",
+		nested(126):                     "",
+		nested(127):                     "parameters can't be sent: more than 126 arrays and objects lie within each other",
+		`{"a": 1e309}`:                  "parameters can't be sent: the number 1e309 is above 1.8e308",
+		`{"a": [-1e999]}`:               "the number -1e999 is above",
+		`{"a": 1, "a": 2}`:              `the member "a" stands twice in an object`,
+		`{"x": [{"a": 1, "\u0061":2}]}`: `the member "a" stands twice in an object`,
+		`{"a": "\ud800"}`:               `one half of a surrogate pair, such as \ud800`,
+		`{"a"`:                          "parameters isn't an object of JSON",
+	} {
+		t.Run(fmt.Sprintf("%.80s", text), func(t *testing.T) {
+			d := newDesk(t)
+			_, err := d.orders.Create(background, NewInstance{
+				Service: "shelf", Plan: "now", Parameters: json.RawMessage(text),
+			})
+			var fault *Fault
+			if part == "" && err != nil || part != "" && !(errors.As(err, &fault) && fault.Kind == Invalid &&
+				strings.Contains(fault.Text, part)) {
+				t.Errorf("%.80s: got %v, want %q", text, err, part)
+			}
+		})
+	}
+}
+
+// A busy broker answers the first Bind with a status and a body, and all other requests as a seller does.
+type busy struct {
+	*plant
+	status int
+	body   string
+	binds  int
+	// unbound is called before the first Unbind is answered.
+	unbound func()
+}
+
+// newBusy is a plant whose broker is busy once, with an instance that is ready.
+func newBusy(t *testing.T, status int, body string) (*busy, Key) {
+	t.Helper()
+	b := &busy{plant: newPlant(t, Options{}), status: status, body: body, unbound: func() {}}
+	b.line.exchange = b.answer
+	b.start(background)
+	instance := b.create(NewInstance{})
+	b.untilState(instance, Ready)
+	return b, instance
+}
+
+func (b *busy) answer(_ context.Context, out Outgoing) Incoming {
+	if !out.Entry.Key.IsBinding {
+		return b.seller.handle(out).incoming(out)
+	}
+	switch out.Request.Kind {
+	case osb.KindProvision:
+		isFirst := false
+		b.set(func() { b.binds++; isFirst = b.binds == 1 })
+		if isFirst {
+			return (&reply{b.status, []byte(b.body)}).incoming(out)
+		}
+	case osb.KindDeprovision:
+		var unbound func()
+		b.set(func() { unbound, b.unbound = b.unbound, func() {} })
+		unbound()
+	}
+	return b.seller.handle(out).incoming(out)
+}
+
+// tries are the rows of the bindings of an instance, by their tries.
+func (b *busy) tries(instance Key) map[int]Entry {
+	rows, err := b.store.List(background, Filter{})
+	check(b.t, err)
+	found := map[int]Entry{}
+	for _, e := range rows {
+		if e.Key.IsBinding && e.Key.Instance == instance.Instance {
+			if _, isTwice := found[e.Try]; isTwice {
+				b.t.Errorf("try %d: got it twice, want it once", e.Try)
+			}
+			found[e.Try] = e
+		}
+	}
+	return found
+}
+
+// A Bind that has failed for a passing reason is followed by another binding, which is the only one that exists.
+func TestBindAgain(t *testing.T) {
+	for _, test := range []struct {
+		status int
+		body   string
+	}{
+		{422, `{"error": "ConcurrencyError"}`}, {503, `{}`}, {500, `{}`}, {429, `{}`}, {404, `{}`}, {502, `<html>`},
+	} {
+		t.Run(fmt.Sprint(test.status), func(t *testing.T) {
+			b, instance := newBusy(t, test.status, test.body)
+			first, err := b.orders.Bind(background, NewBinding{Instance: instance.String()})
+			check(t, err)
+			b.untilState(first.Key, Gone)
+			second, isOrdered := b.tries(instance)[2]
+			if !isOrdered {
+				t.Errorf("%d: got %+v, want a second try", test.status, b.tries(instance))
+				return
+			}
+			b.untilState(second.Key, Ready)
+			object, err := b.orders.Credentials(background, second.Key)
+			if err != nil || string(object) != b.seller.object(second.Key) {
+				t.Errorf("%d: the credentials: got %s (%v), want %s", test.status, object, err, b.seller.object(second.Key))
+			}
+			if _, err := b.orders.Credentials(background, first.Key); err == nil {
+				t.Errorf("%d: the first try: got credentials, want none", test.status)
+			}
+			if !b.seller.isNone(first.Key) || !b.seller.isThere(second.Key) || len(b.tries(instance)) != 2 || b.binds != 2 {
+				t.Errorf("%d: got %s and %s after %d Binds, want the second one only, after 2", test.status, b.seller.is(first.Key),
+					b.seller.is(second.Key), b.binds)
+			}
+			if second.First != first.Key.Binding || second.Tries != 3 || second.Key.Instance != first.Key.Instance {
+				t.Errorf("%d: the second try: got %+v, want it of the same instance", test.status, second.Order)
+			}
+		})
+	}
+}
+
+// No binding follows one that has failed for another reason, or that is to be tried once.
+func TestBindNotAgain(t *testing.T) {
+	for name, test := range map[string]struct {
+		status int
+		body   string
+		wanted NewBinding
+	}{
+		"400":                 {400, `{}`, NewBinding{}},
+		"422 AsyncRequired":   {422, `{"error": "AsyncRequired"}`, NewBinding{}},
+		"422 RequiresApp":     {422, `{"error": "RequiresApp"}`, NewBinding{}},
+		"409":                 {409, `{}`, NewBinding{}},
+		"201 that is no JSON": {201, `x`, NewBinding{}},
+		"of one try":          {503, `{}`, NewBinding{Tries: 1}},
+		"under a chosen id":   {503, `{}`, NewBinding{ID: "mine"}},
+	} {
+		t.Run(name, func(t *testing.T) {
+			b, instance := newBusy(t, test.status, test.body)
+			test.wanted.Instance = instance.String()
+			first, err := b.orders.Bind(background, test.wanted)
+			check(t, err)
+			b.untilState(first.Key, Gone)
+			if tries := b.tries(instance); len(tries) != 1 || b.binds != 1 {
+				t.Errorf("got %d tries after %d Binds, want 1: %+v", len(tries), b.binds, tries)
+			}
+		})
+	}
+}
+
+// Once the instance or the binding is to be removed, no further binding is ordered, and none is created.
+func TestBindAgainWhileRemoved(t *testing.T) {
+	for name, remove := range map[string]func(*busy, Key, Key) error{
+		"the instance": func(b *busy, instance, _ Key) error {
+			_, err := b.orders.Remove(background, instance, true)
+			return err
+		},
+		"the binding": func(b *busy, _, binding Key) error {
+			_, err := b.orders.Remove(background, binding, false)
+			return err
+		},
+	} {
+		t.Run(name, func(t *testing.T) {
+			b, instance := newBusy(t, 422, `{"error": "ConcurrencyError"}`)
+			var first Entry
+			ordered := make(chan struct{})
+			b.set(func() {
+				b.unbound = func() {
+					<-ordered
+					check(t, remove(b, instance, first.Key))
+				}
+			})
+			var err error
+			first, err = b.orders.Bind(background, NewBinding{Instance: instance.String()})
+			check(t, err)
+			close(ordered)
+			b.untilState(first.Key, Gone)
+			if name == "the instance" {
+				b.untilState(instance, Gone)
+			}
+			if tries := b.tries(instance); len(tries) != 1 || b.binds != 1 || !b.seller.isNone(first.Key) {
+				t.Errorf("%s is removed: got %d tries after %d Binds, want 1: %+v", name, len(tries), b.binds, tries)
+			}
+		})
+	}
+}
+
+// A row whose requests the broker doesn't take up counts as due since its first request was due, however often it is
+// put off. An answer of the broker ends that.
+func TestDueSince(t *testing.T) {
+	lost := hearing{Incoming: Incoming{Lost: errors.New("connection refused")}}
+	for _, entry := range []Entry{rowIn(anInstance, Polling), rowIn(aBinding, Cleaning), longGone(anInstance)} {
+		row := with(entry, func(e *Entry) { e.Due = at(3) })
+		terms := plain()
+		if row.State == Gone {
+			terms = usualTerms()
+		}
+		for tries := 0; tries < 3; tries++ {
+			try := newTrial(t, row, terms)
+			if try.row.DueSince != row.DueSince {
+				t.Errorf("%s in flight: got it due since %v, want %v", row.State, try.row.DueSince, row.DueSince)
+			}
+			unheard := lost
+			if tries > 0 {
+				unheard = try.hear([]int{401, 503}[tries-1], object)
+			}
+			row = try.take(t, unheard).Entry
+			if !row.DueSince.Equal(at(3)) || !row.Due.After(at(11)) {
+				t.Errorf("%s: got due %v, since %v, want it due later, since its claim", row.State, row.Due, row.DueSince)
+			}
+			row.Due = at(9)
+		}
+		try := newTrial(t, row, terms)
+		for _, answer := range []hearing{
+			try.hear(404, object), try.hear(410, object), try.hear(200, `{"state": "in progress"}`),
+		} {
+			if e := try.take(t, answer).Entry; !e.DueSince.IsZero() {
+				t.Errorf("%s: got it due since %[3]v, after %[2]d, want no such time", row.State, answer.Status, e.DueSince)
+			}
+		}
+	}
+}
+
+// The deletion after a creation without an answer counts since the creation was due, unless it waits for the hold.
+func TestDueSinceOfDeletion(t *testing.T) {
+	row := with(rowIn(anInstance, Ordered), func(e *Entry) { e.Due = at(3) })
+	for _, test := range []struct {
+		terms terms
+		want  time.Time
+	}{{plain(), at(3)}, {usualTerms(), time.Time{}}} {
+		t.Run(fmt.Sprint("hold ", test.terms.hold), func(t *testing.T) {
+			try := newTrial(t, row, test.terms)
+			if e := try.take(t, try.hear(500, object)).Entry; e.State != Cleaning || !e.DueSince.Equal(test.want) {
+				t.Errorf("got %s, due since %v, want %v", e.State, e.DueSince, test.want)
+			}
+		})
+	}
+	waits := with(rowIn(anInstance, Cleaning), func(e *Entry) { e.SentUntil, e.DueSince = at(5), at(3) })
+	if got := decide(at(10), Snapshot{Entry: waits}, true, usualTerms()); got.send != nil || !got.entry.DueSince.IsZero() {
+		t.Errorf("a deletion that is held: got it due since %v, want no such time", got.entry.DueSince)
+	}
+	ready := with(rowIn(anInstance, Ready), func(e *Entry) { e.DueSince = at(3) })
+	if got := decide(at(10), Snapshot{Entry: ready}, true, plain()); !got.entry.Rests() || !got.entry.DueSince.IsZero() {
+		t.Errorf("a row that rests: got it due since %v, want no such time", got.entry.DueSince)
+	}
+}
+
+// What a Store keeps of the last reason is read again, with since when the row is due. A text of version 0.2 is read,
+// too.
+func TestLastText(t *testing.T) {
+	reason := Reason{At: at(1), Kind: "poll", Status: 503, Description: `"due_since":1`}
+	lease := Lease{Worker: "one", Claim: "a claim"}
+	for _, want := range []Entry{
+		{}, {Last: reason}, {DueSince: at(3)}, {Last: reason, DueSince: at(3)}, {Lease: lease},
+		{Last: reason, DueSince: at(3), Lease: lease},
+	} {
+		text, err := want.LastText()
+		check(t, err)
+		got := Entry{Lease: Lease{Worker: want.Lease.Worker}}
+		if text != nil {
+			check(t, got.ReadLast(text))
+		}
+		isNone := want.Last == Reason{} && want.DueSince.IsZero() && want.Lease == Lease{}
+		if (text == nil) != isNone || got.Lease != want.Lease || got.Last.Kind != want.Last.Kind ||
+			!got.Last.At.Equal(want.Last.At) || got.Last.Description != want.Last.Description ||
+			!got.DueSince.Equal(want.DueSince) {
+			t.Errorf("%s: got %+v, %v, want what was written", text, got.Last, got.DueSince)
+		}
+	}
+	var got Entry
+	check(t, got.ReadLast([]byte(`{"at": "2026-01-02T03:04:05Z", "kind": "poll"}`)))
+	if got.Last.Kind != "poll" || !got.DueSince.IsZero() {
+		t.Errorf("got %+v, due since %v, want poll, and no time", got.Last, got.DueSince)
+	}
+	if err := got.ReadLast([]byte(`{"due_since": "x"}`)); err == nil {
+		t.Error("a text that isn't one: got no error, want one")
+	}
 }

@@ -5,12 +5,12 @@ import (
 	"encoding/json"
 	"errors"
 	"fmt"
-	"reflect"
 	"sync"
 	"sync/atomic"
 	"testing"
 	"time"
 
+	"pippinterm/internal/diff"
 	"pippinterm/osb"
 )
 
@@ -37,13 +37,13 @@ func (w *wire) Catalogue(context.Context, Broker) (json.RawMessage, int, error) 
 	return json.RawMessage(sold), 200, nil
 }
 
-// Sent is the last that happens before a Client is called, and Answered is the first afterwards.
-func (w *wire) Sent(it Exchange) { w.paused(pointOf("sent", it.Kind == "fetch")) }
+// OnRequest is the last that happens before a Client is called, and OnAnswer is the first afterwards.
+func (w *wire) OnRequest(it Exchange) { w.paused(pointOf("sent", it.Kind == "fetch")) }
 
-func (w *wire) Answered(it Exchange) { w.paused(pointOf("answered", it.Kind == "fetch")) }
+func (w *wire) OnAnswer(it Exchange) { w.paused(pointOf("answered", it.Kind == "fetch")) }
 
-// Changed is the last that happens in a step, if the state is another one.
-func (w *wire) Changed(Key, State, State) { w.paused("changed") }
+// OnChange is the last that happens in a step, if the state is another one.
+func (w *wire) OnChange(Key, State, State) { w.paused("changed") }
 
 // pointOf is the name of a point, which is another one of a Fetch.
 func pointOf(name string, isFetch bool) string {
@@ -99,7 +99,8 @@ func newStage(t *testing.T, hold time.Duration) *stage {
 	return s
 }
 
-func check(t *testing.T, err error) {
+// check ends the test at an error.
+func check(t testing.TB, err error) {
 	t.Helper()
 	if err != nil {
 		t.Fatal(err)
@@ -108,9 +109,9 @@ func check(t *testing.T, err error) {
 
 // step has a worker do all that is due.
 func (s *stage) step(b *bench) {
-	found := b.engine.claim(background, b.sites, []string{"shelf"}, 10)
-	for _, it := range found.sendings {
-		b.engine.exchange(background, b.sites, it, func(bool) {})
+	found := b.engine.claim(background, b.sites, []string{"shelf"}, 10, nil)
+	for _, sending := range found.sendings {
+		b.engine.exchange(background, b.sites, sending, func(bool) {})
 	}
 }
 
@@ -135,8 +136,8 @@ func (s *stage) goOn(b *bench, rounds int) {
 func (s *stage) isLeased() bool {
 	rows, err := s.store.List(background, Filter{})
 	must(err)
-	for _, it := range rows {
-		if !it.Rests() {
+	for _, row := range rows {
+		if !row.Rests() {
 			return true
 		}
 	}
@@ -191,7 +192,7 @@ func TestPausedWorker(t *testing.T) {
 					s := newStage(t, hold)
 					key := scene.come(t, s)
 					if isReached := s.pause(t, pause); isReached != scene.hasPoint(pause.point, hold) {
-						t.Errorf("it is paused: %v", isReached)
+						t.Errorf("the pause: got %v, want %v", isReached, scene.hasPoint(pause.point, hold))
 					}
 					s.goOn(s.workers[0], 20)
 					s.goOn(s.workers[1], 60)
@@ -202,7 +203,7 @@ func TestPausedWorker(t *testing.T) {
 	}
 }
 
-// pause pauses the first worker. It returns whether the worker has come to the point.
+// pause pauses the first worker. It returns whether the worker has reached the point.
 func (s *stage) pause(t *testing.T, how pause) bool {
 	t.Helper()
 	reached, resumed := make(chan struct{}), make(chan struct{})
@@ -219,10 +220,10 @@ func (s *stage) pause(t *testing.T, how pause) bool {
 	first := s.workers[0]
 	go func() {
 		defer close(ended)
-		found := first.engine.claim(background, first.sites, []string{"shelf"}, 10)
+		found := first.engine.claim(background, first.sites, []string{"shelf"}, 10, nil)
 		pause("claimed")
-		for _, it := range found.sendings {
-			first.engine.exchange(background, first.sites, it, func(bool) {})
+		for _, sending := range found.sendings {
+			first.engine.exchange(background, first.sites, sending, func(bool) {})
 		}
 	}()
 	await(t, "it doesn't come to the point", reached, ended)
@@ -252,21 +253,21 @@ func (s *stage) pause(t *testing.T, how pause) bool {
 func (s *stage) takeOver(t *testing.T, resume func()) {
 	t.Helper()
 	second := s.workers[1]
-	found := second.engine.claim(background, second.sites, []string{"shelf"}, 10)
+	found := second.engine.claim(background, second.sites, []string{"shelf"}, 10, nil)
 	before, err := s.store.List(background, Filter{})
 	check(t, err)
 	now := s.dial.time()
 	resume()
-	for _, it := range before {
-		after, err := s.store.Read(background, it.Key)
+	for _, entry := range before {
+		after, err := s.store.Read(background, entry.Key)
 		check(t, err)
-		isLeased := it.Lease.Worker == second.name && now.Before(it.Lease.Until)
-		if isLeased && !reflect.DeepEqual(after, it) {
-			t.Errorf("the second worker has written %+v, and the first one %+v", it, after)
+		isLeased := entry.Lease.Worker == second.name && now.Before(entry.Lease.Until)
+		if isLeased {
+			diff.Check(t, after, entry, "what the first worker has written over the second one's row")
 		}
 	}
-	for _, it := range found.sendings {
-		second.engine.exchange(background, second.sites, it, func(bool) {})
+	for _, sending := range found.sendings {
+		second.engine.exchange(background, second.sites, sending, func(bool) {})
 	}
 }
 
@@ -277,28 +278,29 @@ func await(t *testing.T, fault string, one, other <-chan struct{}) {
 	case <-one:
 	case <-other:
 	case <-time.After(patience):
-		t.Fatal(fault)
+		t.Fatalf("got no end in time, want one: %v", fault)
 	}
 }
 
 func (s *stage) check(t *testing.T, key Key, hold time.Duration) {
 	t.Helper()
 	created, sent := map[Key]time.Time{}, map[string]int{}
-	for _, it := range s.left {
-		e := it.Entry
-		if !it.at.Before(e.Lease.Until) {
-			t.Errorf("%v of %v leaves %v after its lease", it.Request.Kind, e.Key, it.at.Sub(e.Lease.Until))
+	for _, request := range s.left {
+		e := request.Entry
+		if !request.at.Before(e.Lease.Until) {
+			t.Errorf("%v of %v: got it sent %v after its lease, want it before its end", request.Request.Kind, e.Key,
+				request.at.Sub(e.Lease.Until))
 		}
-		name := fmt.Sprint(e.Key, e.Record.Attempt(), it.IsFetch, e.State == Gone, e.Lease.Until)
+		name := fmt.Sprint(e.Key, e.Record.Attempt(), request.IsFetch, e.State == Gone, e.Lease.Until)
 		if sent[name]++; sent[name] > 1 {
-			t.Errorf("%v of %v is sent %d times", it.Request.Kind, e.Key, sent[name])
+			t.Errorf("%v of %v: got it sent %d times, want once", request.Request.Kind, e.Key, sent[name])
 		}
-		switch it.Request.Kind {
+		switch request.Request.Kind {
 		case osb.KindProvision:
-			created[e.Key] = it.at
+			created[e.Key] = request.at
 		case osb.KindDeprovision:
-			if at, isThere := created[e.Key]; isThere && it.at.Before(at.Add(hold)) {
-				t.Errorf("the deletion of %v leaves %v after its creation", e.Key, it.at.Sub(at))
+			if at, isThere := created[e.Key]; isThere && request.at.Before(at.Add(hold)) {
+				t.Errorf("the deletion of %v: got it sent %v after its creation, want it after the hold", e.Key, request.at.Sub(at))
 			}
 		}
 	}
@@ -308,18 +310,195 @@ func (s *stage) check(t *testing.T, key Key, hold time.Duration) {
 	for _, e := range rows {
 		name := fmt.Sprint(e.First, e.Try)
 		if tries[name]++; tries[name] > 1 {
-			t.Errorf("try %d of %v is ordered %d times", e.Try, e.First, tries[name])
+			t.Errorf("try %d of %v: got it ordered %d times, want once", e.Try, e.First, tries[name])
 		}
 		isRight := e.State == Ready && s.seller.isThere(e.Key) || e.State == Gone && s.seller.isNone(e.Key)
 		if !isRight || !e.Rests() || e.Lease != (Lease{}) {
-			t.Errorf("%v is recorded %s, due %v, %v: %s", e.Key, e.State, e.Due, e.Lease, s.seller.is(e.Key))
+			t.Errorf("%v: got it recorded %s, due %v, %v, want it at rest as the broker has it: %s", e.Key, e.State, e.Due,
+				e.Lease, s.seller.is(e.Key))
 		}
 		if object, err := s.orders.Credentials(background, e.Key); e.State == Ready && e.Key.IsBinding &&
 			(err != nil || string(object) != s.seller.object(e.Key)) {
-			t.Errorf("the credentials of %v are %s (%v)", e.Key, object, err)
+			t.Errorf("the credentials of %v: got %s (%v), want those of the broker", e.Key, object, err)
 		}
 	}
 	if e, err := s.store.Read(background, key); err != nil || e.State == Ordered {
-		t.Errorf("%v is %s: %v", key, e.State, err)
+		t.Errorf("%v: got %s (%v), want it begun", key, e.State, err)
+	}
+}
+
+// points are where a worker is paused, in the order in which a step reaches them: before and after each transaction and
+// each exchange, and between any two statements.
+var points = []string{
+	"claim-begin", "claim-read", "claim-decided", "claim-commit", "claimed",
+	"sent", "handled", "answered", "fetch-sent", "fetch-handled", "fetch-answered",
+	"change-begin", "change-read", "change-decided", "change-commit", "changed",
+}
+
+// A scene has a row of which a request is due.
+type scene struct {
+	name      string
+	come      func(t *testing.T, s *stage) Key
+	isHeld    bool // whether the request waits for the hold, if there is one
+	fetches   bool // whether a Fetch follows
+	isSame    bool // whether the row stays in its state
+	needsHold bool
+}
+
+// hasPoint is whether a worker reaches a point.
+func (s scene) hasPoint(point string, hold time.Duration) bool {
+	switch point {
+	case "claim-begin", "claim-read", "claim-decided", "claim-commit", "claimed":
+		return true
+	case "fetch-sent", "fetch-handled", "fetch-answered":
+		return s.fetches
+	case "changed":
+		// of a deletion that waits, the new state is reported by the claim
+		return !s.isSame
+	}
+	return !s.isHeld || hold == 0
+}
+
+var scenes = []scene{
+	{name: "a creation", come: func(t *testing.T, s *stage) Key { return s.order(t, "now") }},
+	{name: "a creation that goes on", come: func(t *testing.T, s *stage) Key { return s.order(t, "later") }},
+	{name: "two creations of one claim", come: func(t *testing.T, s *stage) Key { // the second one is late
+		s.order(t, "later")
+		return s.order(t, "now")
+	}},
+	{name: "a Poll", come: func(t *testing.T, s *stage) Key {
+		key := s.order(t, "later")
+		s.step(s.workers[1])
+		s.seller.goOn()
+		s.dial.forward(2 * time.Second)
+		return key
+	}},
+	{name: "a Poll too early", isSame: true, come: func(t *testing.T, s *stage) Key {
+		key := s.order(t, "later")
+		s.step(s.workers[1])
+		s.dial.forward(2 * time.Second)
+		return key
+	}},
+	{name: "the end of the polling", come: func(t *testing.T, s *stage) Key {
+		key := s.order(t, "later")
+		s.step(s.workers[1])
+		s.dial.forward(8 * 24 * time.Hour)
+		return key
+	}},
+	{name: "a deletion", come: func(t *testing.T, s *stage) Key {
+		key := s.create(t, "now")
+		s.remove(t, key)
+		s.dial.forward(time.Hour)
+		return key
+	}},
+	{name: "the first deletion", isHeld: true, come: func(t *testing.T, s *stage) Key {
+		key := s.create(t, "now")
+		s.remove(t, key)
+		return key
+	}},
+	{name: "a Poll of a deletion", come: func(t *testing.T, s *stage) Key {
+		key := s.create(t, "later")
+		s.dial.forward(time.Hour)
+		s.remove(t, key)
+		s.step(s.workers[1])
+		s.seller.goOn()
+		s.dial.forward(2 * time.Second)
+		return key
+	}},
+	{name: "the last deletion", needsHold: true, isSame: true, come: func(t *testing.T, s *stage) Key {
+		key := s.create(t, "now")
+		s.dial.forward(time.Hour)
+		s.remove(t, key)
+		s.step(s.workers[1])
+		s.dial.forward(time.Hour)
+		return key
+	}},
+	{name: "what a crash has left", come: func(t *testing.T, s *stage) Key {
+		key := s.order(t, "now")
+		s.crash(t)
+		s.dial.forward(time.Hour)
+		return key
+	}},
+	{name: "what a crash has left just now", isHeld: true, come: func(t *testing.T, s *stage) Key {
+		key := s.order(t, "now")
+		s.crash(t)
+		s.dial.forward(91 * time.Second)
+		return key
+	}},
+	{name: "a deletion that the next try follows", come: func(t *testing.T, s *stage) Key {
+		s.seller.mood = func() int { return 1 }
+		key := s.orderedOften(t, "now", 2)
+		s.step(s.workers[1])
+		s.seller.mood = func() int { return 9 }
+		s.dial.forward(time.Hour)
+		return key
+	}},
+	{name: "an Unbind that the next try follows", come: func(t *testing.T, s *stage) Key {
+		instance := s.create(t, "now")
+		s.seller.mood = func() int { return 1 }
+		key := s.bound(t, instance)
+		s.step(s.workers[1])
+		s.seller.mood = func() int { return 9 }
+		s.dial.forward(time.Hour)
+		return key
+	}},
+	{name: "a Bind", come: func(t *testing.T, s *stage) Key { return s.bound(t, s.create(t, "now")) }},
+	{name: "a Fetch", fetches: true, come: func(t *testing.T, s *stage) Key {
+		key := s.bound(t, s.create(t, "bind-later"))
+		s.step(s.workers[1])
+		s.seller.goOn()
+		s.dial.forward(2 * time.Second)
+		return key
+	}},
+	{name: "an Unbind", come: func(t *testing.T, s *stage) Key {
+		key := s.bound(t, s.create(t, "now"))
+		s.step(s.workers[1])
+		s.remove(t, key)
+		s.dial.forward(time.Hour)
+		return key
+	}},
+}
+
+func (s *stage) order(t *testing.T, plan string) Key {
+	t.Helper()
+	return s.orderedOften(t, plan, 1)
+}
+
+func (s *stage) orderedOften(t *testing.T, plan string, tries int) Key {
+	t.Helper()
+	e, err := s.orders.Create(background, NewInstance{Service: "shelf", Plan: plan, Tries: tries})
+	check(t, err)
+	return e.Key
+}
+
+// create is an instance that is ready.
+func (s *stage) create(t *testing.T, plan string) Key {
+	t.Helper()
+	key := s.order(t, plan)
+	s.goOn(s.workers[1], 5)
+	return key
+}
+
+func (s *stage) bound(t *testing.T, instance Key) Key {
+	t.Helper()
+	e, err := s.orders.Bind(background, NewBinding{Instance: instance.String()})
+	check(t, err)
+	return e.Key
+}
+
+func (s *stage) remove(t *testing.T, key Key) {
+	t.Helper()
+	_, err := s.orders.Remove(background, key, false)
+	check(t, err)
+}
+
+// crash has the second worker end once it has sent what is due.
+func (s *stage) crash(t *testing.T) {
+	t.Helper()
+	second := s.workers[1]
+	found := second.engine.claim(background, second.sites, []string{"shelf"}, 10, nil)
+	check(t, found.err)
+	for _, sending := range found.sendings {
+		s.Exchange(background, sending.out)
 	}
 }

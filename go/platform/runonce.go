@@ -44,7 +44,7 @@ func (e *Engine) RunOnceUntil(ctx context.Context, stop <-chan struct{}) error {
 	if err != nil {
 		return err
 	}
-	if unreached := r.sites.unreached(); len(unreached) > 0 {
+	if unreached := r.sites.unreachedBrokers(); len(unreached) > 0 {
 		return fmt.Errorf("%w: %s", ErrUnreached, strings.Join(unreached, "; "))
 	}
 	return nil
@@ -65,22 +65,22 @@ func (r *run) stopAt(stop <-chan struct{}) {
 
 // drain goes on until nothing is due and nothing is in flight, or ctx is done.
 func (r *run) drain(ctx context.Context) error {
-	var since locked
+	var since lockWatch
 	for {
 		if ctx.Err() != nil {
 			return ctx.Err()
 		}
-		claim := claimed{}
+		claim := claimResult{}
 		names, most := r.places()
 		if most > 0 {
-			claim = r.claim(r.ctx, r.sites, names, most)
+			claim = r.claim(r.ctx, r.sites, names, most, nil) // each row is sent once, so none is put off
 			r.start(claim.sendings)
 			if claim.err != nil {
 				return claim.err
 			}
 		}
 		if claim.claimed > 0 { // none of these is due at once any more
-			since = locked{}
+			since = lockWatch{}
 			continue
 		}
 		if r.running == 0 && r.inFlight == 0 { // with requests in flight, no place may have been free
@@ -101,8 +101,8 @@ func (r *run) drain(ctx context.Context) error {
 	}
 }
 
-// locked is since when nothing was claimed though something is due. Claim passes over what others have locked.
-type locked struct {
+// lockWatch is since when nothing was claimed though something is due. Claim passes over what others have locked.
+type lockWatch struct {
 	due   time.Time // the Store's time. What is due later is left to a later run: else one beside a busy worker never ends
 	until time.Time // until when it is waited for
 }
@@ -111,13 +111,13 @@ type locked struct {
 // whether it was.
 //
 // Errors: those of the Store and of ctx; ErrLocked if it is waited for no longer.
-func (r *run) restIfDue(ctx context.Context, names []string, since *locked) (bool, error) {
+func (r *run) restIfDue(ctx context.Context, names []string, since *lockWatch) (bool, error) {
 	due, now, err := r.store.NextDue(ctx, names)
 	if r.health.read(err) {
 		return false, err
 	}
 	if since.until.IsZero() {
-		*since = locked{due: now, until: time.Now().Add(r.Exchange)}
+		*since = lockWatch{due: now, until: time.Now().Add(r.Exchange)}
 	}
 	switch {
 	case due.IsZero() || due.After(since.due):

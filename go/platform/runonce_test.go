@@ -4,6 +4,7 @@ import (
 	"context"
 	"errors"
 	"strings"
+	"sync"
 	"sync/atomic"
 	"testing"
 	"time"
@@ -15,23 +16,57 @@ func TestRunOnce(t *testing.T) {
 	key := p.create(NewInstance{})
 	check(t, p.engine.RunOnce(background))
 	if e, err := p.store.Read(background, key); err != nil || e.State != Ready {
-		t.Errorf("it is %s: %v", e.State, err)
+		t.Errorf("got %s (%v), want %s", e.State, err, Ready)
 	}
 	p.engine.Exchange = 50 * time.Millisecond
 	p.set(func() {
 		p.line.catalogue = func(Broker) (string, int, error) { return "", 0, errors.New("it is down") }
 	})
 	if err := p.engine.RunOnce(background); !errors.Is(err, ErrUnreached) || !strings.Contains(err.Error(), "shelf") {
-		t.Errorf("got %v", err)
+		t.Errorf("got %v, want %v of shelf", err, ErrUnreached)
 	}
 	p.store.setAway(ErrAway)
 	if err := p.engine.RunOnce(background); !errors.Is(err, ErrAway) {
-		t.Errorf("got %v", err)
+		t.Errorf("got %v, want %v", err, ErrAway)
+	}
+}
+
+// A balky store fails at one kind of call: at each Claim, or at each NextDue after a Claim.
+type balky struct {
+	*memory
+	call    string
+	claimed atomic.Bool
+}
+
+func (b *balky) Claim(ctx context.Context, brokers []string, most int, step Step) ([]ClaimedRow, error) {
+	b.claimed.Store(true)
+	if b.call == "Claim" {
+		return nil, errStore
+	}
+	return b.memory.Claim(ctx, brokers, most, step)
+}
+
+func (b *balky) NextDue(ctx context.Context, brokers []string) (due, now time.Time, err error) {
+	if b.call == "NextDue" && b.claimed.Load() {
+		return due, now, errStore
+	}
+	return b.memory.NextDue(ctx, brokers)
+}
+
+// A store that fails while the orders are done ends a RunOnce with its error.
+func TestRunOnceOverAStoreThatFails(t *testing.T) {
+	for _, call := range []string{"Claim", "NextDue"} {
+		p := newPlant(t, Options{})
+		store := &balky{memory: p.store, call: call}
+		engine := NewEngine(store, p.line, seal{}, p.engine.Options, p.line)
+		if err := engine.RunOnce(background); !errors.Is(err, errStore) {
+			t.Errorf("%s: got %v, want %v", call, err, errStore)
+		}
 	}
 }
 
 // Rows whose steps always fail keep no other order waiting, though they are due the longest, and though there are more
-// of them than are claimed at once. Neither does RunOnce end before it has come to the other.
+// of them than are claimed at once. Neither does RunOnce end before it has claimed the other.
 func TestPoisonedRows(t *testing.T) {
 	const poisoned = 20
 	for _, runsOnce := range []bool{false, true} {
@@ -54,12 +89,12 @@ func TestPoisonedRows(t *testing.T) {
 			check(t, p.engine.RunOnce(background))
 		} else {
 			p.engine.Look = time.Hour // what is due is found without it
-			p.started(background)
+			p.start(background)
 		}
 		p.untilState(key, Ready)
-		for it := range bad {
-			if e, err := p.store.Read(background, it); err != nil || e.State != Ordered {
-				t.Errorf("%v is %s: %v", it, e.State, err)
+		for broker := range bad {
+			if e, err := p.store.Read(background, broker); err != nil || e.State != Ordered {
+				t.Errorf("%v: got %s (%v), want %s", broker, e.State, err, Ordered)
 			}
 		}
 	}
@@ -77,7 +112,7 @@ func TestRunOnceRefused(t *testing.T) {
 		return (&reply{401, []byte(`{}`)}).incoming(out)
 	}
 	if err := p.engine.RunOnce(background); !errors.Is(err, ErrUnreached) {
-		t.Errorf("got %v", err)
+		t.Errorf("got %v, want %v", err, ErrUnreached)
 	}
 	p.untilState(key, Cleaning)
 }
@@ -95,17 +130,17 @@ func TestRunOnceRefusedAtFirst(t *testing.T) {
 		}
 		begun := time.Now()
 		if err := p.engine.RunOnce(background); !errors.Is(err, ErrUnreached) || !strings.Contains(err.Error(), "drawer: no") {
-			t.Errorf("%d: %v", status, err)
+			t.Errorf("%d: got %v, want ErrUnreached with the error of the broker drawer", status, err)
 		}
 		key := p.create(NewInstance{})
 		if err := p.engine.RunOnce(background); !errors.Is(err, ErrUnreached) {
-			t.Errorf("%d: %v", status, err)
+			t.Errorf("%d: got %v, want ErrUnreached", status, err)
 		}
 		if waited := time.Since(begun); waited > 30*time.Second {
-			t.Errorf("%d: it waits for %v", status, waited)
+			t.Errorf("%d: got a wait of %v, want at most 30 s", status, waited)
 		}
 		if e, err := p.store.Read(background, key); err != nil || e.State != Ready {
-			t.Errorf("%d: the order of the other broker is %s: %v", status, e.State, err)
+			t.Errorf("%d: the order of the other broker: got %s (%v), want %s", status, e.State, err, Ready)
 		}
 	}
 }
@@ -121,7 +156,7 @@ func TestRunOnceWaits(t *testing.T) {
 		return sold, 200, nil
 	}
 	if err := p.engine.RunOnce(background); err != nil || asked.Load() != 3 {
-		t.Errorf("asked %d times: %v", asked.Load(), err)
+		t.Errorf("got %d requests and %v, want 3 and no error", asked.Load(), err)
 	}
 }
 
@@ -143,18 +178,124 @@ func TestRunOnceStops(t *testing.T) {
 	close(stop)
 	select {
 	case err := <-ended:
-		t.Fatalf("it returns while a request is in flight: %v", err)
+		t.Fatalf("while a request is in flight: got %v, want it to wait", err)
 	case <-time.After(20 * time.Millisecond):
 	}
 	close(answer)
 	check(t, <-ended)
 	states := map[State]int{}
-	for _, it := range keys {
-		e, err := p.store.Read(background, it)
+	for _, key := range keys {
+		e, err := p.store.Read(background, key)
 		check(t, err)
 		states[e.State]++
 	}
 	if states[Ready] != 1 || states[Ordered] != 1 || len(arrived) > 0 {
-		t.Errorf("they are %v, and %d further requests were sent", states, len(arrived))
+		t.Errorf("got %v, and %d further requests, want one ready, one ordered and none", states, len(arrived))
+	}
+}
+
+// A row that another transaction has locked for a moment is waited for.
+func TestRunOnceBesideATransaction(t *testing.T) {
+	p := newPlant(t, Options{})
+	check(t, p.engine.RunOnce(background)) // it has the catalogue
+	key := p.create(NewInstance{})
+	isLocked, passedOver, changed := make(chan struct{}), make(chan struct{}), make(chan error, 1)
+	var once sync.Once
+	p.store.between = func(point string, _ Key) {
+		if point == "claim-commit" {
+			once.Do(func() { close(passedOver) })
+		}
+	}
+	go func() {
+		changed <- p.store.Change(background, key, func(time.Time, Snapshot) (*Change, error) {
+			close(isLocked)
+			select {
+			case <-passedOver:
+				return nil, nil
+			case <-time.After(patience):
+				return nil, errors.New("nothing is claimed")
+			}
+		})
+	}()
+	<-isLocked
+	check(t, p.engine.RunOnce(background))
+	check(t, <-changed)
+	if e, err := p.store.Read(background, key); err != nil || e.State != Ready {
+		t.Errorf("got %s (%v), want %s", e.State, err, Ready)
+	}
+}
+
+// A shy store passes over all rows in so many claims.
+type shy struct {
+	*memory
+	claims int
+	isBusy bool // whether each time another row is due, since a worker takes the others
+}
+
+func (s *shy) Claim(ctx context.Context, brokers []string, most int, step Step) ([]ClaimedRow, error) {
+	if s.claims > 0 {
+		s.claims--
+		return nil, nil
+	}
+	return s.memory.Claim(ctx, brokers, most, step)
+}
+
+func (s *shy) NextDue(ctx context.Context, brokers []string) (due, now time.Time, err error) {
+	due, now, err = s.memory.NextDue(ctx, brokers)
+	if s.isBusy {
+		due = now
+	}
+	return due, now, err
+}
+
+// What was passed over is claimed again, for as long as an exchange may last. What is due later is left to a later run.
+func TestRunOnceOverAShyStore(t *testing.T) {
+	for _, test := range []struct {
+		name   string
+		shy    shy
+		want   error
+		state  State
+		atMost time.Duration
+	}{
+		{"once", shy{claims: 1}, nil, Ready, patience},
+		{"always", shy{claims: 1 << 30}, ErrLocked, Ordered, patience},
+		{"beside a busy worker", shy{claims: 1 << 30, isBusy: true}, nil, Ordered, patience},
+	} {
+		t.Run(test.name, func(t *testing.T) {
+			p := newPlant(t, Options{Exchange: time.Second})
+			check(t, p.engine.RunOnce(background)) // it has the catalogue
+			key := p.create(NewInstance{})
+			store := test.shy
+			store.memory = p.store
+			p.engine.store = &store
+			begun := time.Now()
+			if err := p.engine.RunOnce(background); !errors.Is(err, test.want) || (err == nil) != (test.want == nil) {
+				t.Errorf("got %v, want %v", err, test.want)
+			}
+			if took := time.Since(begun); took > test.atMost {
+				t.Errorf("got an end after %v, want one within %v", took, test.atMost)
+			}
+			if e, err := p.store.Read(background, key); err != nil || e.State != test.state {
+				t.Errorf("got %s (%v), want %s", e.State, err, test.state)
+			}
+		})
+	}
+}
+
+// The end of the context ends the wait for a row that others have locked.
+func TestRunOnceIsCancelled(t *testing.T) {
+	p := newPlant(t, Options{})
+	check(t, p.engine.RunOnce(background)) // it has the catalogue
+	p.create(NewInstance{})
+	p.engine.store = &shy{memory: p.store, claims: 1 << 30}
+	ctx, cancel := context.WithCancel(background)
+	defer cancel()
+	time.AfterFunc(50*time.Millisecond, cancel)
+	begun := time.Now()
+	if err := p.engine.RunOnce(ctx); !errors.Is(err, context.Canceled) {
+		t.Errorf("got %v, want %v", err, context.Canceled)
+	}
+	if took := time.Since(begun); took > 30*time.Second { // an exchange lasts a minute
+		t.Errorf("got an end after %v, want one within 30 s", took)
 	}
 }

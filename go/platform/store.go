@@ -2,14 +2,17 @@ package platform
 
 import (
 	"context"
+	"encoding/json"
 	"errors"
+	"reflect"
+	"strings"
 	"time"
 
 	"pippinterm/osb"
 )
 
-// A Held is what a transaction reads of a row, which it has locked.
-type Held struct {
+// A Snapshot is what a transaction reads of a row, which it has locked.
+type Snapshot struct {
 	Entry
 	// Instance is the row of a binding's instance, locked too. For an instance it is nil.
 	Instance *Entry
@@ -34,7 +37,7 @@ type Change struct {
 
 // A Step is what a transaction does with what it has read. It returns the Change to write, or nil to write nothing. If
 // it fails, nothing of the row is written. now is the Store's time: all workers of a Store have the same.
-type Step func(now time.Time, held Held) (*Change, error)
+type Step func(now time.Time, snapshot Snapshot) (*Change, error)
 
 // An Ordering is an order of rows.
 type Ordering int
@@ -43,7 +46,7 @@ const (
 	ByState Ordering = iota // State, Since, Key
 	ByTime                  // Since, Key
 	// ByKey is the order of Key, which never changes. If a list is read in pages, each behind the one before, a row that
-	// fits the filter all the while is on one page, whatever changes. In the other orders, a row that comes to another
+	// fits the filter all the while is on one page, whatever changes. In the other orders, a row that moves to another
 	// state between two pages may be on none, or on two.
 	ByKey
 )
@@ -60,6 +63,8 @@ type Filter struct {
 	Latest   bool   // in the opposite order
 	After    *Place // only rows behind this place, in the order in which they are listed
 	Most     int    // as many at most; 0 for all
+	// IsBrief leaves out what the orders were sent with (Order.Body), and credentials. A body may have 256 KiB.
+	IsBrief bool
 }
 
 // Chain chooses all tries of the order of a row. The ids of bindings are those of one instance.
@@ -93,18 +98,18 @@ type Count struct {
 // processes use the database. What a transaction has written outlives a power cut once the call has returned nil.
 type Store interface {
 	// Insert writes the row of a new order. Its broker can't be dropped meanwhile. check is called with the row of a
-	// binding's instance, locked (Held.Instance), and otherwise nothing in Held counts; if it fails, nothing is
+	// binding's instance, locked (Snapshot.Instance), and otherwise nothing in Snapshot counts; if it fails, nothing is
 	// written.
 	//
 	// Errors: ErrUsed if the key has a row, which stays as it was; ErrUnknown if there is no broker of this name, or
 	// the instance of a binding has no row.
-	Insert(ctx context.Context, entry Entry, check func(Held) error) error
+	Insert(ctx context.Context, entry Entry, check func(Snapshot) error) error
 
 	// Claim is one transaction over at most so many rows that are due, that nobody has leased, and whose broker is one
 	// of these, the longest due first. Rows that another transaction has locked are passed over. It calls step for
 	// each, and writes what step returns. A row whose step fails, or that can't be read, stays as it was, but is due
 	// FailedRest later, and claimed has its error.
-	Claim(ctx context.Context, brokers []string, most int, step Step) (claimed []Claimed, err error)
+	Claim(ctx context.Context, brokers []string, most int, step Step) (claimed []ClaimedRow, err error)
 
 	// Change is one transaction over the row of a key. It may call step more than once; the last call counts.
 	//
@@ -188,8 +193,8 @@ type Store interface {
 // would keep all others waiting.
 const FailedRest = 30 * time.Second
 
-// A Claimed is a row that Claim has stepped.
-type Claimed struct {
+// A ClaimedRow is a row that Claim has stepped.
+type ClaimedRow struct {
 	Key Key
 	Err error // of its step, or nil
 }
@@ -204,3 +209,328 @@ var (
 	// ErrAway reports that the database can't be reached for now. Nobody knows whether a change is written.
 	ErrAway = errors.New("the store is away")
 )
+
+// A State is where an order stands: one of the following, or that of its record (docs/platform.md).
+type State string
+
+const (
+	Ordered   State = "ordered"   // written down, and never sent yet
+	Withdrawn State = "withdrawn" // removed before it was sent: it never will be
+	Abandoned State = "abandoned" // an operator has given it up: nothing is sent any more, and nobody knows what exists
+
+	Wanted          State = "wanted"
+	Polling         State = "polling"
+	Ready           State = "ready"
+	Cleaning        State = "cleaning"
+	CleaningPolling State = "cleaning-polling"
+	Gone            State = "gone"
+	Unsettled       State = "unsettled"
+)
+
+// StateOf is the state of a record.
+func StateOf(record osb.Record) State { return states[record.State()] }
+
+var states = map[osb.State]State{
+	osb.StateWanted: Wanted, osb.StatePolling: Polling, osb.StateReady: Ready, osb.StateCleaning: Cleaning,
+	osb.StateCleaningPolling: CleaningPolling, osb.StateGone: Gone, osb.StateUnsettled: Unsettled,
+}
+
+// Names are the ids as they are sent: texts of 1 to 255 bytes of UTF-8. Binding is empty for an instance.
+type Names struct {
+	Instance, Binding, Service, Plan string
+}
+
+// An Order is what somebody asked for. It never changes.
+type Order struct {
+	Key           Key
+	Broker        string // the name of the broker, whose records never go to another one
+	Names         Names
+	Service, Plan osb.ID
+	IsOwnID       bool // whether the id was made up here, so that nobody else can have it
+
+	OrderTexts
+	Body     json.RawMessage // an object with further members of the body, such as parameters and context
+	Identity string          // the value of X-Broker-API-Originating-Identity, or empty
+
+	Try   int    // 1 for the first, 2 for the next that is ordered after a passing reason, and so on
+	Tries int    // as many are ordered at most, 1 or more
+	First osb.ID // the id of the first try
+}
+
+// A Removal is what an operator has asked for.
+type Removal int
+
+const (
+	NotRemoved   Removal = iota
+	Removed              // the instance or the binding is to be deleted
+	RemovedWhole         // the instance is to be deleted, and all of its bindings first
+)
+
+// A Lease is the right of a worker to step a row until a time. The zero Lease is nobody's.
+type Lease struct {
+	Worker string
+	Until  time.Time
+	// Claim is an id that the claim has made up that recorded the lease. No two have the same, so a claim whose commit
+	// failed isn't taken for the next one. It is empty in a lease of version 0.2.
+	Claim string
+}
+
+// A Reason is what the broker, or the way to it, said last. The zero Reason says nothing.
+type Reason struct {
+	At          time.Time `json:"at"`
+	Kind        string    `json:"kind"`                  // provision, poll, deprovision, bind, unbind, fetch
+	Status      int       `json:"status,omitempty"`      // of the answer, or 0 if none arrived
+	Error       string    `json:"error,omitempty"`       // the code in the answer
+	Description string    `json:"description,omitempty"` // the answer's, for a person
+	Lost        string    `json:"lost,omitempty"`        // why no answer was taken, or what is wrong with it, or empty
+}
+
+// OrderTexts are members of an order, and EntryTexts members of an Entry, that every Store keeps in the same way: as a
+// text in the column that the tag names. With omitempty, the column is NULL if the text is empty. A store reads and
+// writes them by Columns. If its tables lack a column, the store adds the column when it is opened, and each row that is
+// there has an empty text.
+type OrderTexts struct {
+	Organization string `json:"organization"` // organization_guid of a Provision, not empty
+	Space        string `json:"space"`        // space_guid of a Provision, not empty
+}
+
+// EntryTexts: see OrderTexts.
+type EntryTexts struct {
+	Dashboard string `json:"dashboard,omitempty"` // dashboard_url of the Provision's answer, or empty
+	Because   string `json:"because,omitempty"`   // why it was abandoned
+}
+
+// A Column is a text as a Store keeps it.
+type Column struct {
+	Name   string
+	IsNull bool // whether the column is NULL if the text is empty
+	Text   *string
+}
+
+// Columns returns the columns of texts.
+func Columns[T OrderTexts | EntryTexts](texts *T) (columns []Column) {
+	of := reflect.ValueOf(texts).Elem()
+	for at := 0; at < of.NumField(); at++ {
+		name, option, _ := strings.Cut(of.Type().Field(at).Tag.Get("json"), ",")
+		text := of.Field(at).Addr().Interface().(*string)
+		columns = append(columns, Column{Name: name, IsNull: option == "omitempty", Text: text})
+	}
+	return columns
+}
+
+// ColumnNames returns the names of the columns of an order, and of an Entry besides.
+func ColumnNames() (ofOrder, ofEntry []string) {
+	for _, column := range Columns(&OrderTexts{}) {
+		ofOrder = append(ofOrder, column.Name)
+	}
+	for _, column := range Columns(&EntryTexts{}) {
+		ofEntry = append(ofEntry, column.Name)
+	}
+	return ofOrder, ofEntry
+}
+
+// An Entry is a row: the order, and what has become of it.
+type Entry struct {
+	Order
+	EntryTexts
+	// Record decides, if IsSent. Its attempt is the number of the request in flight.
+	Record osb.Record
+	IsSent bool // whether a first request was recorded
+
+	State State
+	Since time.Time // when it changed to that state
+
+	Operation   *string   // the broker's name for the operation that is polled, or nil
+	SentUntil   time.Time // when the last of the Provision or the Bind has left at the latest; zero before it is sent
+	PolledSince time.Time // when the polling that goes on, or the latest, began; zero before
+
+	Removal Removal
+	// HasLast is whether one deletion more is to be sent though the record is gone: at a broker without tombstones.
+	HasLast bool
+
+	Due time.Time // when the next step is due; zero if the row rests
+	// DueSince is since when the row is due though its requests were sent: the broker hasn't taken them up. It is zero
+	// if Due says so.
+	DueSince  time.Time
+	Unchanged int // how many requests in turn have changed nothing
+	Lease     Lease
+
+	Last    Reason // what was said last
+	Failure Reason // why the creation has failed, from the request that made it so
+	Passing bool   // whether Failure may pass: the order may be tried again under another id
+	// After is how long the broker of a passing Failure asked to wait.
+	After time.Duration
+
+	Metadata    json.RawMessage // metadata of the answer, or nil
+	Credentials []byte          // of a binding that is ready: its object, sealed; else nil
+
+	// Unreadable is why the row can't be read, or empty. Key, State and Since are as they are stored, and the rest is
+	// as far as it could be read. No step gets such a row.
+	Unreadable string
+}
+
+// A keptLast is what a Store keeps of Entry.Last, Entry.Lease.Claim and Entry.DueSince, in one column.
+type keptLast struct {
+	Reason
+	Claim    string `json:"claim,omitempty"`
+	DueSince int64  `json:"due_since,omitempty"` // in milliseconds since 1970
+}
+
+// LastText is what a Store keeps of Last, Lease.Claim and DueSince, in one column. It is nil if there is none of them.
+// DueSince is the number of the member due_since, in milliseconds since 1970, which comes last.
+func (e Entry) LastText() ([]byte, error) {
+	if e.Last == (Reason{}) && e.DueSince.IsZero() && e.Lease.Claim == "" {
+		return nil, nil
+	}
+	kept := keptLast{Reason: e.Last, Claim: e.Lease.Claim}
+	kept.At = kept.At.UTC()
+	if !e.DueSince.IsZero() {
+		kept.DueSince = e.DueSince.UnixMilli()
+	}
+	return json.Marshal(kept)
+}
+
+// ReadLast reads what LastText has written, also in version 0.2, which had no Claim and no DueSince. Lease.Worker is
+// read before: a lease that Free has ended leaves its Claim in the text.
+func (e *Entry) ReadLast(text []byte) error {
+	var kept keptLast
+	if err := json.Unmarshal(text, &kept); err != nil {
+		return err
+	}
+	e.Last = kept.Reason
+	if !e.Last.At.IsZero() {
+		e.Last.At = e.Last.At.UTC()
+	}
+	if e.Lease.Worker != "" {
+		e.Lease.Claim = kept.Claim
+	}
+	if kept.DueSince != 0 {
+		e.DueSince = time.UnixMilli(kept.DueSince).UTC()
+	}
+	return nil
+}
+
+// Rests is whether nothing is to be done for a row until somebody asks.
+func (e Entry) Rests() bool { return e.Due.IsZero() }
+
+// A Stay is a state that a row was in, and since when.
+type Stay struct {
+	State State
+	Since time.Time
+}
+
+// Before returns the stays before the one that e is in, of those that have ended by now (Store.Life). Since e was read,
+// the row may have changed to further states.
+func (e Entry) Before(ended []Stay) []Stay {
+	for at, stay := range ended {
+		if stay.State == e.State && stay.Since.Equal(e.Since) {
+			return ended[:at]
+		}
+	}
+	return ended
+}
+
+// A Key names a row: that of an instance, or that of a binding of an instance (docs/binding.md). A Store has rows of
+// many brokers, and uses each Key once.
+type Key struct {
+	Instance  osb.ID
+	Binding   osb.ID // the zero ID for an instance
+	IsBinding bool
+}
+
+// InstanceKey is the key of an instance.
+func InstanceKey(instance osb.ID) Key { return Key{Instance: instance} }
+
+// BindingKey is the key of a binding of an instance.
+func BindingKey(instance, binding osb.ID) Key {
+	return Key{Instance: instance, Binding: binding, IsBinding: true}
+}
+
+// ID is the number that stands in the requests of the key: that of the instance, or of the binding.
+func (k Key) ID() osb.ID {
+	if k.IsBinding {
+		return k.Binding
+	}
+	return k.Instance
+}
+
+// String is the number of the instance as a GUID, and of a binding that of its instance, a slash, and its own.
+func (k Key) String() string {
+	if k.IsBinding {
+		return k.Instance.String() + "/" + k.Binding.String()
+	}
+	return k.Instance.String()
+}
+
+// ParseKey reads a key as an operator writes it: the id of an instance, or that of an instance, a slash, and that of a
+// binding. Each id is any text of 1 to 255 bytes of UTF-8 without a slash.
+//
+// Errors: a Fault.
+func ParseKey(text string) (Key, error) {
+	first, second, isBinding := strings.Cut(text, "/")
+	instance, err := osb.IDOfText(first)
+	if err != nil {
+		return Key{}, noID(first)
+	}
+	if !isBinding {
+		return InstanceKey(instance), nil
+	}
+	binding, err := osb.IDOfText(second)
+	if err != nil {
+		return Key{}, noID(second)
+	}
+	return BindingKey(instance, binding), nil
+}
+
+// noID is the Fault of a text that no id can be.
+func noID(text string) error {
+	return fault(Invalid, "the id %q can't be used: an id has 1 to 255 bytes of UTF-8", text)
+}
+
+// Walk calls with all rows that a filter chooses, in its order, and with so many at once at most. Which rows these are,
+// and their order, is as of one moment. Each row is as it is when it is read, and is left out if it has left
+// Filter.States by then. So a row that fits the filter all the while is passed once, whatever changes. While call runs,
+// nothing is open in the store: call may take its time.
+//
+// Errors: those of the Store; that of call, which ends the walk.
+func Walk(ctx context.Context, store Store, filter Filter, atOnce int, call func([]Entry) error) error {
+	places, err := store.Places(ctx, filter)
+	for len(places) > 0 && err == nil {
+		count := atOnce
+		if count > len(places) {
+			count = len(places)
+		}
+		err = walkOver(ctx, store, filter, places[:count], call)
+		places = places[count:]
+	}
+	return err
+}
+
+// walkOver calls with the rows at these places that the filter still chooses.
+func walkOver(ctx context.Context, store Store, filter Filter, places []Place, call func([]Entry) error) error {
+	keys := make([]Key, len(places))
+	for at := range places {
+		keys[at] = places[at].Key
+	}
+	rows, err := store.ReadAll(ctx, keys)
+	if err != nil {
+		return err
+	}
+	kept := rows[:0]
+	for _, row := range rows {
+		if filter.hasState(row.State) {
+			kept = append(kept, row)
+		}
+	}
+	return call(kept)
+}
+
+// hasState is whether a filter chooses rows in a state.
+func (f Filter) hasState(state State) bool {
+	for _, wanted := range f.States {
+		if wanted == state {
+			return true
+		}
+	}
+	return len(f.States) == 0
+}

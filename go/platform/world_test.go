@@ -6,12 +6,113 @@ import (
 	"errors"
 	"fmt"
 	"math/rand"
+	"os"
+	"sort"
+	"strconv"
+	"strings"
 	"sync"
 	"testing"
 	"time"
 
 	"pippinterm/osb"
 )
+
+var background = context.Background()
+
+// Two workers order instances and bindings over a network that loses, delays and repeats, are killed and paused, and
+// the database is away now and then. Whatever is recorded is true at any time, and in the end all rests.
+func TestAnyNetwork(t *testing.T) {
+	seeds, counts, ended, again := 300, map[string]int{}, map[State]int{}, map[State]int{}
+	if n, err := strconv.Atoi(os.Getenv("SEEDS")); err == nil {
+		seeds = n
+	}
+	for seed := int64(0); seed < int64(seeds); seed++ {
+		w := newWorld(t, seed, counts)
+		for n := 0; n < 400; n++ {
+			w.happen()
+			w.agree()
+		}
+		if !w.settle() {
+			t.Fatalf("seed %d: got no rest, want one: %v", seed, w.store.rows)
+		}
+		for key, e := range w.store.rows {
+			if key.IsBinding && e.Try > 1 {
+				again[e.State]++
+			}
+		}
+		w.end(ended)
+	}
+	t.Logf("%v", counts)
+	t.Logf("%v, of the further bindings %v", ended, again)
+	for _, state := range []State{Ready, Gone, Withdrawn, Unsettled} {
+		if ended[state] == 0 {
+			t.Errorf("got no end in %s, want one", state)
+		}
+	}
+	for _, state := range []State{Ready, Gone} {
+		if again[state] == 0 {
+			t.Errorf("got no further binding that ended in %s, want one", state)
+		}
+	}
+	for _, point := range Points {
+		if hasPoints && point != "send-running" && counts["killed "+point] == 0 {
+			t.Errorf("got no kill at %s, want one", point)
+		}
+	}
+}
+
+// end compares what is recorded with what is held and what exists, once all rests, and again once all is removed.
+func (w *world) end(ended map[State]int) {
+	w.t.Helper()
+	for key, e := range w.store.rows {
+		ended[e.State]++
+		if isPolled(e.State) || e.State == Wanted || e.State == Cleaning || e.State == Ordered {
+			w.t.Errorf("seed %d: %v: got it at rest in %s, want it in another state", w.seed, key, e.State)
+		}
+	}
+	w.all()
+	rows, err := w.store.List(background, Filter{})
+	check(w.t, err)
+	for _, e := range rows {
+		if _, err := w.orders.Remove(background, e.Key, true); err != nil {
+			w.t.Errorf("seed %d: the removal of %v in %s: got %v, want no error", w.seed, e.Key, e.State, err)
+		}
+	}
+	if !w.settle() {
+		w.t.Fatalf("seed %d: after all was removed: got no rest, want one: %v", w.seed, w.store.rows)
+	}
+	for key, e := range w.store.rows {
+		if e.State != Gone && e.State != Withdrawn {
+			w.t.Errorf("seed %d: %v was removed: got %s, want it gone or withdrawn", w.seed, key, e.State)
+		}
+	}
+	if len(w.seller.things) > 0 {
+		w.t.Errorf("seed %d: after all was removed: got %v, want none", w.seed, w.seller.things)
+	}
+	w.all()
+	for n := 0; n < 20; n++ {
+		w.calm = false
+		w.arriveLate()
+		w.calm = true
+		w.agree()
+	}
+}
+
+// all is that each that exists, or is held, has a record that says so, or that isn't sure.
+func (w *world) all() {
+	w.t.Helper()
+	for key := range w.seller.holdings {
+		e, isThere := w.store.rows[key]
+		if !w.seller.isNone(key) && (!isThere || e.State != Ready && e.State != Unsettled) {
+			w.t.Errorf("seed %d: %v is recorded %q: got %s, want none", w.seed, key, e.State, w.seller.is(key))
+		}
+	}
+	for key, e := range w.store.rows {
+		if e.State == Ready && !w.seller.isThere(key) {
+			w.t.Errorf("seed %d: %v is recorded ready: got %s, want it there", w.seed, key, w.seller.is(key))
+		}
+	}
+}
 
 // A dial is a clock that a test sets.
 type dial struct {
@@ -63,7 +164,7 @@ type bench struct {
 	dies     string // the point at which it is killed, or empty
 }
 
-type killed struct{ worker *bench }
+type kill struct{ worker *bench }
 
 func newWorld(t *testing.T, seed int64, counts map[string]int) *world {
 	w := &world{
@@ -92,7 +193,7 @@ func newWorld(t *testing.T, seed int64, counts map[string]int) *world {
 		w.workers = append(w.workers, b)
 	}
 	w.store.between = w.between
-	setHook(w.reached)
+	setHook(w.reach)
 	t.Cleanup(func() { setHook(nil) })
 	return w
 }
@@ -143,7 +244,7 @@ func (w *world) as(b *bench, do func()) (isKilled bool) {
 	defer func() {
 		w.running = w.running[:depth-1]
 		if what := recover(); what != nil {
-			if it, ok := what.(killed); !ok || it.worker != b {
+			if it, ok := what.(kill); !ok || it.worker != b {
 				panic(what)
 			}
 			isKilled = true
@@ -161,8 +262,8 @@ func (b *bench) restart() {
 	b.start()
 }
 
-// reached is called at each crash point.
-func (w *world) reached(place string) {
+// reach is called at each crash point.
+func (w *world) reach(place string) {
 	if len(w.running) == 0 || w.calm {
 		return
 	}
@@ -174,7 +275,7 @@ func (w *world) reached(place string) {
 	if it != nil {
 		it.dies = ""
 	}
-	panic(killed{it})
+	panic(kill{it})
 }
 
 // between is called between two statements of a transaction: its worker may be paused there, or die.
@@ -199,7 +300,7 @@ func (w *world) between(point string, _ Key) {
 // claim has a worker claim what is due.
 func (b *bench) claim() {
 	b.safely(func() {
-		found := b.engine.claim(context.Background(), b.sites, []string{"shelf"}, 3)
+		found := b.engine.claim(context.Background(), b.sites, []string{"shelf"}, 3, nil)
 		b.sendings = append(b.sendings, found.sendings...)
 	})
 }
@@ -227,7 +328,7 @@ func (w *world) Catalogue(context.Context, Broker) (json.RawMessage, int, error)
 // meanwhile.
 func (w *world) Exchange(_ context.Context, out Outgoing) Incoming {
 	if !w.Clock().Before(out.Until) {
-		w.t.Fatalf("seed %d: %v is sent after its time", w.seed, out.Entry.Key)
+		w.t.Fatalf("seed %d: %v: got it sent after its time, want it before", w.seed, out.Entry.Key)
 	}
 	w.checkSending(out)
 	w.late = append(w.late, out)
@@ -270,20 +371,21 @@ func (w *world) checkSending(out Outgoing) {
 		}
 	case osb.KindDeprovision:
 		if left, isThere := w.left[key]; isThere && now.Before(left.Add(w.hold)) {
-			w.t.Fatalf("seed %d: the deletion of %v leaves %v after its creation", w.seed, key, now.Sub(left))
+			w.t.Fatalf("seed %d: the deletion of %v: got it sent %v after its creation, want it after the hold", w.seed, key,
+				now.Sub(left))
 		}
 	}
 	e, err := w.store.Read(context.Background(), key)
 	must(err)
 	if !e.IsSent {
-		w.t.Fatalf("seed %d: %v is sent, and isn't recorded", w.seed, key)
+		w.t.Fatalf("seed %d: %v: got it sent without a record, want one", w.seed, key)
 	}
 	if out.Request.Kind == osb.KindProvision && now.After(e.SentUntil) {
-		w.t.Fatalf("seed %d: the creation of %v leaves after what is recorded", w.seed, key)
+		w.t.Fatalf("seed %d: the creation of %v: got it sent after the time that is recorded, want it before", w.seed, key)
 	}
 	if key.IsBinding && out.Request.Kind == osb.KindProvision {
 		if of, err := w.store.Read(context.Background(), InstanceKey(key.Instance)); err != nil || of.State != Ready {
-			w.t.Fatalf("seed %d: the binding %v is sent while its instance is %s (%v)", w.seed, key, of.State, err)
+			w.t.Fatalf("seed %d: the binding %v is sent: got its instance in %s (%v), want it ready", w.seed, key, of.State, err)
 		}
 	}
 }
@@ -341,7 +443,7 @@ func (w *world) command() {
 func (w *world) isExpected(err error) {
 	w.t.Helper()
 	if _, isFault := err.(*Fault); err != nil && !isFault && !errors.Is(err, ErrAway) {
-		w.t.Fatalf("seed %d: %v", w.seed, err)
+		w.t.Fatalf("seed %d: got %v, want a fault or that the store is away", w.seed, err)
 	}
 }
 
@@ -373,5 +475,338 @@ func (w *world) happen() {
 		b.claim()
 	default:
 		b.exchange()
+	}
+}
+
+// agree is the theorem of docs/binding.md, about what is recorded, held and there.
+func (w *world) agree() {
+	w.t.Helper()
+	for key, e := range w.store.rows {
+		switch e.State {
+		case Ready:
+			if !w.seller.isThere(key) {
+				w.t.Fatalf("seed %d: %v is recorded ready: got %s, want it there", w.seed, key, w.seller.is(key))
+			}
+			w.credentials(e)
+		case Gone, Withdrawn, Ordered:
+			if !w.seller.isNone(key) {
+				w.t.Fatalf("seed %d: %v is recorded %s: got %s, want none", w.seed, key, e.State, w.seller.is(key))
+			}
+		}
+		if e.State != Ready && e.Credentials != nil {
+			w.t.Fatalf("seed %d: %v in %s: got credentials, want none", w.seed, key, e.State)
+		}
+		of := w.store.rows[InstanceKey(key.Instance)]
+		if key.IsBinding && !w.seller.isNone(key) && of.State != Ready {
+			w.t.Fatalf("seed %d: the binding %v is there: got its instance in %s, want it ready", w.seed, key, of.State)
+		}
+		if key.IsBinding && e.State == Ordered && e.Removal == NotRemoved && checkReady(of) != nil {
+			w.t.Fatalf("seed %d: try %d of the binding %v is ordered: got its instance in %s, removal %d, want it ready", w.seed,
+				e.Try, key, of.State, of.Removal)
+		}
+	}
+}
+
+// credentials is that those of a binding that is ready are those that work.
+func (w *world) credentials(e Entry) {
+	w.t.Helper()
+	if !e.Key.IsBinding {
+		return
+	}
+	object, err := w.orders.Credentials(context.Background(), e.Key)
+	if err != nil || string(object) != w.seller.object(e.Key) {
+		w.t.Fatalf("seed %d: the credentials of %v: got %s (%v), want %s", w.seed, e.Key, object, err, w.seller.object(e.Key))
+	}
+}
+
+// settle lets all converge. It returns false if something is due still.
+func (w *world) settle() bool {
+	w.calm = true
+	for round := 0; round < 200; round++ {
+		for _, b := range w.workers {
+			b.claim()
+			for len(b.sendings) > 0 {
+				b.exchange()
+			}
+		}
+		w.seller.goOn()
+		w.agree()
+		due := time.Time{}
+		for _, e := range w.store.rows {
+			if free := later(e.Due, e.Lease.Until); !e.Due.IsZero() && (due.IsZero() || free.Before(due)) {
+				due = free
+			}
+		}
+		if due.IsZero() {
+			return true
+		}
+		if wait := due.Sub(w.dial.time()); wait > 0 {
+			w.dial.forward(wait)
+		}
+	}
+	return false
+}
+
+// What the world gets as an Observer.
+
+func (w *world) OnRequest(Exchange) { w.counts["sent"]++ }
+
+func (w *world) OnAnswer(it Exchange) {
+	if it.Lost != nil {
+		w.counts["lost"]++
+	}
+}
+
+func (w *world) OnChange(_ Key, _, after State) { w.counts["came to "+string(after)]++ }
+
+func (w *world) OnFailure(it Failure) { w.counts["failed "+it.Event]++ }
+
+func (w *world) OnOrphan(key Key, status int, isFound bool) {
+	w.t.Errorf("seed %d: %v: got an orphan with %d, %v, want none", w.seed, key, status, isFound)
+}
+
+func (w *world) OnCatalogue(string) {}
+
+// sold is the catalogue of a seller: a plan for each mode of instances and of bindings.
+const sold = `{"x-osb-tombstones": true, "services": [{
+	"id": "00000000-0000-0000-0000-0000000000a0", "name": "shelf", "description": "A shelf", "bindable": true,
+	"bindings_retrievable": true, "plans": [
+	{"id": "00000000-0000-0000-0000-0000000000c1", "name": "now", "description": "all at once"},
+	{"id": "00000000-0000-0000-0000-0000000000c2", "name": "later", "description": "all later",
+		"x-osb-asynchronous": true, "x-osb-asynchronous-bindings": true},
+	{"id": "00000000-0000-0000-0000-0000000000c3", "name": "bind-later", "description": "bindings later",
+		"x-osb-asynchronous-bindings": true},
+	{"id": "00000000-0000-0000-0000-0000000000c4", "name": "make-later", "description": "instances later",
+		"x-osb-asynchronous": true}]}]}`
+
+// planNames are those of the plans that are sold.
+var planNames = []string{"now", "later", "bind-later", "make-later"}
+
+// A seller is a broker: what it holds is decided by the proved library, and what exists is in memory.
+type seller struct {
+	mu       sync.Mutex
+	mood     func() int // how the next work goes: 0 and 2 are rejections, 1 fails before, all else is done
+	isSlow   func() bool
+	first    bool // whether it has the rule of the first Poll
+	holdings map[Key]osb.Holding
+	requests map[Key]osb.Request // whose work is pending
+	things   map[Key]string      // what exists, with its credentials
+	objects  map[Key][]byte      // the object of a binding that is ready
+	made     int
+}
+
+func newSeller() *seller {
+	return &seller{
+		mood: func() int { return 9 }, isSlow: func() bool { return false }, holdings: map[Key]osb.Holding{},
+		requests: map[Key]osb.Request{}, things: map[Key]string{}, objects: map[Key][]byte{},
+	}
+}
+
+func (s *seller) modeOf(key Key, plan osb.ID) osb.Mode {
+	later := map[bool]string{false: "c2 c4", true: "c2 c3"}[key.IsBinding]
+	if text := plan.String(); strings.Contains(later, text[len(text)-2:]) {
+		return osb.ModeAsync
+	}
+	return osb.ModeSync
+}
+
+// A reply is an answer over HTTP.
+type reply struct {
+	status int
+	body   []byte
+}
+
+// handle is a request at the broker. It returns nil if the work goes on for longer than the platform waits.
+func (s *seller) handle(out Outgoing) *reply {
+	s.mu.Lock()
+	defer s.mu.Unlock()
+	key := out.Entry.Key
+	if out.IsFetch {
+		return s.fetch(key)
+	}
+	held, instance := s.holdings[key], s.holdings[InstanceKey(key.Instance)]
+	mode, rules := s.modeOf(key, out.Request.Plan), osb.Rules{FirstPoll: s.first}
+	var begun osb.Begun
+	var err error
+	if key.IsBinding {
+		held, begun, err = held.BeginBinding(instance, mode, out.Request, rules)
+	} else {
+		held, begun, err = held.BeginIf(mode, out.Request, rules, !s.anyHeld(key.Instance))
+	}
+	must(err)
+	s.holdings[key] = held
+	if begun.Work == osb.WorkNone {
+		return s.write(key, out.Request.Kind, begun.Answer)
+	}
+	s.requests[key] = out.Request
+	if s.isSlow() {
+		return nil
+	}
+	return s.work(key)
+}
+
+func (s *seller) anyHeld(instance osb.ID) bool {
+	for key, holding := range s.holdings {
+		if key.IsBinding && key.Instance == instance && holding.IsHeld() {
+			return true
+		}
+	}
+	return false
+}
+
+// work does the pending work of a key to its end, and returns the answer.
+func (s *seller) work(key Key) *reply {
+	request := s.requests[key]
+	delete(s.requests, key)
+	mode, outcome := s.modeOf(key, request.Plan), osb.OutcomeDone
+	switch mood := s.mood(); {
+	case mood == 0 && request.Kind == osb.KindProvision:
+		outcome = osb.OutcomeRefused400
+	case mood == 1:
+		outcome = osb.OutcomeBefore
+	case mood == 2 && request.Kind == osb.KindProvision:
+		outcome = osb.OutcomeRefused422
+	case mode == osb.ModeSync:
+		s.change(key, request.Kind == osb.KindProvision)
+	}
+	held, answer, err := s.holdings[key].End(mode, outcome)
+	must(err)
+	s.holdings[key] = held
+	return s.write(key, request.Kind, answer)
+}
+
+// object is what a Bind of this key was answered with.
+func (s *seller) object(key Key) string {
+	s.mu.Lock()
+	defer s.mu.Unlock()
+	return string(s.objects[key])
+}
+
+// change has a resource exist, or not.
+func (s *seller) change(key Key, exists bool) {
+	delete(s.things, key)
+	delete(s.objects, key)
+	if !exists {
+		return
+	}
+	s.made++
+	s.things[key] = fmt.Sprintf("token %d", s.made)
+	s.objects[key] = []byte(fmt.Sprintf(`{"credentials": {"token": "%s"}}`, s.things[key]))
+}
+
+// goOn does what is pending, and ends the operations that run. One in so many fails.
+func (s *seller) goOn() {
+	s.mu.Lock()
+	defer s.mu.Unlock()
+	for _, key := range s.keys() {
+		if _, isPending := s.requests[key]; isPending {
+			s.work(key)
+		}
+		it := s.holdings[key]
+		row, isHeld := it.Row()
+		if !isHeld || row.Phase != osb.PhaseMaking && row.Phase != osb.PhaseDeleting {
+			continue
+		}
+		ok := s.mood() != 0
+		if ok {
+			s.change(key, row.Phase == osb.PhaseMaking)
+		}
+		held, err := it.Finish(ok)
+		must(err)
+		s.holdings[key] = held
+	}
+}
+
+// keys are those of which something is held, in an order.
+func (s *seller) keys() []Key {
+	var found []Key
+	for key := range s.holdings {
+		found = append(found, key)
+	}
+	sort.Slice(found, func(a, b int) bool { return found[a].String() < found[b].String() })
+	return found
+}
+
+func (s *seller) fetch(key Key) *reply {
+	answer, err := s.holdings[key].Fetch()
+	must(err)
+	if answer.Status == 200 {
+		return &reply{200, s.objects[key]}
+	}
+	return &reply{int(answer.Status), []byte(`{}`)}
+}
+
+func (s *seller) write(key Key, kind osb.Kind, answer osb.Answer) *reply {
+	if key.IsBinding && kind == osb.KindProvision && (answer.Status == 200 || answer.Status == 201) {
+		return &reply{int(answer.Status), s.objects[key]}
+	}
+	operation := "task " + kind.String()
+	body, err := osb.WriteDescribedAnswer(answer, &operation, nil)
+	must(err)
+	return &reply{int(answer.Status), body}
+}
+
+// incoming is a reply as a Client reads it.
+func (r *reply) incoming(out Outgoing) (in Incoming) {
+	if r == nil {
+		return Incoming{Lost: fmt.Errorf("no answer came")}
+	}
+	in.Status = r.status
+	if in.Details, in.Lost = osb.ReadDetails(r.body); in.Lost != nil {
+		return in
+	}
+	if out.IsFetch {
+		in.Binding, in.Lost = osb.ReadFetched(uint16(r.status), r.body)
+		return in
+	}
+	if in.Answer, in.Lost = osb.ReadAnswer(out.Request.Kind, uint16(r.status), r.body); in.Lost != nil {
+		return in
+	}
+	in.Operation, in.Metadata = in.Details.Operation, in.Details.Metadata
+	if out.Entry.Key.IsBinding {
+		in.Binding, _ = osb.ReadBinding(out.Request.Kind, uint16(r.status), r.body)
+	}
+	return in
+}
+
+// is what is held and what exists of a key, as a text.
+func (s *seller) is(key Key) string {
+	held := s.holdings[key]
+	row, isHeld := held.Row()
+	_, isPending := held.Work()
+	phase := "no row"
+	if isHeld {
+		phase = row.Phase.String()
+	}
+	return fmt.Sprintf("%s, pending %v, exists %q", phase, isPending, s.things[key])
+}
+
+// isThere is whether all of a key exists and nothing is pending, and isNone whether nothing exists or is held.
+func (s *seller) isThere(key Key) bool {
+	return strings.HasPrefix(s.is(key), "ready, pending false, exists \"token")
+}
+
+func (s *seller) isNone(key Key) bool { return s.is(key) == `no row, pending false, exists ""` }
+
+// A seal is a Vault that hides nothing: it binds a text to its context.
+type seal struct{}
+
+func (seal) Seal(plain []byte, context string) ([]byte, error) {
+	return json.Marshal([]string{context, string(plain)})
+}
+
+func (seal) Open(sealed []byte, context string) ([]byte, error) {
+	var read []string
+	if err := json.Unmarshal(sealed, &read); err != nil || len(read) != 2 || read[0] != context {
+		return nil, fmt.Errorf("it wasn't sealed under %q", context)
+	}
+	return []byte(read[1]), nil
+}
+
+func (seal) Fingerprint() string { return "seal" }
+
+func must(err error) {
+	if err != nil {
+		panic(err)
 	}
 }

@@ -9,6 +9,8 @@ package journal
 import (
 	"context"
 	"encoding/hex"
+	"encoding/json"
+	"fmt"
 	"net/http"
 	"sync/atomic"
 
@@ -19,16 +21,33 @@ import (
 
 // A Journal is the journal of one process. Any number of goroutines use it.
 type Journal struct {
-	to         *journalfile.Writer
+	to         *Writer
 	isDoubtful func(error) bool
 	visits     atomic.Int64
 	changes    changes
 	texts      texts
 }
 
-// New returns a journal that writes to a writer. isDoubtful is whether a Change of the store that fails with an error may
-// have been committed.
-func New(to *journalfile.Writer, isDoubtful func(error) bool) *Journal {
+// A Writer writes the lines of a journal, until its Close. What can't be written in time is lost and counted (Lost).
+type Writer = journalfile.Writer
+
+// Options say where a Writer writes, and how. Side is always broker.
+type Options = journalfile.Options
+
+// ErrTaken reports that another process writes to the file.
+var ErrTaken = journalfile.ErrTaken
+
+// Open opens the journal of a broker, and writes its line started.
+//
+// Errors: those of opening its file; ErrTaken; the path is neither a folder nor a regular file.
+func Open(options Options) (*Writer, error) {
+	options.Side = "broker"
+	return journalfile.Open(options)
+}
+
+// New returns a journal that writes to a writer. isDoubtful is whether a Change of the store that fails with an error
+// may have been committed.
+func New(to *Writer, isDoubtful func(error) bool) *Journal {
 	return &Journal{to: to, isDoubtful: isDoubtful}
 }
 
@@ -46,41 +65,41 @@ func lifeOf(key broker.Key) life {
 	return it
 }
 
-// A visit is a request that is carried out. One goroutine uses it.
-type visit struct {
+// A visitState is what the journal knows of a visit. One goroutine uses it.
+type visitState struct {
 	number   int64
 	request  string // its X-Broker-API-Request-Identity
 	key      broker.Key
-	saw      *seen // what it has read last, or nil
-	isChange bool  // whether it has changed what is held of its key
+	saw      *sight // what it has read last, or nil
+	isChange bool   // whether it has changed what is held of its key
 }
 
-// seen is what is held of the key of a visit, and of a binding's instance.
-type seen struct{ of, instance osb.Holding }
+// A sight is what is held of the key of a visit, and of a binding's instance.
+type sight struct{ of, instance osb.Holding }
 
 // visitKey is where a context has its visit.
 type visitKey struct{}
 
 // visitIn is the visit of a context, or one that is in none.
-func visitIn(ctx context.Context) *visit {
-	if it, isVisit := ctx.Value(visitKey{}).(*visit); isVisit {
+func visitIn(ctx context.Context) *visitState {
+	if it, isVisit := ctx.Value(visitKey{}).(*visitState); isVisit {
 		return it
 	}
-	return &visit{}
+	return &visitState{}
 }
 
 // visitOf is the number of the visit of a context, or 0.
 func visitOf(ctx context.Context) int64 { return visitIn(ctx).number }
 
 // sees notes what a visit has read.
-func (v *visit) sees(key broker.Key, held broker.Held) {
+func (v *visitState) sees(key broker.Key, snapshot broker.Snapshot) {
 	if key == v.key {
-		v.saw = &seen{held.Holding, held.Instance.Holding}
+		v.saw = &sight{snapshot.Holding, snapshot.Instance.Holding}
 	}
 }
 
-// arrived is the line of a request that was read.
-type arrived struct {
+// arrivalLine is the line of a request that was read.
+type arrivalLine struct {
 	Visit   int64  `json:"visit"`
 	Request string `json:"request"`
 	life
@@ -94,31 +113,31 @@ type arrived struct {
 	Committed  int64  `json:"committed,omitempty"`  // no change up to this one is still to be committed
 }
 
-// Arrived writes down a request.
-func (j *Journal) Arrived(
-	ctx context.Context, r *http.Request, requestID string, asked broker.Asked,
+// OnArrival writes down a request.
+func (j *Journal) OnArrival(
+	ctx context.Context, r *http.Request, requestID string, visit broker.Visit,
 ) context.Context {
-	for _, it := range r.Header.Values(journalfile.Header) {
-		j.to.Receive(it)
+	for _, value := range r.Header.Values(journalfile.Header) {
+		j.to.Receive(value)
 	}
-	it := &visit{number: j.visits.Add(1), request: requestID, key: asked.Key}
-	line := arrived{
-		Visit: it.number, Request: requestID, life: lifeOf(asked.Key), Kind: asked.Asked.Kind.String(),
-		Accepts: asked.Asked.AcceptsIncomplete, Committed: j.changes.ended(),
+	it := &visitState{number: j.visits.Add(1), request: requestID, key: visit.Key}
+	line := arrivalLine{
+		Visit: it.number, Request: requestID, life: lifeOf(visit.Key), Kind: visit.Asked.Kind.String(),
+		Accepts: visit.Asked.AcceptsIncomplete, Committed: j.changes.endedUpTo(),
 	}
-	line.InstanceID = other(asked.Names.Instance, line.Instance)
-	line.BindingID = other(asked.Names.Binding, line.Binding)
-	if asked.IsFetch {
+	line.InstanceID = other(visit.Names.Instance, line.Instance)
+	line.BindingID = other(visit.Names.Binding, line.Binding)
+	if visit.IsFetch {
 		line.Kind = "fetch"
 	}
-	if asked.Asked.Kind == osb.KindProvision {
-		line.Attributes = hex.EncodeToString(asked.Attributes[:])
+	if visit.Asked.Kind == osb.KindProvision {
+		line.Attributes = hex.EncodeToString(visit.Attributes[:])
 	}
-	if asked.Asked.HasService {
-		line.Service = asked.Asked.Service.String()
+	if visit.Asked.HasService {
+		line.Service = visit.Asked.Service.String()
 	}
-	if asked.Asked.HasPlan {
-		line.Plan = asked.Asked.Plan.String()
+	if visit.Asked.HasPlan {
+		line.Plan = visit.Asked.Plan.String()
 	}
 	j.to.Write("arrived", line)
 	return context.WithValue(ctx, visitKey{}, it)
@@ -132,8 +151,8 @@ func other(text, known string) string {
 	return text
 }
 
-// answered is the line of an answer.
-type answered struct {
+// answerLine is the line of an answer.
+type answerLine struct {
 	Visit   int64  `json:"visit"`
 	Request string `json:"request"`
 	life
@@ -144,10 +163,10 @@ type answered struct {
 	SawInstance *string `json:"saw_instance,omitempty"`
 }
 
-// Answered writes down an answer that is about to leave, and adds the time to its headers.
-func (j *Journal) Answered(ctx context.Context, header http.Header, given broker.Answered) {
+// OnAnswer writes down an answer that is about to leave, and adds the time to its headers.
+func (j *Journal) OnAnswer(ctx context.Context, header http.Header, given broker.Response) {
 	it := visitIn(ctx)
-	line := answered{
+	line := answerLine{
 		Visit: it.number, Request: it.request, life: lifeOf(it.key), Status: given.Status, Body: given.Body.String(),
 		Credentials: journalfile.Digest(given.Binding),
 	}
@@ -161,7 +180,7 @@ func (j *Journal) Answered(ctx context.Context, header http.Header, given broker
 }
 
 // see adds what a request has seen to the line of its answer.
-func (j *Journal) see(line *answered, saw seen, isBinding bool) error {
+func (j *Journal) see(line *answerLine, saw sight, isBinding bool) error {
 	text, err := j.texts.text(saw.of, isBinding)
 	if err != nil {
 		return err
@@ -173,4 +192,97 @@ func (j *Journal) see(line *answered, saw seen, isBinding bool) error {
 		return err
 	}
 	return nil
+}
+
+// startLine are the members of the line started.
+type startLine struct {
+	Version        string  `json:"version"`
+	FirstPoll      bool    `json:"first_poll"`
+	WaitForPoll    float64 `json:"wait_for_poll"`    // in seconds
+	IDsReturnAfter float64 `json:"ids_return_after"` // in seconds, or 0 for never
+	LocksCanBeLost bool    `json:"locks_can_be_lost"`
+	Plans          []plan  `json:"plans"`
+}
+
+// A plan is one of the catalogue, with its ids as texts and as numbers.
+type plan struct {
+	Service       string `json:"service"`
+	Plan          string `json:"plan"`
+	ServiceNumber osb.ID `json:"service_number"`
+	PlanNumber    osb.ID `json:"plan_number"`
+	Mode          string `json:"mode"`
+	Binding       string `json:"binding"`
+	IsRetrievable bool   `json:"retrievable,omitempty"`
+}
+
+// StartMembers returns the members of the line started of a broker: of this version, with the document of its catalogue
+// and its rules, and whether a lock may end while its worker goes on (broker.Locks).
+//
+// Errors: the document can't be read.
+func StartMembers(version string, document []byte, rules broker.Rules, locksCanBeLost bool) (any, error) {
+	plans, err := plansOf(document)
+	if err != nil {
+		return nil, fmt.Errorf("the plans of the catalogue: %w", err)
+	}
+	return startLine{
+		Version: version, FirstPoll: rules.FirstPoll, WaitForPoll: rules.WaitForPoll.Seconds(),
+		IDsReturnAfter: rules.IDsReturnAfter.Seconds(), LocksCanBeLost: locksCanBeLost, Plans: plans,
+	}, nil
+}
+
+func plansOf(document []byte) (plans []plan, err error) {
+	var catalogue struct {
+		Services []struct {
+			ID    string
+			Plans []struct{ ID string }
+		}
+	}
+	if err := json.Unmarshal(document, &catalogue); err != nil {
+		return nil, err
+	}
+	instances, err := modesOf(osb.CataloguePlans(document))
+	if err != nil {
+		return nil, err
+	}
+	bindings, err := modesOf(osb.BindingModes(document))
+	if err != nil {
+		return nil, err
+	}
+	for _, service := range catalogue.Services {
+		for _, sold := range service.Plans {
+			made := plan{Service: service.ID, Plan: sold.ID}
+			if made.ServiceNumber, err = osb.IDOfText(service.ID); err != nil {
+				return nil, err
+			}
+			if made.PlanNumber, err = osb.IDOfText(sold.ID); err != nil {
+				return nil, err
+			}
+			if made.IsRetrievable, err = osb.BindingsRetrievable(document, made.ServiceNumber); err != nil {
+				return nil, err
+			}
+			numbers := [2]osb.ID{made.ServiceNumber, made.PlanNumber}
+			made.Mode, made.Binding = wordOf(instances, numbers), wordOf(bindings, numbers)
+			plans = append(plans, made)
+		}
+	}
+	return plans, nil
+}
+
+// modesOf are the modes of plans, by the numbers of the service and the plan.
+func modesOf(plans []osb.Plan, err error) (map[[2]osb.ID]string, error) {
+	modes := map[[2]osb.ID]string{}
+	for _, plan := range plans {
+		modes[[2]osb.ID{plan.Service, plan.Plan}] = "sync"
+		if plan.IsAsynchronous {
+			modes[[2]osb.ID{plan.Service, plan.Plan}] = "async"
+		}
+	}
+	return modes, err
+}
+
+func wordOf(modes map[[2]osb.ID]string, of [2]osb.ID) string {
+	if word, isKnown := modes[of]; isKnown {
+		return word
+	}
+	return "none"
 }

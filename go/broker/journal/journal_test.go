@@ -4,11 +4,14 @@ import (
 	"context"
 	"encoding/json"
 	"errors"
+	"net/http"
 	"net/http/httptest"
 	"os"
 	"os/signal"
+	"path/filepath"
 	"strconv"
 	"strings"
+	"sync"
 	"syscall"
 	"testing"
 	"time"
@@ -26,21 +29,20 @@ const (
 func want(t *testing.T, what, got, want string) {
 	t.Helper()
 	if got != want {
-		t.Errorf("%s:\n%s\nwant\n%s", what, got, want)
+		t.Errorf("%s: got\n%s\nwant\n%s", what, got, want)
 	}
 }
 
 // The lines of requests whose work is done at once.
 func TestAtOnce(t *testing.T) {
-	s := newSite(t)
+	s := newTestBroker(t)
 	created := "arrived; changed; look begun; look ended absent done; create begun; create ended done; " +
 		"look begun; look ended whole done; changed; answered Created empty"
 	s.ask("PUT", one, atOnce)
 	want(t, "create", s.events(1), created)
 	from := len(s.lines())
 	s.ask("PUT", one+"/"+bind, atOnce)
-	want(t, "bind", s.events(from), strings.Replace(created, "create begun", "look begun; look ended absent done; "+
-		"create begun", 1))
+	want(t, "bind", s.events(from), created)
 	from = len(s.lines())
 	s.ask("DELETE", one+"/"+bind, atOnce)
 	want(t, "unbind", s.events(from), "arrived; changed; look begun; look ended whole done; delete begun; "+
@@ -52,176 +54,195 @@ func TestAtOnce(t *testing.T) {
 
 // The members of lines, and the chain of the texts.
 func TestMembers(t *testing.T) {
-	s := newSite(t)
+	s := newTestBroker(t)
 	s.ask("PUT", "my%20first", atOnce)
 	s.ask("PUT", "my%20first/"+bind, atOnce)
 	number, err := osb.IDOfText("my first")
 	check(t, err)
 	text, changes := map[string]string{}, int64(0)
-	for _, it := range s.lines()[1:] {
-		if it.Instance != number.String() || it.Event == "arrived" && it.InstanceID != "my first" {
-			t.Errorf("%+v", it)
+	for _, line := range s.lines()[1:] {
+		if line.Instance != number.String() || line.Event == "arrived" && line.InstanceID != "my first" {
+			t.Errorf("got %+v, want the ids of the instance", line)
 		}
-		if isOfBinding := it.Visit == 2; isOfBinding != (it.Binding == bind) || it.Visit < 1 || it.Visit > 2 {
-			t.Errorf("%+v", it)
+		if isOfBinding := line.Visit == 2; isOfBinding != (line.Binding == bind) || line.Visit < 1 || line.Visit > 2 {
+			t.Errorf("got %+v, want visit 1 of the instance or 2 of the binding", line)
 		}
-		switch it.Event {
+		switch line.Event {
 		case "arrived":
-			if it.Request != "request-1" || it.Kind != "provision" || !it.Accepts || it.Service != service || it.Plan != atOnce {
-				t.Errorf("%+v", it)
+			if line.Request != "request-1" || line.Kind != "provision" || !line.Accepts || line.Service != service || line.Plan != atOnce {
+				t.Errorf("got %+v, want the Provision that was sent", line)
 			}
 		case "changed":
-			if changes++; it.Before != text[it.Binding] || it.Change != changes || it.LifeBefore != nil {
-				t.Errorf("change %d begins with %q, after %q", it.Change, it.Before, text[it.Binding])
+			if changes++; line.Before != text[line.Binding] || line.Change != changes || line.LifeBefore != nil {
+				t.Errorf("change %d: got the beginning %q, want %q", line.Change, line.Before, text[line.Binding])
 			}
-			text[it.Binding] = it.After
+			text[line.Binding] = line.After
 		case "answered":
-			if it.Request != "request-1" || it.Saw != "" {
-				t.Errorf("%+v", it)
+			if line.Request != "request-1" || line.Saw != "" {
+				t.Errorf("got %+v, want request-1, which has changed something", line)
 			}
 		}
 	}
 	var holding osb.Holding
 	check(t, holding.UnmarshalJSON([]byte(text[""])))
 	if key := broker.InstanceKey(number); holding != s.store.rows[key].Holding {
-		t.Errorf("%v is held, and the journal has %v", s.store.rows[key].Holding, holding)
+		t.Errorf("the journal: got %v, want %v held", holding, s.store.rows[key].Holding)
 	}
 	bound, err := osb.ParseID(bind)
 	check(t, err)
 	holding, err = osb.BindingHoldingFromText([]byte(text[bind]))
 	if key := broker.BindingKey(number, bound); err != nil || holding != s.store.rows[key].Holding {
-		t.Errorf("%v is held, and the journal has %v: %v", s.store.rows[key].Holding, holding, err)
+		t.Errorf("the journal: got %v (%v), want %v held", holding, err, s.store.rows[key].Holding)
 	}
 }
 
-// The arrival of a creation has the digest of its attributes, as the text of the holding has it. Other requests have none.
+// The arrival of a creation has the digest of its attributes, as the text of the holding has it. Other requests have
+// none.
 func TestAttributes(t *testing.T) {
-	s := newSite(t)
+	s := newTestBroker(t)
 	s.ask("PUT", one, atOnce)
 	s.ask("PUT", one+"/"+bind, atOnce)
 	s.ask("POLL", one, "")
 	s.ask("GET", one+"/"+bind, "")
 	s.ask("DELETE", one+"/"+bind, atOnce)
 	arrived, begun := map[int64]string{}, 0
-	for _, it := range s.lines() {
-		switch isCreation := it.Kind == "provision"; {
-		case it.Event == "arrived" && (len(it.Attributes) == 64) != isCreation,
-			it.Event != "arrived" && it.Attributes != "":
-			t.Errorf("%+v", it)
-		case it.Event == "arrived":
-			arrived[it.Visit] = it.Attributes
-		case it.Event == "changed" && it.Before == "":
+	for _, line := range s.lines() {
+		switch isCreation := line.Kind == "provision"; {
+		case line.Event == "arrived" && (len(line.Attributes) == 64) != isCreation,
+			line.Event != "arrived" && line.Attributes != "":
+			t.Errorf("got %+v, want the digest of the attributes in the arrival of a creation alone", line)
+		case line.Event == "arrived":
+			arrived[line.Visit] = line.Attributes
+		case line.Event == "changed" && line.Before == "":
 			begun++
-			if !strings.Contains(it.After, `"attributes":"`+arrived[it.Visit]+`"`) {
-				t.Errorf("%+v after the attributes %s", it, arrived[it.Visit])
+			if !strings.Contains(line.After, `"attributes":"`+arrived[line.Visit]+`"`) {
+				t.Errorf("got %+v, want the attributes %s", line, arrived[line.Visit])
 			}
 		}
 	}
 	if begun != 2 || arrived[1] == strings.Repeat("0", 64) {
-		t.Errorf("%d creations: %v", begun, arrived)
+		t.Errorf("got %d creations with %v, want 2 with attributes", begun, arrived)
 	}
 }
 
 // The object of a binding is named by one digest: as created, stored and answered.
 func TestCredentials(t *testing.T) {
-	s := newSite(t)
+	s := newTestBroker(t)
 	s.ask("PUT", one, atOnce)
 	given := s.ask("PUT", one+"/"+bind, atOnce)
 	fetched := s.ask("GET", one+"/"+bind, "")
 	digest := journalfile.Digest(given.Body.Bytes())
 	found := ""
-	for _, it := range s.lines() {
-		if it.Credentials != "" {
-			found += it.Event + " "
-			if it.Credentials != digest {
-				t.Errorf("%+v; want %s", it, digest)
+	for _, line := range s.lines() {
+		if line.Credentials != "" {
+			found += line.Event + " "
+			if line.Credentials != digest {
+				t.Errorf("got %+v, want %s", line, digest)
 			}
 		}
 	}
 	want(t, "with a digest", found, "work changed answered answered ")
 	if fetched.Body.String() != given.Body.String() {
-		t.Errorf("fetched %s", fetched.Body)
+		t.Errorf("fetched: got %s, want %s", fetched.Body, given.Body)
+	}
+}
+
+// The call for the credentials of a binding that exists is written down before it begins, and with their digest.
+func TestCallForCredentials(t *testing.T) {
+	s := newTestBroker(t)
+	s.seller.called = func(call string) {
+		if got := s.last(); got.Call != "credentials" || call != got.Call || got.Stage != "begun" {
+			t.Errorf("before %s: got %+v, want the line of the call", call, got)
+		}
+	}
+	backend, _ := New(s.writer, nil).Backend(s.seller).(broker.CredentialsBackend)
+	known, err := backend.Credentials(context.Background(), broker.Request{})
+	object := `{"credentials":` + string(known) + `}`
+	if got := s.last(); err != nil || got.Stage != "ended" || got.Credentials != journalfile.Digest([]byte(object)) {
+		t.Errorf("got %s, %v and %+v, want a line with the digest of %s", known, err, got, object)
 	}
 }
 
 // The line of a change is in the file before it is committed, that of a call before it begins, and that of an answer
 // before it leaves.
 func TestOrder(t *testing.T) {
-	s := newSite(t)
+	s := newTestBroker(t)
 	commits, calls := 0, 0
 	s.store.stepped = func(next *broker.Entry) {
 		commits++
 		text, err := next.Holding.MarshalJSON()
 		if last := s.last(); err != nil || last.Event != "changed" || last.After != string(text) {
-			t.Errorf("before a commit of %s: %+v", text, last)
+			t.Errorf("before a commit of %s: got %+v, want it changed", text, last)
 		}
 	}
 	s.seller.called = func(call string) {
 		calls++
 		if last := s.last(); last.Event != "work" || last.Call != call || last.Stage != "begun" {
-			t.Errorf("before %s: %+v", call, last)
+			t.Errorf("before %s: got %+v, want its begin", call, last)
 		}
 	}
 	given := &leaving{ResponseRecorder: httptest.NewRecorder(), s: s}
 	s.ServeHTTP(given, s.request("PUT", one, atOnce))
 	if commits != 2 || calls != 3 || given.Code != 201 {
-		t.Errorf("%d commits, %d calls, status %d", commits, calls, given.Code)
+		t.Errorf("got %d commits, %d calls and the status %d, want 2, 3 and 201", commits, calls, given.Code)
 	}
 }
 
 // leaving is an answer that leaves with its status.
 type leaving struct {
 	*httptest.ResponseRecorder
-	s *site
+	s *testBroker
 }
 
 func (l *leaving) WriteHeader(status int) {
 	last := l.s.last()
 	at, err := strconv.ParseInt(l.Header().Get(journalfile.Header), 10, 64)
 	if last.Event != "answered" || last.Status != status || err != nil || at <= last.Time {
-		l.s.t.Errorf("status %d leaves at %d (%v) after %+v", status, at, err, last)
+		l.s.t.Errorf("got the status %d at %d (%v) after %+v, want it after the line of the answer", status, at, err, last)
 	}
 	l.ResponseRecorder.WriteHeader(status)
 }
 
 // A change that isn't committed is undone, and one of which nobody knows is so doubtfully.
 func TestUndone(t *testing.T) {
-	for _, it := range []struct {
+	for _, test := range []struct {
 		fails error
 		undo  string
 	}{{errFull, "undone"}, {errDoubt, "undone doubtful"}} {
-		s := newSite(t)
-		s.store.fails = it.fails
-		s.ask("PUT", one, atOnce)
-		want(t, it.fails.Error(), s.events(1), "arrived; changed; "+it.undo+"; answered Internal Server Error other-error")
-		lines := s.lines()
-		if undone := lines[3]; undone.Change != lines[2].Change || undone.Instance != one {
-			t.Errorf("%+v", undone)
-		}
+		t.Run(test.undo, func(t *testing.T) {
+			s := newTestBroker(t)
+			s.store.fails = test.fails
+			s.ask("PUT", one, atOnce)
+			want(t, test.fails.Error(), s.events(1), "arrived; changed; "+test.undo+"; answered Internal Server Error other-error")
+			lines := s.lines()
+			if undone := lines[3]; undone.Change != lines[2].Change || undone.Instance != one {
+				t.Errorf("got %+v, want the change of the line before, of the instance", undone)
+			}
+		})
 	}
 }
 
 // The step of a transaction that is tried again is undone first.
 func TestTriedAgain(t *testing.T) {
-	s := newSite(t)
+	s := newTestBroker(t)
 	s.store.tries = 3
 	s.ask("PUT", one, later)
 	want(t, "three tries", s.events(1), "arrived; changed; undone; changed; undone; changed; answered Accepted empty")
 	for at, number := range map[int]int64{2: 1, 3: 1, 4: 2, 5: 2, 6: 3} {
 		if it := s.lines()[at]; it.Change != number {
-			t.Errorf("%d: %+v", at, it)
+			t.Errorf("line %d: got %+v, want the change %d", at, it, number)
 		}
 	}
 }
 
 // A request that changes nothing says what it was decided on, and one that is rejected before isn't there.
 func TestSaw(t *testing.T) {
-	s := newSite(t)
+	s := newTestBroker(t)
 	s.ask("PUT", one, atOnce)
 	from := len(s.lines())
 	ready := s.lines()[from-2].After
-	for _, it := range [][2]string{{"PUT", one}, {"POLL", one}, {"GET", one + "/" + bind}, {"PUT", one + "/" + bind}} {
-		s.ask(it[0], it[1], later)
+	for _, request := range [][2]string{{"PUT", one}, {"POLL", one}, {"GET", one + "/" + bind}, {"PUT", one + "/" + bind}} {
+		s.ask(request[0], request[1], later)
 	}
 	s.ask("PUT", one, "unknown-plan")
 	s.ask("PATCH", one, atOnce)
@@ -229,14 +250,14 @@ func TestSaw(t *testing.T) {
 	bad.SetBasicAuth("platform", "wrong")
 	s.ServeHTTP(httptest.NewRecorder(), bad)
 	var got []string
-	for _, it := range s.lines()[from:] {
+	for _, line := range s.lines()[from:] {
 		switch {
-		case it.Event == "arrived":
-			got = append(got, it.Kind+it.InstanceID)
-		case it.SawInstance == nil:
-			got = append(got, strconv.Itoa(it.Status)+" "+strconv.FormatBool(it.Saw == ready))
+		case line.Event == "arrived":
+			got = append(got, line.Kind+line.InstanceID)
+		case line.SawInstance == nil:
+			got = append(got, strconv.Itoa(line.Status)+" "+strconv.FormatBool(line.Saw == ready))
 		default:
-			got = append(got, strconv.Itoa(it.Status)+" "+it.Saw+" of "+strconv.FormatBool(*it.SawInstance == ready))
+			got = append(got, strconv.Itoa(line.Status)+" "+line.Saw+" of "+strconv.FormatBool(*line.SawInstance == ready))
 		}
 	}
 	want(t, "seen", strings.Join(got, "; "), "provision; 409 true; poll; 200 true; fetch; 404  of true; provision; 503  of true; "+
@@ -245,7 +266,7 @@ func TestSaw(t *testing.T) {
 
 // The work of an operation that goes on after its answer has no visit.
 func TestSwept(t *testing.T) {
-	s := newSite(t)
+	s := newTestBroker(t)
 	s.ask("PUT", one, later)
 	s.ask("POLL", one, later)
 	from := len(s.lines())
@@ -254,9 +275,9 @@ func TestSwept(t *testing.T) {
 	check(t, s.service.TakeUp(context.Background(), broker.InstanceKey(id)))
 	want(t, "taken up", s.events(from), "look begun; look ended absent done; create begun; create ended done; "+
 		"look begun; look ended whole done; changed")
-	for _, it := range s.lines()[from:] {
-		if it.Visit != 0 {
-			t.Errorf("%+v", it)
+	for _, line := range s.lines()[from:] {
+		if line.Visit != 0 {
+			t.Errorf("got %+v, want no visit", line)
 		}
 	}
 }
@@ -264,26 +285,28 @@ func TestSwept(t *testing.T) {
 // How calls of the backend end.
 func TestResults(t *testing.T) {
 	for name, fails := range map[string]error{
-		"rejected": &broker.Rejected{Status: 422, Description: "full"}, "failed": errFull,
+		"rejected": &broker.Rejection{Status: 422, Description: "full"}, "failed": errFull,
 	} {
-		s := newSite(t)
-		s.seller.fails = fails
-		s.ask("PUT", one, atOnce)
-		if !strings.Contains(s.events(1), "create begun; create ended "+name+"; look begun") {
-			t.Errorf("%s: %s", name, s.events(1))
-		}
+		t.Run(name, func(t *testing.T) {
+			s := newTestBroker(t)
+			s.seller.fails = fails
+			s.ask("PUT", one, atOnce)
+			if !strings.Contains(s.events(1), "create begun; create ended "+name+"; look begun") {
+				t.Errorf("want the creation to end with %s, got %s", name, s.events(1))
+			}
+		})
 	}
-	s := newSite(t)
+	s := newTestBroker(t)
 	s.seller.called = func(call string) { panic(call) }
 	s.ask("PUT", one, atOnce)
 	if !strings.Contains(s.events(1), "look begun; look ended failed; answered Internal") {
-		t.Errorf("after a panic: %s", s.events(1))
+		t.Errorf("after a panic: got %s, want \"look begun; look ended failed; answered Internal\" in it", s.events(1))
 	}
 }
 
 // A request that has the time of another journal is followed by later lines.
 func TestTimes(t *testing.T) {
-	s := newSite(t)
+	s := newTestBroker(t)
 	ahead := time.Now().Add(time.Hour).UnixMicro()
 	r := s.request("PUT", one, later)
 	r.Header.Set(journalfile.Header, strconv.FormatInt(ahead, 10))
@@ -294,16 +317,16 @@ func TestTimes(t *testing.T) {
 	s.ServeHTTP(given, wrong) // nobody else sets the clock
 	s.ServeHTTP(httptest.NewRecorder(), r)
 	if got := s.lines()[1]; got.Event != "arrived" || got.Time <= ahead || got.Time > ahead+1e6 {
-		t.Errorf("%+v after %d", got, ahead)
+		t.Errorf("got %+v, want a time right after %d", got, ahead)
 	}
 	if given.Header().Get(journalfile.Header) != "" {
-		t.Errorf("a stranger is told the time: %v", given.Header())
+		t.Errorf("a stranger: got the time in %v, want none", given.Header())
 	}
 }
 
 // No parameter, credential or password stands in a journal.
 func TestNoSecrets(t *testing.T) {
-	s := newSite(t)
+	s := newTestBroker(t)
 	s.ask("PUT", one, atOnce)
 	s.ask("PUT", one+"/"+bind, atOnce)
 	s.ask("GET", one+"/"+bind, "")
@@ -315,26 +338,27 @@ func TestNoSecrets(t *testing.T) {
 	check(t, err)
 	for _, secret := range []string{password, parameter, credential} {
 		if strings.Contains(string(text), secret) {
-			t.Errorf("the journal has %s", secret)
+			t.Errorf("the journal: got %s in it, want no secret", secret)
 		}
 	}
 	if !strings.Contains(string(text), bind) {
-		t.Errorf("%s", text)
+		t.Errorf("got %s, want it to name the binding", text)
 	}
 }
 
 // If the journal can't be written, requests are answered as before.
 func TestFull(t *testing.T) {
 	signal.Ignore(syscall.SIGXFSZ)
-	s := newSite(t)
+	s := newTestBroker(t)
 	var limit syscall.Rlimit
 	check(t, syscall.Getrlimit(syscall.RLIMIT_FSIZE, &limit))
 	none := syscall.Rlimit{Cur: 0, Max: limit.Max}
 	check(t, syscall.Setrlimit(syscall.RLIMIT_FSIZE, &none))
 	given := s.ask("PUT", one, atOnce)
 	check(t, syscall.Setrlimit(syscall.RLIMIT_FSIZE, &limit))
-	if given.Code != 201 || s.failed != 1 || s.writer.Lost() != 10 {
-		t.Errorf("status %d, failed %d times, %d lines lost", given.Code, s.failed, s.writer.Lost())
+	if given.Code != 201 || s.failed != 1 || s.writer.LostLines() != 10 {
+		t.Errorf("got the status %d, %d failures and %d lines lost, want 201, 1 and 10", given.Code, s.failed,
+			s.writer.LostLines())
 	}
 	s.ask("POLL", one, "")
 	want(t, "afterwards", s.events(1), "lost; arrived; answered OK succeeded")
@@ -342,7 +366,7 @@ func TestFull(t *testing.T) {
 
 // The optional methods of a backend stay as they are.
 func TestOptional(t *testing.T) {
-	s := newSite(t)
+	s := newTestBroker(t)
 	to := New(s.writer, nil)
 	type plain struct{ broker.Backend }
 	type binding struct{ broker.BindingBackend }
@@ -360,25 +384,27 @@ func TestOptional(t *testing.T) {
 			syncing
 		}{binding{s.seller}, syncing{s.seller}}, "bcs": s.seller,
 	} {
-		got := ""
-		made := to.Backend(of)
-		if _, ok := made.(broker.BindingBackend); ok {
-			got += "b"
-		}
-		if _, ok := made.(broker.CredentialsBackend); ok {
-			got += "c"
-		}
-		if _, ok := made.(broker.SyncBackend); ok {
-			got += "s"
-		}
-		if got != name {
-			t.Errorf("a backend with %q has %q", name, got)
-		}
+		t.Run("with "+name, func(t *testing.T) {
+			got := ""
+			made := to.Backend(of)
+			if _, ok := made.(broker.BindingBackend); ok {
+				got += "b"
+			}
+			if _, ok := made.(broker.CredentialsBackend); ok {
+				got += "c"
+			}
+			if _, ok := made.(broker.SyncBackend); ok {
+				got += "s"
+			}
+			if got != name {
+				t.Errorf("a backend with %q: got %q, want that", name, got)
+			}
+		})
 	}
 }
 
 func TestStarted(t *testing.T) {
-	made, err := Started("1.2", []byte(catalogue), broker.Rules{
+	made, err := StartMembers("1.2", []byte(catalogue), broker.Rules{
 		FirstPoll: true, WaitForPoll: 90 * time.Second, IDsReturnAfter: time.Hour,
 	}, true)
 	check(t, err)
@@ -387,51 +413,53 @@ func TestStarted(t *testing.T) {
 	var got line
 	check(t, json.Unmarshal(text, &got))
 	if !got.LocksCanBeLost {
-		t.Errorf("%s", text)
+		t.Errorf("got %s, want locks that can be lost", text)
 	}
 	if got.Version != "1.2" || !got.FirstPoll || got.WaitForPoll != 90 || got.IDsReturnAfter != 3600 || len(got.Plans) != 4 {
-		t.Fatalf("%s", text)
+		t.Fatalf("got %s, want the version, the rules and four plans", text)
 	}
 	number, err := osb.IDOfText("unbound")
 	check(t, err)
-	for at, it := range []struct{ plan, number, mode, binding string }{
+	for at, test := range []struct{ plan, number, mode, binding string }{
 		{atOnce, atOnce, "sync", "sync"}, {later, later, "async", "sync"}, {bound, bound, "sync", "async"},
 		{"unbound", number.String(), "sync", "none"},
 	} {
-		plan := got.Plans[at]
-		if plan["service"] != service || plan["service_number"] != service || plan["plan"] != it.plan ||
-			plan["plan_number"] != it.number || plan["mode"] != it.mode || plan["binding"] != it.binding ||
-			plan["retrievable"] != true {
-			t.Errorf("%v; want %v", plan, it)
-		}
+		t.Run(test.plan, func(t *testing.T) {
+			plan := got.Plans[at]
+			if plan["service"] != service || plan["service_number"] != service || plan["plan"] != test.plan ||
+				plan["plan_number"] != test.number || plan["mode"] != test.mode || plan["binding"] != test.binding ||
+				plan["retrievable"] != true {
+				t.Errorf("got %v, want %v", plan, test)
+			}
+		})
 	}
-	if _, err := Started("1.2", []byte(`[]`), broker.Rules{}, false); err == nil {
-		t.Error("a catalogue that can't be read")
+	if _, err := StartMembers("1.2", []byte(`[]`), broker.Rules{}, false); err == nil {
+		t.Error("a catalogue that can't be read: got no error, want one")
 	}
 }
 
 // A change is undone once, also if the step writes nothing when it is called again.
 func TestUndoneOnce(t *testing.T) {
-	s := newSite(t)
+	s := newTestBroker(t)
 	to := New(s.writer, func(error) bool { return true })
 	s.store.tries = 2
 	calls := 0
-	err := to.Store(s.store).Change(context.Background(), broker.Key{}, 0, func(broker.Held) (*broker.Entry, error) {
+	err := to.Store(s.store).Change(context.Background(), broker.Key{}, 0, func(broker.Snapshot) (*broker.Entry, error) {
 		if calls++; calls == 2 {
 			return nil, errFull
 		}
 		return &broker.Entry{Life: 1}, nil
 	})
 	if !errors.Is(err, errFull) || calls != 2 {
-		t.Errorf("%v after %d calls", err, calls)
+		t.Errorf("got %v after %d calls, want %v after 2", err, calls, errFull)
 	}
 	want(t, "two tries", s.events(1), "changed; undone")
 }
 
-// If a broker deletes a binding that has failed, the change has the visit of the request of the instance, which says what
-// was held of the instance.
+// If a broker deletes a binding that has failed, the change has the visit of the request of the instance, which says
+// what was held of the instance.
 func TestUnbindFailed(t *testing.T) {
-	s := newSite(t)
+	s := newTestBroker(t)
 	s.ask("PUT", one, bound)
 	ready := s.lines()[len(s.lines())-2].After
 	s.ask("PUT", one+"/"+bind, bound)
@@ -447,27 +475,27 @@ func TestUnbindFailed(t *testing.T) {
 	want(t, "deletion", s.events(from), "arrived; changed; changed; answered Unprocessable Entity concurrency-error")
 	changed, answered := s.lines()[from+2], s.lines()[from+3]
 	if changed.Binding != bind || changed.Visit != answered.Visit || answered.Binding != "" {
-		t.Errorf("%+v, and then %+v", changed, answered)
+		t.Errorf("got %+v, and then %+v, want a Bind's change and an instance's answer", changed, answered)
 	}
 	if answered.Saw != ready {
-		t.Errorf("%q was seen, and not %q", answered.Saw, ready)
+		t.Errorf("got %q seen, want %q", answered.Saw, ready)
 	}
 }
 
 // An arrival has the number of a change, so that it and all before it have ended, however they ended.
 func TestCommitted(t *testing.T) {
-	s := newSite(t)
+	s := newTestBroker(t)
 	to := New(s.writer, func(error) bool { return false })
 	arrives := func(want int64) {
 		t.Helper()
-		to.Arrived(context.Background(), s.request("POLL", one, ""), "r", broker.Asked{})
+		to.OnArrival(context.Background(), s.request("POLL", one, ""), "r", broker.Visit{})
 		if got := s.last().Committed; got != want {
 			t.Errorf("got %d, want %d", got, want)
 		}
 	}
 	change := func(store broker.Store, life int64) error {
 		return store.Change(context.Background(), broker.Key{}, 0,
-			func(broker.Held) (*broker.Entry, error) { return &broker.Entry{Life: life}, nil })
+			func(broker.Snapshot) (*broker.Entry, error) { return &broker.Entry{Life: life}, nil })
 	}
 	store, another := to.Store(s.store), to.Store(&memory{rows: map[broker.Key]broker.Entry{}})
 	arrives(0)
@@ -490,33 +518,333 @@ func TestCommitted(t *testing.T) {
 
 // A change that leaves the holding as it is has no line: the answer says what was seen.
 func TestNoChange(t *testing.T) {
-	s := newSite(t)
+	s := newTestBroker(t)
 	store := New(s.writer, nil).Store(s.store)
-	check(t, store.Change(context.Background(), broker.Key{}, 0, func(held broker.Held) (*broker.Entry, error) {
-		held.Entry.Description = "another"
-		return &held.Entry, nil
+	check(t, store.Change(context.Background(), broker.Key{}, 0, func(snapshot broker.Snapshot) (*broker.Entry, error) {
+		snapshot.Entry.Description = "another"
+		return &snapshot.Entry, nil
 	}))
 	if events := s.lines(); len(events) != 1 || s.store.rows[broker.Key{}].Description != "another" {
-		t.Errorf("%+v", events)
+		t.Errorf("got %+v, want one line and the other description", events)
 	}
 }
 
 // The life of an id that returns.
 func TestLives(t *testing.T) {
-	s := newSite(t)
+	s := newTestBroker(t)
 	store := New(s.writer, nil).Store(s.store)
 	for _, life := range []int64{1, 1, 2} {
-		check(t, store.Change(context.Background(), broker.Key{}, 0, func(broker.Held) (*broker.Entry, error) {
+		check(t, store.Change(context.Background(), broker.Key{}, 0, func(broker.Snapshot) (*broker.Entry, error) {
 			return &broker.Entry{Life: life}, nil
 		}))
 	}
 	lines := s.lines()
 	if len(lines) != 3 {
-		t.Fatalf("%+v", lines)
+		t.Fatalf("got %+v, want three lines", lines)
 	}
 	for at, before := range map[int]int64{1: 0, 2: 1} {
 		if it := lines[at]; it.Life != before+1 || it.LifeBefore == nil || *it.LifeBefore != before {
-			t.Errorf("%+v", it)
+			t.Errorf("got %+v, want the next life", it)
 		}
 	}
+}
+
+// What must not stand in a journal.
+const (
+	password   = "password-of-the-platform"
+	parameter  = "value-of-a-parameter"
+	credential = "secret-of-a-binding"
+)
+
+const (
+	service = "00000000-0000-0000-0000-0000000000a0"
+	atOnce  = "00000000-0000-0000-0000-0000000000b1"
+	later   = "00000000-0000-0000-0000-0000000000b2"
+	bound   = "00000000-0000-0000-0000-0000000000b3" // bindings later
+)
+
+// The last plan has a text as its id that is no GUID.
+const catalogue = `{"services": [{"id": "` + service + `", "name": "s", "description": "d", "bindable": true,
+	"bindings_retrievable": true, "plans": [
+	{"id": "` + atOnce + `", "name": "at-once", "description": "d"},
+	{"id": "` + later + `", "name": "later", "description": "d", "x-osb-asynchronous": true},
+	{"id": "` + bound + `", "name": "bound", "description": "d", "x-osb-asynchronous-bindings": true},
+	{"id": "unbound", "name": "unbound", "description": "d", "bindable": false}]}]}`
+
+var errFull = errors.New("the disk is full")
+
+// A memory is a store in memory.
+type memory struct {
+	broker.Store // has no other methods
+	turn         sync.Mutex
+	rows         map[broker.Key]broker.Entry
+	fails        error                    // of the next commit
+	tries        int                      // how often the next step is called, if it is more than once
+	stepped      func(next *broker.Entry) // is called after each step, before the commit
+}
+
+func (m *memory) snapshot(key broker.Key) broker.Snapshot {
+	snapshot := broker.Snapshot{Entry: m.rows[key]}
+	if key.IsBinding {
+		snapshot.Instance = m.rows[broker.InstanceKey(key.Instance)]
+		return snapshot
+	}
+	snapshot.AnyBinding = func() (bool, error) {
+		for other, entry := range m.rows {
+			if other.IsBinding && other.Instance == key.Instance && entry.Holding.IsHeld() {
+				return true, nil
+			}
+		}
+		return false, nil
+	}
+	return snapshot
+}
+
+func (m *memory) Read(_ context.Context, key broker.Key) (broker.Snapshot, error) {
+	m.turn.Lock()
+	defer m.turn.Unlock()
+	return m.snapshot(key), nil
+}
+
+func (m *memory) Change(_ context.Context, key broker.Key, _ int64, step broker.Step) error {
+	m.turn.Lock()
+	defer m.turn.Unlock()
+	next, err := step(m.snapshot(key))
+	for try := 1; err == nil && try < m.tries; try++ {
+		next, err = step(m.snapshot(key))
+	}
+	m.tries = 0
+	if err != nil || next == nil {
+		return err
+	}
+	if m.stepped != nil {
+		m.stepped(next)
+	}
+	if err, m.fails = m.fails, nil; err != nil {
+		return err
+	}
+	m.rows[key] = *next
+	return nil
+}
+
+func (m *memory) HeldBindings(_ context.Context, instance osb.ID) (ids []osb.ID, err error) {
+	m.turn.Lock()
+	defer m.turn.Unlock()
+	for key, entry := range m.rows {
+		if key.IsBinding && key.Instance == instance && entry.Holding.IsHeld() {
+			ids = append(ids, key.Binding)
+		}
+	}
+	return ids, nil
+}
+
+// A seller is a backend in memory.
+type seller struct {
+	things map[broker.Key]broker.There
+	called func(call string) // is called before each call
+	fails  error             // of each creation
+}
+
+func (s *seller) Look(_ context.Context, request broker.Request) (broker.There, error) {
+	s.called("look")
+	return s.things[request.Key], nil
+}
+
+func (s *seller) Create(_ context.Context, request broker.Request) error {
+	s.called("create")
+	if s.fails == nil {
+		s.things[request.Key] = broker.Whole
+	}
+	return s.fails
+}
+
+func (s *seller) Delete(_ context.Context, request broker.Request) error {
+	s.called("delete")
+	delete(s.things, request.Key)
+	return nil
+}
+
+func (s *seller) LookBinding(ctx context.Context, request broker.Request) (broker.There, error) {
+	return s.Look(ctx, request)
+}
+
+func (s *seller) CreateBinding(ctx context.Context, request broker.Request) (json.RawMessage, error) {
+	return json.RawMessage(`{"password":"` + credential + `"}`), s.Create(ctx, request)
+}
+
+func (s *seller) DeleteBinding(ctx context.Context, request broker.Request) error {
+	return s.Delete(ctx, request)
+}
+
+func (s *seller) Credentials(context.Context, broker.Request) (json.RawMessage, error) {
+	s.called("credentials")
+	return json.RawMessage(`{"password":"` + credential + `"}`), nil
+}
+
+func (s *seller) Sync(context.Context, broker.Request) error { return nil }
+
+// A line is one of a journal.
+type line struct {
+	Time                         int64
+	Event, Instance, Binding     string
+	InstanceID                   string `json:"instance_id"`
+	Visit, Change, Life          int64
+	LifeBefore                   *int64 `json:"life_before"`
+	Request, Kind, Service, Plan string
+	Accepts, Doubtful            bool
+	Attributes                   string
+	Committed                    int64
+	Before, After                string
+	Call, Stage, Found, Result   string
+	Status                       int
+	Body, Credentials, Saw       string
+	SawInstance                  *string `json:"saw_instance"`
+	Count                        int
+	Version                      string
+	FirstPoll                    bool    `json:"first_poll"`
+	WaitForPoll                  float64 `json:"wait_for_poll"`
+	IDsReturnAfter               float64 `json:"ids_return_after"`
+	LocksCanBeLost               bool    `json:"locks_can_be_lost"`
+	Plans                        []map[string]any
+}
+
+// A testBroker is a broker whose journal is read.
+type testBroker struct {
+	*broker.Handler
+	t       *testing.T
+	path    string
+	store   *memory
+	seller  *seller
+	service *broker.Service
+	writer  *Writer
+	failed  int // how often the journal has failed
+}
+
+var errDoubt = errors.New("nobody knows")
+
+func newTestBroker(t *testing.T) *testBroker {
+	t.Helper()
+	s := &testBroker{
+		t: t, path: filepath.Join(t.TempDir(), "journal"), store: &memory{rows: map[broker.Key]broker.Entry{}},
+		seller: &seller{things: map[broker.Key]broker.There{}, called: func(string) {}},
+	}
+	sold, err := broker.NewCatalogue([]byte(catalogue), true)
+	check(t, err)
+	locks, err := broker.NewFileLocks(filepath.Join(t.TempDir(), "locks"))
+	check(t, err)
+	s.writer, err = Open(Options{
+		Path: s.path, Most: 1 << 20, Failed: func(error) { s.failed++ },
+	})
+	check(t, err)
+	to := New(s.writer, func(err error) bool { return errors.Is(err, errDoubt) })
+	rules := broker.Rules{FirstPoll: true}
+	s.service = broker.NewService(sold, to.Store(s.store), to.Backend(s.seller), locks, rules, broker.Silent{})
+	users, err := broker.NewUsers(map[string][]string{"platform": {password}})
+	check(t, err)
+	s.Handler, err = broker.NewHandler(context.Background(), s.service, broker.Config{
+		Users: users, LongestBody: 1000, AtOnce: 4, Touch: func(broker.Key) {}, Observer: broker.Silent{}, Journal: to,
+	})
+	check(t, err)
+	return s
+}
+
+func check(t testing.TB, err error) {
+	t.Helper()
+	if err != nil {
+		t.Fatal(err)
+	}
+}
+
+// ask sends a request, and returns the answer. An id is that of an instance, or of an instance and a binding.
+func (s *testBroker) ask(method, target, plan string) *httptest.ResponseRecorder {
+	given := httptest.NewRecorder()
+	s.ServeHTTP(given, s.request(method, target, plan))
+	return given
+}
+
+func (s *testBroker) request(method, target, plan string) *http.Request {
+	body := ""
+	path := "/v2/service_instances/" + strings.Replace(target, "/", "/service_bindings/", 1)
+	switch {
+	case method == "POLL":
+		method, path = "GET", path+"/last_operation"
+	case method == "PUT":
+		body = `{"service_id":"` + service + `","plan_id":"` + plan + `","organization_guid":"o","space_guid":"s",
+			"parameters":{"password":"` + parameter + `"}}`
+		path += "?accepts_incomplete=true"
+	case method == "DELETE":
+		path += "?accepts_incomplete=true&service_id=" + service + "&plan_id=" + plan
+	}
+	r := httptest.NewRequest(method, path, strings.NewReader(body))
+	r.SetBasicAuth("platform", password)
+	r.Header.Set("X-Broker-API-Version", "2.17")
+	r.Header.Set("X-Broker-API-Request-Identity", "request-1")
+	return r
+}
+
+// lines are those of the journal.
+func (s *testBroker) lines() (lines []line) {
+	s.t.Helper()
+	text, err := os.ReadFile(s.path)
+	check(s.t, err)
+	for _, text := range strings.Split(strings.TrimSuffix(string(text), "\n"), "\n") {
+		var read line
+		if err := json.Unmarshal([]byte(text), &read); err != nil {
+			s.t.Fatalf("%q: got the error %v, want none", text, err)
+		}
+		lines = append(lines, read)
+	}
+	return lines
+}
+
+// events are the events of the lines from one on, with what distinguishes them.
+func (s *testBroker) events(from int) string {
+	s.t.Helper()
+	var texts []string
+	for _, line := range s.lines()[from:] {
+		text := line.Event
+		switch line.Event {
+		case "work":
+			text = strings.Join(strings.Fields(line.Call+" "+line.Stage+" "+line.Found+" "+line.Result), " ")
+		case "answered":
+			text = strings.Join([]string{"answered", http.StatusText(line.Status), line.Body}, " ")
+		case "undone":
+			if line.Doubtful {
+				text += " doubtful"
+			}
+		}
+		texts = append(texts, text)
+	}
+	return strings.Join(texts, "; ")
+}
+
+func (s *testBroker) last() line {
+	s.t.Helper()
+	all := s.lines()
+	return all[len(all)-1]
+}
+
+// What a Poll and a creation take of the processor, with a journal.
+func BenchmarkRequests(b *testing.B) {
+	for name, method := range map[string]string{"poll": "POLL", "creation": "PUT"} {
+		b.Run(name, func(b *testing.B) {
+			s := newTestBroker(&testing.T{})
+			s.ask("PUT", one, atOnce)
+			before := processor(b)
+			for n := 0; n < b.N; n++ {
+				if method == "PUT" {
+					s.store.rows, s.seller.things = map[broker.Key]broker.Entry{}, map[broker.Key]broker.There{}
+				}
+				s.ServeHTTP(httptest.NewRecorder(), s.request(method, one, atOnce))
+			}
+			b.ReportMetric(float64(processor(b)-before)/float64(b.N), "processor-ns/op")
+		})
+	}
+}
+
+// processor is the time of the processor that this process has taken, in nanoseconds.
+func processor(b *testing.B) int64 {
+	var used syscall.Rusage
+	check(b, syscall.Getrusage(syscall.RUSAGE_SELF, &used))
+	return used.Utime.Nano() + used.Stime.Nano()
 }

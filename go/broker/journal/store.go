@@ -2,6 +2,8 @@ package journal
 
 import (
 	"context"
+	"encoding/json"
+	"errors"
 	"sync"
 
 	"pippinterm/broker"
@@ -18,12 +20,12 @@ type store struct {
 }
 
 // Read notes what the request of the context has read.
-func (s store) Read(ctx context.Context, key broker.Key) (broker.Held, error) {
-	held, err := s.Store.Read(ctx, key)
+func (s store) Read(ctx context.Context, key broker.Key) (broker.Snapshot, error) {
+	snapshot, err := s.Store.Read(ctx, key)
 	if err == nil {
-		visitIn(ctx).sees(key, held)
+		visitIn(ctx).sees(key, snapshot)
 	}
-	return held, err
+	return snapshot, err
 }
 
 // Change writes down the change that is about to be committed. If it isn't, or nobody knows, that follows.
@@ -36,12 +38,12 @@ func (s store) Change(ctx context.Context, key broker.Key, fence int64, step bro
 		}
 		number = 0
 	}
-	err := s.Store.Change(ctx, key, fence, func(held broker.Held) (*broker.Entry, error) {
+	err := s.Store.Change(ctx, key, fence, func(snapshot broker.Snapshot) (*broker.Entry, error) {
 		undo(false) // the step is called again once its transaction was rolled back
-		visitIn(ctx).sees(key, held)
-		next, err := step(held)
-		if err == nil && next != nil && isAnother(held.Entry, *next) {
-			number = s.journal.changed(ctx, key, held.Entry, *next)
+		visitIn(ctx).sees(key, snapshot)
+		next, err := step(snapshot)
+		if err == nil && next != nil && isAnother(snapshot.Entry, *next) {
+			number = s.journal.writeChange(ctx, key, snapshot.Entry, *next)
 		}
 		return next, err
 	})
@@ -64,8 +66,8 @@ type undone struct {
 	IsDoubtful bool `json:"doubtful,omitempty"` // whether it may have been committed
 }
 
-// changed is the line of a change.
-type changed struct {
+// changeLine is the line of a change.
+type changeLine struct {
 	Change int64 `json:"change"`
 	Visit  int64 `json:"visit,omitempty"` // of the request that changes it
 	life
@@ -76,11 +78,11 @@ type changed struct {
 	Credentials string `json:"credentials,omitempty"` // the digest of the binding's object
 }
 
-// changed writes down a change, and returns its number.
-func (j *Journal) changed(ctx context.Context, key broker.Key, before, after broker.Entry) int64 {
+// writeChange writes down a change, and returns its number.
+func (j *Journal) writeChange(ctx context.Context, key broker.Key, before, after broker.Entry) int64 {
 	visit := visitIn(ctx)
 	visit.isChange = visit.isChange || key == visit.key
-	line := changed{
+	line := changeLine{
 		Change: j.changes.begin(), Visit: visit.number, life: lifeOf(key), Life: after.Life,
 		Credentials: journalfile.Digest(after.Binding),
 	}
@@ -125,8 +127,8 @@ func (c *changes) end(number int64) {
 	delete(c.open, number)
 }
 
-// ended returns the number of a change, so that it and all before it have ended.
-func (c *changes) ended() int64 {
+// endedUpTo returns the number of a change, so that it and all before it have ended.
+func (c *changes) endedUpTo() int64 {
 	c.turn.Lock()
 	defer c.turn.Unlock()
 	first := c.last + 1
@@ -170,4 +172,159 @@ func (t *texts) text(of osb.Holding, isBinding bool) (string, error) {
 	}
 	(*all)[of] = string(text)
 	return string(text), nil
+}
+
+// Backend returns a backend whose calls are written down. It has those of the optional methods that the backend has
+// which a broker.Service calls.
+func (j *Journal) Backend(of broker.Backend) broker.Backend {
+	it := backend{of, j}
+	binding, sells := of.(broker.BindingBackend)
+	known, knows := of.(broker.CredentialsBackend)
+	syncing, syncs := of.(broker.SyncBackend)
+	bindings := bindings{it, binding}
+	credentials := credentials{known, j}
+	switch {
+	case sells && knows && syncs:
+		return struct {
+			broker.BindingBackend
+			broker.CredentialsBackend
+			broker.SyncBackend
+		}{bindings, credentials, syncing}
+	case sells && knows:
+		return struct {
+			broker.BindingBackend
+			broker.CredentialsBackend
+		}{bindings, credentials}
+	case sells && syncs:
+		return struct {
+			broker.BindingBackend
+			broker.SyncBackend
+		}{bindings, syncing}
+	case sells:
+		return bindings
+	case syncs:
+		return struct {
+			broker.Backend
+			broker.SyncBackend
+		}{it, syncing}
+	}
+	return it
+}
+
+// work is the line of a call of the backend.
+type work struct {
+	life
+	Visit       int64  `json:"visit,omitempty"` // of the request that does the work
+	Call        string `json:"call"`
+	Stage       string `json:"stage"`
+	Found       string `json:"found,omitempty"`       // of a look
+	Result      string `json:"result,omitempty"`      // of a call that has ended
+	Credentials string `json:"credentials,omitempty"` // the digest of the object with them
+}
+
+// do writes down a call before and after it. found and made are what it has found, and the credentials that it has.
+func (j *Journal) do(
+	ctx context.Context, request broker.Request, call string, do func() (found string, made json.RawMessage, err error),
+) {
+	line := work{life: lifeOf(request.Key), Visit: visitOf(ctx), Call: call, Stage: "begun"}
+	j.to.Write("work", line)
+	line.Stage, line.Result = "ended", "failed" // also if the call panics
+	defer func() { j.to.Write("work", line) }()
+	found, made, err := do()
+	var rejected *broker.Rejection
+	switch {
+	case errors.As(err, &rejected):
+		line.Result = "rejected"
+	case err == nil:
+		line.Result, line.Found, line.Credentials = "done", found, digestOf(made)
+	}
+}
+
+// digestOf is the digest of the object in which credentials are stored and answered.
+func digestOf(credentials json.RawMessage) string {
+	if credentials == nil {
+		return ""
+	}
+	object, err := json.Marshal(map[string]json.RawMessage{"credentials": credentials})
+	if err != nil {
+		return "" // they aren't JSON, and can't be stored
+	}
+	return journalfile.Digest(object)
+}
+
+// words are what a look finds.
+var words = map[broker.There]string{broker.None: "absent", broker.Part: "part", broker.Whole: "whole"}
+
+// A backend writes down the calls of an instance.
+type backend struct {
+	of      broker.Backend
+	journal *Journal
+}
+
+func (b backend) Look(ctx context.Context, request broker.Request) (there broker.There, err error) {
+	b.journal.do(ctx, request, "look", func() (string, json.RawMessage, error) {
+		there, err = b.of.Look(ctx, request)
+		return words[there], nil, err
+	})
+	return there, err
+}
+
+func (b backend) Create(ctx context.Context, request broker.Request) (err error) {
+	b.journal.do(ctx, request, "create", func() (string, json.RawMessage, error) {
+		err = b.of.Create(ctx, request)
+		return "", nil, err
+	})
+	return err
+}
+
+func (b backend) Delete(ctx context.Context, request broker.Request) (err error) {
+	b.journal.do(ctx, request, "delete", func() (string, json.RawMessage, error) {
+		err = b.of.Delete(ctx, request)
+		return "", nil, err
+	})
+	return err
+}
+
+// bindings write down the calls of bindings, too.
+type bindings struct {
+	backend
+	of broker.BindingBackend
+}
+
+func (b bindings) LookBinding(ctx context.Context, request broker.Request) (there broker.There, err error) {
+	b.journal.do(ctx, request, "look", func() (string, json.RawMessage, error) {
+		there, err = b.of.LookBinding(ctx, request)
+		return words[there], nil, err
+	})
+	return there, err
+}
+
+func (b bindings) CreateBinding(ctx context.Context, request broker.Request) (made json.RawMessage, err error) {
+	b.journal.do(ctx, request, "create", func() (string, json.RawMessage, error) {
+		made, err = b.of.CreateBinding(ctx, request)
+		return "", made, err
+	})
+	return made, err
+}
+
+func (b bindings) DeleteBinding(ctx context.Context, request broker.Request) (err error) {
+	b.journal.do(ctx, request, "delete", func() (string, json.RawMessage, error) {
+		err = b.of.DeleteBinding(ctx, request)
+		return "", nil, err
+	})
+	return err
+}
+
+// credentials write down the call for the credentials of a binding that exists.
+type credentials struct {
+	of      broker.CredentialsBackend
+	journal *Journal
+}
+
+func (c credentials) Credentials(ctx context.Context, request broker.Request) (known json.RawMessage, err error) {
+	c.journal.do(ctx, request, "credentials", func() (string, json.RawMessage, error) {
+		known, err = c.of.Credentials(ctx, request)
+		return "", known, err
+	})
+	return known, err
 }

@@ -26,10 +26,10 @@ func TestUnfinishedStatsReadNoOtherRows(t *testing.T) {
 			", false, false FROM osb_holdings",
 		"ANALYZE osb_holdings", "ANALYZE osb_bindings")
 	if stats, err := store.Stats(ctx); err != nil || stats != (broker.Stats{Tombstones: 40_000}) {
-		t.Errorf("%+v, %v", stats, err)
+		t.Errorf("got %+v and the error %v, want 40,000 tombstones", stats, err)
 	}
 	if stats, err := store.UnfinishedStats(ctx); err != nil || stats != (broker.Stats{}) {
-		t.Errorf("%+v, %v", stats, err)
+		t.Errorf("got %+v and the error %v, want nothing unfinished", stats, err)
 	}
 	rows, err := store.db.Query("EXPLAIN " + unfinishedStats)
 	if err != nil {
@@ -46,6 +46,6 @@ func TestUnfinishedStatsReadNoOtherRows(t *testing.T) {
 	}
 	all := strings.Join(plan, "\n")
 	if rows.Err() != nil || strings.Contains(all, "Seq Scan") || strings.Count(all, "osb_unfinished_") != 2 {
-		t.Errorf("%v, the plan is\n%s", rows.Err(), all)
+		t.Errorf("got %v and the plan\n%s\nwant both indexes of what is unfinished, and no scan", rows.Err(), all)
 	}
 }

@@ -8,9 +8,12 @@ package postgres
 import (
 	"context"
 	"database/sql"
+	"database/sql/driver"
 	"errors"
 	"fmt"
+	"io"
 	"sync"
+	"sync/atomic"
 	"time"
 
 	"pippinterm/broker"
@@ -31,11 +34,22 @@ type Store struct {
 	observer    broker.Observer
 	most        int
 	preparation preparation
+	id          atomic.Value // what ID has returned: a string
 
 	turn     sync.Mutex
 	isClosed bool
 	running  sync.WaitGroup
 }
+
+// These errors are returned wrapped: compare them by errors.Is.
+var (
+	// ErrBadAddress reports that a URL of a server can't be used.
+	ErrBadAddress = pg.ErrBadAddress
+	// ErrNotDurable reports that a commit might not outlive a power cut: synchronous_commit is off.
+	ErrNotDurable = pg.ErrNotDurable
+	// ErrUnknownCommit reports that nobody knows whether a transaction was committed.
+	ErrUnknownCommit = pg.ErrUnknownCommit
+)
 
 // Open opens the store in the database of a URL, with at most so many connections, at least 1. It creates the tables,
 // or extends those of version 0.2. Version 0.2 can't serve them any more once a row was written. For tables that need
@@ -50,16 +64,19 @@ type Store struct {
 //
 // A step of Change must not call the store: with all connections taken, both would wait for each other.
 //
-// Errors: pg.ErrBadAddress, pg.ErrNotDurable, and those of the connection and of the server.
+// Errors: ErrBadAddress, ErrNotDurable, and those of the connection and of the server.
 func Open(ctx context.Context, url string, most int, observer broker.Observer) (*Store, error) {
 	if most < 1 {
 		return nil, fmt.Errorf("the store needs at least 1 connection, and not %d", most)
 	}
-	db, err := pg.Open(url, pg.Options{Most: most, Lock: longest, Statement: longest, Idle: idle})
+	store := &Store{observer: observer, most: most}
+	db, err := pg.Open(url, pg.Options{
+		Most: most, Lock: longest, Statement: longest, Idle: idle, Check: store.check,
+	})
 	if err != nil {
 		return nil, fmt.Errorf("the store: %w", err)
 	}
-	store := &Store{db: db, observer: observer, most: most}
+	store.db = db
 	if err := store.prepare(ctx); err != nil {
 		_ = db.Close()
 		return nil, fmt.Errorf("the store: %w", err)
@@ -157,7 +174,7 @@ func (s *Store) conn(ctx context.Context) (*sql.Conn, error) {
 	within, cancel := pg.Within(ctx, pg.Answer)
 	defer cancel()
 	conn, err := s.db.Conn(within)
-	return conn, pg.Unanswered(ctx, err)
+	return conn, pg.AsNoAnswer(ctx, err)
 }
 
 func (s *Store) tellRetry(key *broker.Key, err error) {
@@ -165,5 +182,274 @@ func (s *Store) tellRetry(key *broker.Key, err error) {
 	if key != nil {
 		failure.Key, failure.IsNamed = *key, true
 	}
-	s.observer.Failed(failure)
+	s.observer.OnFailure(failure)
+}
+
+// The statements of reads and changes, which the server parses and plans once for each session.
+const (
+	findInstance = "SELECT holding, request, NULL, description, since, life, " + endedAgo +
+		" FROM osb_holdings WHERE id = $1"
+	findBinding = "SELECT holding, request, object, description, since, life, " + endedAgo +
+		" FROM osb_bindings WHERE instance = $1 AND binding = $2"
+	// How many seconds ago the tombstone was written. A statement that waits for a row takes the time at which it began
+	// to wait.
+	endedAgo            = "extract(epoch FROM statement_timestamp() - ended)"
+	forUpdate, forShare = " FOR UPDATE", " FOR SHARE"
+
+	insertInstance = "INSERT INTO osb_holdings (id, holding, unfinished) VALUES ($1, $2, false) ON CONFLICT DO NOTHING"
+	insertBinding  = "INSERT INTO osb_bindings (instance, binding, holding, held, unfinished) " +
+		"VALUES ($1, $2, $3, false, false) ON CONFLICT DO NOTHING"
+	writeInstance = "UPDATE osb_holdings SET holding = $1, unfinished = $2, request = $3, description = $4, " +
+		"since = $5, life = $6, " + ended + " WHERE id = $8"
+	writeBinding = "UPDATE osb_bindings SET holding = $1, unfinished = $2, request = $3, description = $4, since = $5, " +
+		"life = $6, " + ended + ", held = $9, object = $10 WHERE instance = $8 AND binding = $11"
+	ended = "ended = CASE WHEN $7::boolean THEN clock_timestamp() END"
+
+	checkWorker        = "SELECT worker FROM osb_workers WHERE id = $1 FOR SHARE"
+	checkBindingWorker = "SELECT worker FROM osb_binding_workers WHERE instance = $1 AND binding = $2 FOR SHARE"
+	putWorker          = "INSERT INTO osb_workers VALUES ($1, $2) ON CONFLICT (id) DO UPDATE SET worker = excluded.worker"
+	putBindingWorker   = "INSERT INTO osb_binding_workers VALUES ($1, $2, $3) ON CONFLICT (instance, binding) " +
+		"DO UPDATE SET worker = excluded.worker"
+
+	anyBinding = "SELECT EXISTS (SELECT FROM osb_bindings WHERE instance = $1 AND held)"
+	// One statement reads a binding and its instance, so both are of the same moment.
+	readBinding = `
+SELECT b.holding, b.request, b.object, b.description, b.since, b.life,
+    extract(epoch FROM statement_timestamp() - b.ended),
+    i.holding, i.request, NULL, i.description, i.since, i.life, NULL
+FROM (SELECT $1::uuid AS instance, $2::uuid AS binding) AS k
+LEFT JOIN osb_bindings AS b ON b.instance = k.instance AND b.binding = k.binding
+LEFT JOIN osb_holdings AS i ON i.id = k.instance
+`
+)
+
+var texts = []string{
+	findInstance, findInstance + forUpdate, findInstance + forShare, findBinding + forUpdate,
+	insertInstance, insertBinding, writeInstance, writeBinding,
+	checkWorker, checkBindingWorker, putWorker, putBindingWorker, anyBinding, readBinding,
+}
+
+// A statementSet has the prepared statement of each text.
+type statementSet map[string]*sql.Stmt
+
+// A preparation prepares the statements once. The zero preparation has prepared nothing.
+type preparation struct {
+	turn sync.Mutex
+	all  statementSet
+}
+
+// statements are all statements. They are prepared with connections of their own, so this isn't called in a
+// transaction.
+func (s *Store) statements(ctx context.Context) (statementSet, error) {
+	p := &s.preparation
+	p.turn.Lock()
+	defer p.turn.Unlock()
+	if p.all != nil {
+		return p.all, nil
+	}
+	all := make(statementSet, len(texts))
+	for _, text := range texts {
+		it, err := s.db.PrepareContext(ctx, text)
+		if err != nil {
+			for _, other := range all {
+				_ = other.Close()
+			}
+			return nil, err
+		}
+		all[text] = it
+	}
+	p.all = all
+	return all, nil
+}
+
+// preparedFor is statements, for a server that may be silent.
+func (s *Store) preparedFor(ctx context.Context) (statementSet, error) {
+	within, cancel := pg.Within(ctx, pg.Answer)
+	defer cancel()
+	all, err := s.statements(within)
+	return all, pg.AsNoAnswer(ctx, err)
+}
+
+// finding is the text that finds the row of a key.
+func finding(key broker.Key) string {
+	if key.IsBinding {
+		return findBinding
+	}
+	return findInstance
+}
+
+// keyParameters are the parameters that name a key.
+func keyParameters(key broker.Key) []any {
+	if key.IsBinding {
+		return []any{key.Instance, key.Binding}
+	}
+	return []any{key.Instance}
+}
+
+// of is one of two texts, by the kind of a key.
+func of(key broker.Key, instance, binding string) string {
+	if key.IsBinding {
+		return binding
+	}
+	return instance
+}
+
+// The tables. Version 0.2 had osb_holdings with its first three columns, osb_workers and osb_store. The column ended
+// has the time at which the tombstone was written. A tombstone of an earlier version gets the time of now. That reads
+// all rows, so no statement may be too long for it.
+//
+// The tables of workers are UNLOGGED: a crash of the server empties them. It ends the sessions that hold the locks too.
+const tables = `
+SET LOCAL statement_timeout = 0;
+CREATE TABLE IF NOT EXISTS osb_holdings (id uuid PRIMARY KEY, holding text NOT NULL, unfinished boolean NOT NULL);
+CREATE INDEX IF NOT EXISTS osb_unfinished_holdings ON osb_holdings (id) WHERE unfinished;
+CREATE UNLOGGED TABLE IF NOT EXISTS osb_workers (id uuid PRIMARY KEY, worker bigint NOT NULL);
+CREATE TABLE IF NOT EXISTS osb_store (one boolean PRIMARY KEY DEFAULT true CHECK (one), name text NOT NULL,
+    is_tied boolean NOT NULL DEFAULT false);
+ALTER TABLE osb_holdings ADD COLUMN IF NOT EXISTS request text,
+    ADD COLUMN IF NOT EXISTS description text NOT NULL DEFAULT '', ADD COLUMN IF NOT EXISTS since timestamptz;
+CREATE TABLE IF NOT EXISTS osb_bindings (instance uuid NOT NULL, binding uuid NOT NULL, holding text NOT NULL,
+    held boolean NOT NULL, unfinished boolean NOT NULL, request text, object text,
+    description text NOT NULL DEFAULT '', since timestamptz, PRIMARY KEY (instance, binding));
+CREATE INDEX IF NOT EXISTS osb_held_bindings ON osb_bindings (instance) WHERE held;
+CREATE INDEX IF NOT EXISTS osb_unfinished_bindings ON osb_bindings (instance, binding) WHERE unfinished;
+CREATE UNLOGGED TABLE IF NOT EXISTS osb_binding_workers (instance uuid NOT NULL, binding uuid NOT NULL,
+    worker bigint NOT NULL, PRIMARY KEY (instance, binding));
+ALTER TABLE osb_holdings ADD COLUMN IF NOT EXISTS life bigint NOT NULL DEFAULT 0,
+    ADD COLUMN IF NOT EXISTS ended timestamptz;
+ALTER TABLE osb_bindings ADD COLUMN IF NOT EXISTS life bigint NOT NULL DEFAULT 0,
+    ADD COLUMN IF NOT EXISTS ended timestamptz;
+UPDATE osb_holdings SET ended = clock_timestamp() WHERE ended IS NULL AND NOT unfinished
+    AND (holding LIKE '%"tombstone":true%' OR holding LIKE '%"marked":true%');
+UPDATE osb_bindings SET ended = clock_timestamp() WHERE ended IS NULL AND NOT held
+    AND holding LIKE '%"tombstone":true%';
+CREATE TABLE IF NOT EXISTS osb_identity (one boolean PRIMARY KEY DEFAULT true CHECK (one), id text NOT NULL);
+`
+
+// isCurrent is whether nothing is missing: all that is missing is added in one transaction, and this table is the last.
+const isCurrent = "SELECT to_regclass('osb_identity') IS NOT NULL"
+
+// tablesLock is the number of an advisory lock for brokers that create the tables at the same time: IF NOT EXISTS is no
+// lock. Version 0.2 takes the same lock.
+const tablesLock = 0x6F73625F686F6C64
+
+// migrate creates or extends the tables, unless nothing is missing. In that case a role without the right to do so can
+// serve.
+func (s *Store) migrate(ctx context.Context) error {
+	var isDone bool
+	if err := s.db.QueryRowContext(ctx, isCurrent).Scan(&isDone); err != nil || isDone {
+		return err
+	}
+	err := s.transaction(ctx, nil, func(tx *sql.Tx) (bool, error) {
+		if _, err := tx.ExecContext(ctx, "SELECT pg_advisory_xact_lock($1)", int64(tablesLock)); err != nil {
+			return false, err
+		}
+		_, err := tx.ExecContext(ctx, tables)
+		return true, err
+	})
+	if err != nil {
+		return fmt.Errorf("the tables can't be created or extended. Start a broker once as their owner: %w", err)
+	}
+	return nil
+}
+
+// tieLock is the number of the advisory lock of Tie. Version 0.2 takes the same lock.
+const tieLock = 0x6F73625F74696564
+
+// Name returns the name of the store, or "" before the first use.
+func (s *Store) Name(ctx context.Context) (name string, err error) {
+	err = s.query(func(db *sql.DB) error {
+		err := db.QueryRowContext(ctx, "SELECT name FROM osb_store").Scan(&name)
+		if errors.Is(err, sql.ErrNoRows) {
+			return nil
+		}
+		return err
+	})
+	return name, err
+}
+
+// Begin gives the store a name for good, unless it has one, and returns the name that it has. A name that begins with
+// broker.UntiedBefore replaces broker.Untied.
+func (s *Store) Begin(ctx context.Context, name string) (string, error) {
+	err := s.transaction(ctx, nil, func(tx *sql.Tx) (bool, error) {
+		_, err := tx.ExecContext(ctx, "INSERT INTO osb_store AS mine (name) VALUES ($1) "+
+			"ON CONFLICT (one) DO UPDATE SET name = excluded.name WHERE mine.name = '"+broker.Untied+"' "+
+			"AND excluded.name LIKE '"+broker.UntiedBefore+"%'", name)
+		return true, err
+	})
+	if err != nil {
+		return "", err
+	}
+	return s.Name(ctx)
+}
+
+// readID returns the id of the store.
+const readID = "SELECT id FROM osb_identity"
+
+// ID returns the id of the store, which the first call makes up. From then on no connection is used to the database of
+// another store: the broker names its store by this id in each answer.
+func (s *Store) ID(ctx context.Context) (id string, err error) {
+	made, err := broker.NewStoreID()
+	if err != nil {
+		return "", err
+	}
+	err = s.transaction(ctx, nil, func(tx *sql.Tx) (bool, error) {
+		const insert = "INSERT INTO osb_identity (id) VALUES ($1) ON CONFLICT (one) DO NOTHING"
+		if _, err := tx.ExecContext(ctx, insert, made); err != nil {
+			return false, err
+		}
+		return true, tx.QueryRowContext(ctx, readID).Scan(&id)
+	})
+	if err == nil {
+		s.id.Store(id)
+	}
+	return id, err
+}
+
+var errOtherStore = errors.New("the URL leads to another store than the one that this broker has started over. If that is " +
+	"right, start the broker again, or else correct the address of the server")
+
+// check rejects a connection to another store than that of ID.
+func (s *Store) check(ctx context.Context, conn driver.QueryerContext) error {
+	known, _ := s.id.Load().(string)
+	if known == "" {
+		return nil
+	}
+	var column [1]driver.Value
+	rows, err := conn.QueryContext(ctx, readID, nil)
+	if err == nil {
+		defer rows.Close()
+		err = rows.Next(column[:])
+	}
+	if errors.Is(err, io.EOF) || err == nil && fmt.Sprintf("%s", column[0]) != known {
+		return errOtherStore
+	}
+	return err
+}
+
+// If a binding has a row, its instance has one too (Change).
+const isUsed = "SELECT is_tied OR name NOT LIKE '" + broker.UntiedBefore + "%' AND EXISTS (SELECT FROM osb_holdings) " +
+	"FROM osb_store"
+
+// Tie calls tie in a transaction that holds a lock, so that one caller at a time is in it. The function tie must not
+// call the store, and has to return within a minute. It may be called more than once.
+func (s *Store) Tie(ctx context.Context, tie func(isUsed bool) error) error {
+	return s.transaction(ctx, nil, func(tx *sql.Tx) (bool, error) {
+		if _, err := tx.ExecContext(ctx, "SELECT pg_advisory_xact_lock($1)", int64(tieLock)); err != nil {
+			return false, err
+		}
+		var is bool
+		err := tx.QueryRowContext(ctx, isUsed).Scan(&is)
+		if errors.Is(err, sql.ErrNoRows) {
+			return false, errors.New("the store has no name yet")
+		}
+		if err != nil {
+			return false, err
+		}
+		if err := tie(is); err != nil {
+			return false, err
+		}
+		_, err = tx.ExecContext(ctx, "UPDATE osb_store SET is_tied = true WHERE NOT is_tied")
+		return true, err
+	})
 }

@@ -2,6 +2,10 @@ package postgres_test
 
 import (
 	"context"
+	"errors"
+	"fmt"
+	"strconv"
+	"strings"
 	"sync"
 	"testing"
 	"time"
@@ -9,7 +13,10 @@ import (
 	"pippinterm/broker"
 	"pippinterm/broker/postgres"
 	"pippinterm/broker/storetest"
+	"pippinterm/internal/pg"
 	"pippinterm/internal/pg/pgtest"
+	"pippinterm/internal/storefaults"
+	"pippinterm/osb"
 )
 
 // schemas gives each test a schema of its own.
@@ -46,24 +53,699 @@ func TestClosingWhileTheServerHangs(t *testing.T) {
 		t.Error(err)
 	}
 	if took := time.Since(begun); took > 30*time.Second {
-		t.Errorf("it took %v", took)
+		t.Errorf("got %v, want at most %v", took, 30*time.Second)
 	}
+}
+
+// After the store was opened, its URL leads to the database of another store, as behind a proxy or a name that was
+// changed. No call takes that for its own, since it has other instances and the broker names its store by the id of
+// this one.
+func TestURLThatLeadsToAnotherStore(t *testing.T) {
+	const one, other, name = "osb_store_one", "osb_store_other", "osb_store_moves"
+	ctx, db := context.Background(), pgtest.DB(t, pgtest.URL(t))
+	store := open(t, pgtest.With(t, pgtest.Schema(t, pgtest.URL(t), one), "application_name", name))
+	defer store.Close()
+	second := open(t, pgtest.Schema(t, pgtest.URL(t), other))
+	for _, opened := range []*postgres.Store{store, second} {
+		if _, err := opened.Begin(ctx, broker.Untied); err != nil {
+			t.Fatal(err)
+		}
+		if _, err := opened.ID(ctx); err != nil {
+			t.Fatal(err)
+		}
+	}
+	check(t, second.Close())
+	swap := func() {
+		pgtest.Exec(t, db, "ALTER SCHEMA "+one+" RENAME TO osb_store_swap", "ALTER SCHEMA "+other+" RENAME TO "+one,
+			"ALTER SCHEMA osb_store_swap RENAME TO "+other,
+			"SELECT pg_terminate_backend(pid, 5000) FROM pg_stat_activity WHERE application_name = '"+name+"'")
+	}
+	key, calls := broker.InstanceKey(id(1)), 0
+	for _, isOther := range []bool{false, true, false} {
+		for what, call := range map[string]func() error{
+			"Read":       func() error { _, err := store.Read(ctx, key); return err },
+			"Change":     func() error { return store.Change(ctx, key, 0, describe("x", &calls)) },
+			"Unfinished": func() error { _, err := store.UnfinishedKeys(ctx); return err },
+			"Ready":      func() error { return store.Ready(ctx) },
+		} {
+			if err := call(); (err != nil) != isOther || err != nil && !strings.Contains(err.Error(), "another store") {
+				t.Errorf("%s, over the other store %t: got %v, want an error only there", what, isOther, err)
+			}
+		}
+		if swap(); isOther {
+			continue
+		}
+	}
+	swap() // as the end of the test expects it
 }
 
 func open(t *testing.T, url string) *postgres.Store {
 	t.Helper()
 	store, err := postgres.Open(context.Background(), url, 4, broker.Silent{})
-	if err != nil {
-		t.Fatal(err)
-	}
+	check(t, err)
 	return store
 }
 
-func TestStoreWithoutConnections(t *testing.T) {
-	if _, err := postgres.Open(context.Background(), "postgresql://127.0.0.1:1/none", 0, broker.Silent{}); err == nil {
-		t.Error("got nil, want an error")
+// A store isn't ready before it has a name, and isn't tied.
+func TestReadyWithoutAName(t *testing.T) {
+	store := open(t, pgtest.Schema(t, pgtest.URL(t), "osb_store_without_a_name"))
+	defer store.Close()
+	if err := store.Ready(context.Background()); err == nil || !strings.Contains(err.Error(), "no name yet") {
+		t.Errorf("got %v, want that it has no name yet", err)
 	}
-	if _, err := postgres.Open(context.Background(), "no URL", 1, broker.Silent{}); err == nil {
-		t.Error("got nil, want an error")
+	tied := store.Tie(context.Background(), func(bool) error { return nil })
+	if tied == nil || !strings.Contains(tied.Error(), "no name yet") {
+		t.Errorf("Tie: got %v, want that it has no name yet", tied)
+	}
+}
+
+// A store isn't ready if what it writes can't be committed.
+func TestReadyCommits(t *testing.T) {
+	url, ctx := pgtest.Schema(t, pgtest.URL(t), "osb_store_ready"), context.Background()
+	store := open(t, url)
+	defer store.Close()
+	if _, err := store.Begin(ctx, broker.Untied); err != nil {
+		t.Fatal(err)
+	}
+	if err := store.Ready(ctx); err != nil {
+		t.Errorf("got %v, want nil", err)
+	}
+	trigger(t, url, "osb_store", "DEFERRABLE INITIALLY DEFERRED", "RAISE EXCEPTION 'no';")
+	if err := store.Ready(ctx); err == nil {
+		t.Error("the commit has failed: got nil, want an error")
+	}
+}
+
+func TestStoreWithoutConnections(t *testing.T) {
+	_, err := postgres.Open(context.Background(), "postgresql://127.0.0.1:1/none", 0, broker.Silent{})
+	if err == nil || !strings.Contains(err.Error(), "at least 1 connection") {
+		t.Errorf("got %v, want that it needs one", err)
+	}
+	_, err = postgres.Open(context.Background(), "no URL", 1, broker.Silent{})
+	if !errors.Is(err, pg.ErrBadAddress) {
+		t.Errorf("got %v, want %v", err, pg.ErrBadAddress)
+	}
+}
+
+// The tables of version 0.2.0, with an instance that is ready, one with pending work and one that has ended.
+var of02 = []string{
+	`CREATE TABLE osb_holdings (id uuid PRIMARY KEY, holding text NOT NULL, unfinished boolean NOT NULL)`,
+	`CREATE INDEX osb_unfinished_holdings ON osb_holdings (id) WHERE unfinished`,
+	`CREATE UNLOGGED TABLE osb_workers (id uuid PRIMARY KEY, worker bigint NOT NULL)`,
+	`CREATE TABLE osb_store (one boolean PRIMARY KEY DEFAULT true CHECK (one), name text NOT NULL,
+		is_tied boolean NOT NULL DEFAULT false)`,
+	`INSERT INTO osb_store VALUES (true, 'of 0.2', true)`,
+	insert02(1, `{"marked":false,"row":{"phase":"ready",`+sold+`},"version":1,"work":null}`, false),
+	insert02(2, `{"marked":false,"row":null,"version":1,"work":{"accepts_incomplete":true,`+
+		`"id":"00000000-0000-4000-8000-000000000002","kind":"provision",`+sold+`}}`, true),
+	insert02(3, `{"marked":true,"row":null,"version":1,"work":null}`, false),
+}
+
+const sold = `"plan":"00000000-0000-0000-0000-0000000000b1","service":"00000000-0000-0000-0000-0000000000a0"`
+
+func insert02(n int, holding string, unfinished bool) string {
+	return fmt.Sprintf("INSERT INTO osb_holdings VALUES ('%v', '%s', %t)", id(n), holding, unfinished)
+}
+
+func id(n int) osb.ID { return osb.MustParseID(fmt.Sprintf("00000000-0000-4000-8000-%012x", n)) }
+
+func TestTablesOf02(t *testing.T) {
+	url := pgtest.Schema(t, pgtest.URL(t), "osb_store_of_02")
+	db := pgtest.DB(t, url)
+	pgtest.Exec(t, db, of02...)
+	ctx := context.Background()
+	for n := 0; n < 2; n++ { // the second time nothing is left to do
+		store := open(t, url)
+		if name, err := store.Name(ctx); err != nil || name != "of 0.2" {
+			t.Errorf("the name: got %q, %v, want \"of 0.2\"", name, err)
+		}
+		snapshot, err := store.Read(ctx, broker.InstanceKey(id(1)))
+		row, isHeld := snapshot.Holding.Row()
+		if err != nil || !isHeld || row.Phase != osb.PhaseReady || snapshot.Request != nil {
+			t.Errorf("the instance that is ready: got %+v, %v, want it without a request", snapshot, err)
+		}
+		keys, err := store.UnfinishedKeys(ctx)
+		if err != nil || len(keys) != 1 || keys[0] != broker.InstanceKey(id(2)) {
+			t.Errorf("unfinished: got %v, %v, want the second", keys, err)
+		}
+		if got, err := store.Stats(ctx); err != nil || got != (broker.Stats{Pending: 1, Tombstones: 1}) {
+			t.Errorf("counts: got %+v, %v, want one that is pending and one tombstone", got, err)
+		}
+		if err := store.Close(); err != nil {
+			t.Error(err)
+		}
+	}
+	store := open(t, url)
+	defer store.Close()
+	err := store.Change(ctx, broker.InstanceKey(id(1)), 0, func(snapshot broker.Snapshot) (*broker.Entry, error) {
+		snapshot.Description = "extended"
+		return &snapshot.Entry, nil
+	})
+	check(t, err)
+	if snapshot, err := store.Read(ctx, broker.InstanceKey(id(1))); err != nil || snapshot.Description != "extended" {
+		t.Errorf("got %+v and the error %v, want the description extended", snapshot, err)
+	}
+}
+
+// The tables of an early 0.3.0, before tombstones had a time, with an instance and a binding that have ended.
+func withoutTimes(t *testing.T) []string {
+	return append(append([]string{}, of02...),
+		`ALTER TABLE osb_holdings ADD COLUMN request text, ADD COLUMN description text NOT NULL DEFAULT '',
+		ADD COLUMN since timestamptz`,
+		`CREATE TABLE osb_bindings (instance uuid NOT NULL, binding uuid NOT NULL, holding text NOT NULL,
+		held boolean NOT NULL, unfinished boolean NOT NULL, request text, object text,
+		description text NOT NULL DEFAULT '', since timestamptz, PRIMARY KEY (instance, binding))`,
+		`CREATE UNLOGGED TABLE osb_binding_workers (instance uuid NOT NULL, binding uuid NOT NULL,
+			worker bigint NOT NULL, PRIMARY KEY (instance, binding))`,
+		fmt.Sprintf("INSERT INTO osb_holdings (id, holding, unfinished) VALUES ('%v', '%s', false)", id(4),
+			endedText(t, osb.Holding.MarshalJSON)),
+		fmt.Sprintf("INSERT INTO osb_bindings (instance, binding, holding, held, unfinished) "+
+			"VALUES ('%v', '%v', '%s', false, false)", id(1), id(2), endedText(t, osb.Holding.BindingText)))
+}
+
+// endedText is the text of a holding with a tombstone.
+func endedText(t *testing.T, write func(osb.Holding) ([]byte, error)) []byte {
+	t.Helper()
+	var ended osb.Holding
+	check(t, ended.UnmarshalJSON([]byte(`{"marked":true,"row":null,"version":1,"work":null}`)))
+	text, err := write(ended)
+	check(t, err)
+	return text
+}
+
+// A tombstone without a time gets that of the migration, once. Rows without a tombstone get none.
+func TestTombstonesWithoutATime(t *testing.T) {
+	url := pgtest.Schema(t, pgtest.URL(t), "osb_store_without_times")
+	pgtest.Exec(t, pgtest.DB(t, url), withoutTimes(t)...)
+	ctx, before := context.Background(), time.Now()
+	_ = open(t, url).Close()
+	time.Sleep(50 * time.Millisecond)
+	store := open(t, url) // which changes no time
+	defer store.Close()
+	for _, key := range []broker.Key{
+		broker.InstanceKey(id(3)), broker.InstanceKey(id(4)), broker.BindingKey(id(1), id(2)),
+	} {
+		snapshot, err := store.Read(ctx, key)
+		if err != nil || !snapshot.Holding.HasTombstone() || snapshot.EndedAgo < 40*time.Millisecond ||
+			snapshot.EndedAgo > time.Since(before)+10*time.Millisecond || snapshot.Life != 0 {
+			t.Errorf("%v: got %+v and the error %v, want a tombstone of now in life 0", key, snapshot, err)
+		}
+	}
+	for _, n := range []int{1, 2} {
+		snapshot, err := store.Read(ctx, broker.InstanceKey(id(n)))
+		if err != nil || !snapshot.Holding.IsHeld() || snapshot.EndedAgo != 0 || snapshot.Life != 0 {
+			t.Errorf("%d: got %+v and the error %v, want an instance that is held, in life 0", n, snapshot, err)
+		}
+	}
+}
+
+// Brokers that start at once create or extend the tables once.
+func TestManyOpen(t *testing.T) {
+	for _, test := range []struct {
+		schema string
+		tables []string
+	}{{"osb_store_many_new", nil}, {"osb_store_many_02", of02}, {"osb_store_many_03", withoutTimes(t)}} {
+		t.Run(test.schema, func(t *testing.T) {
+			url := pgtest.Schema(t, pgtest.URL(t), test.schema)
+			pgtest.Exec(t, pgtest.DB(t, url), test.tables...)
+			var all sync.WaitGroup
+			for n := 0; n < 6; n++ {
+				all.Add(1)
+				go func() {
+					defer all.Done()
+					store, err := postgres.Open(context.Background(), url, 1, broker.Silent{})
+					if err != nil {
+						t.Errorf("got the error %v, want none", err)
+						return
+					}
+					if err := store.Close(); err != nil {
+						t.Error(err)
+					}
+				}()
+			}
+			all.Wait()
+		})
+	}
+}
+
+// A role that may not alter tables serves tables that need no change, and the error says what to do about others.
+func TestARoleThatMayNotAlter(t *testing.T) {
+	url := pgtest.Schema(t, pgtest.URL(t), "osb_store_rights")
+	db := pgtest.DB(t, url)
+	pgtest.Exec(t, db, of02...)
+	pgtest.Exec(t, db, "DROP ROLE IF EXISTS osb_store_writer", "CREATE ROLE osb_store_writer LOGIN PASSWORD 'x'",
+		"GRANT USAGE ON SCHEMA osb_store_rights TO osb_store_writer",
+		"ALTER DEFAULT PRIVILEGES IN SCHEMA osb_store_rights GRANT SELECT, INSERT, UPDATE ON TABLES TO osb_store_writer",
+		"GRANT SELECT, INSERT, UPDATE ON ALL TABLES IN SCHEMA osb_store_rights TO osb_store_writer")
+	t.Cleanup(func() { pgtest.Exec(t, db, "DROP OWNED BY osb_store_writer", "DROP ROLE osb_store_writer") })
+	as := pgtest.As(t, url, "osb_store_writer", "x")
+	_, err := postgres.Open(context.Background(), as, 1, broker.Silent{})
+	if err == nil || !strings.Contains(err.Error(), "as their owner") {
+		t.Errorf("before the tables were extended: got %v, want one that says how", err)
+	}
+	_ = open(t, url).Close()
+	store, err := postgres.Open(context.Background(), as, 1, broker.Silent{})
+	check(t, err)
+	defer store.Close()
+	key := broker.BindingKey(id(1), id(1))
+	if _, err := store.Fence(context.Background(), key); err != nil {
+		t.Error(err)
+	}
+	err = store.Change(context.Background(), key, 0, func(snapshot broker.Snapshot) (*broker.Entry, error) {
+		return &snapshot.Entry, nil
+	})
+	if err != nil {
+		t.Error(err)
+	}
+	if err := store.Ready(context.Background()); err != nil {
+		t.Error(err)
+	}
+}
+
+func TestAnotherEncoding(t *testing.T) {
+	url := pgtest.URL(t)
+	db := pgtest.DB(t, url)
+	pgtest.Exec(t, db, "DROP DATABASE IF EXISTS osb_store_latin1",
+		"CREATE DATABASE osb_store_latin1 ENCODING 'LATIN1' LOCALE 'C' TEMPLATE template0")
+	t.Cleanup(func() { pgtest.Exec(t, db, "DROP DATABASE osb_store_latin1 WITH (FORCE)") })
+	latin := pgtest.In(t, url, "osb_store_latin1")
+	_, err := postgres.Open(context.Background(), latin, 1, broker.Silent{})
+	if err == nil || !strings.Contains(err.Error(), "LATIN1") {
+		t.Errorf("Open: got %v, want an error with \"LATIN1\"", err)
+	}
+}
+
+// What every store must do if one of its statements fails.
+func TestFaults(t *testing.T) {
+	pgtest.URL(t)
+	all := &schemas{urls: map[string]string{}}
+	storetest.RunFaults(t, storetest.Faulty{
+		Open: func(t *testing.T) (broker.NamedStore, *storefaults.Countdown) {
+			proxy, url := storefaults.NewProxy(t, all.url(t))
+			return open(t, url), &proxy.Countdown
+		},
+		Beside: func(t *testing.T) broker.NamedStore { return open(t, all.url(t)) },
+		Spoil: func(t *testing.T, key broker.Key) {
+			table, where := "osb_holdings", "id = '"+key.Instance.String()+"'"
+			if key.IsBinding {
+				table, where = "osb_bindings", "binding = '"+key.Binding.String()+"'"
+			}
+			pgtest.Exec(t, pgtest.DB(t, all.url(t)), "UPDATE "+table+" SET holding = '{}' WHERE "+where)
+		},
+		Faults: []storefaults.Fault{storefaults.Refused, storefaults.Cut, storefaults.Lost, storefaults.Broken},
+	})
+}
+
+// Each statement of Open fails once, over an empty schema: the error is returned, and the store can be opened later.
+func TestOpeningThatFails(t *testing.T) {
+	proxy, url := storefaults.NewProxy(t, pgtest.Schema(t, pgtest.URL(t), "osb_opening"))
+	for n, failed := 1, "none yet"; failed != ""; n++ {
+		proxy.Fail(n, storefaults.Refused)
+		store, err := postgres.Open(context.Background(), url, 2, broker.Silent{})
+		failed = proxy.FailedStatement()
+		proxy.Fail(0, storefaults.Refused)
+		if (failed != "") != (err != nil) && !storefaults.IsBegin(failed) {
+			t.Errorf("%q has failed: got %v, want an error exactly then", failed, err)
+		}
+		if err == nil {
+			_ = store.Close()
+		}
+	}
+}
+
+// While the server can't be reached, every call fails with broker.ErrAway, and so does one whose COMMIT isn't
+// answered. Other errors aren't that one. Once the server is back, the store is too.
+func TestServerThatIsAway(t *testing.T) {
+	ctx, calls := context.Background(), 0
+	proxy, through := pgtest.NewProxy(t, pgtest.Schema(t, pgtest.URL(t), "osb_away"))
+	store, err := postgres.Open(ctx, through, 2, broker.Silent{})
+	check(t, err)
+	t.Cleanup(func() { _ = store.Close() })
+	key := broker.InstanceKey(osb.MustParseID("00000000-0000-0000-0000-000000000001"))
+	change := func(text string) error { return store.Change(ctx, key, 0, describe(text, &calls)) }
+	all := map[string]func() error{
+		"Change":       func() error { return change("away") },
+		"Read":         func() error { _, err := store.Read(ctx, key); return err },
+		"Fence":        func() error { _, err := store.Fence(ctx, key); return err },
+		"Unfinished":   func() error { _, err := store.UnfinishedKeys(ctx); return err },
+		"HeldBindings": func() error { _, err := store.HeldBindings(ctx, key.Instance); return err },
+		"Ready":        func() error { return store.Ready(ctx) },
+	}
+	proxy.Cut("\x00") // a byte of every message
+	for round := 0; round < 2; round++ {
+		for name, call := range all {
+			if err := call(); !errors.Is(err, broker.ErrAway) {
+				t.Errorf("%s while the server is away: got %v, want %v", name, err, broker.ErrAway)
+			}
+		}
+	}
+	proxy.Cut("")
+	check(t, change("back"))
+	proxy.Cut("COMMIT\x00")
+	if err := change("lost"); !errors.Is(err, broker.ErrAway) || !errors.Is(err, pg.ErrUnknownCommit) {
+		t.Errorf("Change without an answer to the COMMIT: got %v, want %v", err, pg.ErrUnknownCommit)
+	}
+	proxy.Cut("")
+	own := errors.New("the step's own")
+	err = store.Change(ctx, key, 0, func(broker.Snapshot) (*broker.Entry, error) { return nil, own })
+	if !errors.Is(err, own) || errors.Is(err, broker.ErrAway) {
+		t.Errorf("Change after an error of the step: got %v, want %v", err, own)
+	}
+	if err := store.Change(ctx, key, 1, describe("fenced", &calls)); errors.Is(err, broker.ErrAway) {
+		t.Errorf("Change without the lock: got %v, want another than %v", err, broker.ErrAway)
+	}
+	if text := descriptionOf(t, store, key); text != "lost" {
+		t.Errorf("the store: got %q, want \"lost\"", text)
+	}
+}
+
+// While the server is silent, the calls of a request fail with broker.ErrAway within a limit, on sessions that were
+// idle, on new ones, and while they wait for one.
+func TestServerThatIsSilent(t *testing.T) {
+	ctx, calls := context.Background(), 0
+	proxy, through := pgtest.NewProxy(t, pgtest.Schema(t, pgtest.URL(t), "osb_silent"))
+	store, err := postgres.Open(ctx, through, 3, broker.Silent{})
+	check(t, err)
+	t.Cleanup(func() { _ = store.Close() })
+	key := broker.InstanceKey(osb.MustParseID("00000000-0000-0000-0000-000000000001"))
+	check(t, store.Change(ctx, key, 0, describe("before", &calls)))
+	openAll(t, store, 3)
+	proxy.Hang(true)
+	all := map[string]func() error{
+		"Change":       func() error { return store.Change(ctx, key, 0, describe("silent", new(int))) },
+		"Read":         func() error { _, err := store.Read(ctx, key); return err },
+		"Fence":        func() error { _, err := store.Fence(ctx, key); return err },
+		"HeldBindings": func() error { _, err := store.HeldBindings(ctx, key.Instance); return err },
+	}
+	done := make(chan error, 2*len(all))
+	for name, call := range all {
+		for n := 0; n < 2; n++ {
+			name, call := name, call
+			go func() {
+				err := call()
+				if !errors.Is(err, broker.ErrAway) {
+					done <- fmt.Errorf("%s returned %v", name, err)
+					return
+				}
+				done <- nil
+			}()
+		}
+	}
+	late := time.After(time.Minute)
+	for n := 0; n < cap(done); n++ {
+		select {
+		case err := <-done:
+			if err != nil {
+				t.Error(err)
+			}
+		case <-late:
+			t.Fatal("got a call that waits for the silent server, want its end")
+		}
+	}
+	proxy.Hang(false)
+	if text := descriptionOf(t, store, key); text != "before" {
+		t.Errorf("the store: got %q, want \"before\"", text)
+	}
+}
+
+// While the server is silent, a binding isn't read as one that was never there.
+func TestReadOfASilentServer(t *testing.T) {
+	ctx, calls := context.Background(), 0
+	proxy, through := pgtest.NewProxy(t, pgtest.Schema(t, pgtest.URL(t), "osb_silent_read"))
+	store := open(t, through)
+	t.Cleanup(func() { _ = store.Close() })
+	instance := osb.MustParseID("00000000-0000-0000-0000-000000000001")
+	for _, key := range []broker.Key{broker.InstanceKey(instance), broker.BindingKey(instance, instance)} {
+		check(t, store.Change(ctx, key, 0, describe("text", &calls)))
+		if text := descriptionOf(t, store, key); text != "text" {
+			t.Fatalf("%v: got %q, want \"text\"", key, text)
+		}
+		proxy.Hang(true)
+		if snapshot, err := store.Read(ctx, key); !errors.Is(err, broker.ErrAway) {
+			t.Errorf("%v: got %+v, %v, want %v", key, snapshot.Entry, err, broker.ErrAway)
+		}
+		proxy.Hang(false)
+	}
+}
+
+// describe writes a description, and counts its calls.
+func describe(text string, calls *int) broker.Step {
+	return func(snapshot broker.Snapshot) (*broker.Entry, error) {
+		*calls++
+		snapshot.Description = text
+		return &snapshot.Entry, nil
+	}
+}
+
+func descriptionOf(t *testing.T, store broker.Store, key broker.Key) string {
+	t.Helper()
+	snapshot, err := store.Read(context.Background(), key)
+	check(t, err)
+	return snapshot.Description
+}
+
+// failures are what an observer got.
+type failures struct {
+	broker.Silent
+	turn sync.Mutex
+	told []broker.Failure
+}
+
+func (f *failures) OnFailure(it broker.Failure) {
+	f.turn.Lock()
+	defer f.turn.Unlock()
+	f.told = append(f.told, it)
+}
+
+// trigger has the statement run by each change of a row, at once or with the COMMIT.
+func trigger(t *testing.T, url, table, when, statement string) {
+	t.Helper()
+	pgtest.Exec(t, pgtest.DB(t, url), "CREATE SEQUENCE tries",
+		"CREATE FUNCTION f() RETURNS trigger LANGUAGE plpgsql AS $$ BEGIN "+statement+" RETURN NULL; END $$",
+		"CREATE CONSTRAINT TRIGGER of_test AFTER UPDATE ON "+table+" "+when+" FOR EACH ROW EXECUTE FUNCTION f()")
+}
+
+// No change is reported as written that was rolled back, or of which nobody knows.
+func TestACommitThatFails(t *testing.T) {
+	for _, test := range []struct {
+		name, schema, statement string
+		isUnknown               bool
+	}{
+		{"with an error", "osb_store_fails", "RAISE EXCEPTION 'no';", false},
+		{"with a warning", "osb_store_warns", "RAISE WARNING 'no standby';", true},
+	} {
+		t.Run(test.name, func(t *testing.T) {
+			url := pgtest.Schema(t, pgtest.URL(t), test.schema)
+			store := open(t, url)
+			defer store.Close()
+			trigger(t, url, "osb_holdings", "DEFERRABLE INITIALLY DEFERRED", test.statement)
+			key, calls := broker.InstanceKey(id(1)), 0
+			err := store.Change(context.Background(), key, 0, describe("x", &calls))
+			if err == nil || errors.Is(err, pg.ErrUnknownCommit) != test.isUnknown || calls != 1 {
+				t.Errorf("after %d calls: got %v, want one after 1", calls, err)
+			}
+			if got := descriptionOf(t, store, key); got != "" && !test.isUnknown {
+				t.Errorf("got %q written, want it only if that is unknown", got)
+			}
+		})
+	}
+}
+
+func TestACommitWhoseAnswerIsLost(t *testing.T) {
+	proxy, url := pgtest.NewProxy(t, pgtest.Schema(t, pgtest.URL(t), "osb_store_lost"))
+	store := open(t, url)
+	defer store.Close()
+	proxy.Cut("COMMIT\x00")
+	key, calls := broker.InstanceKey(id(1)), 0
+	err := store.Change(context.Background(), key, 0, describe("x", &calls))
+	if !errors.Is(err, pg.ErrUnknownCommit) || calls != 1 { // once more could write it twice
+		t.Errorf("after %d calls: got %v, want %v after 1", calls, err, pg.ErrUnknownCommit)
+	}
+	proxy.Cut("")
+	if err := store.Change(context.Background(), key, 0, describe("y", &calls)); err != nil {
+		t.Errorf("the next change: got %v, want no error", err)
+	}
+}
+
+// What another transaction has undone is tried again, and reported, but not for ever.
+func TestConflicts(t *testing.T) {
+	for _, test := range []struct {
+		name, schema, code string
+		fails, calls       int
+		isWritten          bool
+	}{
+		{"a deadlock", "osb_store_deadlock", "40P01", 2, 3, true},
+		{"a serialization failure", "osb_store_serial", "40001", 1, 2, true},
+		{"a conflict that stays", "osb_store_stays", "40001", 1000, 6, false},
+		{"another error", "osb_store_other", "22012", 1, 1, false},
+	} {
+		t.Run(test.name, func(t *testing.T) {
+			url := pgtest.Schema(t, pgtest.URL(t), test.schema)
+			told := &failures{}
+			store, err := postgres.Open(context.Background(), url, 2, told)
+			check(t, err)
+			defer store.Close()
+			trigger(t, url, "osb_holdings", "", "IF nextval('tries') <= "+strconv.Itoa(test.fails)+
+				" THEN RAISE EXCEPTION USING ERRCODE = '"+test.code+"'; END IF;")
+			key, calls := broker.InstanceKey(id(1)), 0
+			err = store.Change(context.Background(), key, 0, describe("x", &calls))
+			if (err == nil) != test.isWritten || !test.isWritten && !pg.IsCode(err, test.code) || calls != test.calls {
+				t.Errorf("after %d calls: got %v, want %s after %d", calls, err, test.code, test.calls)
+			}
+			if got := descriptionOf(t, store, key); (got == "x") != test.isWritten {
+				t.Errorf("got %q written, want it %t", got, test.isWritten)
+			}
+			if len(told.told) != test.calls-1 || len(told.told) > 0 && told.told[0].Key != key {
+				t.Errorf("the reports: got %v, want one for each repetition", told.told)
+			}
+		})
+	}
+}
+
+// Sessions that the server has ended while they were idle fail nobody.
+func TestSessionsThatTheServerEnds(t *testing.T) {
+	const most = 4
+	url := pgtest.With(t, pgtest.Schema(t, pgtest.URL(t), "osb_store_ends"), "application_name", "osb_store_ends")
+	store := open(t, url)
+	defer store.Close()
+	key, calls := broker.BindingKey(id(1), id(1)), 0
+	calling := map[string]func() error{
+		"Change":     func() error { return store.Change(context.Background(), key, 0, describe("x", &calls)) },
+		"Read":       func() error { _, err := store.Read(context.Background(), key); return err },
+		"Fence":      func() error { _, err := store.Fence(context.Background(), key); return err },
+		"Unfinished": func() error { _, err := store.UnfinishedKeys(context.Background()); return err },
+	}
+	for name, call := range calling {
+		t.Run(name, func(t *testing.T) {
+			openAll(t, store, most)
+			pgtest.Exec(t, pgtest.DB(t, pgtest.URL(t)),
+				"SELECT pg_terminate_backend(pid, 5000) FROM pg_stat_activity WHERE application_name = 'osb_store_ends'")
+			for n := 0; n < most; n++ {
+				if err := call(); err != nil {
+					t.Errorf("got the error %v, want none", err)
+				}
+			}
+		})
+	}
+}
+
+// openAll has so many transactions run at once, so that the store has so many sessions.
+func openAll(t *testing.T, store broker.Store, count int) {
+	t.Helper()
+	entered, done, gate := make(chan struct{}, count), make(chan error, count), make(chan struct{})
+	var once sync.Once
+	open := func() { once.Do(func() { close(gate) }) }
+	defer open() // before the store is closed, which waits for the steps
+	for n := 0; n < count; n++ {
+		key := broker.InstanceKey(id(100 + n))
+		go func() {
+			done <- store.Change(context.Background(), key, 0, func(broker.Snapshot) (*broker.Entry, error) {
+				select {
+				case entered <- struct{}{}:
+				default: // it is called again
+				}
+				<-gate
+				return nil, nil
+			})
+		}()
+	}
+	for n := 0; n < count; n++ {
+		select {
+		case <-entered:
+		case err := <-done:
+			t.Fatalf("a change: got %v before its step, want it to wait", err)
+		}
+	}
+	open()
+	for n := 0; n < count; n++ {
+		if err := <-done; err != nil {
+			t.Error(err)
+		}
+	}
+}
+
+// A session that ends while its step runs writes nothing.
+func TestASessionThatEndsDuringAStep(t *testing.T) {
+	url := pgtest.With(t, pgtest.Schema(t, pgtest.URL(t), "osb_store_step"), "application_name", "osb_store_step")
+	store := open(t, url)
+	defer store.Close()
+	key := broker.InstanceKey(id(1))
+	err := store.Change(context.Background(), key, 0, func(snapshot broker.Snapshot) (*broker.Entry, error) {
+		pgtest.Exec(t, pgtest.DB(t, pgtest.URL(t)),
+			"SELECT pg_terminate_backend(pid, 5000) FROM pg_stat_activity WHERE application_name = 'osb_store_step'")
+		snapshot.Description = "x"
+		return &snapshot.Entry, nil
+	})
+	if err == nil || descriptionOf(t, store, key) != "" {
+		t.Errorf("the change: got %v, want an error and nothing written", err)
+	}
+}
+
+// A context that ends while a step runs, or while the row is waited for, writes nothing, and frees the row.
+func TestAContextThatEnds(t *testing.T) {
+	store := open(t, pgtest.Schema(t, pgtest.URL(t), "osb_store_context"))
+	defer store.Close()
+	key, calls := broker.InstanceKey(id(1)), 0
+	ctx, cancel := context.WithCancel(context.Background())
+	err := store.Change(ctx, key, 0, func(snapshot broker.Snapshot) (*broker.Entry, error) {
+		cancel()
+		snapshot.Description = "x"
+		return &snapshot.Entry, nil
+	})
+	if !errors.Is(err, context.Canceled) || descriptionOf(t, store, key) != "" {
+		t.Errorf("in the step: got %v, want %v and nothing written", err, context.Canceled)
+	}
+	ctx, cancel = context.WithCancel(context.Background())
+	waited := make(chan error, 1)
+	err = store.Change(context.Background(), key, 0, func(snapshot broker.Snapshot) (*broker.Entry, error) {
+		go func() { waited <- store.Change(ctx, key, 0, describe("of the second", &calls)) }()
+		cancel()
+		if err := <-waited; !errors.Is(err, context.Canceled) {
+			t.Errorf("the second: got %v, want %v", err, context.Canceled)
+		}
+		snapshot.Description = "of the first"
+		return &snapshot.Entry, nil
+	})
+	if err != nil || descriptionOf(t, store, key) != "of the first" || calls != 0 {
+		t.Errorf("the first: got %v, want it written", err)
+	}
+}
+
+// A row that is deleted by hand isn't taken for an instance of which nothing is kept, in the middle of a change.
+func TestARowThatIsGone(t *testing.T) {
+	url := pgtest.Schema(t, pgtest.URL(t), "osb_store_gone")
+	store := open(t, url)
+	defer store.Close()
+	pgtest.Exec(t, pgtest.DB(t, url), "CREATE RULE gone AS ON INSERT TO osb_holdings DO INSTEAD NOTHING")
+	calls := 0
+	err := store.Change(context.Background(), broker.InstanceKey(id(1)), 0, describe("x", &calls))
+	if err == nil || !strings.Contains(err.Error(), "Never delete rows") || calls != 0 {
+		t.Errorf("after %d calls: got %v, want one before any that says what not to delete", calls, err)
+	}
+}
+
+// A change that writes no row has failed.
+func TestAChangeThatWritesNoRow(t *testing.T) {
+	url := pgtest.Schema(t, pgtest.URL(t), "osb_store_no_row")
+	store := open(t, url)
+	defer store.Close()
+	pgtest.Exec(t, pgtest.DB(t, url),
+		"CREATE FUNCTION f() RETURNS trigger LANGUAGE plpgsql AS 'BEGIN RETURN NULL; END'",
+		"CREATE TRIGGER of_test BEFORE UPDATE ON osb_holdings FOR EACH ROW EXECUTE FUNCTION f()",
+		"CREATE TRIGGER of_test BEFORE UPDATE ON osb_bindings FOR EACH ROW EXECUTE FUNCTION f()")
+	for _, key := range []broker.Key{broker.InstanceKey(id(1)), broker.BindingKey(id(1), id(2))} {
+		calls := 0
+		err := store.Change(context.Background(), key, 0, describe("x", &calls))
+		if err == nil || !strings.Contains(err.Error(), "Never delete rows") || calls != 1 {
+			t.Errorf("%v: got %v after %d calls, want that the row is gone, after 1", key, err, calls)
+		}
+	}
+}
+
+// check ends the test at an error.
+func check(t testing.TB, err error) {
+	t.Helper()
+	if err != nil {
+		t.Fatal(err)
 	}
 }

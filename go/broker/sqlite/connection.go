@@ -22,8 +22,8 @@ type connection struct {
 	instances, bindings       texts
 }
 
-// texts are the texts of holdings that were read or written lately, with what they mean. Those of instances at rest name
-// none, so few are there. The others are read again soon, or never.
+// texts are the texts of holdings that were read or written lately, with what they mean. Those of instances at rest
+// name none, so few are there. The others are read again soon, or never.
 type texts struct {
 	meanings map[string]osb.Holding
 	written  map[osb.Holding]string
@@ -53,8 +53,8 @@ func (t *texts) text(holding osb.Holding, write func() ([]byte, error)) (string,
 	return string(text), err
 }
 
-// prepared prepares the statements for a connection.
-func prepared(ctx context.Context, conn *sqlitefile.Conn) (*connection, error) {
+// prepare prepares the statements for a connection.
+func prepare(ctx context.Context, conn *sqlitefile.Conn) (*connection, error) {
 	c := &connection{Conn: conn}
 	for to, text := range map[**sqlitefile.Statement]string{
 		&c.readInstance: "SELECT holding, request, description, since, life, ended FROM holdings WHERE id = ?",
@@ -77,34 +77,34 @@ func prepared(ctx context.Context, conn *sqlitefile.Conn) (*connection, error) {
 			return nil, err
 		}
 	}
-	return c, sqlitefile.Patiently(ctx, func() error { _, err := c.held(broker.Key{}); return err })
+	return c, sqlitefile.Patiently(ctx, func() error { _, err := c.snapshot(broker.Key{}); return err })
 }
 
-// held reads what is kept of a key, and for a binding what is held of its instance.
-func (c *connection) held(key broker.Key) (held broker.Held, err error) {
+// snapshot reads what is kept of a key, and for a binding what is held of its instance.
+func (c *connection) snapshot(key broker.Key) (snapshot broker.Snapshot, err error) {
 	if !key.IsBinding {
-		held.Entry, held.EndedAgo, err = c.instance(key.Instance)
-		held.AnyBinding = func() (bool, error) {
+		snapshot.Entry, snapshot.EndedAgo, err = c.instance(key.Instance)
+		snapshot.AnyBinding = func() (bool, error) {
 			row, err := one(c.anyBinding, key.Instance.String())
 			return row != nil, err
 		}
-		return held, err
+		return snapshot, err
 	}
-	if held.Instance, _, err = c.instance(key.Instance); err != nil {
-		return held, err
+	if snapshot.Instance, _, err = c.instance(key.Instance); err != nil {
+		return snapshot, err
 	}
 	row, err := one(c.readBinding, key.Instance.String(), key.Binding.String())
 	if err != nil || row == nil {
-		return held, err
+		return snapshot, err
 	}
-	if held.Entry, err = entryOf(row, &c.bindings, osb.BindingHoldingFromText); err != nil {
-		return held, unreadable{fmt.Errorf("sqlite: what is held of %v: %w", key, err)}
+	if snapshot.Entry, err = entryOf(row, &c.bindings, osb.BindingHoldingFromText); err != nil {
+		return snapshot, unreadable{fmt.Errorf("sqlite: what is held of %v: %w", key, err)}
 	}
-	held.EndedAgo = ago(row[5])
-	if held.Entry.Binding, err = optional(row[6]); err != nil {
-		return held, unreadable{fmt.Errorf("sqlite: what is held of %v: %w", key, err)}
+	snapshot.EndedAgo = ago(row[5])
+	if snapshot.Entry.Binding, err = optional(row[6]); err != nil {
+		return snapshot, unreadable{fmt.Errorf("sqlite: what is held of %v: %w", key, err)}
 	}
-	return held, nil
+	return snapshot, nil
 }
 
 // unreadable is the error of a row that was found, and that can't be read.
@@ -129,7 +129,7 @@ func (c *connection) instance(id osb.ID) (entry broker.Entry, endedAgo time.Dura
 }
 
 // ago is how long ago the time of a column was, by the clock of this machine: all processes are on it. It is 0 if the
-// column is NULL, and if the time is still to come.
+// column is NULL, and if the time is in the future.
 func ago(column driver.Value) time.Duration {
 	at, ok := column.(int64)
 	if !ok {

@@ -4,7 +4,11 @@ package sqlite
 
 import (
 	"context"
+	"crypto/rand"
 	"database/sql/driver"
+	"encoding/binary"
+	"fmt"
+	"sync"
 	"time"
 
 	"pippinterm/broker"
@@ -21,25 +25,33 @@ const (
 // A Store is a broker.NamedStore.
 type Store struct {
 	file       *sqlitefile.File[*connection]
-	tombstones counted
+	tombstones counter
 }
+
+// These errors are returned wrapped: compare them by errors.Is.
+var (
+	// ErrBusy reports that another process has locked the file for too long.
+	ErrBusy = sqlitefile.ErrBusy
+	// ErrUnknownCommit reports that nobody knows whether a transaction was committed.
+	ErrUnknownCommit = sqlitefile.ErrUnknownCommit
+)
 
 // Open opens a file, and makes it if there is none. A file of version 0.2 is extended: 0.2 can't serve it beside this
-// version, and can again if no binding was created. The observer is told how many changes each commit has written.
+// version, and can again if no binding was created. The observer gets how many changes each commit has written.
 func Open(ctx context.Context, path string, observer broker.Observer) (*Store, error) {
-	return opened(ctx, path, observer, nil)
+	return openBy(ctx, path, observer, nil)
 }
 
-// opened is a store over a file whose connections a driver opens, SQLite's own if it is nil.
-func opened(ctx context.Context, path string, observer broker.Observer, by driver.Driver) (*Store, error) {
+// openBy returns a store over a file whose connections a driver opens, SQLite's own if it is nil.
+func openBy(ctx context.Context, path string, observer broker.Observer, by driver.Driver) (*Store, error) {
 	file, err := sqlitefile.Open(ctx, path, sqlitefile.Options[*connection]{
 		Readers:      readers,
 		Together:     together,
 		OneStatement: true, // each change ends with the only statement that writes
 		Driver:       by,
 		Migrate:      makeTables,
-		Prepare:      prepared,
-		Committed:    observer.Committed,
+		Prepare:      prepare,
+		Committed:    observer.OnCommit,
 	})
 	if err != nil {
 		return nil, err
@@ -51,12 +63,12 @@ func opened(ctx context.Context, path string, observer broker.Observer, by drive
 func (s *Store) Close() error { return s.file.Close() }
 
 // Read returns what is committed.
-func (s *Store) Read(ctx context.Context, key broker.Key) (held broker.Held, err error) {
+func (s *Store) Read(ctx context.Context, key broker.Key) (snapshot broker.Snapshot, err error) {
 	err = s.file.Read(ctx, func(c *connection) (err error) {
-		held, err = c.held(key)
+		snapshot, err = c.snapshot(key)
 		return err
 	})
-	return held, err
+	return snapshot, err
 }
 
 // Change is one transaction, or a part of one whose other parts are other changes.
@@ -69,11 +81,11 @@ func (s *Store) Change(ctx context.Context, key broker.Key, fence int64, step br
 				return broker.ErrLostLock
 			}
 		}
-		held, err := c.held(key)
+		snapshot, err := c.snapshot(key)
 		if err != nil {
 			return err
 		}
-		next, err := step(held)
+		next, err := step(snapshot)
 		if err != nil || next == nil {
 			return err
 		}
@@ -90,11 +102,11 @@ func (s *Store) HeldBindings(ctx context.Context, instance osb.ID) (ids []osb.ID
 	return ids, err
 }
 
-// Unfinished returns the keys that are unfinished.
-func (s *Store) Unfinished(ctx context.Context) (keys []broker.Key, err error) {
+// UnfinishedKeys returns the keys that are unfinished.
+func (s *Store) UnfinishedKeys(ctx context.Context) (keys []broker.Key, err error) {
 	err = s.file.Read(ctx, func(c *connection) error {
 		keys = nil // the call may be repeated
-		return c.unfinished(func(key broker.Key) error {
+		return c.eachUnfinished(func(key broker.Key) error {
 			keys = append(keys, key)
 			return nil
 		})
@@ -111,4 +123,231 @@ func (s *Store) Ready(ctx context.Context) error {
 		return c.exec("INSERT INTO readiness VALUES (1, ?) ON CONFLICT (one) DO UPDATE SET asked = excluded.asked",
 			time.Now().UnixNano())
 	})
+}
+
+// Name returns the name of the store, or "" before the first use.
+func (s *Store) Name(ctx context.Context) (name string, err error) {
+	err = s.file.Read(ctx, func(c *connection) error {
+		name, err = c.text("SELECT name FROM store")
+		return err
+	})
+	return name, err
+}
+
+// Begin gives the store a name for good, unless it has one, and returns the name that it has. A name that begins with
+// broker.UntiedBefore replaces broker.Untied.
+func (s *Store) Begin(ctx context.Context, name string) (string, error) {
+	err := s.file.Write(ctx, func(c *connection) error {
+		return c.exec("INSERT INTO store (one, name) VALUES (1, ?) ON CONFLICT (one) DO UPDATE SET name = excluded.name "+
+			"WHERE store.name = '"+broker.Untied+"' AND excluded.name LIKE '"+broker.UntiedBefore+"%'", name)
+	})
+	if err != nil {
+		return "", err
+	}
+	return s.Name(ctx)
+}
+
+// ID returns the id of the store, which the first call makes up.
+func (s *Store) ID(ctx context.Context) (id string, err error) {
+	made, err := broker.NewStoreID()
+	if err != nil {
+		return "", err
+	}
+	err = s.file.Write(ctx, func(c *connection) error {
+		return c.exec("INSERT INTO identity VALUES (1, ?) ON CONFLICT (one) DO NOTHING", made)
+	})
+	if err != nil {
+		return "", err
+	}
+	err = s.file.Read(ctx, func(c *connection) error {
+		id, err = c.text("SELECT id FROM identity")
+		return err
+	})
+	return id, err
+}
+
+// Tie calls tie in a transaction, beside which nothing is written.
+func (s *Store) Tie(ctx context.Context, tie func(isUsed bool) error) error {
+	return s.file.Read(ctx, func(c *connection) error { // the writer isn't for calls of others
+		return c.Transaction(ctx, func() error {
+			used, err := c.text("SELECT 'used' FROM store WHERE is_tied OR name NOT LIKE '" + broker.UntiedBefore + "%' " +
+				"AND (EXISTS (SELECT 1 FROM holdings) OR EXISTS (SELECT 1 FROM bindings))")
+			if err != nil {
+				return err
+			}
+			if err := tie(used != ""); err != nil {
+				return err
+			}
+			return c.exec("UPDATE store SET is_tied = 1 WHERE NOT is_tied")
+		})
+	})
+}
+
+// text is the only column of the first row of a query, or "" if there is none.
+func (c *connection) text(query string) (text string, err error) {
+	err = c.each(query, func(row []driver.Value) error {
+		text = fmt.Sprint(row[0])
+		return nil
+	})
+	return text, err
+}
+
+// Fence writes down a new worker of a key.
+func (s *Store) Fence(ctx context.Context, key broker.Key) (int64, error) {
+	var random [8]byte
+	if _, err := rand.Read(random[:]); err != nil {
+		return 0, err
+	}
+	worker := int64(binary.BigEndian.Uint64(random[:])>>1) | 1
+	err := s.file.Write(ctx, func(c *connection) error {
+		return c.exec("INSERT INTO workers VALUES (?, ?) ON CONFLICT (id) DO UPDATE SET worker = excluded.worker",
+			key.String(), worker)
+	})
+	return worker, err
+}
+
+// worker is who works at a key, or did last, and 0 if nobody has.
+func (c *connection) worker(key broker.Key) (int64, error) {
+	row, err := one(c.readWorker, key.String())
+	if err != nil || row == nil {
+		return 0, err
+	}
+	worker, _ := row[0].(int64)
+	return worker, nil
+}
+
+// counter is a number that is counted now and then.
+type counter struct {
+	turn  sync.Mutex
+	value int
+	at    time.Time
+}
+
+// Stats counts what is kept. Tombstones are counted at most once a minute, since that reads all rows.
+func (s *Store) Stats(ctx context.Context) (broker.Stats, error) {
+	stats, err := s.UnfinishedStats(ctx)
+	if err == nil {
+		stats.Tombstones, err = s.countTombstones(ctx)
+	}
+	return stats, err
+}
+
+// UnfinishedStats returns Stats without Tombstones. It reads only the rows that are unfinished.
+func (s *Store) UnfinishedStats(ctx context.Context) (stats broker.Stats, err error) {
+	err = s.file.Read(ctx, func(c *connection) (err error) {
+		stats, err = c.countUnfinished()
+		return err
+	})
+	return stats, err
+}
+
+// The unfinished rows of a table, by whether work is pending and by the phase. A text that isn't JSON isn't counted.
+const unfinishedBy = `SELECT json_extract(holding, '$.work') IS NOT NULL, json_extract(holding, '$.row.phase'),
+    count(*), min(since) FROM %s WHERE unfinished AND json_valid(holding) GROUP BY 1, 2`
+
+// countUnfinished counts the unfinished rows.
+func (c *connection) countUnfinished() (stats broker.Stats, err error) {
+	for _, table := range []string{"holdings", "bindings"} {
+		err := c.each(fmt.Sprintf(unfinishedBy, table), func(row []driver.Value) error {
+			isPending, _ := row[0].(int64)
+			phase, _ := row[1].(string)
+			add(&stats, isPending != 0, phase, row[2], row[3])
+			return nil
+		})
+		if err != nil {
+			return broker.Stats{}, err
+		}
+	}
+	return stats, nil
+}
+
+// add adds a number of unfinished rows, of which the oldest began at a time in milliseconds.
+func add(stats *broker.Stats, isPending bool, phase string, number, oldest driver.Value) {
+	count, _ := number.(int64)
+	switch {
+	case isPending:
+		stats.Pending += int(count)
+	case phase == "waiting":
+		stats.Waiting += int(count)
+	default:
+		stats.Operating += int(count)
+	}
+	if at, isKnown := oldest.(int64); isKnown {
+		if since := time.UnixMilli(at).UTC(); stats.Oldest.IsZero() || since.Before(stats.Oldest) {
+			stats.Oldest = since
+		}
+	}
+}
+
+func (s *Store) countTombstones(ctx context.Context) (int, error) {
+	s.tombstones.turn.Lock()
+	defer s.tombstones.turn.Unlock()
+	if !s.tombstones.at.IsZero() && time.Since(s.tombstones.at) < recount {
+		return s.tombstones.value, nil
+	}
+	count := 0
+	err := s.file.Read(ctx, func(c *connection) (err error) {
+		count, err = c.countTombstones()
+		return err
+	})
+	if err == nil {
+		s.tombstones.value, s.tombstones.at = count, time.Now()
+	}
+	return count, err
+}
+
+// countTombstones counts the rows of each text of a holding, and reads each text once.
+func (c *connection) countTombstones() (count int, err error) {
+	for _, test := range []struct {
+		query string
+		read  func([]byte) (osb.Holding, error)
+	}{
+		{"SELECT holding, count(*) FROM holdings WHERE NOT unfinished GROUP BY holding", instanceOfText},
+		{"SELECT holding, count(*) FROM bindings WHERE NOT unfinished GROUP BY holding", osb.BindingHoldingFromText},
+	} {
+		err := c.each(test.query, func(row []driver.Value) error {
+			text, _ := row[0].(string)
+			holding, err := test.read([]byte(text))
+			if number, ok := row[1].(int64); ok && err == nil && holding.HasTombstone() {
+				count += int(number)
+			}
+			return err
+		})
+		if err != nil {
+			return 0, err
+		}
+	}
+	return count, nil
+}
+
+func instanceOfText(text []byte) (holding osb.Holding, err error) {
+	err = holding.UnmarshalJSON(text)
+	return holding, err
+}
+
+// eachUnfinished calls with each key that is unfinished.
+func (c *connection) eachUnfinished(call func(broker.Key) error) error {
+	err := c.each("SELECT id FROM holdings WHERE unfinished", func(row []driver.Value) error {
+		return unfinishedOf(call, row[0], nil)
+	})
+	if err != nil {
+		return err
+	}
+	return c.each("SELECT instance, binding FROM bindings WHERE unfinished", func(row []driver.Value) error {
+		return unfinishedOf(call, row[0], row[1])
+	})
+}
+
+func unfinishedOf(call func(broker.Key) error, instance, binding any) error {
+	var key broker.Key
+	if err := key.Instance.Scan(instance); err != nil {
+		return err
+	}
+	if binding != nil {
+		key.IsBinding = true
+		if err := key.Binding.Scan(binding); err != nil {
+			return err
+		}
+	}
+	return call(key)
 }

@@ -5,6 +5,7 @@ import (
 	"database/sql/driver"
 	"errors"
 	"fmt"
+	"os"
 	"path/filepath"
 	"strings"
 	"sync"
@@ -14,6 +15,8 @@ import (
 	"github.com/mattn/go-sqlite3"
 
 	"pippinterm/broker"
+	"pippinterm/broker/storetest"
+	"pippinterm/internal/storefaults"
 	"pippinterm/osb"
 )
 
@@ -29,9 +32,7 @@ func keyOf(n int) broker.Key {
 func open(t *testing.T, path string, observer broker.Observer) *Store {
 	t.Helper()
 	s, err := Open(context.Background(), path, observer)
-	if err != nil {
-		t.Fatal(err)
-	}
+	check(t, err)
 	t.Cleanup(func() {
 		if err := s.Close(); err != nil {
 			t.Error(err)
@@ -42,31 +43,31 @@ func open(t *testing.T, path string, observer broker.Observer) *Store {
 
 // provision is the Step of a Provision that begins.
 func provision(key broker.Key) broker.Step {
-	return func(held broker.Held) (*broker.Entry, error) {
+	return func(snapshot broker.Snapshot) (*broker.Entry, error) {
 		request := osb.Request{Kind: osb.KindProvision, ID: key.Instance, Service: service, Plan: plan}
-		next, _, err := held.Holding.Begin(osb.ModeSync, request, osb.Rules{})
+		next, _, err := snapshot.Holding.Begin(osb.ModeSync, request, osb.Rules{})
 		return &broker.Entry{Holding: next}, err
 	}
 }
 
-// observed notes how many changes each commit has written.
-type observed struct {
+// commitRecorder notes how many changes each commit has written.
+type commitRecorder struct {
 	broker.Silent
 	commits []int
 }
 
-func (o *observed) Committed(changes int) { o.commits = append(o.commits, changes) }
+func (o *commitRecorder) OnCommit(changes int) { o.commits = append(o.commits, changes) }
 
 // Of changes that are written together, one that fails, panics or is cancelled harms no other. One commit writes all.
 func TestOneFails(t *testing.T) {
-	seen := &observed{}
+	seen := &commitRecorder{}
 	s := open(t, filepath.Join(t.TempDir(), "store"), seen)
 	blocked, release := make(chan struct{}), make(chan struct{})
 	var all sync.WaitGroup
 	all.Add(1)
 	go func() { // while this one holds the writer, the others gather
 		defer all.Done()
-		_ = s.Change(context.Background(), keyOf(0), 0, func(broker.Held) (*broker.Entry, error) {
+		_ = s.Change(context.Background(), keyOf(0), 0, func(broker.Snapshot) (*broker.Entry, error) {
 			close(blocked)
 			<-release
 			return nil, nil
@@ -81,10 +82,10 @@ func TestOneFails(t *testing.T) {
 		step func(broker.Key) broker.Step
 	}{
 		{context.Background(), func(broker.Key) broker.Step {
-			return func(broker.Held) (*broker.Entry, error) { return &broker.Entry{}, wrong }
+			return func(broker.Snapshot) (*broker.Entry, error) { return &broker.Entry{}, wrong }
 		}},
 		{context.Background(), func(broker.Key) broker.Step {
-			return func(broker.Held) (*broker.Entry, error) { panic("a bug") }
+			return func(broker.Snapshot) (*broker.Entry, error) { panic("a bug") }
 		}},
 		{going, provision},
 		{context.Background(), provision},
@@ -99,7 +100,7 @@ func TestOneFails(t *testing.T) {
 	}
 	for until := time.Now().Add(time.Minute); s.file.Waiting() < 40; time.Sleep(time.Millisecond) {
 		if time.Now().After(until) {
-			t.Error("the changes don't gather")
+			t.Error("got changes that don't gather in time, want them in one commit")
 			break
 		}
 	}
@@ -113,21 +114,19 @@ func TestOneFails(t *testing.T) {
 			given[n] == context.Canceled,
 			given[n] == nil,
 		}[n%4]
-		held, err := s.Read(context.Background(), keyOf(n))
-		if err != nil {
-			t.Fatal(err)
-		}
-		if _, isWritten := held.Holding.Work(); !isRight || isWritten != (n%4 == 3) {
-			t.Errorf("%d: %v, %v", n, given[n], held.Holding)
+		snapshot, err := s.Read(context.Background(), keyOf(n))
+		check(t, err)
+		if _, isWritten := snapshot.Holding.Work(); !isRight || isWritten != (n%4 == 3) {
+			t.Errorf("change %d: got the error %v and %v, want each fourth written", n, given[n], snapshot.Holding)
 		}
 	}
 	// nobody waits for a change that was cancelled, so it needn't be a part of the commit
 	if len(seen.commits) != 2 || seen.commits[0] != 1 || seen.commits[1] < 30 || seen.commits[1] > 40 {
-		t.Errorf("the commits have written %v changes", seen.commits)
+		t.Errorf("the commits: got %v changes written, want 1 and 30 to 40", seen.commits)
 	}
 }
 
-// If the transaction itself fails, nobody is told that anything was written, and the next one is written.
+// If the transaction itself fails, nothing is reported as written, and the next one is written.
 func TestTransactionFails(t *testing.T) {
 	s := open(t, filepath.Join(t.TempDir(), "store"), broker.Silent{})
 	var writer *connection
@@ -135,36 +134,32 @@ func TestTransactionFails(t *testing.T) {
 		writer = c
 		return nil
 	})
-	if err != nil {
-		t.Fatal(err)
-	}
-	broken := s.Change(context.Background(), keyOf(1), 0, func(held broker.Held) (*broker.Entry, error) {
+	check(t, err)
+	broken := s.Change(context.Background(), keyOf(1), 0, func(snapshot broker.Snapshot) (*broker.Entry, error) {
 		if err := writer.exec("ROLLBACK"); err != nil { // as SQLite does of itself if the disk is full
 			t.Error(err)
 		}
-		return provision(keyOf(1))(held)
+		return provision(keyOf(1))(snapshot)
 	})
 	if broken == nil {
-		t.Error("it was said to be written")
+		t.Error("got no error of a commit that failed, want one")
 	}
 	if err := s.Change(context.Background(), keyOf(2), 0, provision(keyOf(2))); err != nil {
 		t.Error(err)
 	}
-	if held, err := s.Read(context.Background(), keyOf(1)); err != nil || held.Holding.IsHeld() {
-		t.Errorf("%v, %v", held.Holding, err)
+	if snapshot, err := s.Read(context.Background(), keyOf(1)); err != nil || snapshot.Holding.IsHeld() {
+		t.Errorf("got %v and the error %v, want nothing held", snapshot.Holding, err)
 	}
 }
 
-// A change isn't told before its commit: another connection reads it then.
+// A change isn't reported before its commit: another connection reads it then.
 func TestTellsAfterCommit(t *testing.T) {
 	path := filepath.Join(t.TempDir(), "store")
 	s, other := open(t, path, broker.Silent{}), open(t, path, broker.Silent{})
 	for n := 0; n < 50; n++ {
-		if err := s.Change(context.Background(), keyOf(n), 0, provision(keyOf(n))); err != nil {
-			t.Fatal(err)
-		}
-		if held, err := other.Read(context.Background(), keyOf(n)); err != nil || !held.Holding.IsHeld() {
-			t.Fatalf("%d isn't written: %v", n, err)
+		check(t, s.Change(context.Background(), keyOf(n), 0, provision(keyOf(n))))
+		if snapshot, err := other.Read(context.Background(), keyOf(n)); err != nil || !snapshot.Holding.IsHeld() {
+			t.Fatalf("%d: got %v, want it written", n, err)
 		}
 	}
 }
@@ -173,9 +168,7 @@ func TestTellsAfterCommit(t *testing.T) {
 func TestMigration(t *testing.T) {
 	path := filepath.Join(t.TempDir(), "store")
 	made, err := (&sqlite3.SQLiteDriver{}).Open("file:" + path)
-	if err != nil {
-		t.Fatal(err)
-	}
+	check(t, err)
 	old := made.(*sqlite3.SQLiteConn)
 	for _, statement := range []string{
 		"CREATE TABLE holdings (id TEXT PRIMARY KEY, holding TEXT NOT NULL, unfinished INTEGER NOT NULL) WITHOUT ROWID",
@@ -200,23 +193,21 @@ func TestMigration(t *testing.T) {
 			t.Fatal(err)
 		}
 	}
-	if err := old.Close(); err != nil {
-		t.Fatal(err)
-	}
+	check(t, old.Close())
 	s := open(t, path, broker.Silent{})
 	first, err := s.Read(context.Background(), keyOf(0))
 	row, isHeld := first.Holding.Row()
 	if err != nil || !isHeld || row != (osb.BrokerRow{Service: service, Plan: plan, Phase: osb.PhaseReady}) {
-		t.Errorf("%v, %v", first, err)
+		t.Errorf("got %v and the error %v, want the row that is ready", first, err)
 	}
 	if second, err := s.Read(context.Background(), keyOf(1)); err != nil || !second.Holding.HasTombstone() {
-		t.Errorf("%v, %v", second, err)
+		t.Errorf("got %v and the error %v, want a tombstone", second, err)
 	}
 	if name, err := s.Name(context.Background()); err != nil || name != "a store" {
-		t.Errorf("%q, %v", name, err)
+		t.Errorf("got the name %q and the error %v, want a store", name, err)
 	}
 	if stats, err := s.Stats(context.Background()); err != nil || stats != (broker.Stats{Tombstones: 1}) {
-		t.Errorf("%+v, %v", stats, err)
+		t.Errorf("got %+v and the error %v, want one tombstone", stats, err)
 	}
 }
 
@@ -225,19 +216,15 @@ func TestNoStore(t *testing.T) {
 	folder := t.TempDir()
 	foreign := filepath.Join(folder, "foreign")
 	made, err := (&sqlite3.SQLiteDriver{}).Open("file:" + foreign)
-	if err != nil {
-		t.Fatal(err)
-	}
+	check(t, err)
 	if _, err := made.(*sqlite3.SQLiteConn).Exec("CREATE TABLE bindings (x)", nil); err != nil {
 		t.Fatal(err)
 	}
-	if err := made.Close(); err != nil {
-		t.Fatal(err)
-	}
+	check(t, made.Close())
 	for _, path := range []string{folder, foreign} {
 		_, err := Open(context.Background(), path, broker.Silent{})
 		if err == nil || !strings.Contains(err.Error(), path) {
-			t.Errorf("%s: %v", path, err)
+			t.Errorf("want an error that names %s, got %v", path, err)
 		}
 	}
 }
@@ -247,21 +234,47 @@ func TestUnreadableRow(t *testing.T) {
 	s := open(t, filepath.Join(t.TempDir(), "store"), broker.Silent{})
 	ctx := context.Background()
 	for n := 1; n <= 2; n++ {
-		if err := s.Change(ctx, keyOf(n), 0, provision(keyOf(n))); err != nil {
-			t.Fatal(err)
-		}
+		check(t, s.Change(ctx, keyOf(n), 0, provision(keyOf(n))))
 	}
 	err := s.file.Write(ctx, func(c *connection) error {
 		return c.exec("UPDATE holdings SET holding = '{}' WHERE id = ?", keyOf(1).String())
 	})
-	if err != nil {
-		t.Fatal(err)
-	}
-	if keys, err := s.Unfinished(ctx); err != nil || len(keys) != 2 {
-		t.Errorf("%v, %v", keys, err)
+	check(t, err)
+	if keys, err := s.UnfinishedKeys(ctx); err != nil || len(keys) != 2 {
+		t.Errorf("got %v and the error %v, want two keys", keys, err)
 	}
 	if stats, err := s.Stats(ctx); err != nil || stats.Pending != 1 {
-		t.Errorf("%+v, %v", stats, err)
+		t.Errorf("got %+v and the error %v, want one that is pending", stats, err)
+	}
+}
+
+// Nobody knows whether a row that can't be read has a tombstone, so the tombstones aren't counted.
+func TestTombstonesOfAnUnreadableRow(t *testing.T) {
+	for _, table := range []string{"holdings", "bindings"} {
+		s := open(t, filepath.Join(t.TempDir(), "store"), broker.Silent{})
+		key := keyOf(1)
+		if table == "bindings" {
+			key = broker.BindingKey(key.Instance, key.Instance)
+		}
+		check(t, s.Change(context.Background(), key, 0, provision(key)))
+		alter(t, s, "UPDATE "+table+" SET holding = '{}', unfinished = 0")
+		if stats, err := s.Stats(context.Background()); err == nil {
+			t.Errorf("%s: got %+v, want an error", table, stats)
+		}
+	}
+}
+
+// A list has no gap where an id can't be read.
+func TestListsWithAnUnreadableID(t *testing.T) {
+	s := open(t, filepath.Join(t.TempDir(), "store"), broker.Silent{})
+	key := broker.BindingKey(keyOf(1).Instance, keyOf(2).Instance)
+	check(t, s.Change(context.Background(), key, 0, provision(key)))
+	alter(t, s, "UPDATE bindings SET binding = 'x', held = 1, unfinished = 1")
+	if ids, err := s.HeldBindings(context.Background(), key.Instance); err == nil {
+		t.Errorf("HeldBindings: got %v, want an error", ids)
+	}
+	if keys, err := s.UnfinishedKeys(context.Background()); err == nil {
+		t.Errorf("Unfinished: got %v, want an error", keys)
 	}
 }
 
@@ -269,31 +282,31 @@ func TestUnreadableRow(t *testing.T) {
 func alter(t *testing.T, s *Store, statement string) {
 	t.Helper()
 	if err := s.file.Write(context.Background(), func(c *connection) error { return c.exec(statement) }); err != nil {
-		t.Fatalf("%s: %v", statement, err)
+		t.Fatalf("%s: got the error %v, want none", statement, err)
 	}
 }
 
 // Of a row that can't be read nothing is known: a Change ends with the error, without its step, and the row stays.
 func TestChangeOfAnUnreadableRow(t *testing.T) {
-	s := open(t, filepath.Join(t.TempDir(), "store"), broker.Silent{})
-	if err := s.Change(context.Background(), keyOf(1), 0, provision(keyOf(1))); err != nil {
-		t.Fatal(err)
-	}
-	alter(t, s, "UPDATE holdings SET holding = '{}', description = 'unreadable'")
-	isCalled := false
-	err := s.Change(context.Background(), keyOf(1), 0, func(held broker.Held) (*broker.Entry, error) {
-		isCalled = true
-		return provision(keyOf(1))(held)
-	})
-	if err == nil || isCalled {
-		t.Errorf("got %v, the step called: %t; want an error, and no call", err, isCalled)
-	}
-	var description string
-	if err := s.file.Read(context.Background(), func(c *connection) (err error) {
-		description, err = c.text("SELECT description FROM holdings")
-		return err
-	}); err != nil || description != "unreadable" {
-		t.Errorf("the row has the description %q, %v, want \"unreadable\"", description, err)
+	for _, holding := range []string{"'{}'", "x'00'"} { // the latter is no text
+		s := open(t, filepath.Join(t.TempDir(), "store"), broker.Silent{})
+		check(t, s.Change(context.Background(), keyOf(1), 0, provision(keyOf(1))))
+		alter(t, s, "UPDATE holdings SET holding = "+holding+", description = 'unreadable'")
+		isCalled := false
+		err := s.Change(context.Background(), keyOf(1), 0, func(snapshot broker.Snapshot) (*broker.Entry, error) {
+			isCalled = true
+			return provision(keyOf(1))(snapshot)
+		})
+		if err == nil || isCalled {
+			t.Errorf("%s: got %v, the step called: %t; want an error, and no call", holding, err, isCalled)
+		}
+		var description string
+		if err := s.file.Read(context.Background(), func(c *connection) (err error) {
+			description, err = c.text("SELECT description FROM holdings")
+			return err
+		}); err != nil || description != "unreadable" {
+			t.Errorf("%s: got the description %q, %v, want \"unreadable\"", holding, description, err)
+		}
 	}
 }
 
@@ -311,18 +324,16 @@ func TestChangeThatIsNotWritten(t *testing.T) {
 func TestChangeWithoutTheWorkers(t *testing.T) {
 	s := open(t, filepath.Join(t.TempDir(), "store"), broker.Silent{})
 	fence, err := s.Fence(context.Background(), keyOf(1))
-	if err != nil {
-		t.Fatal(err)
-	}
+	check(t, err)
 	alter(t, s, "DROP TABLE workers")
-	for _, it := range []int64{fence, fence + 1} {
-		err := s.Change(context.Background(), keyOf(1), it, provision(keyOf(1)))
+	for _, number := range []int64{fence, fence + 1} {
+		err := s.Change(context.Background(), keyOf(1), number, provision(keyOf(1)))
 		if err == nil || errors.Is(err, broker.ErrLostLock) {
-			t.Errorf("with the fence %d: got %v, want the error of the table", it-fence, err)
+			t.Errorf("with the fence %d: got %v, want the error of the table", number-fence, err)
 		}
 	}
-	if held, err := s.Read(context.Background(), keyOf(1)); err != nil || held.Holding != (osb.Holding{}) {
-		t.Errorf("got %v, %v, want nothing written", held.Holding, err)
+	if snapshot, err := s.Read(context.Background(), keyOf(1)); err != nil || snapshot.Holding != (osb.Holding{}) {
+		t.Errorf("got %v, %v, want nothing written", snapshot.Holding, err)
 	}
 }
 
@@ -331,35 +342,183 @@ func TestReadyWrites(t *testing.T) {
 	s := open(t, filepath.Join(t.TempDir(), "store"), broker.Silent{})
 	asked := func() (text string) {
 		t.Helper()
-		if err := s.Ready(context.Background()); err != nil {
-			t.Fatal(err)
-		}
+		check(t, s.Ready(context.Background()))
 		err := s.file.Read(context.Background(), func(c *connection) (err error) {
 			text, err = c.text("SELECT asked FROM readiness")
 			return err
 		})
-		if err != nil {
-			t.Fatal(err)
-		}
+		check(t, err)
 		return text
 	}
 	if first, second := asked(), asked(); first == "" || first == second {
-		t.Errorf("%q, and then %q", first, second)
+		t.Errorf("got %q and then %q, want two ids", first, second)
 	}
 }
 
 func BenchmarkRead(b *testing.B) {
 	s, err := Open(context.Background(), filepath.Join(b.TempDir(), "store"), broker.Silent{})
-	if err != nil {
-		b.Fatal(err)
-	}
-	if err := s.Change(context.Background(), keyOf(1), 0, provision(keyOf(1))); err != nil {
-		b.Fatal(err)
-	}
+	check(b, err)
+	check(b, s.Change(context.Background(), keyOf(1), 0, provision(keyOf(1))))
 	b.ReportAllocs()
 	for n := 0; n < b.N; n++ {
 		if _, err := s.Read(context.Background(), keyOf(1)); err != nil {
 			b.Fatal(err)
 		}
+	}
+}
+
+// The tables before tombstones had a time, in 0.2.0 and in an early 0.3.0.
+var (
+	of02 = []string{
+		"CREATE TABLE holdings (id TEXT PRIMARY KEY, holding TEXT NOT NULL, unfinished INTEGER NOT NULL) WITHOUT ROWID",
+	}
+	withBindings = []string{
+		of02[0],
+		"ALTER TABLE holdings ADD COLUMN request TEXT", "ALTER TABLE holdings ADD COLUMN description TEXT",
+		"ALTER TABLE holdings ADD COLUMN since INTEGER",
+		"CREATE TABLE bindings (instance TEXT NOT NULL, binding TEXT NOT NULL, holding TEXT NOT NULL, " +
+			"held INTEGER NOT NULL, unfinished INTEGER NOT NULL, request TEXT, object TEXT, description TEXT, " +
+			"since INTEGER, PRIMARY KEY (instance, binding)) WITHOUT ROWID",
+	}
+)
+
+// rowsWithout inserts rows that have no time: an instance that is ready, one that is being deleted, and a tombstone.
+func rowsWithout(tombstone string) (statements []string) {
+	for n, test := range []struct {
+		holding      string
+		isUnfinished bool
+	}{
+		{`{"phase":"ready","plan":"` + plan.String() + `","service":"` + service.String() + `"}`, false},
+		{`{"phase":"deleting","plan":"` + plan.String() + `","service":"` + service.String() + `"}`, true},
+		{"", false},
+	} {
+		text := fmt.Sprintf(`{"marked":false,"row":%s,"version":1,"work":null}`, test.holding)
+		if test.holding == "" {
+			text = tombstone
+		}
+		statements = append(statements, fmt.Sprintf("INSERT INTO holdings (id, holding, unfinished) VALUES ('%v', '%s', %t)",
+			keyOf(n), text, test.isUnfinished))
+	}
+	return statements
+}
+
+// makeFile makes a file with these statements.
+func makeFile(t *testing.T, statements []string) string {
+	t.Helper()
+	path := filepath.Join(t.TempDir(), "store")
+	file, err := (&sqlite3.SQLiteDriver{}).Open("file:" + path)
+	check(t, err)
+	for _, statement := range statements {
+		if _, err := file.(*sqlite3.SQLiteConn).Exec(statement, nil); err != nil {
+			t.Fatalf("%s: got the error %v, want none", statement, err)
+		}
+	}
+	check(t, file.Close())
+	return path
+}
+
+const (
+	marked    = `{"marked":true,"row":null,"version":1,"work":null}`
+	endedText = `{"attributes":"0000000000000000000000000000000000000000000000000000000000000000","row":null,` +
+		`"tombstone":true,"version":2,"work":null}`
+)
+
+// A tombstone without a time gets that of the migration, once. Rows without a tombstone get none.
+func TestMigrationOfTombstones(t *testing.T) {
+	binding := broker.BindingKey(keyOf(0).Instance, osb.ID{1})
+	text, err := bindingTombstone(t).BindingText()
+	check(t, err)
+	rowOfBinding := fmt.Sprintf("INSERT INTO bindings (instance, binding, holding, held, unfinished) "+
+		"VALUES ('%v', '%v', '%s', false, false)", binding.Instance, binding.Binding, text)
+	for _, test := range []struct {
+		name         string
+		tables, rows []string
+		ended        []broker.Key
+	}{
+		{"0.2", of02, rowsWithout(marked), []broker.Key{keyOf(2)}},
+		{"bindings", withBindings, append(rowsWithout(endedText), rowOfBinding), []broker.Key{keyOf(2), binding}},
+	} {
+		t.Run(test.name, func(t *testing.T) {
+			path, before := makeFile(t, append(append([]string{}, test.tables...), test.rows...)), time.Now()
+			open(t, path, broker.Silent{})
+			time.Sleep(50 * time.Millisecond)
+			s := open(t, path, broker.Silent{}) // which changes no time
+			for _, key := range test.ended {
+				snapshot, err := s.Read(context.Background(), key)
+				if err != nil || !snapshot.Holding.HasTombstone() || snapshot.EndedAgo < 40*time.Millisecond ||
+					snapshot.EndedAgo > time.Since(before)+10*time.Millisecond || snapshot.Life != 0 {
+					t.Errorf("%v: got %+v and the error %v, want a tombstone of now in life 0", key, snapshot, err)
+				}
+			}
+			for n := 0; n < 2; n++ {
+				snapshot, err := s.Read(context.Background(), keyOf(n))
+				if err != nil || !snapshot.Holding.IsHeld() || snapshot.EndedAgo != 0 || snapshot.Life != 0 {
+					t.Errorf("%d: got %+v and the error %v, want an instance that is held, in life 0", n, snapshot, err)
+				}
+			}
+		})
+	}
+}
+
+// bindingTombstone is the holding of a binding that has ended.
+func bindingTombstone(t *testing.T) osb.Holding {
+	t.Helper()
+	var holding osb.Holding
+	check(t, holding.UnmarshalJSON([]byte(endedText)))
+	return holding
+}
+
+// What every store must do if one of its statements fails.
+func TestFaults(t *testing.T) {
+	folder, err := os.MkdirTemp("", "osb-sqlite")
+	check(t, err)
+	t.Cleanup(func() { _ = os.RemoveAll(folder) })
+	beside := func(t *testing.T) *Store {
+		return open(t, filepath.Join(folder, storetest.NameOf(t)), broker.Silent{})
+	}
+	storetest.RunFaults(t, storetest.Faulty{
+		Open: func(t *testing.T) (broker.NamedStore, *storefaults.Countdown) {
+			by := &storefaults.Driver{}
+			store, err := openBy(context.Background(), filepath.Join(folder, storetest.NameOf(t)), broker.Silent{}, by)
+			check(t, err)
+			return store, &by.Countdown
+		},
+		Beside: func(t *testing.T) broker.NamedStore { return beside(t) },
+		Spoil: func(t *testing.T, key broker.Key) {
+			table, where := "holdings", "id = '"+key.Instance.String()+"'"
+			if key.IsBinding {
+				table, where = "bindings", "binding = '"+key.Binding.String()+"'"
+			}
+			alter(t, beside(t), "UPDATE "+table+" SET holding = '{}' WHERE "+where)
+		},
+		Faults: []storefaults.Fault{storefaults.Refused, storefaults.Lost},
+	})
+}
+
+// Each statement of Open fails once, over a new file and over one of version 0.2: the error is returned, and the file
+// can be opened later.
+func TestOpeningThatFails(t *testing.T) {
+	for _, path := range []string{filepath.Join(t.TempDir(), "store"), makeFile(t, append(of02, rowsWithout(marked)...))} {
+		for n, failed := 1, "none yet"; failed != ""; n++ {
+			by := &storefaults.Driver{}
+			by.Fail(n, storefaults.Refused)
+			store, err := openBy(context.Background(), path, broker.Silent{}, by)
+			failed = by.FailedStatement()
+			if failed != "" && !errors.Is(err, storefaults.ErrFault) || failed == "" && err != nil {
+				t.Errorf("%q has failed: got %v, want an error exactly then", failed, err)
+			}
+			if err == nil {
+				_ = store.Close()
+			}
+		}
+		open(t, path, broker.Silent{})
+	}
+}
+
+// check ends the test at an error.
+func check(t testing.TB, err error) {
+	t.Helper()
+	if err != nil {
+		t.Fatal(err)
 	}
 }

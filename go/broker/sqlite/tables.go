@@ -69,9 +69,9 @@ func addColumns(conn *sqlitefile.Conn, table string) error {
 	if err != nil {
 		return err
 	}
-	for _, it := range columns[table] {
-		if !have[it[0]] {
-			if err := conn.Exec("ALTER TABLE " + table + " ADD COLUMN " + it[0] + " " + it[1]); err != nil {
+	for _, column := range columns[table] {
+		if !have[column[0]] {
+			if err := conn.Exec("ALTER TABLE " + table + " ADD COLUMN " + column[0] + " " + column[1]); err != nil {
 				return err
 			}
 		}

@@ -9,6 +9,7 @@ import (
 	"testing"
 
 	"pippinterm/broker"
+	"pippinterm/internal/diff"
 	"pippinterm/internal/storefaults"
 	"pippinterm/osb"
 )
@@ -32,8 +33,8 @@ func RunFaults(t *testing.T, by Faulty) {
 	t.Run("a row that can't be read", by.unreadable)
 	shared := by.open(t)
 	for n, fault := range by.Faults {
-		for at, it := range faultyCalls {
-			f, it := *shared, it
+		for at, call := range faultyCalls {
+			f, it := *shared, call
 			f.fault, f.first = fault, (n*len(faultyCalls)+at)*2*mostStatements
 			t.Run(fault.String()+", "+it.name, func(t *testing.T) {
 				if !it.readsAll {
@@ -53,7 +54,7 @@ func RunFaults(t *testing.T, by Faulty) {
 // open opens the stores of a test.
 func (by Faulty) open(t *testing.T) *faulty {
 	t.Helper()
-	f := &faulty{Faulty: by, beside: opened(t, by.Beside)}
+	f := &faulty{Faulty: by, beside: openStore(t, by.Beside)}
 	begin(t, f.beside)
 	f.store, f.countdown = by.Open(t)
 	return f
@@ -68,9 +69,9 @@ type faulty struct {
 	fault      storefaults.Fault
 	first      int // the number of the first key of the call
 	key        broker.Key
-	before     broker.Held // what is written of the key before the call
-	tombstones int         // of a call whose keys are oneOfTwo
-	wrong      error       // what the call has returned, or shown to its step, though it isn't written
+	before     broker.Snapshot // what is written of the key before the call
+	tombstones int             // of a call whose keys are oneOfTwo
+	wrong      error           // what the call has returned, or shown to its step, though it isn't written
 }
 
 // A faultyCall is a call whose statements fail, of a key that depends on which one does.
@@ -103,8 +104,8 @@ var faultyCalls = []faultyCall{
 	{"Change of a binding with a fence", ofOne, (*faulty).changeFenced, ready, false, false},
 	{"Fence of an instance", instance, (*faulty).fence, nil, false, false},
 	{"Fence of a binding", ofOne, (*faulty).fence, nil, false, false},
-	{"HeldBindings", instance, (*faulty).held, nil, false, false},
-	{"Unfinished", oneOfTwo, (*faulty).unfinished, nil, true, false},
+	{"HeldBindings", instance, (*faulty).heldBindings, nil, false, false},
+	{"Unfinished", oneOfTwo, (*faulty).unfinishedKeys, nil, true, false},
 	{"Stats", oneOfTwo, (*faulty).stats, nil, true, true},
 	{"Ready", instance, (*faulty).ready, nil, false, false},
 	{"Name and Begin", instance, (*faulty).name, nil, false, false},
@@ -133,7 +134,7 @@ func (f *faulty) each(t *testing.T, it faultyCall) {
 			if f.fails(t, it, n) {
 				isLast = false
 			} else if n == 1 && f.fault == storefaults.Refused {
-				t.Fatal("the call has no statement")
+				t.Fatal("got no statement of the call, want one")
 			}
 		}
 	}
@@ -142,7 +143,7 @@ func (f *faulty) each(t *testing.T, it faultyCall) {
 func (f *faulty) close(t *testing.T) {
 	t.Helper()
 	if err := f.store.Close(); err != nil {
-		t.Errorf("Close: %v", err)
+		t.Errorf("Close: got %v, want no error", err)
 	}
 }
 
@@ -169,10 +170,10 @@ func (f *faulty) fails(t *testing.T, it faultyCall, n int) bool {
 	f.wrong = nil
 	f.countdown.Fail(n, f.fault)
 	err := it.call(f, t)
-	failed := f.countdown.Failed()
+	failed := f.countdown.FailedStatement()
 	f.countdown.Fail(0, f.fault)
 	if f.wrong != nil {
-		t.Errorf("%q has failed: %v", failed, f.wrong)
+		t.Errorf("%q has failed: got %v, want none", failed, f.wrong)
 	}
 	after := f.before.Entry
 	if it.after != nil {
@@ -206,20 +207,20 @@ func (f *faulty) judge(t *testing.T, failed string, err error, got, after broker
 // want notes what is wrong.
 func (f *faulty) want(what string, got, want any) {
 	if !reflect.DeepEqual(got, want) {
-		f.wrong = fmt.Errorf("%s: got %v, want %v", what, got, want)
+		f.wrong = fmt.Errorf("%s: %s", what, diff.Of(got, want))
 	}
 }
 
 // wantHeld notes it if anything else was read than what is written, and returns the error of AnyBinding.
-func (f *faulty) wantHeld(held broker.Held) error {
-	if !sameEntry(held.Entry, f.before.Entry) || !sameEntry(held.Instance, f.before.Instance) {
+func (f *faulty) wantHeld(snapshot broker.Snapshot) error {
+	if !sameEntry(snapshot.Entry, f.before.Entry) || !sameEntry(snapshot.Instance, f.before.Instance) {
 		f.wrong = fmt.Errorf("read: got %+v of %+v, want %+v of %+v",
-			held.Entry, held.Instance, f.before.Entry, f.before.Instance)
+			snapshot.Entry, snapshot.Instance, f.before.Entry, f.before.Instance)
 	}
 	if f.key.IsBinding {
 		return nil
 	}
-	any, err := held.AnyBinding()
+	any, err := snapshot.AnyBinding()
 	if err != nil {
 		return err
 	}
@@ -228,11 +229,11 @@ func (f *faulty) wantHeld(held broker.Held) error {
 }
 
 func (f *faulty) read(*testing.T) error {
-	held, err := f.store.Read(context.Background(), f.key)
+	snapshot, err := f.store.Read(context.Background(), f.key)
 	if err != nil {
 		return err
 	}
-	return f.wantHeld(held)
+	return f.wantHeld(snapshot)
 }
 
 func (f *faulty) change(t *testing.T) error { return f.changeWith(t, 0) }
@@ -241,8 +242,8 @@ func (f *faulty) changeFenced(t *testing.T) error { return f.changeWith(t, fence
 
 func (f *faulty) changeWith(t *testing.T, fence int64) error {
 	next := ready(t)
-	return f.store.Change(context.Background(), f.key, fence, func(held broker.Held) (*broker.Entry, error) {
-		return &next, f.wantHeld(held)
+	return f.store.Change(context.Background(), f.key, fence, func(snapshot broker.Snapshot) (*broker.Entry, error) {
+		return &next, f.wantHeld(snapshot)
 	})
 }
 
@@ -253,12 +254,12 @@ func (f *faulty) fence(t *testing.T) error {
 		return err
 	}
 	return f.beside.Change(context.Background(), f.key, number,
-		func(broker.Held) (*broker.Entry, error) { return nil, nil })
+		func(broker.Snapshot) (*broker.Entry, error) { return nil, nil })
 }
 
 func (f *faulty) ready(*testing.T) error { return f.store.Ready(context.Background()) }
 
-func (f *faulty) held(*testing.T) error {
+func (f *faulty) heldBindings(*testing.T) error {
 	got, err := f.store.HeldBindings(context.Background(), f.key.Instance)
 	if err != nil {
 		return err
@@ -273,19 +274,19 @@ func (f *faulty) held(*testing.T) error {
 
 // texts are the texts of keys, in order.
 func texts(keys []broker.Key) (found []string) {
-	for _, it := range keys {
-		found = append(found, it.String())
+	for _, key := range keys {
+		found = append(found, key.String())
 	}
 	sort.Strings(found)
 	return found
 }
 
-func (f *faulty) unfinished(t *testing.T) error {
-	got, err := f.store.Unfinished(context.Background())
+func (f *faulty) unfinishedKeys(t *testing.T) error {
+	got, err := f.store.UnfinishedKeys(context.Background())
 	if err != nil {
 		return err
 	}
-	want, err := f.beside.Unfinished(context.Background())
+	want, err := f.beside.UnfinishedKeys(context.Background())
 	if err != nil {
 		t.Fatal(err)
 	}
@@ -351,27 +352,27 @@ func (f *faulty) tie(t *testing.T) error {
 // unreadable has a row that can't be read, of an instance or of a binding. It is neither taken for one that was never
 // there, nor written.
 func (by Faulty) unreadable(t *testing.T) {
-	store := opened(t, by.Beside)
-	for _, it := range []struct{ spoiled, key broker.Key }{
+	store := openStore(t, by.Beside)
+	for _, test := range []struct{ spoiled, key broker.Key }{
 		{instance(1), instance(1)}, {instance(1), binding(1, 1)}, {instance(2), binding(2, 2)},
 		{binding(3, 3), binding(3, 3)},
 	} {
-		if it.key == it.spoiled || !it.key.IsBinding || it.spoiled == instance(2) {
-			write(t, store, broker.InstanceKey(it.key.Instance), ready(t))
+		if test.key == test.spoiled || !test.key.IsBinding || test.spoiled == instance(2) {
+			write(t, store, broker.InstanceKey(test.key.Instance), ready(t))
 		}
-		if it.key != binding(1, 1) { // it has no row
-			write(t, store, it.key, ready(t))
+		if test.key != binding(1, 1) { // it has no row
+			write(t, store, test.key, ready(t))
 		}
-		by.Spoil(t, it.spoiled)
-		if held, err := store.Read(context.Background(), it.key); err == nil {
-			t.Errorf("Read of %v beside %v: got %+v, want an error", it.key, it.spoiled, held)
+		by.Spoil(t, test.spoiled)
+		if snapshot, err := store.Read(context.Background(), test.key); err == nil {
+			t.Errorf("Read of %v beside %v: got %+v, want an error", test.key, test.spoiled, snapshot)
 		}
-		err := store.Change(context.Background(), it.key, 0, func(held broker.Held) (*broker.Entry, error) {
-			t.Errorf("the step of %v beside %v is called with %+v", it.key, it.spoiled, held)
+		err := store.Change(context.Background(), test.key, 0, func(snapshot broker.Snapshot) (*broker.Entry, error) {
+			t.Errorf("the step of %v beside %v: got a call with %+v, want none", test.key, test.spoiled, snapshot)
 			return nil, nil
 		})
 		if err == nil {
-			t.Errorf("Change of %v beside %v: got nil, want an error", it.key, it.spoiled)
+			t.Errorf("Change of %v beside %v: got nil, want an error", test.key, test.spoiled)
 		}
 	}
 }

@@ -6,12 +6,19 @@ import (
 	"crypto/sha256"
 	"encoding/hex"
 	"encoding/json"
+	"errors"
 	"fmt"
+	"reflect"
 	"runtime/debug"
+	"sort"
+	"strings"
+	"sync"
 	"testing"
 	"time"
+	"unicode/utf8"
 
 	"pippinterm/broker"
+	"pippinterm/internal/diff"
 	"pippinterm/osb"
 )
 
@@ -21,7 +28,7 @@ const soon = 150 * time.Millisecond
 // Run runs the tests. The function open opens one more store over the database of t. The same t has the same database
 // in each call, and at first it is empty: NameOf(t) can name it. The tests close what they open.
 func Run(t *testing.T, open func(t *testing.T) broker.NamedStore) {
-	for _, it := range []struct {
+	for _, test := range []struct {
 		name string
 		run  func(*testing.T, func(*testing.T) broker.NamedStore)
 	}{
@@ -49,7 +56,7 @@ func Run(t *testing.T, open func(t *testing.T) broker.NamedStore) {
 		{"ready", testReady},
 		{"closing", testClose},
 	} {
-		it := it
+		it := test
 		t.Run(it.name, func(t *testing.T) { it.run(t, open) })
 	}
 }
@@ -60,13 +67,13 @@ func NameOf(t *testing.T) string {
 	return "t" + hex.EncodeToString(sum[:8])
 }
 
-// opened is a store that is closed at the end of the test.
-func opened(t *testing.T, open func(*testing.T) broker.NamedStore) broker.NamedStore {
+// openStore returns a store that is closed at the end of the test.
+func openStore(t *testing.T, open func(*testing.T) broker.NamedStore) broker.NamedStore {
 	t.Helper()
 	store := open(t)
 	t.Cleanup(func() {
 		if err := store.Close(); err != nil {
-			t.Errorf("Close: %v", err)
+			t.Errorf("Close: got %v, want no error", err)
 		}
 	})
 	return store
@@ -106,7 +113,7 @@ func holding(t *testing.T, row, work string, hasTombstone bool) (read osb.Holdin
 	t.Helper()
 	text := fmt.Sprintf(`{"attributes":"%064d","row":%s,"tombstone":%t,"version":2,"work":%s}`, 0, row, hasTombstone, work)
 	if err := json.Unmarshal([]byte(text), &read); err != nil {
-		t.Fatalf("%s: %v", text, err)
+		t.Fatalf("%s: got the error %v, want none", text, err)
 	}
 	return read
 }
@@ -114,26 +121,26 @@ func holding(t *testing.T, row, work string, hasTombstone bool) (read osb.Holdin
 // write writes an entry without looking at what is held.
 func write(t *testing.T, store broker.Store, key broker.Key, entry broker.Entry) {
 	t.Helper()
-	err := store.Change(context.Background(), key, 0, func(broker.Held) (*broker.Entry, error) { return &entry, nil })
+	err := store.Change(context.Background(), key, 0, func(broker.Snapshot) (*broker.Entry, error) { return &entry, nil })
 	if err != nil {
-		t.Fatalf("Change of %v: %v", key, err)
+		t.Fatalf("Change of %v: got %v, want no error", key, err)
 	}
 }
 
-func read(t *testing.T, store broker.Store, key broker.Key) broker.Held {
+func read(t *testing.T, store broker.Store, key broker.Key) broker.Snapshot {
 	t.Helper()
-	held, err := store.Read(context.Background(), key)
+	snapshot, err := store.Read(context.Background(), key)
 	if err != nil {
-		t.Fatalf("Read of %v: %v", key, err)
+		t.Fatalf("Read of %v: got %v, want no error", key, err)
 	}
-	return held
+	return snapshot
 }
 
 // wantEntry compares what two stores have of a key.
 func wantEntry(t *testing.T, what string, got, want broker.Entry) {
 	t.Helper()
 	if !sameEntry(got, want) {
-		t.Errorf("%s: got %+v, want %+v", what, got, want)
+		t.Errorf("%s: %s", what, diff.Of(got, want))
 	}
 }
 
@@ -144,12 +151,537 @@ func sameEntry(got, want broker.Entry) bool {
 		got.Since.Equal(want.Since) && got.Life == want.Life
 }
 
-// changed is the error of a Change. A panic of the step counts as one, if Change lets it through.
-func changed(ctx context.Context, store broker.Store, key broker.Key, step broker.Step) (err error) {
+// changeError is the error of a Change. A panic of the step counts as one, if Change lets it through.
+func changeError(ctx context.Context, store broker.Store, key broker.Key, step broker.Step) (err error) {
 	defer func() {
 		if what := recover(); what != nil {
 			err = fmt.Errorf("panic: %v\n%s", what, debug.Stack())
 		}
 	}()
 	return store.Change(ctx, key, 0, step)
+}
+
+func testName(t *testing.T, open func(*testing.T) broker.NamedStore) {
+	first, second := openStore(t, open), openStore(t, open)
+	ctx := context.Background()
+	wantName := func(what string, want string, name string, err error) {
+		t.Helper()
+		if err != nil || name != want {
+			t.Errorf("%s: got %q, %v, want %q", what, name, err, want)
+		}
+	}
+	name, err := first.Name(ctx)
+	wantName("before the first use", "", name, err)
+	name, err = first.Begin(ctx, "one")
+	wantName("the first Begin", "one", name, err)
+	name, err = second.Begin(ctx, "two")
+	wantName("the second Begin", "one", name, err)
+	name, err = second.Name(ctx)
+	wantName("Name", "one", name, err)
+	name, err = second.Begin(ctx, broker.UntiedBefore+"two")
+	wantName("a Begin of a late backend", "one", name, err)
+}
+
+// The id is made up once, by whichever store of a database is first, and no two databases have the same.
+func testID(t *testing.T, open func(*testing.T) broker.NamedStore) {
+	ids := make(chan string, 8)
+	for n := 0; n < cap(ids); n++ {
+		store := openStore(t, open)
+		go func() {
+			id, err := store.ID(context.Background())
+			if err != nil {
+				t.Error(err)
+			}
+			ids <- id
+		}()
+	}
+	first := <-ids
+	if _, err := osb.ParseID(first); err != nil || strings.Trim(first, "0-") == "" {
+		t.Errorf("the id: got %q, want a random GUID", first)
+	}
+	for n := 1; n < cap(ids); n++ {
+		if id := <-ids; id != first {
+			t.Errorf("another store of the database: got the id %q, want %q", id, first)
+		}
+	}
+	if _, err := openStore(t, open).Begin(context.Background(), "a name"); err != nil {
+		t.Error(err)
+	}
+	if id, err := openStore(t, open).ID(context.Background()); err != nil || id != first {
+		t.Errorf("the id later: got %q, %v, want %q", id, err, first)
+	}
+}
+
+// A store that is untied gets another name once, and then its rows don't count.
+func testUntiedBefore(t *testing.T, open func(*testing.T) broker.NamedStore) {
+	store, ctx := openStore(t, open), context.Background()
+	for _, test := range []struct{ given, want string }{
+		{broker.Untied, broker.Untied},
+		{"one", broker.Untied},
+		{broker.UntiedBefore + "two", broker.UntiedBefore + "two"},
+		{broker.UntiedBefore + "three", broker.UntiedBefore + "two"},
+		{broker.Untied, broker.UntiedBefore + "two"},
+	} {
+		if name, err := store.Begin(ctx, test.given); err != nil || name != test.want {
+			t.Errorf("Begin(%q): got %q, %v, want %q", test.given, name, err, test.want)
+		}
+	}
+	for _, key := range []broker.Key{instance(1), binding(1, 1)} {
+		write(t, store, key, broker.Entry{Holding: tombstone(t)})
+	}
+	for _, wanted := range []bool{false, true} {
+		if isUsed, err := tie(store, nil); isUsed != wanted || err != nil {
+			t.Errorf("got used %t, %v, want %t", isUsed, err, wanted)
+		}
+	}
+}
+
+// tie ties a store, and returns whether it was used.
+func tie(store broker.NamedStore, with error) (isUsed bool, err error) {
+	err = store.Tie(context.Background(), func(is bool) error {
+		isUsed = is
+		return with
+	})
+	return isUsed, err
+}
+
+func testTie(t *testing.T, open func(*testing.T) broker.NamedStore) {
+	first, second := openStore(t, open), openStore(t, open)
+	begin(t, first)
+	wrong := errors.New("wrong")
+	for _, test := range []struct {
+		what   string
+		store  broker.NamedStore
+		with   error
+		isUsed bool
+	}{
+		{"a new store", first, wrong, false},
+		{"a store whose tie has failed", second, wrong, false},
+		{"that once more", first, nil, false},
+		{"a store that is tied", second, wrong, true},
+		{"that once more", first, nil, true},
+	} {
+		if isUsed, err := tie(test.store, test.with); isUsed != test.isUsed || !errors.Is(err, test.with) {
+			t.Errorf("%s: got used %t, %v, want %t, %v", test.what, isUsed, err, test.isUsed, test.with)
+		}
+	}
+}
+
+func testUsedByRows(t *testing.T, open func(*testing.T) broker.NamedStore) {
+	for _, key := range []broker.Key{instance(1), binding(1, 1)} {
+		key := key
+		t.Run(key.String(), func(t *testing.T) {
+			store := openStore(t, open)
+			begin(t, store)
+			wrong := errors.New("wrong")
+			if isUsed, err := tie(store, wrong); isUsed || !errors.Is(err, wrong) {
+				t.Errorf("without rows: got used %t, %v, want false and %v", isUsed, err, wrong)
+			}
+			write(t, store, key, broker.Entry{Holding: tombstone(t)})
+			if isUsed, err := tie(store, wrong); !isUsed || !errors.Is(err, wrong) {
+				t.Errorf("with a row: got used %t, %v, want true and %v", isUsed, err, wrong)
+			}
+		})
+	}
+}
+
+func begin(t *testing.T, store broker.NamedStore) {
+	t.Helper()
+	if _, err := store.Begin(context.Background(), "one"); err != nil {
+		t.Fatal(err)
+	}
+}
+
+// The second of two who tie waits for the first, and sees that the store is tied.
+func testTiesExclude(t *testing.T, open func(*testing.T) broker.NamedStore) {
+	first, second := openStore(t, open), openStore(t, open)
+	begin(t, first)
+	entered, release, overlapped := make(chan struct{}), make(chan struct{}), make(chan struct{})
+	var all sync.WaitGroup
+	all.Add(2)
+	go func() {
+		defer all.Done()
+		err := first.Tie(context.Background(), func(bool) error {
+			close(entered)
+			<-release
+			return nil
+		})
+		if err != nil {
+			t.Errorf("the first: got %v, want no error", err)
+		}
+	}()
+	<-entered
+	go func() {
+		defer all.Done()
+		err := second.Tie(context.Background(), func(isUsed bool) error {
+			close(overlapped)
+			if !isUsed {
+				t.Error("the second: got a store that isn't tied, want a tied one")
+			}
+			return nil
+		})
+		if err != nil {
+			t.Errorf("the second: got %v, want no error", err)
+		}
+	}()
+	select {
+	case <-overlapped:
+		t.Error("got both at once, want one after the other")
+	case <-time.After(soon):
+	}
+	close(release)
+	all.Wait()
+}
+
+func testReady(t *testing.T, open func(*testing.T) broker.NamedStore) {
+	store := openStore(t, open)
+	begin(t, store)
+	if err := store.Ready(context.Background()); err != nil {
+		t.Errorf("a store that works: got %v, want no error", err)
+	}
+	if name, err := store.Name(context.Background()); err != nil || name != "one" {
+		t.Errorf("the name: got %q, %v, want \"one\"", name, err)
+	}
+	if isUsed, err := tie(store, nil); isUsed || err != nil {
+		t.Errorf("got used %t, %v, want false", isUsed, err)
+	}
+}
+
+func testStats(t *testing.T, open func(*testing.T) broker.NamedStore) {
+	store := openStore(t, open)
+	wantStats(t, open, "an empty store", broker.Stats{})
+	at := func(hour int) time.Time { return time.Date(2020, 1, 1, hour, 0, 0, 5e6, time.UTC) }
+	for _, test := range []struct {
+		key   broker.Key
+		entry broker.Entry
+	}{
+		{instance(1), broker.Entry{Holding: pending(t, instance(1)), Since: at(9)}},
+		{binding(1, 1), broker.Entry{Holding: pending(t, binding(1, 1)), Since: at(8)}},
+		{instance(2), broker.Entry{Holding: in(t, "making"), Since: at(7)}},
+		{binding(2, 1), broker.Entry{Holding: in(t, "deleting"), Since: at(6)}},
+		{binding(3, 1), broker.Entry{Holding: in(t, "making")}}, // as of a version that wrote no time
+		{instance(3), broker.Entry{Holding: in(t, "waiting"), Since: at(10)}},
+		{instance(4), broker.Entry{Holding: in(t, "ready"), Since: at(1)}}, // finished: its time doesn't count
+		{instance(5), broker.Entry{Holding: in(t, "failed")}},
+		{instance(6), broker.Entry{Holding: tombstone(t)}},
+		{instance(7), broker.Entry{Holding: tombstone(t)}},
+		{binding(6, 1), broker.Entry{Holding: tombstone(t)}},
+	} {
+		write(t, store, test.key, test.entry)
+	}
+	wantStats(t, open, "with some", broker.Stats{Pending: 2, Operating: 3, Waiting: 1, Tombstones: 3, Oldest: at(6)})
+}
+
+// wantStats asks a new store, since a store may keep a count for a while.
+func wantStats(t *testing.T, open func(*testing.T) broker.NamedStore, what string, want broker.Stats) {
+	t.Helper()
+	store := open(t)
+	defer store.Close()
+	got, err := store.Stats(context.Background())
+	isSame := got.Oldest.Equal(want.Oldest)
+	got.Oldest = want.Oldest
+	if err != nil || !isSame || got != want {
+		t.Errorf("%s: got %+v, %v, want %+v", what, got, err, want)
+	}
+}
+
+func testNothing(t *testing.T, open func(*testing.T) broker.NamedStore) {
+	store := openStore(t, open)
+	for _, key := range []broker.Key{instance(1), binding(2, 1)} {
+		wantEntry(t, key.String(), read(t, store, key).Entry, broker.Entry{})
+		err := store.Change(context.Background(), key, 0, func(snapshot broker.Snapshot) (*broker.Entry, error) {
+			wantEntry(t, "in the step of "+key.String(), snapshot.Entry, broker.Entry{})
+			wantEntry(t, "the instance of "+key.String(), snapshot.Instance, broker.Entry{})
+			return nil, nil
+		})
+		if err != nil {
+			t.Errorf("%v: got the error %v, want none", key, err)
+		}
+	}
+	if keys, err := store.UnfinishedKeys(context.Background()); err != nil || len(keys) != 0 {
+		t.Errorf("unfinished: got %v, %v, want none", keys, err)
+	}
+	if ids, err := store.HeldBindings(context.Background(), id(1)); err != nil || len(ids) != 0 {
+		t.Errorf("held bindings: got %v, %v, want none", ids, err)
+	}
+}
+
+// entries are an entry with all that there is, and one that has less.
+func entries(t *testing.T, key broker.Key) []broker.Entry {
+	full := broker.Entry{
+		Holding:     pending(t, key),
+		Request:     json.RawMessage(`{"instance_id": "a", "body":{"x":[1, 2.0,"\u0000"]}}`),
+		Description: "the disk is full",
+		Since:       time.Date(2026, 2, 3, 4, 5, 6, 789e6, time.FixedZone("somewhere", 3600)),
+		Life:        3,
+	}
+	less := broker.Entry{Holding: in(t, "ready")}
+	if key.IsBinding {
+		full.Binding = json.RawMessage(`{"credentials" : {"password":"\"\\ é"}}`)
+	}
+	return []broker.Entry{full, less, {Holding: tombstone(t), Life: 1 << 40}}
+}
+
+func testWritten(t *testing.T, open func(*testing.T) broker.NamedStore) {
+	first, second := openStore(t, open), openStore(t, open)
+	for _, key := range []broker.Key{instance(1), binding(1, 1), binding(2, 1), binding(1, 3)} {
+		for _, entry := range entries(t, key) {
+			write(t, first, key, entry)
+			wantEntry(t, "read", read(t, second, key).Entry, entry)
+			err := second.Change(context.Background(), key, 0, func(snapshot broker.Snapshot) (*broker.Entry, error) {
+				wantEntry(t, "in a step", snapshot.Entry, entry)
+				return nil, nil
+			})
+			if err != nil {
+				t.Error(err)
+			}
+		}
+	}
+	wantEntry(t, "another instance", read(t, second, instance(2)).Entry, broker.Entry{})
+	wantEntry(t, "another binding", read(t, second, binding(3, 1)).Entry, broker.Entry{})
+}
+
+// A text that the database can't have must not keep work from ending.
+func testTexts(t *testing.T, open func(*testing.T) broker.NamedStore) {
+	store := openStore(t, open)
+	for _, test := range []struct {
+		text    string
+		isExact bool
+	}{
+		{"'; DROP TABLE x; -- \" \\ \r\n\t \x01 é 😀 \U0010FFFF", true},
+		{"with \x00 in it", false},
+		{"not UTF-8: \xff\xc3", false},
+	} {
+		write(t, store, binding(1, 1), broker.Entry{
+			Holding: in(t, "failed"), Description: test.text, Binding: json.RawMessage(`"` + "\xff" + `"`),
+		})
+		snapshot := read(t, store, binding(1, 1))
+		if snapshot.Holding != in(t, "failed") {
+			t.Errorf("%q: the holding: got %v, want %v", test.text, snapshot.Holding, in(t, "failed"))
+		}
+		if test.isExact && snapshot.Description != test.text {
+			t.Errorf("%q: got %q, want it as it was written", test.text, snapshot.Description)
+		}
+		if !test.isExact && snapshot.Description != test.text && !utf8.ValidString(snapshot.Description) {
+			t.Errorf("%q: got %q, want it in UTF-8", test.text, snapshot.Description)
+		}
+	}
+}
+
+func testNoEntry(t *testing.T, open func(*testing.T) broker.NamedStore) {
+	store := openStore(t, open)
+	for _, key := range []broker.Key{instance(1), binding(2, 1)} {
+		before := entries(t, key)[0]
+		write(t, store, key, before)
+		calls := 0
+		err := store.Change(context.Background(), key, 0, func(broker.Snapshot) (*broker.Entry, error) {
+			calls++
+			return nil, nil
+		})
+		if err != nil || calls == 0 {
+			t.Errorf("%v: got %v after %d calls, want no error after one", key, err, calls)
+		}
+		wantEntry(t, key.String(), read(t, store, key).Entry, before)
+	}
+}
+
+// The Change of a binding sees what is held of its instance, whether the binding has a row or not.
+func testInstanceOfBinding(t *testing.T, open func(*testing.T) broker.NamedStore) {
+	first, second := openStore(t, open), openStore(t, open)
+	for _, phase := range []string{"ready", "deleting"} {
+		of := broker.Entry{Holding: in(t, phase), Request: json.RawMessage(`{"instance_id":"` + phase + `"}`), Life: 2}
+		write(t, first, instance(1), of)
+		for _, key := range []broker.Key{binding(1, 1), binding(2, 1)} {
+			wantEntry(t, "the instance, by Read of "+key.String(), read(t, second, key).Instance, of)
+			err := second.Change(context.Background(), key, 0, func(snapshot broker.Snapshot) (*broker.Entry, error) {
+				wantEntry(t, "the instance, by Change of "+key.String(), snapshot.Instance, of)
+				return &broker.Entry{Holding: in(t, "ready")}, nil
+			})
+			if err != nil {
+				t.Error(err)
+			}
+		}
+	}
+	instance := read(t, first, instance(1)).Entry
+	wantEntry(t, "the instance", instance, broker.Entry{Holding: in(t, "deleting"), Request: instance.Request, Life: 2})
+}
+
+func testHeldBindings(t *testing.T, open func(*testing.T) broker.NamedStore) {
+	store := openStore(t, open)
+	write(t, store, instance(1), broker.Entry{Holding: in(t, "ready")})
+	wantHeld(t, store)
+	write(t, store, binding(1, 1), broker.Entry{Holding: tombstone(t)})
+	write(t, store, binding(2, 2), broker.Entry{Holding: in(t, "ready")}) // another instance's
+	write(t, store, binding(5, 1), broker.Entry{Description: "a row that holds nothing"})
+	wantHeld(t, store)
+	write(t, store, binding(3, 1), broker.Entry{Holding: pending(t, binding(3, 1))})
+	write(t, store, binding(4, 1), broker.Entry{Holding: in(t, "failed")})
+	wantHeld(t, store, id(3), id(4))
+	write(t, store, binding(3, 1), broker.Entry{Holding: tombstone(t)})
+	wantHeld(t, store, id(4))
+	write(t, store, binding(4, 1), broker.Entry{Holding: tombstone(t)})
+	wantHeld(t, store)
+}
+
+// wantHeld looks at the bindings of instance 1, in each of the three ways.
+func wantHeld(t *testing.T, store broker.Store, want ...osb.ID) {
+	t.Helper()
+	got, err := store.HeldBindings(context.Background(), id(1))
+	sort.Slice(got, func(i, j int) bool { return got[i].String() < got[j].String() })
+	if err != nil || len(got)+len(want) > 0 && !reflect.DeepEqual(got, want) {
+		t.Errorf("held: %v, %s", err, diff.Of(got, want))
+	}
+	if any, err := read(t, store, instance(1)).AnyBinding(); err != nil || any != (len(want) > 0) {
+		t.Errorf("AnyBinding of Read: got %t, %v, want %v", any, err, want)
+	}
+	err = store.Change(context.Background(), instance(1), 0, func(snapshot broker.Snapshot) (*broker.Entry, error) {
+		any, err := snapshot.AnyBinding()
+		if any != (len(want) > 0) {
+			t.Errorf("AnyBinding in a step: got %t, want %v", any, want)
+		}
+		return nil, err
+	})
+	if err != nil {
+		t.Error(err)
+	}
+}
+
+func testUnfinished(t *testing.T, open func(*testing.T) broker.NamedStore) {
+	store := openStore(t, open)
+	want := map[broker.Key]bool{}
+	for n, phase := range []string{"waiting", "making", "ready", "failed", "deleting", "delete-failed"} {
+		isUnfinished := phase == "waiting" || phase == "making" || phase == "deleting"
+		for _, key := range []broker.Key{instance(n), binding(n, 100), binding(100, n)} {
+			write(t, store, key, broker.Entry{Holding: in(t, phase)})
+			if isUnfinished {
+				want[key] = true
+			}
+		}
+	}
+	for _, key := range []broker.Key{instance(20), binding(20, 20)} {
+		write(t, store, key, broker.Entry{Holding: pending(t, key)})
+		want[key] = true
+	}
+	for _, key := range []broker.Key{instance(21), binding(21, 20)} {
+		write(t, store, key, broker.Entry{Holding: in(t, "deleting")})
+		write(t, store, key, broker.Entry{Holding: tombstone(t)})
+	}
+	keys, err := store.UnfinishedKeys(context.Background())
+	if err != nil {
+		t.Fatal(err)
+	}
+	got := map[broker.Key]bool{}
+	for _, key := range keys {
+		if got[key] {
+			t.Errorf("got %v twice, want it once", key)
+		}
+		got[key] = true
+	}
+	diff.Check(t, got, want, "the unfinished keys")
+}
+
+// A tombstone has the age since it was written, for each store of the database. Nothing else has one.
+func testAge(t *testing.T, open func(*testing.T) broker.NamedStore) {
+	first, second := openStore(t, open), openStore(t, open)
+	for _, key := range []broker.Key{instance(1), binding(1, 1), binding(2, 5)} {
+		wantNoAge(t, second, key)
+		write(t, first, key, broker.Entry{Holding: in(t, "deleting")})
+		wantNoAge(t, second, key)
+		for _, store := range []broker.Store{first, second} { // the second time it is written anew
+			began := time.Now()
+			write(t, store, key, broker.Entry{Holding: tombstone(t)})
+			written := time.Now()
+			for _, reader := range []broker.Store{second, first} {
+				time.Sleep(soon)
+				wantAge(t, reader, key, began, written)
+			}
+		}
+		write(t, second, key, broker.Entry{Holding: pending(t, key), Life: 1})
+		time.Sleep(soon / 10)
+		wantNoAge(t, first, key)
+	}
+}
+
+// ages are the age of a tombstone by Read, and in a step.
+func ages(t *testing.T, store broker.Store, key broker.Key) []time.Duration {
+	t.Helper()
+	found := []time.Duration{read(t, store, key).EndedAgo}
+	err := store.Change(context.Background(), key, 0, func(snapshot broker.Snapshot) (*broker.Entry, error) {
+		found = append(found[:1], snapshot.EndedAgo)
+		return nil, nil
+	})
+	if err != nil {
+		t.Error(err)
+	}
+	return found
+}
+
+func wantNoAge(t *testing.T, store broker.Store, key broker.Key) {
+	t.Helper()
+	for _, age := range ages(t, store, key) {
+		if age != 0 {
+			t.Errorf("%v: got the age %v, want 0", key, age)
+		}
+	}
+}
+
+// wantAge checks the age of a tombstone whose writing has begun and ended at these times.
+func wantAge(t *testing.T, store broker.Store, key broker.Key, began, written time.Time) {
+	t.Helper()
+	const inexact = 10 * time.Millisecond // two clocks of one machine, one of them in milliseconds
+	least := time.Since(written) - inexact
+	for _, age := range ages(t, store, key) {
+		if most := time.Since(began) + inexact; age < least || age > most {
+			t.Errorf("%v: got the age %v, want %v to %v", key, age, least, most)
+		}
+	}
+}
+
+// Of two changes that find one tombstone at the same time, one puts a new life in its place. The other one sees that.
+func testReturn(t *testing.T, open func(*testing.T) broker.NamedStore) {
+	stores := []broker.Store{openStore(t, open), openStore(t, open)}
+	for n := 1; n <= 10; n++ {
+		for _, key := range []broker.Key{instance(n), binding(n, 100)} {
+			write(t, stores[0], key, broker.Entry{Holding: tombstone(t)})
+			time.Sleep(2 * time.Millisecond) // so that it has an age
+			if count := returns(t, stores, key); count != 1 {
+				t.Errorf("%v: got %d returns, want 1", key, count)
+			}
+			want := broker.Entry{Holding: pending(t, key), Life: 1}
+			wantEntry(t, key.String(), read(t, stores[0], key).Entry, want)
+		}
+	}
+}
+
+// returns has the stores put a new life in the place of a tombstone, all at the same time, and returns how many have.
+func returns(t *testing.T, stores []broker.Store, key broker.Key) (count int) {
+	t.Helper()
+	begun := pending(t, key)
+	found := make([]bool, len(stores))
+	var gate, all sync.WaitGroup
+	gate.Add(len(stores))
+	all.Add(len(stores))
+	for at, store := range stores {
+		go func(at int, store broker.Store) {
+			defer all.Done()
+			gate.Done()
+			gate.Wait()
+			err := store.Change(context.Background(), key, 0, func(snapshot broker.Snapshot) (*broker.Entry, error) {
+				if found[at] = snapshot.Holding.HasTombstone() && snapshot.EndedAgo > 0; !found[at] {
+					return nil, nil
+				}
+				return &broker.Entry{Holding: begun, Life: snapshot.Life + 1}, nil
+			})
+			if err != nil {
+				t.Error(err)
+			}
+		}(at, store)
+	}
+	all.Wait()
+	for _, has := range found {
+		if has {
+			count++
+		}
+	}
+	return count
 }

@@ -14,7 +14,7 @@ import (
 
 // Steps that fail, panic or whose context is cancelled write nothing, and the changes beside them are written.
 func testFailingSteps(t *testing.T, open func(*testing.T) broker.NamedStore) {
-	stores := []broker.Store{opened(t, open), opened(t, open)}
+	stores := []broker.Store{openStore(t, open), openStore(t, open)}
 	const count = 20
 	var all sync.WaitGroup
 	for n := 0; n < count; n++ {
@@ -46,42 +46,42 @@ var errWrong = errors.New("wrong")
 var failing = []func(*testing.T, broker.Store, broker.Key){
 	func(t *testing.T, store broker.Store, key broker.Key) {
 		entry := ready(t)
-		err := changed(context.Background(), store, key,
-			func(broker.Held) (*broker.Entry, error) { return &entry, nil })
+		err := changeError(context.Background(), store, key,
+			func(broker.Snapshot) (*broker.Entry, error) { return &entry, nil })
 		if err != nil {
-			t.Errorf("a step beside others that fail: %v", err)
+			t.Errorf("a step beside others that fail: got %v, want no error", err)
 		}
 	},
 	func(t *testing.T, store broker.Store, key broker.Key) {
 		entry := ready(t)
-		err := changed(context.Background(), store, key,
-			func(broker.Held) (*broker.Entry, error) { return &entry, errWrong })
+		err := changeError(context.Background(), store, key,
+			func(broker.Snapshot) (*broker.Entry, error) { return &entry, errWrong })
 		if !errors.Is(err, errWrong) {
-			t.Errorf("a step that fails: %v", err)
+			t.Errorf("a step that fails: got %v, want %v", err, errWrong)
 		}
 	},
 	func(t *testing.T, store broker.Store, key broker.Key) {
-		err := changed(context.Background(), store, key,
-			func(broker.Held) (*broker.Entry, error) { panic("a bug") })
+		err := changeError(context.Background(), store, key,
+			func(broker.Snapshot) (*broker.Entry, error) { panic("a bug") })
 		if err == nil || !strings.Contains(err.Error(), "a bug") {
-			t.Errorf("a step that panics: %v", err)
+			t.Errorf("a step that panics: got %v, want an error with \"a bug\"", err)
 		}
 	},
 	func(t *testing.T, store broker.Store, key broker.Key) {
 		entry := ready(t)
 		gone, cancel := context.WithCancel(context.Background())
 		cancel()
-		err := changed(gone, store, key,
-			func(broker.Held) (*broker.Entry, error) { return &entry, nil })
+		err := changeError(gone, store, key,
+			func(broker.Snapshot) (*broker.Entry, error) { return &entry, nil })
 		if !errors.Is(err, context.Canceled) {
-			t.Errorf("a context that is cancelled: %v", err)
+			t.Errorf("a context that is cancelled: got %v, want %v", err, context.Canceled)
 		}
 	},
 }
 
 // Eight goroutines, over two stores, count in the description of one row.
 func testCounter(t *testing.T, open func(*testing.T) broker.NamedStore) {
-	stores := []broker.Store{opened(t, open), opened(t, open)}
+	stores := []broker.Store{openStore(t, open), openStore(t, open)}
 	const goroutines, each = 8, 20
 	for _, key := range []broker.Key{instance(1), binding(2, 1), binding(4, 3)} {
 		var all sync.WaitGroup
@@ -91,27 +91,27 @@ func testCounter(t *testing.T, open func(*testing.T) broker.NamedStore) {
 				defer all.Done()
 				for i := 0; i < each; i++ {
 					if err := store.Change(context.Background(), key, 0, countOne); err != nil {
-						t.Errorf("%v: %v", key, err)
+						t.Errorf("%v: got the error %v, want none", key, err)
 					}
 				}
 			}(stores[n%2])
 		}
 		all.Wait()
 		if got := read(t, stores[0], key).Description; got != strconv.Itoa(goroutines*each) {
-			t.Errorf("%v: %s of %d were counted", key, got, goroutines*each)
+			t.Errorf("%v: got a count of %s, want %d", key, got, goroutines*each)
 		}
 	}
 }
 
-func countOne(held broker.Held) (*broker.Entry, error) {
+func countOne(snapshot broker.Snapshot) (*broker.Entry, error) {
 	count := 0
-	if held.Description != "" {
+	if snapshot.Description != "" {
 		var err error
-		if count, err = strconv.Atoi(held.Description); err != nil {
+		if count, err = strconv.Atoi(snapshot.Description); err != nil {
 			return nil, err
 		}
 	}
-	entry := held.Entry
+	entry := snapshot.Entry
 	entry.Description = strconv.Itoa(count + 1)
 	return &entry, nil
 }
@@ -119,8 +119,8 @@ func countOne(held broker.Held) (*broker.Entry, error) {
 // Each row is locked, and with that of a binding that of its instance, also if there is no such row yet. The second
 // Change reads what the first has written.
 func testExclusion(t *testing.T, open func(*testing.T) broker.NamedStore) {
-	first, second := opened(t, open), opened(t, open)
-	for at, it := range []struct {
+	first, second := openStore(t, open), openStore(t, open)
+	for at, test := range []struct {
 		name          string
 		hasRow        bool
 		first, second broker.Key
@@ -134,11 +134,11 @@ func testExclusion(t *testing.T, open func(*testing.T) broker.NamedStore) {
 		{"a binding, then its instance", true, binding(7, 7), instance(7)},
 		{"a binding, then its instance without a row", false, binding(8, 8), instance(8)},
 	} {
-		t.Run(it.name, func(t *testing.T) {
-			if it.hasRow {
+		t.Run(test.name, func(t *testing.T) {
+			if test.hasRow {
 				write(t, first, instance(at+1), broker.Entry{Holding: in(t, "ready")})
 			}
-			exclude(t, first, second, it.first, it.second)
+			exclude(t, first, second, test.first, test.second)
 		})
 	}
 }
@@ -150,29 +150,29 @@ func exclude(t *testing.T, first, second broker.Store, one, other broker.Key) {
 	written := broker.Entry{Holding: in(t, "failed"), Description: "by the first"}
 	go func() {
 		defer all.Done()
-		err := first.Change(context.Background(), one, 0, func(broker.Held) (*broker.Entry, error) {
+		err := first.Change(context.Background(), one, 0, func(broker.Snapshot) (*broker.Entry, error) {
 			close(entered)
 			<-release
 			return &written, nil
 		})
 		if err != nil {
-			t.Errorf("the first: %v", err)
+			t.Errorf("the first: got %v, want no error", err)
 		}
 	}()
 	<-entered
 	go func() {
 		defer all.Done()
-		err := second.Change(context.Background(), other, 0, func(held broker.Held) (*broker.Entry, error) {
+		err := second.Change(context.Background(), other, 0, func(snapshot broker.Snapshot) (*broker.Entry, error) {
 			close(overlapped)
-			return nil, seesFirst(one, other, held, written)
+			return nil, seesFirst(one, other, snapshot, written)
 		})
 		if err != nil {
-			t.Errorf("the second: %v", err)
+			t.Errorf("the second: got %v, want no error", err)
 		}
 	}()
 	select {
 	case <-overlapped:
-		t.Error("both ran at once")
+		t.Error("got both at once, want one after the other")
 	case <-time.After(soon):
 	}
 	close(release)
@@ -180,14 +180,14 @@ func exclude(t *testing.T, first, second broker.Store, one, other broker.Key) {
 }
 
 // seesFirst fails unless the second Change sees what the first has written.
-func seesFirst(one, other broker.Key, held broker.Held, written broker.Entry) error {
-	sees := held.Holding == written.Holding && held.Description == written.Description
+func seesFirst(one, other broker.Key, snapshot broker.Snapshot, written broker.Entry) error {
+	sees := snapshot.Holding == written.Holding && snapshot.Description == written.Description
 	var err error
 	switch {
 	case !one.IsBinding && other.IsBinding:
-		sees = held.Instance.Holding == written.Holding
+		sees = snapshot.Instance.Holding == written.Holding
 	case one.IsBinding && !other.IsBinding:
-		sees, err = held.AnyBinding()
+		sees, err = snapshot.AnyBinding()
 	}
 	if err == nil && !sees {
 		err = errors.New("it doesn't see what the first has written")
@@ -197,11 +197,11 @@ func seesFirst(one, other broker.Key, held broker.Held, written broker.Entry) er
 
 // Close waits for a Change that has begun, and no other begins afterwards.
 func testClose(t *testing.T, open func(*testing.T) broker.NamedStore) {
-	store, other := open(t), opened(t, open)
+	store, other := open(t), openStore(t, open)
 	entered, release, closed := make(chan struct{}), make(chan struct{}), make(chan error, 1)
 	changed := make(chan error, 1)
 	go func() {
-		changed <- store.Change(context.Background(), instance(1), 0, func(broker.Held) (*broker.Entry, error) {
+		changed <- store.Change(context.Background(), instance(1), 0, func(broker.Snapshot) (*broker.Entry, error) {
 			close(entered)
 			<-release
 			return &broker.Entry{Holding: in(t, "ready")}, nil
@@ -211,22 +211,127 @@ func testClose(t *testing.T, open func(*testing.T) broker.NamedStore) {
 	go func() { closed <- store.Close() }()
 	select {
 	case err := <-closed:
-		t.Error("Close didn't wait")
+		t.Error("got an end of Close before that of the Change, want it to wait")
 		closed <- err
 	case <-time.After(soon):
 	}
 	close(release)
 	if err := <-changed; err != nil {
-		t.Errorf("the Change: %v", err)
+		t.Errorf("the Change: got %v, want no error", err)
 	}
 	if err := <-closed; err != nil {
-		t.Errorf("Close: %v", err)
+		t.Errorf("Close: got %v, want no error", err)
 	}
 	wantEntry(t, "after Close", read(t, other, instance(1)).Entry, broker.Entry{Holding: in(t, "ready")})
-	err := store.Change(context.Background(), instance(2), 0, func(broker.Held) (*broker.Entry, error) {
-		return &broker.Entry{Holding: in(t, "ready")}, nil
-	})
-	if err == nil {
-		t.Error("a Change began after Close")
+	wantClosed(t, store)
+}
+
+// wantClosed checks that each call of a closed store returns an error, and waits for nothing.
+func wantClosed(t *testing.T, store broker.NamedStore) {
+	t.Helper()
+	ctx := context.Background()
+	for name, call := range map[string]func() error{
+		"Read":         func() error { _, err := store.Read(ctx, instance(2)); return err },
+		"Fence":        func() error { _, err := store.Fence(ctx, instance(2)); return err },
+		"HeldBindings": func() error { _, err := store.HeldBindings(ctx, id(2)); return err },
+		"Unfinished":   func() error { _, err := store.UnfinishedKeys(ctx); return err },
+		"Stats":        func() error { _, err := store.Stats(ctx); return err },
+		"Ready":        func() error { return store.Ready(ctx) },
+		"Name":         func() error { _, err := store.Name(ctx); return err },
+		"Tie":          func() error { return store.Tie(ctx, func(bool) error { return nil }) },
+		"Change":       func() error { return store.Change(ctx, instance(2), 0, nil) },
+	} {
+		ended := make(chan error, 1)
+		go func() { ended <- call() }()
+		select {
+		case err := <-ended:
+			if err == nil {
+				t.Errorf("%s after Close: got nil, want an error", name)
+			}
+		case <-time.After(time.Minute):
+			t.Errorf("%s after Close: got no end in a minute, want one", name)
+		}
+	}
+}
+
+// Only the last fence of a key writes, and who has none.
+func testFences(t *testing.T, open func(*testing.T) broker.NamedStore) {
+	first, second := openStore(t, open), openStore(t, open)
+	for _, key := range []broker.Key{instance(1), binding(1, 1)} {
+		wantFenced(t, first, key, 1, false) // nobody has ever held that one
+		old := fence(t, first, key)
+		wantFenced(t, first, key, old, true)
+		wantFenced(t, second, key, old, true) // a fence is of the database
+		now := fence(t, second, key)
+		if now == old || now == 0 || old == 0 {
+			t.Errorf("%v: got the fences %d and %d, want two", key, old, now)
+		}
+		wantFenced(t, first, key, old, false)
+		wantFenced(t, first, key, now, true)
+		wantFenced(t, first, key, 0, true)
+		for _, other := range []broker.Key{instance(2), binding(1, 2), binding(2, 1)} {
+			wantFenced(t, first, other, now, false)
+		}
+	}
+	// what is an instance's isn't its binding's, and the other way round
+	wantFenced(t, first, binding(1, 1), fence(t, first, instance(1)), false)
+	wantFenced(t, first, instance(1), fence(t, first, binding(1, 1)), false)
+}
+
+func fence(t *testing.T, store broker.Store, key broker.Key) int64 {
+	t.Helper()
+	number, err := store.Fence(context.Background(), key)
+	if err != nil {
+		t.Fatalf("Fence of %v: got %v, want no error", key, err)
+	}
+	return number
+}
+
+// wantFenced writes with a fence, and sees whether it is written.
+func wantFenced(t *testing.T, store broker.Store, key broker.Key, fence int64, isToWrite bool) {
+	t.Helper()
+	before := read(t, store, key).Entry
+	after := broker.Entry{Holding: in(t, "ready"), Description: before.Description + "x"}
+	step := func(broker.Snapshot) (*broker.Entry, error) { return &after, nil }
+	err := store.Change(context.Background(), key, fence, step)
+	if isToWrite && err != nil || !isToWrite && !errors.Is(err, broker.ErrLostLock) {
+		t.Errorf("%v with the fence %d: got %v, want %v unless it is to be written", key, fence, err, broker.ErrLostLock)
+	}
+	want := before
+	if isToWrite {
+		want = after
+	}
+	wantEntry(t, key.String(), read(t, store, key).Entry, want)
+}
+
+// Once Fence has returned, nothing is written under an older fence, also not by a Change that has begun before.
+func testFenceDuringChange(t *testing.T, open func(*testing.T) broker.NamedStore) {
+	first, second := openStore(t, open), openStore(t, open)
+	for _, key := range []broker.Key{instance(1), binding(1, 1)} {
+		old := fence(t, first, key)
+		fenced, isBefore := make(chan error, 1), false
+		err := first.Change(context.Background(), key, old, func(broker.Snapshot) (*broker.Entry, error) {
+			go func() {
+				_, err := second.Fence(context.Background(), key)
+				fenced <- err
+			}()
+			select {
+			case err := <-fenced:
+				isBefore = true
+				fenced <- err
+			case <-time.After(soon):
+			}
+			return &broker.Entry{Holding: in(t, "ready")}, nil
+		})
+		if isBefore && !errors.Is(err, broker.ErrLostLock) {
+			t.Errorf("%v: got %v from a Change that ended after Fence returned, want %v", key, err, broker.ErrLostLock)
+		}
+		if !isBefore && err != nil {
+			t.Errorf("%v: got the error %v, want none", key, err)
+		}
+		if err := <-fenced; err != nil {
+			t.Errorf("Fence of %v: got %v, want no error", key, err)
+		}
+		wantFenced(t, first, key, old, false)
 	}
 }

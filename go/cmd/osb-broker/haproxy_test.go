@@ -3,6 +3,8 @@ package main
 import (
 	"context"
 	"encoding/json"
+	"fmt"
+	"io"
 	"net"
 	"net/http"
 	"os"
@@ -22,7 +24,7 @@ type haproxy struct {
 }
 
 // behind starts HAProxy. change changes the configuration.
-func behind(t *testing.T, s *served, change func(string) string) haproxy {
+func behind(t *testing.T, s *servedBroker, change func(string) string) haproxy {
 	t.Helper()
 	program, err := exec.LookPath("haproxy")
 	if err != nil {
@@ -32,29 +34,17 @@ func behind(t *testing.T, s *served, change func(string) string) haproxy {
 		t.Skip("haproxy isn't installed (Debian: apt-get install haproxy)")
 	}
 	text, err := os.ReadFile("../../../deploy/haproxy/haproxy.cfg")
-	if err != nil {
-		t.Fatal(err)
-	}
+	check(t, err)
 	address := freeAddress(t)
-	config := string(text)
-	for pattern, with := range map[string]string{
+	config := replaceAll(t, string(text), map[string]string{
 		`bind :443 ssl .*`: "bind " + address, ` ssl verify .*`: "",
 		`(?m)^    server (two|three) .*$`: "", `192\.0\.2\.1:8443`: strings.TrimPrefix(s.url, "http://"),
-	} {
-		before := config
-		if config = regexp.MustCompile(pattern).ReplaceAllString(config, with); config == before {
-			t.Fatalf("the configuration has no %s: %s", pattern, before)
-		}
-	}
+	})
 	file := filepath.Join(t.TempDir(), "haproxy.cfg")
-	if err := os.WriteFile(file, []byte(change(config)), 0o600); err != nil {
-		t.Fatal(err)
-	}
+	check(t, os.WriteFile(file, []byte(change(config)), 0o600))
 	command := exec.Command(program, "-db", "-f", file)
 	command.Stderr = os.Stderr
-	if err := command.Start(); err != nil {
-		t.Fatal(err)
-	}
+	check(t, command.Start())
 	t.Cleanup(func() {
 		_ = command.Process.Kill()
 		_ = command.Wait()
@@ -62,11 +52,23 @@ func behind(t *testing.T, s *served, change func(string) string) haproxy {
 	h := haproxy{t, "http://" + address}
 	for late := time.Now().Add(time.Minute); h.status("127.0.0.1", password, nil) != 200; {
 		if time.Now().After(late) {
-			t.Fatal("haproxy finds no broker in a minute")
+			t.Fatal("got no broker of haproxy's in a minute, want one")
 		}
 		time.Sleep(20 * time.Millisecond)
 	}
 	return h
+}
+
+// replaceAll returns a configuration in which each of these patterns is replaced. Each of them has to be in it.
+func replaceAll(t *testing.T, config string, all map[string]string) string {
+	t.Helper()
+	for pattern, with := range all {
+		before := config
+		if config = regexp.MustCompile(pattern).ReplaceAllString(config, with); config == before {
+			t.Fatalf("the configuration: got no %s in it, want one: %s", pattern, before)
+		}
+	}
+	return config
 }
 
 // status asks for the catalogue from an address of this machine, and returns the status, or 0 without an answer.
@@ -96,8 +98,8 @@ func (h haproxy) status(from, login string, header http.Header) int {
 	return given.StatusCode
 }
 
-// rejected waits for the addresses of so many failed logins in the log.
-func (s *served) rejected(count int) (addresses []string) {
+// failedLogins waits for the addresses of so many failed logins in the log.
+func (s *servedBroker) failedLogins(count int) (addresses []string) {
 	s.t.Helper()
 	for len(addresses) < count {
 		if event := s.event("request"); event["status"] == float64(401) {
@@ -128,7 +130,7 @@ func TestBehindHAProxy(t *testing.T) {
 				}
 				want = append(want, from)
 			}
-			if got := s.rejected(2); !reflect.DeepEqual(got, want) {
+			if got := s.failedLogins(2); !reflect.DeepEqual(got, want) {
 				t.Errorf("got the addresses %v, want %v", got, want)
 			}
 			if got := h.status("127.0.0.2", password, forged); got != 200 {
@@ -146,13 +148,11 @@ func TestBehindAProxyThatIsNotTrusted(t *testing.T) {
 	if got := h.status("127.0.0.2", "wrong", http.Header{"X-Forwarded-For": {"127.0.0.2"}}); got != 401 {
 		t.Errorf("got %d, want 401", got)
 	}
-	if got := s.rejected(1); got[0] != "127.0.0.1" {
+	if got := s.failedLogins(1); got[0] != "127.0.0.1" {
 		t.Errorf("got the address %s, want that of the proxy", got[0])
 	}
 	connection, err := net.Dial("tcp", strings.TrimPrefix(s.url, "http://"))
-	if err != nil {
-		t.Fatal(err)
-	}
+	check(t, err)
 	defer connection.Close()
 	const sent = "PROXY TCP4 127.0.0.2 127.0.0.1 1 2\r\nGET /v2/catalog HTTP/1.1\r\n\r\n"
 	if _, err := connection.Write([]byte(sent)); err != nil {
@@ -165,6 +165,65 @@ func TestBehindAProxyThatIsNotTrusted(t *testing.T) {
 	s.stop()
 }
 
+// HAProxy itself, with the configuration of the guide, counts the connections of all addresses of an IPv6 network with
+// 64 bits together, as the broker does.
+func TestHAProxyCountsNetworks(t *testing.T) {
+	s := start(t, []string{password}, "--state", t.TempDir(), "--trusted-proxy", "127.0.0.1")
+	named := freeAddress(t) // where PROXY headers name the clients of HAProxy
+	behind(t, s, func(config string) string {
+		return replaceAll(t, config, map[string]string{
+			`bind .*`: "$0\n    bind " + named + " accept-proxy", `tcp-request connection`: "tcp-request session",
+		})
+	})
+	var all []net.Conn
+	for count := 0; count <= 101; count++ {
+		client := fmt.Sprintf("2001:db8::%x", count)
+		if count == 101 {
+			client = "2001:db8:0:1::" // of another network
+		}
+		all = append(all, dial(t, named))
+		_, _ = io.WriteString(all[count], "PROXY TCP6 "+client+" ::1 1 2\r\nGET /healthz HTTP/1.1\r\nHost: a\r\n\r\n") // or closed
+	}
+	answered := 0
+	for _, conn := range all[:101] {
+		count, _ := conn.Read(make([]byte, 1))
+		answered += count
+	}
+	other, _ := all[101].Read(make([]byte, 1))
+	if answered != 100 || other != 1 {
+		t.Errorf("got %d answers for one network and %d for another, want 100 and 1", answered, other)
+	}
+	s.stop()
+}
+
+// A head that arrives slowly is cut by HAProxy, however often a byte of it arrives.
+func TestHAProxyCutsSlowHeads(t *testing.T) {
+	s := start(t, []string{password}, "--state", t.TempDir(), "--trusted-proxy", "127.0.0.1")
+	h := behind(t, s, func(config string) string {
+		return replaceAll(t, config, map[string]string{`timeout http-request .*`: "timeout http-request 300ms"})
+	})
+	connection := dial(t, strings.TrimPrefix(h.url, "http://"))
+	_, err := io.WriteString(connection, "GET / HTTP/1.1\r\n")
+	for late := time.Now().Add(20 * time.Second); err == nil && time.Now().Before(late); time.Sleep(50 * time.Millisecond) {
+		_, err = io.WriteString(connection, "A: b\r\n")
+	}
+	if err == nil {
+		t.Error("HAProxy: got a head after 20 seconds, want it refused")
+	}
+	s.stop()
+}
+
+func dial(t *testing.T, address string) net.Conn {
+	t.Helper()
+	connection, err := net.Dial("tcp", address)
+	if err == nil {
+		err = connection.SetDeadline(time.Now().Add(time.Minute))
+	}
+	check(t, err)
+	t.Cleanup(func() { _ = connection.Close() }) // it may be closed already
+	return connection
+}
+
 // One address that keeps connections takes a quarter, and others are answered.
 func TestConnectionsOfOneAddress(t *testing.T) {
 	const connections = 8
@@ -173,13 +232,9 @@ func TestConnectionsOfOneAddress(t *testing.T) {
 	open := 0
 	for count := 0; count < connections; count++ {
 		connection, err := net.Dial("tcp", address)
-		if err != nil {
-			t.Fatal(err)
-		}
+		check(t, err)
 		defer connection.Close()
-		if err := connection.SetDeadline(time.Now().Add(time.Minute)); err != nil {
-			t.Fatal(err)
-		}
+		check(t, connection.SetDeadline(time.Now().Add(time.Minute)))
 		_, _ = connection.Write([]byte("GET /healthz HTTP/1.1\r\nHost: a\r\n\r\n")) // it may be closed already
 		if got, _ := connection.Read(make([]byte, 1)); got == 1 {
 			open++
@@ -193,7 +248,7 @@ func TestConnectionsOfOneAddress(t *testing.T) {
 	}
 	event, _ := json.Marshal(s.event("address_at_limit"))
 	if !strings.Contains(string(event), "127.0.0.1/32 has 2 connections") {
-		t.Errorf("the log has %s", event)
+		t.Errorf("the log: got %s, want \"127.0.0.1/32 has 2 connections\" in it", event)
 	}
 	s.stop()
 }

@@ -2,19 +2,39 @@ package main
 
 import (
 	"bufio"
+	"bytes"
+	"compress/gzip"
+	"context"
 	"encoding/base64"
+	"encoding/json"
 	"fmt"
 	"io"
+	"io/fs"
+	"math/rand"
 	"net"
 	"net/http"
+	"net/http/httptest"
+	"os"
+	"os/exec"
+	"path/filepath"
+	"reflect"
+	"regexp"
+	"strconv"
 	"strings"
+	"sync/atomic"
 	"syscall"
 	"testing"
 	"time"
+	"unicode/utf16"
+
+	"github.com/spf13/pflag"
+
+	"pippinterm/internal/httpserver/health"
+	"pippinterm/internal/logs"
 )
 
 // dial connects to the broker.
-func (s *served) dial() *net.TCPConn {
+func (s *servedBroker) dial() *net.TCPConn {
 	s.t.Helper()
 	conn, err := net.Dial("tcp", strings.TrimPrefix(s.url, "http://"))
 	if err == nil {
@@ -27,8 +47,8 @@ func (s *served) dial() *net.TCPConn {
 	return conn.(*net.TCPConn)
 }
 
-// raw sends bytes and nothing more, and returns all that comes back.
-func (s *served) raw(bytes string) string {
+// raw sends bytes and nothing more, and returns the whole answer.
+func (s *servedBroker) raw(bytes string) string {
 	s.t.Helper()
 	conn := s.dial()
 	defer conn.Close()
@@ -40,7 +60,7 @@ func (s *served) raw(bytes string) string {
 	}
 	given, err := io.ReadAll(conn)
 	if err != nil {
-		s.t.Fatalf("after %q: %v", bytes, err)
+		s.t.Fatalf("after %q: got %v, want no error", bytes, err)
 	}
 	return string(given)
 }
@@ -66,20 +86,16 @@ func TestLogHasNoPassword(t *testing.T) {
 	for _, login := range logins {
 		for _, target := range []string{"/v2/catalog", one + "/last_operation", "/nowhere"} {
 			request, err := http.NewRequest("GET", s.url+target, nil)
-			if err != nil {
-				t.Fatal(err)
-			}
+			check(t, err)
 			request.Header.Set("Authorization", login)
 			request.Header.Set("X-Broker-API-Version", "2.17")
 			if status, body := s.do(request); (status == 401) != (login != logins[0]) {
-				t.Errorf("%s: %d %s", login, status, body)
+				t.Errorf("login %s: got %d %s, want 401 for each but the first", login, status, body)
 			}
 			requests++
 		}
 	}
-	if err := s.command.Process.Signal(syscall.SIGTERM); err != nil {
-		t.Fatal(err)
-	}
+	check(t, s.command.Process.Signal(syscall.SIGTERM))
 	logged := 0
 	for line := range s.lines {
 		if strings.Contains(line, `"event":"request"`) {
@@ -91,12 +107,12 @@ func TestLogHasNoPassword(t *testing.T) {
 		}
 		for _, secret := range secrets {
 			if strings.Contains(line, secret) {
-				t.Errorf("the log has %q: %s", secret, line)
+				t.Errorf("the log: got %[2]s, want no %[1]q in it", secret, line)
 			}
 		}
 	}
 	if logged != requests {
-		t.Errorf("of %d requests, %d are in the log", requests, logged)
+		t.Errorf("got %[2]d requests in the log, want %[1]d", requests, logged)
 	}
 }
 
@@ -107,7 +123,7 @@ func TestCutRequests(t *testing.T) {
 	lengthOf := fmt.Sprintf("Content-Length: %d\r\n", len(order))
 	chunks := fmt.Sprintf("%x\r\n%s\r\n0\r\n\r\n", len(order), order)
 	const encoding = "Transfer-Encoding: chunked\r\n"
-	for _, it := range []struct {
+	for _, test := range []struct {
 		name, request string
 		isHostile     bool // whether it is rejected as a whole too
 	}{
@@ -118,23 +134,23 @@ func TestCutRequests(t *testing.T) {
 		{"two lengths", "PUT " + one + " HTTP/1.1" + headers() + lengthOf + "Content-Length: 3\r\n\r\n" + order, true},
 		{"a null byte", "PUT " + one + "\x00 HTTP/1.1" + headers() + lengthOf + "\r\n" + order, true},
 	} {
-		for cut := 0; cut <= len(it.request); cut++ {
-			if cut == len(it.request) && !it.isHostile {
+		for cut := 0; cut <= len(test.request); cut++ {
+			if cut == len(test.request) && !test.isHostile {
 				break
 			}
-			given := s.raw(it.request[:cut])
+			given := s.raw(test.request[:cut])
 			if given != "" && !strings.HasPrefix(given, "HTTP/1.1 4") && !strings.HasPrefix(given, "HTTP/1.0 4") {
-				t.Errorf("%s, cut at %d: %q", it.name, cut, given)
+				t.Errorf("%s, cut at %d: got %q, want none or a 4xx", test.name, cut, given)
 			}
 		}
 	}
 	s.expect(410, "GET", poll, "")
-	if found := sold(t, state); len(found) > 0 {
-		t.Errorf("%v was created", found)
+	if found := soldInstances(t, state); len(found) > 0 {
+		t.Errorf("got %v created, want nothing", found)
 	}
 	if _, metrics := s.plain("/metrics"); !strings.Contains(metrics, "\nosb_broker_tombstones 0\n") ||
 		!strings.Contains(metrics, "\nosb_broker_pending 0\n") {
-		t.Errorf("something is held: %s", metrics)
+		t.Errorf("the metrics: got %s, want nothing held", metrics)
 	}
 	s.expect(201, "PUT", one, order)
 	s.stop()
@@ -148,7 +164,7 @@ func TestHealthWhileAllWork(t *testing.T) {
 	g.waits()
 	for _, path := range []string{"/healthz", "/readyz", "/metrics"} {
 		if status, body := s.plain(path); status != 200 {
-			t.Errorf("%s: %d %s", path, status, body)
+			t.Errorf("%s: got %d %s, want 200", path, status, body)
 		}
 	}
 	g.open()
@@ -156,7 +172,7 @@ func TestHealthWhileAllWork(t *testing.T) {
 	s.stop()
 }
 
-// A request isn't kept waiting by bodies that come slowly, although there are more of those than --threads.
+// A request isn't kept waiting by bodies that arrive slowly, although there are more of those than --threads.
 func TestBesideSlowBodies(t *testing.T) {
 	s := start(t, []string{password}, "--state", t.TempDir(), "--threads", "1")
 	slow := make([]*bufio.ReadWriter, 20)
@@ -170,23 +186,23 @@ func TestBesideSlowBodies(t *testing.T) {
 		s.flush(slow[n], order[:9])
 	}
 	s.expect(201, "PUT", one, order)
-	for _, it := range slow {
-		s.flush(it, order[9:])
-		s.line(it, "HTTP/1.1 201 Created\r\n")
+	for _, readWriter := range slow {
+		s.flush(readWriter, order[9:])
+		s.line(readWriter, "HTTP/1.1 201 Created\r\n")
 	}
 	s.stop()
 }
 
 // line sends what is buffered, and reads a line.
-func (s *served) line(of *bufio.ReadWriter, want string) {
+func (s *servedBroker) line(of *bufio.ReadWriter, want string) {
 	s.t.Helper()
 	s.flush(of, "")
 	if line, err := of.ReadString('\n'); err != nil || line != want {
-		s.t.Fatalf("%q, %v; %q is wanted", line, err, want)
+		s.t.Fatalf("got %q, %v, want %q", line, err, want)
 	}
 }
 
-func (s *served) flush(of *bufio.ReadWriter, text string) {
+func (s *servedBroker) flush(of *bufio.ReadWriter, text string) {
 	s.t.Helper()
 	_, err := of.WriteString(text)
 	if err == nil {
@@ -197,12 +213,12 @@ func (s *served) flush(of *bufio.ReadWriter, text string) {
 	}
 }
 
-// The greatest length of a body, whether its length is told before or not.
+// The greatest length of a body, whether its length is sent before or not.
 func TestLongestBody(t *testing.T) {
 	s := start(t, []string{password}, "--state", t.TempDir(), "--longest-body", "300")
-	s.client.Transport = &http.Transport{} // the connection stays open, so the answer comes after the body
+	s.client.Transport = &http.Transport{} // the connection stays open, so the answer follows the body
 	defer s.client.CloseIdleConnections()
-	for _, it := range []struct {
+	for _, test := range []struct {
 		bytes     int
 		isChunked bool
 		status    int
@@ -210,26 +226,936 @@ func TestLongestBody(t *testing.T) {
 		{300, false, 201}, {301, false, 413}, {100_000, false, 413},
 		{300, true, 201}, {301, true, 413}, {100_000, true, 413},
 	} {
-		body := order + strings.Repeat(" ", it.bytes-len(order))
+		body := order + strings.Repeat(" ", test.bytes-len(order))
 		reader := io.Reader(strings.NewReader(body))
-		if it.isChunked {
+		if test.isChunked {
 			reader = io.MultiReader(reader) // of which the length isn't known
 		}
-		path := fmt.Sprintf("%s-%d-%v", one, it.bytes, it.isChunked)
+		path := fmt.Sprintf("%s-%d-%v", one, test.bytes, test.isChunked)
 		request, err := http.NewRequest("PUT", s.url+path, reader)
-		if err != nil {
-			t.Fatal(err)
-		}
+		check(t, err)
 		request.SetBasicAuth("platform", "secret")
 		request.Header.Set("X-Broker-API-Version", "2.17")
-		if status, body := s.do(request); status != it.status {
-			t.Errorf("%d bytes, chunked %v: %d %s, and %d is wanted", it.bytes, it.isChunked, status, body, it.status)
+		if status, body := s.do(request); status != test.status {
+			t.Errorf("%d bytes, chunked %v: got %d %s, want %d", test.bytes, test.isChunked, status, body, test.status)
 		}
 		status, _ := s.ask("GET", path+"/last_operation", "")
-		if want := map[int]int{201: 200, 413: 410}[it.status]; status != want {
-			t.Errorf("%d bytes, chunked %v: after it a poll is answered with %d, and %d is wanted",
-				it.bytes, it.isChunked, status, want)
+		if want := map[int]int{201: 200, 413: 410}[test.status]; status != want {
+			t.Errorf("a Poll after %d bytes, chunked %v: got %d, want %d", test.bytes, test.isChunked, status, want)
 		}
 	}
 	s.stop()
+}
+
+// malformedBodies are bodies that aren't JSON, or no object.
+var malformedBodies = []string{
+	"null", "true", "1", `"text"`, "[]", "[{}]", "{", "}", "{}{}", "{},", "{}x", `{"a"}`, `{"a":}`, `{"a":1,}`, "{,}",
+	`{"a":1 "b":2}`, `{'a':1}`, `{a:1}`, `{"a":1}//`, `{/**/}`, `{"a":undefined}`, `{"a":True}`, `{"a":nul}`, "--", " ",
+	"\n", "service_id=a&plan_id=b", "<a/>", "---\na: 1\n", "\xef\xbb\xbf{}", "\x00", "{}\x00", "\x1f\x8b\x08",
+}
+
+// badValues are members whose value isn't JSON, or can't be read.
+var badValues = []string{
+	"01", "-", "+1", ".5", "1.", "1e", "0x1", "1e999", "-1e999", strings.Repeat("9", 400), "NaN", "Infinity", "1_000",
+	`"\ud800"`, `"\udc00\ud800"`, `"\u00"`, `"\x41"`, `"\'"`, "\"a\nb\"", "\"a\x00b\"", "\"a\x1fb\"", "\"\xff\"",
+	"\"\xc0\x80\"", "\"\xed\xa0\x80\"", "\"\xf4\x90\x80\x80\"", `"a`, "tru", "nulL", "[1,]", "[,1]", "{\"a\":1,}",
+	strings.Repeat("[", 128) + strings.Repeat("]", 128), strings.Repeat("[", 1500),
+	strings.Repeat(`{"a":`, 128) + "1" + strings.Repeat("}", 128), strings.Repeat(`{"a":`, 300),
+}
+
+// spoiltBody is a body that can't be read.
+func spoiltBody(chance *rand.Rand, body string) string {
+	at := chance.Intn(len(body))
+	switch chance.Intn(6) {
+	case 0:
+		return pickOne(chance, malformedBodies)
+	case 1:
+		return strings.Replace(body, "{", `{"parameters":{"a":`+pickOne(chance, badValues)+`},`, 1)
+	case 2: // cut
+		return body[:at+chance.Intn(2)*(len(body)-at-1)]
+	case 3: // a byte that stands nowhere in JSON
+		return body[:at] + string([]byte{pickOne(chance, []byte{0, 1, 8, 11, 12, 14, 31, 128, 192, 255})}) + body[at:]
+	case 4:
+		return pickOne(chance, []func(string) string{inUTF16, inGzip, inBase64})(body)
+	}
+	return ""
+}
+
+func inUTF16(text string) string {
+	var long []byte
+	for _, unit := range utf16.Encode([]rune(text)) {
+		long = append(long, byte(unit>>8), byte(unit))
+	}
+	return string(long)
+}
+
+func inGzip(text string) string {
+	var packed bytes.Buffer
+	writer := gzip.NewWriter(&packed)
+	_, _ = writer.Write([]byte(text)) // a Buffer takes all
+	_ = writer.Close()
+	return packed.String()
+}
+
+func inBase64(text string) string { return base64.StdEncoding.EncodeToString([]byte(text)) }
+
+// wrongTexts are values of members that have to be ids, or texts that aren't empty.
+var wrongTexts = []string{"null", "1", "true", "{}", "[]", `""`, `["a"]`, `{"a":"b"}`}
+
+// spoilMember spoils a member that every body needs. If a member stands twice, the last counts.
+func spoilMember(chance *rand.Rand, m *message) {
+	names := []string{"service_id", "plan_id"}
+	if m.binding == "" {
+		names = append(names, "organization_guid", "space_guid")
+	}
+	name := pickOne(chance, names)
+	begin := strings.TrimSuffix(m.body, "}") + `,"`
+	switch chance.Intn(4) {
+	case 0: // twice
+		m.body = begin + name + `":` + pickOne(chance, wrongTexts) + "}"
+	case 1: // twice, with an escape in the name
+		m.body = begin + `\u00` + hexOf(name[0]) + name[1:] + `":1}`
+	case 2: // missing
+		m.body = strings.Replace(m.body, `"`+name+`"`, `"`+strings.ToUpper(name)+`"`, 1)
+	case 3: // of nothing that is sold
+		m.body = begin + pickOne(chance, names[:2]) + `":"` + pickOne(chance, notSold) + `"}`
+	}
+}
+
+func hexOf(letter byte) string { return string([]byte{'0' + letter>>4, "0123456789abcdef"[letter&15]}) }
+
+var notSold = []string{
+	"x", "*", service[1:], " " + service, service + "\\u0000", "AB" + service[2:], strings.Repeat("a", 256),
+	"../" + service, "' OR 1=1 --", "%", "\\u202e",
+}
+
+// noiseHeaders are headers that no answer depends on. The standard has no status for a wrong Content-Type or a user
+// that can't be read: the body decides, and the request is of nobody.
+var noiseHeaders = []string{
+	"Content-Type: text/plain", "Content-Type: application/json; charset=utf-16", "Content-Type:", "Content-Type: \xff",
+	"Content-Type: multipart/form-data; boundary=x", "Content-Encoding: gzip", "Content-Encoding: identity, br",
+	"Content-Language: x", "Content-MD5: x", "Content-Range: bytes 0-1/2", "Digest: SHA-256=x",
+	"Trailer: Authorization", "TE: trailers, chunked", "Accept: text/html", "Accept-Encoding: gzip;q=x",
+	"Range: bytes=0-0,-1",
+	"If-None-Match: *", "If-Match: \"x\"", "X-HTTP-Method-Override: DELETE", "X-Method-Override: PUT",
+	"X-Original-URL: /v2/catalog",
+	"X-Rewrite-URL: /healthz", "X-Forwarded-For: 127.0.0.1", "X-Forwarded-Host: evil", "Forwarded: for=_x",
+	"X-Broker-API-Originating-Identity:", "X-Broker-API-Originating-Identity: cloudfoundry",
+	"X-Broker-API-Originating-Identity: cloudfoundry !!!",
+	"X-Broker-API-Originating-Identity: cloudfoundry " + inBase64("[1]"),
+	"X-Broker-API-Originating-Identity: cloudfoundry " + inBase64(`{"a":`),
+	"X-Broker-API-Originating-Identity: cloudfoundry " + inBase64("{\"a\":\"\xff\"}"),
+	"X-Broker-API-Originating-Identity: cloudfoundry " + inBase64(`{"a":`+strings.Repeat("[", 2000)),
+	"X-Broker-API-Originating-Identity: \x1b[31m e30=", "X-Broker-API-Originating-Identity: a e30=, b e30=",
+	"X-Broker-API-Request-Identity:", "X-Broker-API-Request-Identity: " + strings.Repeat("a", 3000),
+	"X-Broker-API-Request-Identity: \u202e\xff", "X-Broker-API-Request-Identity: a\tb",
+	"Traceparent: " + strings.Repeat("0", 3000),
+	"X-Vcap-Request-Id: \"}{\"", "Cookie: a=b; a=c", "Upgrade: h2c", "Upgrade: websocket", "HTTP2-Settings: AAMAAABk",
+	"Referer: javascript:0", "User-Agent: ${jndi:ldap://x}", "Proxy: http://x", "\u00e9: x",
+}
+
+// A message is a request as its sender writes it.
+type message struct {
+	method            string
+	instance, binding string // ids as the path has them
+	isPoll            bool
+	isCatalogue       bool
+	target            string   // in place of all that the path is made of
+	query             []string // parameters
+	headers           []string // lines, beside Host, Content-Length and those of access
+	access            []string // lines, Authorization and X-Broker-API-Version
+	body              string
+}
+
+func (m message) isBind() bool   { return m.method == "PUT" && m.binding != "" }
+func (m message) isDelete() bool { return m.method == "DELETE" }
+func (m message) isPut() bool    { return m.method == "PUT" }
+
+func (m message) path() string {
+	switch {
+	case m.target != "":
+		return m.target
+	case m.isCatalogue:
+		return "/v2/catalog"
+	}
+	path := "/v2/service_instances/" + m.instance
+	if m.binding != "" {
+		path += "/service_bindings/" + m.binding
+	}
+	if m.isPoll {
+		path += "/last_operation"
+	}
+	return path
+}
+
+// text is the message in HTTP/1.1.
+func (m message) text() string {
+	line := m.method + " " + m.path()
+	if len(m.query) > 0 {
+		line += "?" + strings.Join(m.query, "&")
+	}
+	lines := append([]string{line + " HTTP/1.1", "Host: broker"}, m.access...)
+	lines = append(lines, m.headers...)
+	if m.body != "" {
+		lines = append(lines, "Content-Length: "+strconv.Itoa(len(m.body)))
+	}
+	return strings.Join(lines, "\r\n") + "\r\n\r\n" + m.body
+}
+
+var (
+	loginLine   = "Authorization: " + basic("platform", "secret")
+	versionLine = "X-Broker-API-Version: 2.17"
+	idQuery     = []string{"service_id=" + service, "plan_id=" + atOnce}
+)
+
+// validMessages are messages that are carried out, each with its status. All but the first four change something.
+// Before them, the instance kept has the bindings b and c, and the instance bare has none.
+func validMessages() map[int][]message {
+	all := map[int][]message{
+		200: {
+			{method: "GET", isCatalogue: true},
+			{method: "GET", instance: "kept", isPoll: true},
+			{method: "GET", instance: "kept", binding: "b", isPoll: true},
+			{method: "GET", instance: "kept", binding: "b"},
+			{method: "DELETE", instance: "kept", binding: "c", query: idQuery},
+			{method: "DELETE", instance: "bare", query: idQuery},
+		},
+		201: {
+			{method: "PUT", instance: "new", body: order},
+			{method: "PUT", instance: "kept", binding: "new", body: bind},
+		},
+		202: {{method: "PUT", instance: "later", query: []string{"accepts_incomplete=true"}, body: asyncOrder}},
+	}
+	for _, messages := range all {
+		for at := range messages {
+			messages[at].access = []string{loginLine, versionLine}
+		}
+	}
+	return all
+}
+
+// A spoiler makes a message one that has to be rejected.
+type spoiler struct {
+	of       func(message) bool // which messages it can spoil; nil for all
+	statuses []int              // one of them is right
+	spoil    func(*rand.Rand, *message)
+}
+
+func pickOne[T any](chance *rand.Rand, of []T) T { return of[chance.Intn(len(of))] }
+
+var spoilers = []spoiler{
+	{nil, []int{401}, func(chance *rand.Rand, m *message) {
+		m.access = append([]string{versionLine}, pickOne(chance, wrongLogins)...)
+	}},
+	{nil, []int{412}, func(chance *rand.Rand, m *message) {
+		m.access = append([]string{loginLine}, pickOne(chance, wrongVersions)...)
+	}},
+	{nil, []int{405}, func(chance *rand.Rand, m *message) { m.method = pickOne(chance, wrongMethods) }},
+	{nil, []int{400, 404}, func(chance *rand.Rand, m *message) { m.target = pickOne(chance, wrongPaths)(m.path()) }},
+	{isNamed, []int{400, 404}, spoilID},
+	{takesQuery, []int{400}, func(chance *rand.Rand, m *message) {
+		m.query = append(m.query, pickOne(chance, oddQueries)...)
+	}},
+	{message.isDelete, []int{400}, spoilQuery},
+	{message.isPut, []int{400}, func(chance *rand.Rand, m *message) { m.body = spoiltBody(chance, m.body) }},
+	{message.isPut, []int{400}, spoilMember},
+	{message.isPut, []int{413}, func(_ *rand.Rand, m *message) { m.body += strings.Repeat(" ", longestTaken) }},
+	{isLater, []int{422}, func(chance *rand.Rand, m *message) {
+		m.query = pickOne(chance, [][]string{nil, {"accepts_incomplete=false"}, {"accepts-incomplete=true"}})
+	}},
+	{message.isBind, []int{400}, func(_ *rand.Rand, m *message) {
+		m.body = strings.Replace(m.body, "{", `{"predecessor_binding_id":"b",`, 1)
+	}},
+}
+
+const longestTaken = 4096 // the length of a body that the broker takes
+
+func isNamed(m message) bool { return !m.isCatalogue }
+func isLater(m message) bool { return m.instance == "later" }
+
+// takesQuery is whether the parameter accepts_incomplete is judged: a Fetch has none.
+func takesQuery(m message) bool { return isNamed(m) && (m.method != "GET" || m.isPoll) }
+
+func authorization(values ...string) (lines []string) {
+	for _, value := range values {
+		lines = append(lines, "Authorization: "+value)
+	}
+	return lines
+}
+
+// basicHeader is a header of the Basic scheme over any bytes.
+func basicHeader(text string) string {
+	return "Basic " + base64.StdEncoding.EncodeToString([]byte(text))
+}
+
+var (
+	rightLogin  = basic("platform", "secret")
+	wrongLogins = [][]string{
+		nil, authorization(""), authorization("Basic"), authorization("Basic :"),
+		authorization("Basic  " + rightLogin[6:]),
+		authorization("Basic\t" + rightLogin[6:]), authorization("Bearer " + rightLogin[6:]),
+		authorization(rightLogin[6:]),
+		authorization("Basic platform:secret"), authorization(rightLogin[:len(rightLogin)-1]),
+		authorization(rightLogin + "="),
+		authorization(rightLogin + " x"), authorization(rightLogin[:12] + " " + rightLogin[12:]),
+		authorization(rightLogin + ", " + rightLogin),
+		authorization(rightLogin, rightLogin), authorization(rightLogin, basic("a", "b")),
+		authorization(basic("a", "b"), rightLogin),
+		authorization(basic("platform", "secre")), authorization(basic("platform", "secret ")),
+		authorization(basic("platform", "Secret")), authorization(basic("Platform", "secret")),
+		authorization(basic("platform", "")), authorization(basic("", "secret")), authorization(basic("", "")),
+		authorization(basic("secret", "platform")), authorization(basicHeader("platform:secret\x00")),
+		authorization(basicHeader("platform:secret\n")), authorization(basicHeader("\ufeffplatform:secret")),
+		authorization(basicHeader("platform\x00:secret")), authorization(basicHeader("platformsecret")),
+		authorization(basicHeader("platform:\xff\xfe")), authorization("Basic \xff\xfe"),
+		authorization(strings.ToLower(rightLogin)),
+		authorization("Basic " + strings.Repeat("QUFB", 2000)), {"Proxy-Authorization: " + rightLogin},
+		{"X-Authorization: " + rightLogin}, {"Cookie: Authorization=" + rightLogin},
+	}
+	wrongVersions = [][]string{
+		nil, {"X-Broker-API-Version:"}, {"X-Broker-API-Version: 2"}, {"X-Broker-API-Version: 2."},
+		{"X-Broker-API-Version: 3.0"}, {"X-Broker-API-Version: 1.17"}, {"X-Broker-API-Version: 2.x"},
+		{"X-Broker-API-Version: 2.-1"}, {"X-Broker-API-Version: 2.17.0"}, {"X-Broker-API-Version: 02.17"},
+		{"X-Broker-API-Version: 2,17"}, {"X-Broker-API-Version: v2.17"}, {"X-Broker-API-Version: 2.1e1"},
+		{"X-Broker-API-Version: 2.17, 2.17"}, {"X-Broker-API-Version: \u0662.17"}, {"X-Broker-API-Version: 2.17\xff"},
+		{versionLine, versionLine}, {versionLine, "X-Broker-API-Version: 3.0"}, {"X-Broker-API: 2.17"},
+		{"Broker-API-Version: 2.17"},
+	}
+	wrongMethods = []string{
+		"POST", "PATCH", "HEAD", "TRACE", "OPTIONS", "CONNECT", "BREW", "get", "put", "Put", "delete", "PUTS", "PRI",
+		"M-SEARCH",
+	}
+)
+
+// wrongPaths are paths at which there is nothing.
+var wrongPaths = []func(string) string{
+	func(path string) string { return strings.Replace(path, "/v2/", "/v3/", 1) },
+	func(path string) string { return strings.Replace(path, "/v2/", "/V2/", 1) },
+	func(path string) string { return strings.Replace(path, "/v2/", "/v2//", 1) },
+	func(path string) string { return strings.Replace(path, "/v2/", "/v2/./", 1) },
+	func(path string) string { return strings.Replace(path, "/v2/", "/v2/../v2/", 1) },
+	func(path string) string { return strings.Replace(path, "/v2/", "/v2/%2e%2e/v2/", 1) },
+	func(path string) string { return strings.Replace(path, "/v2/", "/v2%2F", 1) },
+	func(path string) string { return strings.Replace(path, "/v2/", "/%76%32/", 1) },
+	func(path string) string { return strings.Replace(path, "/v2/", "/v2;a=b/", 1) },
+	func(path string) string { return strings.Replace(path, "/v2/", "/v2\\", 1) },
+	func(path string) string { return strings.Replace(path, "/v2/", "/healthz/../v2/", 1) },
+	func(path string) string { return "/prefix" + path },
+	func(path string) string { return "/." + path },
+	func(path string) string { return "http:" + path },
+	func(path string) string { return "http://broker/x" + path },
+	func(path string) string { return path + "//" },
+	func(path string) string { return path + "/x" },
+	func(path string) string { return path + "/%2e%2e" },
+	func(path string) string { return path + "/../../catalog" },
+	func(path string) string { return path + "/last_operation/x" },
+	func(string) string { return "/" },
+	func(string) string { return "/v2" },
+	func(string) string { return "/v2/service_instances" },
+	func(string) string { return "/v2/service_instances/kept/service_bindings/b/last_operation/c" },
+	func(string) string { return "/v2/service_instances/kept/service_bindings/b%zz" },
+	func(string) string { return "/v2/service_instances/kept%" },
+	func(string) string { return "/v2/service_instances/ke\x00pt" },
+	func(string) string { return "/v2/catalog/%2e" },
+	func(string) string { return "/etc/passwd" },
+}
+
+// wrongIDs are no ids: not UTF-8 once they are decoded, too long, too short, or a step in a path.
+var wrongIDs = []string{
+	".", "..", "%2e", "%2E%2e", ".%2e", "%ff", "%c0%af", "%c0%80", "%e0%80%af", "%ed%a0%80", "%f4%90%80%80", "%e2%82",
+	"\xff", "\xc0\xaf", strings.Repeat("a", 256), strings.Repeat("%e2%82%ac", 86), strings.Repeat("%2e", 256),
+	"%2g", "%",
+}
+
+func spoilID(chance *rand.Rand, m *message) {
+	id := &m.instance
+	if m.binding != "" && chance.Intn(2) == 0 {
+		id = &m.binding
+	}
+	wrong := pickOne(chance, wrongIDs)
+	if strings.HasPrefix(strings.ToLower(wrong), "%2e") || strings.HasPrefix(wrong, ".") {
+		*id = wrong
+		return
+	}
+	at := chance.Intn(len(*id) + 1)
+	*id = (*id)[:at] + wrong + (*id)[at:]
+}
+
+// oddQueries are parameters that no request may have.
+var oddQueries = [][]string{
+	{"accepts_incomplete="}, {"accepts_incomplete"}, {"accepts_incomplete=TRUE"}, {"accepts_incomplete=1"},
+	{"accepts_incomplete=true%00"}, {"accepts_incomplete=true", "accepts_incomplete=true"},
+	{"accepts_incomplete=true", "accepts%5Fincomplete=false"}, {"accepts_incomplete=%ff"},
+}
+
+func spoilQuery(chance *rand.Rand, m *message) {
+	names := append([]string{}, m.query...)
+	at := chance.Intn(len(names))
+	name, value, _ := strings.Cut(names[at], "=")
+	names[at] = pickOne(chance, []string{
+		"", name, name + "=", name + "=" + value + "&" + name + "=" + value, name + "=" + value + "&" + name + "=x",
+		name + "=" + strings.Repeat("a", 256), strings.ToUpper(name) + "=" + value, name + "[]=" + value,
+		name + "%00=" + value, "%ff" + name + "=" + value,
+	})
+	m.query = names
+}
+
+// An inside is a broker in the process of the test, without a server.
+type inside struct {
+	t       *testing.T
+	state   string
+	handler http.Handler
+	asked   int
+}
+
+func newInside(t *testing.T) *inside {
+	t.Helper()
+	ctx, s := context.Background(), &settings{}
+	flags := pflag.NewFlagSet("", pflag.ContinueOnError)
+	s.addPlaces(flags)
+	s.addAccess(flags)
+	s.addRules(flags)
+	s.addLimits(flags)
+	it := &inside{t: t, state: t.TempDir()}
+	check(t, flags.Parse([]string{"--state", it.state, "--longest-body", strconv.Itoa(longestTaken)}))
+	t.Setenv("OSB_BROKER_PASSWORD", "secret")
+	queue := logs.NewQueue(io.Discard)
+	t.Cleanup(func() { _ = queue.Close(ctx) })
+	r := &running{settings: s, log: logs.New(queue)}
+	var err error
+	if r.access, err = accessOf(s, r.log); err != nil {
+		t.Fatal(err)
+	}
+	check(t, r.open(ctx, ctx, queue))
+	t.Cleanup(r.parts.closeAll)
+	it.handler = health.New(ctx, health.Options{
+		Ready: r.parts.store.Ready, Metrics: r.metrics.handler(), Next: r.handler,
+	})
+	return it
+}
+
+// answer returns the status and the body of the answer, and whether the broker was asked: what net/http can't read, it
+// answers by itself with 400. Each message is from another address, so that no limit of failed logins is reached.
+func (i *inside) answer(text string) (status int, body string, wasAsked bool) {
+	request, err := http.ReadRequest(bufio.NewReader(strings.NewReader(text)))
+	if err != nil {
+		return http.StatusBadRequest, "", false
+	}
+	i.asked++
+	request.RemoteAddr = fmt.Sprintf("10.0.%d.%d:1", i.asked/250, 1+i.asked%250)
+	given := httptest.NewRecorder()
+	i.handler.ServeHTTP(given, request)
+	return given.Code, given.Body.String(), true
+}
+
+// prepareState creates what the valid messages need.
+func prepareState(t *testing.T, send func(message) int) {
+	t.Helper()
+	access := []string{loginLine, versionLine}
+	for _, message := range []message{
+		{method: "PUT", instance: "kept", body: order, access: access},
+		{method: "PUT", instance: "bare", body: order, access: access},
+		{method: "PUT", instance: "ended", body: order, access: access},
+		{method: "PUT", instance: "kept", binding: "b", body: bind, access: access},
+		{method: "PUT", instance: "kept", binding: "c", body: bind, access: access},
+	} {
+		if status := send(message); status != 201 {
+			t.Fatalf("%s: got %d, want 201", message.path(), status)
+		}
+	}
+	if status := send(message{method: "DELETE", instance: "ended", query: idQuery, access: access}); status != 200 {
+		t.Fatalf("got %v, want 200", status)
+	}
+}
+
+// checkValid carries out the valid messages: those that the hostile ones were made of.
+func checkValid(t *testing.T, send func(message) int) {
+	t.Helper()
+	for status, messages := range validMessages() {
+		for _, message := range messages {
+			if got := send(message); got != status {
+				t.Errorf("%s %s: got %d, want %d", message.method, message.path(), got, status)
+			}
+		}
+	}
+}
+
+// stateOf is all that is in the folder of the state: names, kinds, modes, times and contents, but for the index of
+// SQLite's log, which readers write. Another process reads it, since closing a file of SQLite ends the locks on it.
+func stateOf(t *testing.T, folder string) string {
+	t.Helper()
+	const script = `find . ! -name '*-shm' -printf '%p %y %m %i %s %T@\n' | LC_ALL=C sort &&
+		find . -type f ! -name '*-shm' -print0 | LC_ALL=C sort -z | xargs -0 sha256sum`
+	command := exec.Command("sh", "-c", script)
+	command.Dir = folder
+	out, err := command.Output()
+	check(t, err)
+	return string(out)
+}
+
+// hostileMessage is a message that has to be rejected, with the statuses of which one is right.
+func hostileMessage(chance *rand.Rand) (message, []int) {
+	all := validMessages()
+	messages := append(append(all[200], all[201]...), all[202]...)
+	m, by := pickOne(chance, messages), pickOne(chance, spoilers)
+	for by.of != nil && !by.of(m) {
+		m, by = pickOne(chance, messages), pickOne(chance, spoilers)
+	}
+	by.spoil(chance, &m)
+	for count := chance.Intn(4); count > 0; count-- {
+		m.headers = append(m.headers, pickOne(chance, noiseHeaders))
+	}
+	return m, by.statuses
+}
+
+func isAmong(status int, statuses []int) bool {
+	for _, element := range statuses {
+		if element == status {
+			return true
+		}
+	}
+	return false
+}
+
+// isRejection is whether a body is that of a rejection.
+func isRejection(body string) bool {
+	var read struct{ Error, Description string }
+	return json.Unmarshal([]byte(body), &read) == nil && read.Error != "" && read.Description != ""
+}
+
+// Ten thousand messages, each with one thing that has to be rejected: each gets its status, and nothing is changed.
+// Those that http.ReadRequest can't read are sent to the program.
+func TestHostileRequests(t *testing.T) {
+	i, chance := newInside(t), rand.New(rand.NewSource(1))
+	send := func(m message) int { status, _, _ := i.answer(m.text()); return status }
+	prepareState(t, send)
+	before := stateOf(t, i.state)
+	found, unread := map[int]int{}, []string(nil)
+	for n := 0; n < 10_000; n++ {
+		m, statuses := hostileMessage(chance)
+		status, body, wasAsked := i.answer(m.text())
+		if wasAsked && (!isAmong(status, statuses) || !isRejection(body)) {
+			t.Fatalf("number %d: got %d %s, want one of %v, of %q", n, status, body, statuses, m.text())
+		}
+		if wasAsked {
+			found[status]++
+		} else {
+			unread = append(unread, m.text())
+		}
+	}
+	for _, status := range []int{400, 401, 404, 405, 412, 413, 422} {
+		if found[status] < 100 {
+			t.Errorf("got only %d answers with %d, want at least 100", found[status], status)
+		}
+	}
+	if after := stateOf(t, i.state); after != before {
+		t.Errorf("the state: got\n%s\nwant\n%s", after, before)
+	}
+	checkValid(t, send)
+	if len(unread) < 100 {
+		t.Errorf("got only %d that can't be read, want at least 100", len(unread))
+	}
+	rejectAll(t, unread)
+}
+
+// rejectAll sends texts to the program, each on a connection of its own. Each has to be rejected by one answer with
+// 4xx, and nothing may change.
+func rejectAll(t *testing.T, texts []string) {
+	t.Helper()
+	state := t.TempDir()
+	b := start(t, []string{password}, "--state", state, "--longest-body", strconv.Itoa(longestTaken))
+	s := &sender{servedBroker: b}
+	prepareState(t, s.status)
+	before := stateOf(t, state)
+	for _, text := range texts {
+		if statuses, given := s.exchange(text); len(statuses) != 1 || statuses[0]/100 != 4 {
+			t.Errorf("%.500q: got %v %.300s, want one 4xx", text, statuses, given)
+		}
+	}
+	if after := stateOf(t, state); after != before {
+		t.Errorf("the state: got\n%s\nwant\n%s", after, before)
+	}
+	checkValid(t, s.status)
+	s.stop()
+}
+
+// A message without a login, with bytes changed at random: it gets a 401, wherever they are, or net/http rejects it.
+func TestNobodyGetsIn(t *testing.T) {
+	i, chance := newInside(t), rand.New(rand.NewSource(1))
+	prepareState(t, func(m message) int { status, _, _ := i.answer(m.text()); return status })
+	before, asked := stateOf(t, i.state), 0
+	for n := 0; n < 5_000; n++ {
+		m, _ := hostileMessage(chance)
+		m.access = []string{versionLine, "Authorization: " + basic("platform", "wrong")}
+		text := []byte(m.text())
+		for flips := chance.Intn(6); flips > 0; flips-- {
+			text[chance.Intn(len(text))] = byte(chance.Intn(256))
+		}
+		status, body, wasAsked := i.answer(string(text))
+		if !wasAsked {
+			continue
+		}
+		if asked++; status != 401 || !isRejection(body) {
+			t.Fatalf("number %d: got %d %s of %q, want a rejection with 401", n, status, body, text)
+		}
+	}
+	if asked < 2_000 {
+		t.Errorf("got only %d questions, want at least 2000", asked)
+	}
+	if after := stateOf(t, i.state); after != before {
+		t.Errorf("the state: got\n%s\nwant\n%s", after, before)
+	}
+}
+
+// Headers on which no answer depends: a message with them is carried out as it is without them.
+func TestNoise(t *testing.T) {
+	i := newInside(t)
+	send := func(m message) int { status, _, _ := i.answer(m.text()); return status }
+	prepareState(t, send)
+	before := stateOf(t, i.state)
+	for _, header := range noiseHeaders {
+		for _, m := range validMessages()[200][:4] {
+			_, want, _ := i.answer(m.text())
+			m.headers = []string{header}
+			if status, body, wasAsked := i.answer(m.text()); wasAsked && (status != 200 || body != want) {
+				t.Errorf("with %q: got %d %s, want 200 %s", header, status, body, want)
+			}
+		}
+	}
+	if after := stateOf(t, i.state); after != before {
+		t.Errorf("the state: got\n%s\nwant\n%s", after, before)
+	}
+}
+
+// statusLine is where an answer begins. No header and no body has such a text.
+var statusLine = regexp.MustCompile(`HTTP/1\.[01] ([0-9]{3}) `)
+
+// A sender sends to a broker, each time from another address of this machine, so that no limit of failed logins is
+// reached.
+type sender struct {
+	*servedBroker
+	count atomic.Uint32
+}
+
+// exchange sends a text on a connection of its own, and returns the statuses of all answers, and their text. The broker
+// may close the connection before it has read all.
+func (s *sender) exchange(text string) (statuses []int, given string) {
+	s.t.Helper()
+	number := s.count.Add(1)
+	dialer := net.Dialer{LocalAddr: &net.TCPAddr{IP: net.IPv4(127, 1, byte(number>>8), byte(number))}}
+	conn, err := dialer.Dial("tcp", strings.TrimPrefix(s.url, "http://"))
+	if err == nil {
+		defer conn.Close()
+		err = conn.SetDeadline(time.Now().Add(20 * time.Second))
+	}
+	if err != nil {
+		s.t.Error(err)
+		return nil, ""
+	}
+	sent := make(chan struct{})
+	go func() {
+		defer close(sent)
+		_, _ = io.WriteString(conn, text)
+		_ = conn.(*net.TCPConn).CloseWrite()
+	}()
+	bytes, err := io.ReadAll(conn) // what arrived before the broker closed the connection counts
+	if timeout, is := err.(net.Error); is && timeout.Timeout() {
+		s.t.Errorf("after %.300q: got %v, want an answer in time", text, err)
+	}
+	<-sent
+	for _, found := range statusLine.FindAllSubmatch(bytes, -1) {
+		status, _ := strconv.Atoi(string(found[1])) // three digits
+		statuses = append(statuses, status)
+	}
+	return statuses, string(bytes)
+}
+
+// status sends a message on a connection of its own, and returns the status of the answer.
+func (s *sender) status(m message) int {
+	s.t.Helper()
+	m.headers = append(m.headers, "Connection: close")
+	statuses, given := s.exchange(m.text())
+	if len(statuses) != 1 {
+		s.t.Fatalf("got %d answers in %s, want 1", len(statuses), given)
+	}
+	return statuses[0]
+}
+
+const (
+	newPath     = "/v2/service_instances/new"
+	putNew      = "PUT " + newPath
+	http11      = " HTTP/1.1\r\n"
+	chunkedLine = "Transfer-Encoding: chunked\r\n"
+	closeLine   = "Connection: close\r\n"
+)
+
+var (
+	entryLines  = loginLine + "\r\n" + versionLine + "\r\n"
+	accessLines = "Host: broker\r\n" + entryLines
+	// hiddenRequest is a whole request that would change something. In another one, it must not be found.
+	hiddenRequest = message{
+		method: "DELETE", instance: "bare", query: idQuery, access: []string{loginLine, versionLine},
+	}.text()
+	newHead    = putNew + http11 + accessLines
+	headsOfAll = []string{
+		newHead,
+		"PUT /v2/service_instances/kept/service_bindings/new" + http11 + accessLines,
+		"GET /v2/service_instances/kept/last_operation" + http11 + accessLines,
+		"GET /v2/catalog" + http11 + accessLines,
+		"DELETE /v2/service_instances/bare?" + idQuery[0] + "&" + idQuery[1] + http11 + accessLines,
+	}
+	lengthLine   = "Content-Length: " + strconv.Itoa(len(order)) + "\r\n"
+	chunkedOrder = chunkOf(order) + "0\r\n\r\n"
+)
+
+func chunkOf(text string) string {
+	return strconv.FormatInt(int64(len(text)), 16) + "\r\n" + text + "\r\n"
+}
+
+// badHeads are lines, beside those of access, that make the head of a request one that has to be rejected. A body
+// follows, and a hidden request.
+func badHeads() map[int][]string {
+	return map[int][]string{
+		400: joinedLists(
+			linesOf("Transfer-Encoding:", "", " chunked, chunked", " identity", " identity, chunked",
+				" chunked, identity", " xchunked", " gzip, chunked", " \"chunked\"", " chunked\x00", " \x0bchunked",
+				"\r\n chunked",
+				"\r\n\tchunked"),
+			linesOf("Content-Length:", "", " -1", " +5", " 0x5", " 5e0", " 5 5", " 5, 5", " five",
+				" 99999999999999999999", " 9223372036854775808", " \u0665", "\r\n 5"),
+			linesOf(lengthLine+"X", "", ": a\r\n b", ": a\r\n\tb", ": a\x00b", ": a\rb", ": \x7f", " Y: a", "\x00: a",
+				"(: a"),
+			[]string{
+				lengthLine + chunkedLine, chunkedLine + lengthLine, "Content-Length: 0\r\n" + chunkedLine,
+				chunkedLine + chunkedLine,
+				chunkedLine + " x\r\n",
+				"content-length: 5\r\ntransfer-encoding: chunked\r\n", "Transfer-Encoding : chunked\r\n",
+				"Transfer-Encoding\r\n: chunked\r\n", lengthLine + lengthLine, lengthLine + "Content-Length: 0\r\n",
+				"Content-Length: 0\r\n" + lengthLine, "Content-Length : 5\r\n", lengthLine + " X: a\r\n",
+				lengthLine + "\u00e9: a\r\n",
+				lengthLine + "Host: other\r\n",
+			},
+		),
+		417: {lengthLine + "Expect: 200-ok\r\n"},
+		431: {
+			lengthLine + "X: " + strings.Repeat("a", 1<<20) + "\r\n",
+			lengthLine + strings.Repeat("a", 1<<20) + ": x\r\n",
+			lengthLine + strings.Repeat("X: a\r\n", 200_000),
+			lengthLine + strings.Repeat("X: a\r\n ", 200_000) + "\r\n",
+		},
+	}
+}
+
+// linesOf are lines that begin with the same text.
+func linesOf(begin string, ends ...string) (all []string) {
+	for _, end := range ends {
+		all = append(all, begin+end+"\r\n")
+	}
+	return all
+}
+
+func joinedLists(lists ...[]string) (all []string) {
+	for _, list := range lists {
+		all = append(all, list...)
+	}
+	return all
+}
+
+// badStarts are first lines with what follows them, before a body and a hidden request.
+func badStarts() map[int][]string {
+	return map[int][]string{
+		400: {
+			putNew + " HTTP/1.0\r\n" + accessLines + chunkedLine,
+			putNew + " HTTP/1.0\r\n" + accessLines + chunkedLine + lengthLine,
+			putNew + " HTTP/1.0\r\n" + accessLines + chunkedLine + "Connection: keep-alive\r\n",
+			putNew + " HTTP/1.2\r\n" + accessLines + chunkedLine, putNew + "\r\n" + accessLines,
+			"PUT  " + newPath + http11 + accessLines,
+			"PUT\t" + newPath + "\tHTTP/1.1\r\n" + accessLines,
+			" " + newHead, putNew + " x" + http11 + accessLines, putNew + " HTTP/1.1 x\r\n" + accessLines,
+			putNew + "\x00" + http11 + accessLines, putNew + "\x7f" + http11 + accessLines,
+			putNew + "%" + http11 + accessLines,
+			"PUT http://[::1" + newPath + http11 + accessLines, "PUT http://a b" + newPath + http11 + accessLines,
+			"PUT " + newPath[1:] + http11 + accessLines, putNew + " http/1.1\r\n" + accessLines,
+			putNew + " HTTP/1\r\n" + accessLines,
+			putNew + " HTTP/1.\r\n" + accessLines, putNew + " HTTP/-1.1\r\n" + accessLines,
+			"P(T " + newPath + http11 + accessLines,
+			"\x00" + newHead, "\xef\xbb\xbf" + newHead, http11 + accessLines, "HTTP/1.1 200 OK\r\n" + accessLines,
+			"\x16\x03\x01\x02\x00\x01\x00\x01\xfc\x03\x03\r\n", // the begin of TLS
+			putNew + http11 + entryLines, putNew + http11 + "Host: a b\r\n" + entryLines,
+			putNew + http11 + "Host: a/b\r\n" + entryLines,
+		},
+		404: {
+			"GET http://other/" + http11 + accessLines + closeLine, "OPTIONS *" + http11 + accessLines + closeLine,
+			"PRI * HTTP/2.0\r\n" + accessLines + closeLine,
+		},
+		431: {putNew + strings.Repeat("a", 1<<20) + http11 + accessLines, strings.Repeat("a", 1<<20)},
+		505: {putNew + " HTTP/3.0\r\n" + accessLines, putNew + " HTTP/2.0\r\n" + accessLines},
+	}
+}
+
+// badChunks are bodies that are broken off, or that aren't what their lengths say.
+func badChunks() []string {
+	return []string{
+		"", "5", "5\r\n{", "g\r\n{}\r\n0\r\n\r\n", "-2\r\n{}\r\n0\r\n\r\n", "+2\r\n{}\r\n0\r\n\r\n",
+		"0x2\r\n{}\r\n0\r\n\r\n", "\r\n{}\r\n0\r\n\r\n", ";\r\n{}\r\n0\r\n\r\n", "2 2\r\n{}\r\n0\r\n\r\n",
+		"2\r\n{}0\r\n\r\n", "1\r\n{}\r\n0\r\n\r\n",
+		"3\r\n{}\r\n0\r\n\r\n", "fffffffffffffffff\r\n{}\r\n0\r\n\r\n", "ffffffffffffffff\r\n{}\r\n0\r\n\r\n",
+		"8000000000000000\r\n{}\r\n0\r\n\r\n", chunkOf(order), chunkOf(order) + "0",
+		chunkOf(order) + "0\r\nX: a", chunkOf(order) + "0\r\nX",
+		"2;" + strings.Repeat("a", 1<<16) + "\r\n{}\r\n0\r\n\r\n", strings.Repeat("1;a\r\n{\r\n", 9),
+	}
+}
+
+// A smuggling is a text, and the statuses of its answers.
+type smuggling struct {
+	text     string
+	statuses []int
+}
+
+// allSmuggled are texts in which something stands that has to be rejected, with a request behind it that must not be
+// carried out, alone and behind a request that is.
+func allSmuggled() (all []smuggling) {
+	first := message{method: "GET", isCatalogue: true, access: []string{loginLine, versionLine}}.text()
+	add := func(text string, status int) {
+		all = append(all, smuggling{text, []int{status}}, smuggling{first + text, []int{200, status}})
+	}
+	for status, texts := range badHeads() {
+		for _, text := range texts {
+			body := order
+			if strings.Contains(strings.ToLower(text), "chunked") {
+				body = chunkedOrder
+			}
+			for _, target := range headsOfAll {
+				if add(target+text+"\r\n"+body+hiddenRequest, status); status == 431 {
+					break // net/http takes half a second for each
+				}
+			}
+		}
+	}
+	for status, texts := range badStarts() {
+		for _, text := range texts {
+			add(text+"\r\n"+chunkedOrder+hiddenRequest, status)
+		}
+	}
+	for _, chunk := range badChunks() {
+		add(newHead+chunkedLine+"\r\n"+chunk, 408)
+	}
+	add(newHead+"Content-Length: 9999\r\n\r\n"+hiddenRequest, 408)
+	add(newHead+chunkedLine+"\r\n"+chunkOf("{}")+"0\r\n\r\n"+hiddenRequest, 400) // no request follows chunks
+	return all
+}
+
+// What net/http judges by itself, over a socket: each connection gets its answers and no other, nothing that is hidden
+// in a request is carried out, and the broker lives.
+func TestHostileConnections(t *testing.T) {
+	state := t.TempDir()
+	b := start(t, []string{password}, "--state", state, "--longest-body", strconv.Itoa(longestTaken))
+	s := &sender{servedBroker: b}
+	prepareState(t, s.status)
+	before := stateOf(t, state)
+	slots := make(chan struct{}, 16)
+	for _, smuggling := range allSmuggled() {
+		it := smuggling
+		slots <- struct{}{}
+		go func() {
+			defer func() { <-slots }()
+			if statuses, given := s.exchange(it.text); !reflect.DeepEqual(statuses, it.statuses) {
+				t.Errorf("%.500q: got %v %.300s, want %v", it.text, statuses, given, it.statuses)
+			}
+		}()
+	}
+	for n := 0; n < cap(slots); n++ {
+		slots <- struct{}{}
+	}
+	if after := stateOf(t, state); after != before {
+		t.Errorf("the state: got\n%s\nwant\n%s", after, before)
+	}
+	checkValid(t, s.status)
+	s.stop()
+}
+
+// Some of the hostile messages over a socket: net/http has them answered as they are without it, or rejects them.
+func TestHostileMessages(t *testing.T) {
+	state, chance := t.TempDir(), rand.New(rand.NewSource(2))
+	b := start(t, []string{password}, "--state", state, "--longest-body", strconv.Itoa(longestTaken))
+	s := &sender{servedBroker: b}
+	prepareState(t, s.status)
+	before := stateOf(t, state)
+	for n := 0; n < 1_000; n++ {
+		m, statuses := hostileMessage(chance)
+		if status := s.status(m); status != 400 && !isAmong(status, statuses) {
+			t.Fatalf("number %d: got %d, want one of %v, of %q", n, status, statuses, m.text())
+		}
+	}
+	if after := stateOf(t, state); after != before {
+		t.Errorf("the state: got\n%s\nwant\n%s", after, before)
+	}
+	checkValid(t, s.status)
+	s.stop()
+}
+
+// Nobody else can read what the broker writes, whatever umask it was started with.
+func TestStateIsPrivate(t *testing.T) {
+	state := filepath.Join(t.TempDir(), "state")
+	defer syscall.Umask(syscall.Umask(0)) // the broker inherits it
+	s := start(t, []string{password}, "--state", state)
+	s.expect(201, "PUT", one, order)
+	s.expect(201, "PUT", one+"/service_bindings/b", bind)
+	found := 0
+	err := filepath.WalkDir(state, func(path string, entry fs.DirEntry, err error) error {
+		if err != nil {
+			return err
+		}
+		about, err := entry.Info()
+		if err == nil && about.Mode().Perm()&0o077 != 0 {
+			t.Errorf("%s: got the mode %v, want none for others", path, about.Mode())
+		}
+		found++
+		return err
+	})
+	if err != nil || found < 8 {
+		t.Errorf("got %d files, %v, want at least 8", found, err)
+	}
+	s.stop()
+}
+
+var (
+	nameOfTest   = regexp.MustCompile(`\bTest[A-Z]\w*`)
+	functionTest = regexp.MustCompile(`(?m)^func (Test[A-Z]\w*)\(`)
+	tableOfTests = regexp.MustCompile(`(?m)^\|.*\| test \|\n\|[-|]+\|\n((?:\|.*\n)+)`)
+)
+
+// The tests that SECURITY.md names exist, and each attack of its tables has one.
+func TestSecurityNamesTests(t *testing.T) {
+	document, err := os.ReadFile("../../../SECURITY.md")
+	check(t, err)
+	exists := map[string]bool{}
+	err = filepath.WalkDir("../..", func(path string, _ fs.DirEntry, err error) error {
+		if err != nil || !strings.HasSuffix(path, "_test.go") {
+			return err
+		}
+		text, err := os.ReadFile(path)
+		for _, found := range functionTest.FindAllSubmatch(text, -1) {
+			exists[string(found[1])] = true
+		}
+		return err
+	})
+	check(t, err)
+	named := nameOfTest.FindAllString(string(document), -1)
+	for _, name := range named {
+		if !exists[name] {
+			t.Errorf("got no %s, want one", name)
+		}
+	}
+	if len(named) < 40 {
+		t.Errorf("got only %d tests named, want at least 40", len(named))
+	}
+	for _, table := range tableOfTests.FindAllStringSubmatch(string(document), -1) {
+		for _, row := range strings.Split(strings.TrimSpace(table[1]), "\n") {
+			cells := strings.Split(row, " | ")
+			if !nameOfTest.MatchString(cells[len(cells)-1]) {
+				t.Errorf("this attack: got no test, want one: %s", row)
+			}
+		}
+	}
 }

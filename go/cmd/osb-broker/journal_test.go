@@ -21,22 +21,18 @@ import (
 func eventsIn(t *testing.T, folder string) (all []string) {
 	t.Helper()
 	paths, err := filepath.Glob(filepath.Join(folder, "*"))
-	if err != nil {
-		t.Fatal(err)
-	}
+	check(t, err)
 	for _, path := range paths {
 		text, err := os.ReadFile(path)
-		if err != nil {
-			t.Fatal(err)
-		}
+		check(t, err)
 		var events []string
-		for _, it := range strings.Split(strings.TrimSuffix(string(text), "\n"), "\n") {
+		for _, line := range strings.Split(strings.TrimSuffix(string(text), "\n"), "\n") {
 			var read struct {
 				Event, Call, Stage string
 				Doubtful           bool
 			}
-			if err := json.Unmarshal([]byte(it), &read); err != nil {
-				t.Fatalf("%s: %q: %v", path, it, err)
+			if err := json.Unmarshal([]byte(line), &read); err != nil {
+				t.Fatalf("%s: %q: got the error %v, want none", path, line, err)
 			}
 			switch {
 			case read.Event == "work":
@@ -61,21 +57,21 @@ const (
 // A folder gets a file for each run. With SIGTERM the journal ends with stopped.
 func TestJournal(t *testing.T) {
 	state, folder := t.TempDir(), t.TempDir()
-	for _, it := range []struct{ method, path, body, want string }{
+	for _, test := range []struct{ method, path, body, want string }{
 		{"PUT", one, order, creating}, {"DELETE", one + names, "", deleting},
 	} {
 		s := start(t, []string{password}, "--state", state, "--journal", folder)
-		if status, body := s.ask(it.method, it.path, it.body); status > 201 {
-			t.Fatal(status, body)
+		if status, body := s.ask(test.method, test.path, test.body); status > 201 {
+			t.Fatalf("got %d %s, want 201 or less", status, body)
 		}
 		s.stop()
 		files := eventsIn(t, folder)
-		if want := "started, " + it.want + ", stopped"; files[len(files)-1] != want {
-			t.Errorf("%s; want %s", files[len(files)-1], want)
+		if want := "started, " + test.want + ", stopped"; files[len(files)-1] != want {
+			t.Errorf("got %s, want %s", files[len(files)-1], want)
 		}
 	}
 	if files := eventsIn(t, folder); len(files) != 2 {
-		t.Errorf("%q", files)
+		t.Errorf("got the files %q, want two", files)
 	}
 }
 
@@ -85,16 +81,14 @@ func TestJournalAfterAKill(t *testing.T) {
 	for n := 0; n < 2; n++ {
 		s := start(t, []string{password}, "--state", state, "--journal", file)
 		if status, body := s.ask("PUT", one, order); status > 201 {
-			t.Fatal(status, body)
+			t.Fatalf("got %d %s, want 201 or less", status, body)
 		}
-		if err := s.command.Process.Kill(); err != nil {
-			t.Fatal(err)
-		}
+		check(t, s.command.Process.Kill())
 		_ = s.command.Wait()
 	}
 	got := eventsIn(t, filepath.Dir(file))
 	if want := "started, " + creating + ", started, arrived, answered"; len(got) != 1 || got[0] != want {
-		t.Errorf("%q; want %q", got, want)
+		t.Errorf("got %q, want %q", got, want)
 	}
 }
 
@@ -105,31 +99,30 @@ func TestJournalTaken(t *testing.T) {
 	for place, says := range map[string]string{
 		file: "--journal: " + file + ": another process writes this journal", "/nowhere/journal": "--journal: open /nowhere",
 	} {
-		ended(t, 78, says, osbBroker([]string{password}, "serve", "--state", t.TempDir(), "--listen", "127.0.0.1:0",
-			"--journal", place))
+		t.Run(place, func(t *testing.T) {
+			runToEnd(t, 78, says, osbBroker([]string{password}, "serve", "--state", t.TempDir(), "--listen", "127.0.0.1:0",
+				"--journal", place))
+		})
 	}
 }
 
 // Without --journal nothing is wrapped, and no time is sent.
 func TestNoJournal(t *testing.T) {
 	parts := &parts{store: &ownStore{}, backend: &ownBackend{}}
-	with, err := (&running{settings: &settings{}, parts: parts}).journaled(nil)
+	with, err := (&running{settings: &settings{}, parts: parts}).withJournal(nil)
 	if err != nil || with.store != broker.Store(parts.store) || with.backend != parts.backend || with.journal != nil {
-		t.Errorf("%+v, %v", with, err)
+		t.Errorf("got %+v and the error %v, want the parts as they are", with, err)
 	}
 	for _, arguments := range [][]string{nil, {"--journal", t.TempDir()}} {
 		s := start(t, []string{password}, append([]string{"--state", t.TempDir()}, arguments...)...)
 		request, err := newOrder(s.url)
-		if err != nil {
-			t.Fatal(err)
-		}
+		check(t, err)
 		given, err := s.client.Do(request)
-		if err != nil {
-			t.Fatal(err)
-		}
+		check(t, err)
 		_ = given.Body.Close()
 		if got := given.Header.Get(journalfile.Header); given.StatusCode != 201 || (got == "") != (arguments == nil) {
-			t.Errorf("%v: %d, %q", arguments, given.StatusCode, got)
+			t.Errorf("with %v: got %d and the time %q, want 201, and a time with a journal alone",
+				arguments, given.StatusCode, got)
 		}
 	}
 }
@@ -166,7 +159,7 @@ func TestJournalOfAFullStore(t *testing.T) {
 	events := eventsIn(t, folder)[0]
 	failed := strings.Index(events, "changed, undone doubtful, answered, ")
 	if status != 500 || failed < 0 || !strings.HasSuffix(events, creating+", stopped") || strings.Contains(events, "lost") {
-		t.Errorf("status %d: %s", status, events)
+		t.Errorf("got the status %d and %s, want 500 and a creation that is stopped", status, events)
 	}
 }
 
@@ -177,7 +170,7 @@ func TestDoubtful(t *testing.T) {
 		broker.ErrLostLock: false, broker.ErrLostWork: false, sqlitefile.ErrBusy: false, pg.ErrNotBegun: false,
 	} {
 		if got := isDoubtful(broker.Away(fmt.Errorf("it has failed: %w", err))); got != want {
-			t.Errorf("%v: %v", err, got)
+			t.Errorf("%v: got %v, want %v", err, got, want)
 		}
 	}
 }

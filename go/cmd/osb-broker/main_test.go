@@ -3,20 +3,27 @@ package main
 import (
 	"bufio"
 	"bytes"
+	"context"
 	"crypto/tls"
 	"encoding/json"
 	"fmt"
 	"io"
+	"net"
 	"net/http"
 	"os"
 	"os/exec"
 	"os/signal"
 	"path/filepath"
+	"reflect"
 	"regexp"
 	"strings"
 	"syscall"
 	"testing"
 	"time"
+
+	"pippinterm/broker"
+	"pippinterm/broker/sqlite"
+	"pippinterm/internal/diff"
 )
 
 // The test binary is the program too.
@@ -39,8 +46,8 @@ func osbBroker(environment []string, arguments ...string) *exec.Cmd {
 
 const password = "OSB_BROKER_PASSWORD=secret"
 
-// A served is a broker that serves.
-type served struct {
+// A servedBroker is a broker that serves.
+type servedBroker struct {
 	t       *testing.T
 	command *exec.Cmd
 	lines   chan string
@@ -50,20 +57,16 @@ type served struct {
 }
 
 // start starts a broker at a free port, and waits until it serves.
-func start(t *testing.T, environment []string, arguments ...string) *served {
+func start(t *testing.T, environment []string, arguments ...string) *servedBroker {
 	t.Helper()
-	s := &served{
+	s := &servedBroker{
 		t: t, command: osbBroker(environment, append([]string{"serve", "--listen", "127.0.0.1:0"}, arguments...)...),
 		lines:  make(chan string, 10_000),
 		client: &http.Client{Timeout: time.Minute, Transport: &http.Transport{DisableKeepAlives: true}},
 	}
 	stderr, err := s.command.StderrPipe()
-	if err != nil {
-		t.Fatal(err)
-	}
-	if err := s.command.Start(); err != nil {
-		t.Fatal(err)
-	}
+	check(t, err)
+	check(t, s.command.Start())
 	t.Cleanup(func() {
 		_ = s.command.Process.Kill()
 		_ = s.command.Wait()
@@ -79,31 +82,31 @@ func start(t *testing.T, environment []string, arguments ...string) *served {
 }
 
 // event waits for a line of the log with this event.
-func (s *served) event(name string) map[string]any {
+func (s *servedBroker) event(name string) map[string]any {
 	s.t.Helper()
 	late := time.After(time.Minute)
 	for {
 		select {
 		case line, isOpen := <-s.lines:
 			if !isOpen {
-				s.t.Fatalf("it has ended without %s", name)
+				s.t.Fatalf("got an end without %s, want it", name)
 			}
 			s.seen = append(s.seen, line)
 			var read map[string]any
 			if err := json.Unmarshal([]byte(line), &read); err != nil {
-				s.t.Fatalf("a line isn't JSON: %q", line)
+				s.t.Fatalf("a line: got %q, want JSON", line)
 			}
 			if read["event"] == name {
 				return read
 			}
 		case <-late:
-			s.t.Fatalf("there is no %s in the log", name)
+			s.t.Fatalf("the log: got no %s in time, want one", name)
 		}
 	}
 }
 
 // ask sends a request of the platform, and returns the status and the body.
-func (s *served) ask(method, path, body string) (int, string) {
+func (s *servedBroker) ask(method, path, body string) (int, string) {
 	s.t.Helper()
 	request, err := http.NewRequest(method, s.url+path, strings.NewReader(body))
 	if err != nil {
@@ -114,7 +117,7 @@ func (s *served) ask(method, path, body string) (int, string) {
 	return s.do(request)
 }
 
-func (s *served) do(request *http.Request) (int, string) {
+func (s *servedBroker) do(request *http.Request) (int, string) {
 	s.t.Helper()
 	given, err := s.client.Do(request)
 	if err != nil {
@@ -129,18 +132,18 @@ func (s *served) do(request *http.Request) (int, string) {
 }
 
 // stop sends SIGTERM, and waits for status 0.
-func (s *served) stop() {
+func (s *servedBroker) stop() {
 	s.t.Helper()
 	if err := s.command.Process.Signal(syscall.SIGTERM); err != nil {
 		s.t.Fatal(err)
 	}
 	if ended := s.event("stopped"); ended["all_work_ended"] != true {
-		s.t.Errorf("%v", ended)
+		s.t.Errorf("got %v, want that all work has ended", ended)
 	}
 	for range s.lines { // until it ends
 	}
 	if err := s.command.Wait(); err != nil {
-		s.t.Errorf("after SIGTERM: %v", err)
+		s.t.Errorf("after SIGTERM: got %v, want no error", err)
 	}
 }
 
@@ -158,26 +161,26 @@ func TestServe(t *testing.T) {
 	state := t.TempDir()
 	s := start(t, []string{password}, "--state", state)
 	if status, body := s.ask("PUT", one, order); status != 201 {
-		t.Fatal(status, body)
+		t.Fatalf("got %d %s, want 201", status, body)
 	}
 	status, bound := s.ask("PUT", one+"/service_bindings/b", bind)
 	if status != 201 || !strings.Contains(bound, "token") {
-		t.Fatal(status, bound)
+		t.Fatalf("got %d %s, want 201 and a token", status, bound)
 	}
 	s.stop()
 	s = start(t, []string{password}, "--state", state, "--existing")
 	if status, body := s.ask("GET", one+"/service_bindings/b", ""); status != 200 || body != bound {
-		t.Error(status, body)
+		t.Errorf("got %d %s, want 200 %s", status, body, bound)
 	}
 	for _, path := range []string{one + "/service_bindings/b", one} {
 		if status, body := s.ask("DELETE", path+names, ""); status != 200 {
-			t.Error(status, body)
+			t.Errorf("got %d %s, want 200", status, body)
 		}
 	}
 	s.stop()
 	for _, pattern := range []string{"instances/*-*", "instances/.bindings/*", "instances/.part-*"} {
 		if left, err := filepath.Glob(filepath.Join(state, pattern)); err != nil || len(left) > 0 {
-			t.Error(left, err)
+			t.Errorf("got %v left, %v, want none", left, err)
 		}
 	}
 }
@@ -188,12 +191,10 @@ func TestUnusable(t *testing.T) {
 	empty := t.TempDir()
 	file := func(name, text string) string {
 		path := filepath.Join(empty, name)
-		if err := os.WriteFile(path, []byte(text), 0o600); err != nil {
-			t.Fatal(err)
-		}
+		check(t, os.WriteFile(path, []byte(text), 0o600))
 		return path
 	}
-	for _, it := range []struct {
+	for _, test := range []struct {
 		status                 int
 		environment, arguments []string
 		says                   string
@@ -225,16 +226,16 @@ func TestUnusable(t *testing.T) {
 		{78, nil, []string{"rekey", "--backend", "folder"}, "postgresql://"},
 	} {
 		var stderr bytes.Buffer
-		command := osbBroker(it.environment, it.arguments...)
+		command := osbBroker(test.environment, test.arguments...)
 		command.Stderr = &stderr
 		_ = command.Run()
 		text := stderr.String()
 		isLine := strings.HasPrefix(text, "osb-broker: ") && strings.Count(text, "\n") == 1
-		if got := command.ProcessState.ExitCode(); got != it.status || !isLine || !strings.Contains(text, it.says) {
-			t.Errorf("%v: status %d, %q, want %d and %q", it.arguments, got, text, it.status, it.says)
+		if got := command.ProcessState.ExitCode(); got != test.status || !isLine || !strings.Contains(text, test.says) {
+			t.Errorf("%v: got the status %d, %q, want %d and %q", test.arguments, got, text, test.status, test.says)
 		}
 		if strings.Contains(text, "secret") || strings.Contains(text, ":pw@") {
-			t.Errorf("%v shows a secret: %q", it.arguments, text)
+			t.Errorf("%v: got a secret in %q, want none", test.arguments, text)
 		}
 	}
 }
@@ -244,7 +245,7 @@ func TestUnavailable(t *testing.T) {
 	command := osbBroker([]string{password}, "serve", "--state", t.TempDir(), "--store", "postgresql://u@127.0.0.1:1/d")
 	out, _ := command.CombinedOutput()
 	if command.ProcessState.ExitCode() != 75 {
-		t.Errorf("status %d: %s", command.ProcessState.ExitCode(), out)
+		t.Errorf("got the status %d and %s, want 75", command.ProcessState.ExitCode(), out)
 	}
 }
 
@@ -252,14 +253,15 @@ func TestUnavailable(t *testing.T) {
 func TestRekeyTakesAShortKey(t *testing.T) {
 	file := filepath.Join(t.TempDir(), "new")
 	for key, status := range map[string]int{strings.Repeat("k", 32): 75, "short": 78} {
-		if err := os.WriteFile(file, []byte(key), 0o600); err != nil {
-			t.Fatal(err)
-		}
-		command := osbBroker([]string{"OSB_BACKEND_KEY=hunter2"}, "rekey", "--backend", "postgresql://u@127.0.0.1:1/d",
-			"--new-key-file", file)
-		if out, _ := command.CombinedOutput(); command.ProcessState.ExitCode() != status {
-			t.Errorf("a new key of %d bytes: status %d: %s", len(key), command.ProcessState.ExitCode(), out)
-		}
+		t.Run(fmt.Sprint(len(key), " bytes"), func(t *testing.T) {
+			check(t, os.WriteFile(file, []byte(key), 0o600))
+			command := osbBroker([]string{"OSB_BACKEND_KEY=hunter2"}, "rekey", "--backend", "postgresql://u@127.0.0.1:1/d",
+				"--new-key-file", file)
+			if out, _ := command.CombinedOutput(); command.ProcessState.ExitCode() != status {
+				t.Errorf("a new key of %d bytes: got the status %d and %s, want %d", len(key), command.ProcessState.ExitCode(), out,
+					status)
+			}
+		})
 	}
 }
 
@@ -269,12 +271,10 @@ func TestHealth(t *testing.T) {
 		"/healthz": `"ok"`, "/readyz": `"ok"`, "/metrics": "osb_broker_requests_total",
 	} {
 		request, err := http.NewRequest("GET", s.url+path, nil)
-		if err != nil {
-			t.Fatal(err)
-		}
+		check(t, err)
 		s.ask("GET", "/v2/catalog", "")
 		if status, body := s.do(request); status != 200 || !strings.Contains(body, text) {
-			t.Errorf("%s: %d %.100s", path, status, body)
+			t.Errorf("%s: got %d %.100s, want 200 and its text", path, status, body)
 		}
 	}
 	s.stop()
@@ -285,12 +285,12 @@ func TestKey(t *testing.T) {
 	key := func() string {
 		out, err := osbBroker(nil, "key").Output()
 		if err != nil || !regexp.MustCompile(`^[A-Za-z0-9_-]{43}\n$`).Match(out) {
-			t.Errorf("%q, %v", out, err)
+			t.Errorf("got %q and the error %v, want a key", out, err)
 		}
 		return string(out)
 	}
 	if first, second := key(), key(); first == second {
-		t.Error("two keys are the same")
+		t.Error("two keys: got the same one, want two")
 	}
 }
 
@@ -302,7 +302,7 @@ func TestTLS(t *testing.T) {
 		line := []string{"req", "-x509", "-newkey", "ec", "-pkeyopt", "ec_paramgen_curve:prime256v1", "-nodes",
 			"-days", "1", "-subj", "/CN=" + name, "-keyout", key, "-out", certificate}
 		if out, err := exec.Command("openssl", line...).CombinedOutput(); err != nil {
-			t.Fatalf("openssl: %v: %s", err, out)
+			t.Fatalf("openssl: got %v and %s, want no error", err, out)
 		}
 	}
 	make("first")
@@ -316,15 +316,13 @@ func TestTLS(t *testing.T) {
 	}
 	transport.TLSClientConfig = &tls.Config{InsecureSkipVerify: true, VerifyConnection: remember}
 	if status, _ := s.ask("GET", "/v2/catalog", ""); status != 200 || seen != "first" {
-		t.Error(status, seen)
+		t.Errorf("got %d and %q, want 200 and \"first\"", status, seen)
 	}
 	make("second")
-	if err := s.command.Process.Signal(syscall.SIGHUP); err != nil {
-		t.Fatal(err)
-	}
+	check(t, s.command.Process.Signal(syscall.SIGHUP))
 	s.event("certificates_reloaded")
 	if status, _ := s.ask("GET", "/v2/catalog", ""); status != 200 || seen != "second" {
-		t.Error(status, seen)
+		t.Errorf("got %d and %q, want 200 and \"second\"", status, seen)
 	}
 }
 
@@ -339,9 +337,7 @@ case $1 in
     *) exit 5 ;;
 esac
 `
-	if err := os.WriteFile(script, []byte(text), 0o700); err != nil {
-		t.Fatal(err)
-	}
+	check(t, os.WriteFile(script, []byte(text), 0o700))
 	s := start(t, []string{password}, "--state", folder, "--backend", "command:"+script)
 	status := make(chan int, 1)
 	go func() {
@@ -355,7 +351,7 @@ esac
 	}
 	s.stop()
 	if given := <-status; given != 201 {
-		t.Error(given)
+		t.Errorf("got %v, want 201", given)
 	}
 }
 
@@ -369,4 +365,443 @@ func Example_help() {
 func catalogueWith(members string) []byte {
 	return []byte(`{"services": [{"id": "s", "name": "shelf", "description": "d", "bindable": true, ` + members +
 		` "plans": [{"id": "p", "name": "small", "description": "d"}]}]}`)
+}
+
+// unusable runs the program, and checks that it ends with status 78 and this text.
+func unusable(t *testing.T, says string, arguments ...string) {
+	t.Helper()
+	var stderr bytes.Buffer
+	command := osbBroker([]string{password}, arguments...)
+	command.Stderr = &stderr
+	_ = command.Run()
+	if command.ProcessState.ExitCode() != 78 || !strings.Contains(stderr.String(), says) {
+		t.Errorf("%v: got the status %d, %q, want 78 and %q", arguments, command.ProcessState.ExitCode(), stderr.String(),
+			says)
+	}
+}
+
+// An address that another process uses ends it, whichever of the two addresses that is.
+func TestAddressInUse(t *testing.T) {
+	used, err := net.Listen("tcp", "127.0.0.1:0")
+	check(t, err)
+	defer used.Close()
+	address := used.Addr().String()
+	says := ": can't listen: listen tcp4 " + address + ": bind: address already in use. "
+	unusable(t, "--listen "+address+says+"Stop", "serve", "--state", t.TempDir(), "--listen", address)
+	unusable(t, "--listen "+address+says+"A program has this address alone: stop it", "serve", "--state", t.TempDir(),
+		"--listen", address, "--share-port")
+	unusable(t, "--health-listen "+address+says, "serve", "--state", t.TempDir(), "--listen", "127.0.0.1:0",
+		"--health-listen", address)
+}
+
+// Folders of another store, and a store of other folders, end it. The broker whose they are starts again.
+func TestTiedToAnother(t *testing.T) {
+	state, other := t.TempDir(), t.TempDir()
+	s := start(t, []string{password}, "--state", state)
+	s.expect(201, "PUT", one, order)
+	s.stop()
+	const says = "the store and the backend don't belong together"
+	unusable(t, says, "serve", "--state", other, "--backend", filepath.Join(state, "instances"))
+	unusable(t, says, "serve", "--state", state, "--backend", filepath.Join(other, "folders"))
+	unusable(t, says, "serve", "--state", state, "--backend", "command:/bin/true")
+	s = start(t, []string{password}, "--state", state, "--existing")
+	s.expect(200, "PUT", one, order)
+	s.stop()
+}
+
+// --existing begins no store, and leaves nothing behind by which a later start would find one.
+func TestExistingBeginsNothing(t *testing.T) {
+	state := t.TempDir()
+	for round := 0; round < 2; round++ {
+		unusable(t, "--existing", "serve", "--state", state, "--existing")
+	}
+	for _, name := range []string{"holdings.sqlite", "instances/.owner"} {
+		if _, err := os.Lstat(filepath.Join(state, name)); err == nil {
+			t.Errorf("got %s, want no such file", name)
+		}
+	}
+}
+
+// --existing wants the folder of a command backend as it was used before. The store alone isn't enough.
+func TestExistingCommand(t *testing.T) {
+	state := t.TempDir()
+	own := filepath.Join(state, "command")
+	sold := []string{"--state", state, "--backend", "command:/bin/true"}
+	start(t, []string{password}, sold...).stop()
+	sold = append(sold, "--existing")
+	start(t, []string{password}, sold...).stop()
+	isMissing := func() { // the broker can't listen at that address, so it ends in any case
+		t.Helper()
+		unusable(t, own+" has no file .locks", append([]string{"serve", "--listen", "192.0.2.1:1"}, sold...)...)
+	}
+	check(t, os.Rename(own, own+".elsewhere"))
+	isMissing()
+	if err := os.Mkdir(own, 0o700); err != nil { // where the disk is mounted
+		t.Fatal(err)
+	}
+	isMissing()
+	if found, err := os.ReadDir(own); len(found) != 0 || err != nil {
+		t.Errorf("the folder: got %v and %v, want none and no error", found, err)
+	}
+}
+
+// The password of a database depends on the key and on the id, and on nothing else.
+func TestPassword(t *testing.T) {
+	const key = "a key that is long enough for a broker"
+	file := filepath.Join(t.TempDir(), "key")
+	check(t, os.WriteFile(file, []byte(key+"\n"), 0o600))
+	of := func(key, id string, arguments ...string) string {
+		t.Helper()
+		out, err := osbBroker([]string{"OSB_BACKEND_KEY=" + key}, append([]string{"password", id}, arguments...)...).Output()
+		if err != nil || len(bytes.TrimSpace(out)) < 40 || bytes.Count(out, []byte("\n")) != 1 {
+			t.Errorf("of %q: got %q, %v, want one line of a password", id, out, err)
+		}
+		return string(out)
+	}
+	const lower, upper = "aaaaaaaa-0000-0000-0000-000000000001", "AAAAAAAA-0000-0000-0000-000000000001"
+	first := of(key, lower)
+	for name, again := range map[string]string{
+		"the key of a file": of("", lower, "--backend-key-file", file),
+		"once more":         of(key, lower),
+	} {
+		if again != first {
+			t.Errorf("%s: got the password %q, want %q", name, again, first)
+		}
+	}
+	others := map[string]string{first: lower}
+	for id, given := range map[string]string{
+		"another key":            of(key+"!", lower),
+		upper:                    of(key, upper),
+		"a text":                 of(key, "a text"),
+		"../é/":                  of(key, "../é/"),
+		strings.Repeat("a", 255): of(key, strings.Repeat("a", 255)),
+	} {
+		if other, isSame := others[given]; isSame {
+			t.Errorf("%q and %q: got the same password, want two", id, other)
+		}
+		others[given] = id
+	}
+	for _, id := range []string{"", strings.Repeat("a", 256)} {
+		unusable(t, "can't be the id of an instance", "password", id, "--backend-key-file", file)
+	}
+}
+
+// Many processes open a new store at once: all can, and there is one store then. None can listen, so each ends then.
+func TestManyOpenANewStore(t *testing.T) {
+	state := t.TempDir()
+	errors := make([]bytes.Buffer, 12)
+	running := make([]*exec.Cmd, len(errors))
+	for n := range running {
+		running[n] = osbBroker([]string{password}, "serve", "--state", state, "--listen", "192.0.2.1:1")
+		running[n].Stderr = &errors[n]
+		check(t, running[n].Start())
+	}
+	for n, cmd := range running {
+		_ = cmd.Wait()
+		if !strings.HasPrefix(errors[n].String(), "osb-broker: --listen 192.0.2.1:1: ") {
+			t.Errorf("got the status %d and %s, want an error that begins with the address", cmd.ProcessState.ExitCode(),
+				errors[n].String())
+		}
+	}
+	s := start(t, []string{password}, "--state", state, "--existing")
+	s.expect(201, "PUT", one, order)
+	s.stop()
+}
+
+// A store with a command backend has one state folder, in which the locks are, and a state folder has one store. The
+// store of an earlier version, which had no name of its own, is tied at the first start.
+func TestStateFolderOfACommandIsTied(t *testing.T) {
+	for _, isOld := range []bool{false, true} {
+		top := t.TempDir()
+		if isOld {
+			store, err := sqlite.Open(context.Background(), filepath.Join(top, "store"), broker.Silent{})
+			if err == nil {
+				_, err = store.Begin(context.Background(), broker.Untied)
+			}
+			if err == nil {
+				err = store.Close()
+			}
+			check(t, err)
+		}
+		over := func(state, store string) []string {
+			return []string{"--state", filepath.Join(top, state), "--store", filepath.Join(top, store),
+				"--backend", "command:/bin/true"}
+		}
+		first := start(t, []string{password}, over("st1", "store")...)
+		start(t, []string{password}, over("st1", "store")...).stop()
+		refused := func(says, state, store string) {
+			t.Helper()
+			unusable(t, says, append([]string{"serve", "--listen", "192.0.2.1:1"}, over(state, store)...)...)
+		}
+		refused("Run all brokers of the store on one machine, with the --state", "st2", "store")
+		refused("the name of the store to "+filepath.Join(top, "st2/command/.owner"), "st2", "store")
+		refused("Choose another --state for this store", "st1", "other")
+		first.stop()
+		refused("Run all brokers of the store on one machine, with the --state", "st2", "store")
+		start(t, []string{password}, append(over("st1", "store"), "--existing")...).stop()
+		owner, err := os.ReadFile(filepath.Join(top, "st1/command/.owner"))
+		if err == nil {
+			err = os.WriteFile(filepath.Join(top, "st2/command/.owner"), owner, 0o600)
+		}
+		check(t, err)
+		start(t, []string{password}, over("st2", "store")...).stop()
+	}
+}
+
+// A state folder that other accounts can write to is reported.
+func TestOpenStateFolder(t *testing.T) {
+	for mode, isOpen := range map[os.FileMode]bool{0o777: true, 0o770: true, 0o755: false, 0o700: false} {
+		state := t.TempDir()
+		check(t, os.Chmod(state, mode))
+		s := start(t, []string{password}, "--state", state)
+		s.stop()
+		warned := false
+		for _, line := range s.seen {
+			warned = warned || strings.Contains(line, `"event":"folder_open"`) && strings.Contains(line, state)
+		}
+		if warned != isOpen {
+			t.Errorf("a state folder of mode %o is reported: got %v, want %v", mode, warned, isOpen)
+		}
+	}
+}
+
+// Without TLS the log warns of each address but one of this machine alone.
+func TestIsLoopback(t *testing.T) {
+	for address, want := range map[string]bool{
+		"127.0.0.1:1": true, "127.9.9.9:1": true, "[::1]:1": true, "0.0.0.0:1": false, "[::]:1": false, "192.0.2.1:1": false,
+	} {
+		t.Run(address, func(t *testing.T) {
+			resolved, err := net.ResolveTCPAddr("tcp", address)
+			check(t, err)
+			if got := isLoopback(resolved); got != want {
+				t.Errorf("got %v, want %v", got, want)
+			}
+		})
+	}
+}
+
+// The warning is logged before the broker serves.
+func TestWarningWithoutTLS(t *testing.T) {
+	command := osbBroker([]string{password}, "serve", "--state", t.TempDir(), "--listen", "0.0.0.0:0",
+		"--health-listen", "192.0.2.1:1") // it can't listen there, so it ends
+	out, _ := command.CombinedOutput()
+	if !hasEvent(out, "no_tls") {
+		t.Errorf("got no warning in %s, want one", out)
+	}
+	command = osbBroker([]string{password}, "serve", "--state", t.TempDir(), "--listen", "127.0.0.1:0",
+		"--health-listen", "192.0.2.1:1")
+	if out, _ = command.CombinedOutput(); hasEvent(out, "no_tls") {
+		t.Errorf("this machine: got a warning in %s, want none", out)
+	}
+}
+
+// Each user with a password that can be guessed is named in a warning, once and without the password. No other user is.
+func TestWarningOfShortPasswords(t *testing.T) {
+	const long = "0123456789abcdef"
+	file := filepath.Join(t.TempDir(), "users")
+	text := "one:short-1\none:short-2\ntwo:" + long + "\nthree:0123456789abcde\n"
+	check(t, os.WriteFile(file, []byte(text), 0o600))
+	command := osbBroker(nil, "serve", "--state", t.TempDir(), "--listen", "127.0.0.1:0", "--users-file", file,
+		"--health-listen", "192.0.2.1:1") // it can't listen there, so it ends
+	out, _ := command.CombinedOutput()
+	var users []string
+	for _, line := range strings.Split(string(out), "\n") {
+		var read struct{ Event, Level, User string }
+		if json.Unmarshal([]byte(line), &read) == nil && read.Event == "short_password" {
+			users = append(users, read.Level+" "+read.User)
+		}
+	}
+	if want := []string{"warning one", "warning three"}; !reflect.DeepEqual(users, want) {
+		t.Errorf("got %q, want %q: %s", users, want, out)
+	}
+	if strings.Contains(string(out), "short-") || strings.Contains(string(out), "0123456789") {
+		t.Errorf("the log: got %s, want no password in it", out)
+	}
+}
+
+// hasEvent is whether a log has a line with this event.
+func hasEvent(log []byte, name string) bool {
+	for _, line := range strings.Split(string(log), "\n") {
+		var read struct{ Event string }
+		if json.Unmarshal([]byte(line), &read) == nil && read.Event == name {
+			return true
+		}
+	}
+	return false
+}
+
+// plain asks without a login.
+func (s *servedBroker) plain(path string) (int, string) {
+	s.t.Helper()
+	request, err := http.NewRequest("GET", s.url+path, nil)
+	if err != nil {
+		s.t.Fatal(err)
+	}
+	return s.do(request)
+}
+
+// expect asks, and checks the status. It returns the body.
+func (s *servedBroker) expect(status int, method, path, body string) string {
+	s.t.Helper()
+	given, got := s.ask(method, path, body)
+	if given != status {
+		s.t.Fatalf("%s %s: got %d %s, want %d", method, path, given, got, status)
+	}
+	return got
+}
+
+// soldInstances are the instances that exist as folders.
+func soldInstances(t *testing.T, state string) []string {
+	t.Helper()
+	found, err := filepath.Glob(filepath.Join(state, "instances", "*-*"))
+	check(t, err)
+	return found
+}
+
+// The asynchronous plan of the standard catalogue. Its creation begins with the first poll.
+func TestPlanByWorker(t *testing.T) {
+	state := t.TempDir()
+	s := start(t, []string{password}, "--state", state, "--sweep-seconds", "0.01")
+	s.expect(422, "PUT", one, asyncOrder)
+	s.expect(202, "PUT", one+async, asyncOrder)
+	if _, metrics := s.plain("/metrics"); !strings.Contains(metrics, "\nosb_broker_waiting 1\n") {
+		t.Errorf("the metrics: got %s, want one that waits for the first Poll", metrics)
+	}
+	if found := soldInstances(t, state); len(found) > 0 {
+		t.Errorf("before the first poll: got %v, want none", found)
+	}
+	s.until(200, "succeeded", "GET", poll, "")
+	if found := soldInstances(t, state); len(found) != 1 {
+		t.Errorf("got %v, want one instance", found)
+	}
+	s.expect(200, "PUT", one+async, asyncOrder)
+	bound := s.expect(201, "PUT", one+"/service_bindings/b"+async, `{"service_id":"`+service+`","plan_id":"`+byWorker+`"}`)
+	if !strings.Contains(bound, "token") {
+		t.Errorf("got %q, want \"token\" in it", bound)
+	}
+	s.expect(200, "DELETE", one+"/service_bindings/b"+asyncNames+"&accepts_incomplete=true", "")
+	s.expect(422, "DELETE", one+asyncNames, "")
+	s.expect(202, "DELETE", one+asyncNames+"&accepts_incomplete=true", "")
+	s.until(410, "", "GET", poll, "")
+	if found := soldInstances(t, state); len(found) > 0 {
+		t.Errorf("got %v left, want none", found)
+	}
+	s.stop()
+}
+
+const ownCatalogue = `{"x-own": {"a": [1.50]}, "services": [
+	{"id": "AAAAAAAA-0000-0000-0000-0000000000a0", "name": "own", "description": "d", "bindable": false, "plans": [
+		{"id": "00000000-0000-0000-0000-0000000000b1", "name": "one", "description": "d", "x-own": true},
+		{"id": "00000000-0000-0000-0000-0000000000bB", "name": "two", "description": "d"}]}]}`
+
+func ownFile(t *testing.T) string {
+	t.Helper()
+	path := filepath.Join(t.TempDir(), "catalogue")
+	check(t, os.WriteFile(path, []byte(ownCatalogue), 0o600))
+	return path
+}
+
+// A catalogue of one's own is served as it is, and says that the broker keeps tombstones, and of which store it is. The
+// store keeps its id over restarts, and no two have the same.
+func TestOwnCatalogue(t *testing.T) {
+	state, stores := t.TempDir(), map[any]bool{}
+	for _, folder := range []string{state, state, t.TempDir()} {
+		s := start(t, []string{password}, "--state", folder, "--catalog", ownFile(t))
+		got, want := map[string]any{}, map[string]any{}
+		check(t, json.Unmarshal([]byte(ownCatalogue), &want))
+		check(t, json.Unmarshal([]byte(s.expect(200, "GET", "/v2/catalog", "")), &got))
+		want["x-osb-tombstones"], want["x-osb-store"] = true, got["x-osb-store"]
+		diff.Check(t, got, want, "the catalogue that is served")
+		if id, _ := got["x-osb-store"].(string); len(id) != 36 {
+			t.Errorf("the store: got %v, want a GUID", got["x-osb-store"])
+		}
+		stores[got["x-osb-store"]] = true
+		s.stop()
+	}
+	if len(stores) != 2 {
+		t.Errorf("the ids of two stores: got %v, want 2", stores)
+	}
+}
+
+// GUIDs in upper case are other ids than the same ones in lower case. The log warns of them.
+func TestGUIDInUpperCase(t *testing.T) {
+	for _, test := range []struct {
+		arguments []string
+		ids       []any
+	}{
+		{nil, nil},
+		{[]string{"--catalog", ownFile(t)},
+			[]any{"AAAAAAAA-0000-0000-0000-0000000000a0", "00000000-0000-0000-0000-0000000000bB"}},
+	} {
+		t.Run(fmt.Sprint(test.arguments), func(t *testing.T) {
+			// It can't listen there, so it ends after it has read the catalogue.
+			line := append([]string{"serve", "--state", t.TempDir(), "--listen", "192.0.2.1:1"}, test.arguments...)
+			out, _ := osbBroker([]string{password}, line...).CombinedOutput()
+			var ids []any
+			for _, text := range strings.Split(string(out), "\n") {
+				var read struct {
+					Event string
+					IDs   []any
+				}
+				if json.Unmarshal([]byte(text), &read) == nil && read.Event == "guid_in_upper_case" {
+					ids = read.IDs
+				}
+			}
+			if !strings.Contains(string(out), "osb-broker: --listen") || !reflect.DeepEqual(ids, test.ids) {
+				t.Errorf("%v: got %s, want %v", test.arguments, out, test.ids)
+			}
+		})
+	}
+}
+
+// Both plans of the example: instances and bindings over a script.
+func TestExampleDatabases(t *testing.T) {
+	const examples, id = "../../../examples/broker/", "11111111-0000-0000-0000-0000000000"
+	state := t.TempDir()
+	s := start(t, []string{password}, "--state", state, "--sweep-seconds", "0.01",
+		"--catalog", examples+"own-catalogue.json", "--backend", "command:"+examples+"databases")
+	for plan, isAsync := range map[string]bool{"b1": false, "b2": true} {
+		instance := "/v2/service_instances/of-" + plan
+		binding := instance + "/service_bindings/b"
+		ids := `{"service_id":"` + id + `a0","plan_id":"` + id + plan + `"`
+		query := async + "&service_id=" + id + "a0&plan_id=" + id + plan
+		created, deleted := 201, 200
+		if isAsync {
+			created, deleted = 202, 202
+		}
+		s.expect(created, "PUT", instance+async, ids+`,"organization_guid":"o","space_guid":"s"}`)
+		s.until(200, "succeeded", "GET", instance+"/last_operation", "")
+		s.expect(created, "PUT", binding+async, ids+"}")
+		s.until(200, "succeeded", "GET", binding+"/last_operation", "")
+		var bound struct {
+			Credentials struct{ Database, Token string }
+		}
+		text := s.expect(200, "GET", binding, "")
+		if err := json.Unmarshal([]byte(text), &bound); err != nil || bound.Credentials.Token == "" {
+			t.Errorf("the binding: got %s, %v, want a token", text, err)
+		}
+		path := filepath.Join(state, "command", bound.Credentials.Database)
+		if _, err := os.Stat(path); err != nil {
+			t.Error(err)
+		}
+		if again := s.expect(200, "PUT", binding+async, ids+"}"); again != text {
+			t.Errorf("the binding: got %s, want %s", again, text)
+		}
+		s.expect(deleted, "DELETE", binding+query, "")
+		s.until(410, "", "GET", binding+"/last_operation", "")
+		s.expect(deleted, "DELETE", instance+query, "")
+		s.until(410, "", "GET", instance+"/last_operation", "")
+	}
+	s.stop()
+	if left, err := filepath.Glob(filepath.Join(state, "command", "*-*")); err != nil || len(left) > 0 {
+		t.Errorf("got %v left, %v, want none", left, err)
+	}
+}
+
+// check ends the test at an error.
+func check(t testing.TB, err error) {
+	t.Helper()
+	if err != nil {
+		t.Fatal(err)
+	}
 }

@@ -18,7 +18,6 @@ import (
 	pgstore "pippinterm/broker/postgres"
 	"pippinterm/broker/sqlite"
 	"pippinterm/internal/cli"
-	"pippinterm/internal/filelock"
 	"pippinterm/internal/logs"
 	"pippinterm/internal/pg"
 	"pippinterm/internal/secrets"
@@ -115,7 +114,7 @@ func (p *parts) openBackend(ctx context.Context, s *settings, log *logs.Logger) 
 		p.backend, err = command.New(ctx, name, options)
 		var called *command.CallError
 		if errors.As(err, &called) && called.MayPass {
-			return cli.Unavailable(wrapped("the backend can't be used", err))
+			return cli.Unavailable(wrap("the backend can't be used", err))
 		}
 		return ofFiles("the backend can't be used", err)
 	}
@@ -226,7 +225,7 @@ func (p *parts) openLocks(s *settings) (err error) {
 		p.locks = backend.Locks()
 		return nil
 	}
-	p.locks, err = filelock.New(filepath.Join(s.state, ".locks"))
+	p.locks, err = broker.NewFileLocks(filepath.Join(s.state, ".locks"))
 	return ofFiles("the locks can't be used", err)
 }
 
@@ -268,7 +267,7 @@ func withoutPassword(url string) error {
 
 // ofFiles is the error of files of this machine: an operator has to change something, unless it may be over later.
 func ofFiles(what string, err error) error {
-	err = wrapped(what, err)
+	err = wrap(what, err)
 	if sqlitefile.MayPass(err) {
 		return cli.Unavailable(err)
 	}
@@ -278,7 +277,7 @@ func ofFiles(what string, err error) error {
 // away is the error of a server: it may be back later, unless an operator has to change something.
 func away(what string, err error) error {
 	remedy, isLasting := pg.Remedy(err)
-	err = wrapped(what, err)
+	err = wrap(what, err)
 	switch {
 	case isLasting && remedy != "":
 		return cli.Unusable(fmt.Errorf("%w. %s", err, remedy))
@@ -296,7 +295,7 @@ func isOfNetwork(err error) bool {
 	return errors.As(err, &failed)
 }
 
-func wrapped(what string, err error) error {
+func wrap(what string, err error) error {
 	if err == nil {
 		return nil
 	}

@@ -9,19 +9,22 @@ import (
 	"os"
 	"os/signal"
 	"runtime/debug"
+	"strings"
 	"syscall"
 	"time"
 
 	"pippinterm/broker"
-	"pippinterm/cmd/osb-broker/metrics"
+	"pippinterm/broker/journal"
 	"pippinterm/internal/cli"
 	"pippinterm/internal/cli/notify"
 	"pippinterm/internal/crash"
 	"pippinterm/internal/httpserver"
 	"pippinterm/internal/httpserver/health"
 	"pippinterm/internal/httpserver/limiter"
-	"pippinterm/internal/journalfile"
 	"pippinterm/internal/logs"
+	"pippinterm/internal/pg"
+	"pippinterm/internal/secrets"
+	"pippinterm/internal/sqlitefile"
 )
 
 // A running is a broker that serves, or is about to.
@@ -29,16 +32,16 @@ type running struct {
 	settings *settings
 	log      *logs.Logger
 	observer broker.Observer
-	metrics  *metrics.Metrics
+	metrics  *metrics
 	parts    *parts
 	main     *httpserver.Listener
 	handler  *broker.Handler
 	health   *health.Handler
 	sweeper  *broker.Sweeper
 	access   *access
-	journal  *journalfile.Writer // or nil
-	isCut    bool                // whether work goes on once serve has returned
-	work     context.Context     // of the work, which endWork breaks off
+	journal  *journal.Writer // or nil
+	isCut    bool            // whether work goes on once serve has returned
+	work     context.Context // of the work, which endWork breaks off
 	endWork  context.CancelFunc
 }
 
@@ -86,14 +89,14 @@ func serve(ctx context.Context, s *settings, stderr io.Writer) error {
 // open opens everything but access, and what serve begins.
 func (r *running) open(ctx, stop context.Context, queue *logs.Queue) (err error) {
 	s := r.settings
-	r.metrics = metrics.New(metrics.Options{
-		DroppedLines: queue.Dropped, LostJournalLines: r.lostLines, Connections: r.connections,
+	r.metrics = newMetrics(metricsOptions{
+		DroppedLines: queue.DroppedLines, LostJournalLines: r.lostLines, Connections: r.connections,
 	})
-	r.observer = returns{cli.Observers(logs.Observer(r.log), r.metrics), r.log}
+	r.observer = returns{observers{logObserver{r.log}, r.metrics}, r.log}
 	if r.parts, err = partsOf(stop, s, r.log, r.observer); err != nil {
 		return err
 	}
-	r.metrics.AddStore(ctx, r.parts.store)
+	r.metrics.addStore(ctx, r.parts.store)
 	defer func() {
 		if err != nil {
 			r.parts.closeAll()
@@ -123,7 +126,7 @@ func (r *running) open(ctx, stop context.Context, queue *logs.Queue) (err error)
 // openService makes the service, and what calls it.
 func (r *running) openService(ctx context.Context, catalogue *broker.Catalogue) error {
 	s := r.settings
-	with, err := r.journaled(catalogue)
+	with, err := r.withJournal(catalogue)
 	if err != nil {
 		return err
 	}
@@ -227,7 +230,7 @@ func (r *running) sites(ctx context.Context) ([]httpserver.Site, error) {
 	var err error
 	r.main, err = httpserver.Listen(ctx, s.listen, httpserver.Options{
 		Connections: s.connections, PerAddress: s.perAddress, TrustedProxies: s.trustedProxies, Share: s.sharePort,
-		Certificates: certificates, Observer: r.observer,
+		Certificates: certificates, Observer: broker.ServerObserver(r.observer),
 	})
 	if err != nil {
 		return nil, cli.Unusable(fmt.Errorf("--listen %s: %w", s.listen, err))
@@ -239,10 +242,12 @@ func (r *running) sites(ctx context.Context) ([]httpserver.Site, error) {
 	if err := httpserver.CheckFiles(s.files()); err != nil {
 		return nil, cli.Unusable(err)
 	}
-	options := health.Options{Ready: r.parts.store.Ready, Metrics: r.metrics.Handler(), Observer: r.observer}
+	options := health.Options{Ready: r.parts.store.Ready, Metrics: r.metrics.handler(), NotReady: r.notReady}
 	if s.healthListen != "" {
 		r.health = health.New(ctx, options)
-		other, err := httpserver.Listen(ctx, s.healthListen, httpserver.Options{Connections: 100, Observer: r.observer})
+		other, err := httpserver.Listen(ctx, s.healthListen, httpserver.Options{
+			Connections: 100, Observer: broker.ServerObserver(r.observer),
+		})
 		if err != nil {
 			return nil, cli.Unusable(fmt.Errorf("--health-listen %s: %w", s.healthListen, err))
 		}
@@ -251,6 +256,11 @@ func (r *running) sites(ctx context.Context) ([]httpserver.Site, error) {
 	options.Next = r.handler
 	r.health = health.New(ctx, options)
 	return []httpserver.Site{{Listener: r.main, Handler: r.health}}, nil
+}
+
+// notReady reports why the store can't be used.
+func (r *running) notReady(err error) {
+	r.observer.OnFailure(broker.Failure{Event: "not_ready", Err: err})
 }
 
 // Of the files that may be open at once:
@@ -272,12 +282,165 @@ func (s *settings) files() uint64 {
 // atOnce is how many calls of the backend may be under way at once.
 func (s *settings) atOnce() int { return s.threads + broker.MostRuns(s.workers) }
 
-// locksAtOnce is how many of the threads may wait for a lock at once. They are fewer than those that may do work, so that
-// a silent server of the locks leaves some, which answer at once.
+// locksAtOnce is how many of the threads may wait for a lock at once. They are fewer than those that may do work, so
+// that a silent server of the locks leaves some, which answer at once.
 func (s *settings) locksAtOnce() int { return (s.threads + 1) / 2 }
 
 // isLoopback is whether only this machine reaches an address.
 func isLoopback(address net.Addr) bool {
 	tcp, ok := address.(*net.TCPAddr)
 	return ok && tcp.IP.IsLoopback()
+}
+
+// An access is how platforms reach the broker. Its files can be read again while it is in use.
+type access struct {
+	settings     *settings
+	log          *logs.Logger
+	users        *broker.Users
+	short        []string                 // the users whose passwords could be guessed at the start
+	certificates *httpserver.Certificates // nil without TLS
+}
+
+// accessOf reads the passwords and the certificates of the settings.
+func accessOf(s *settings, log *logs.Logger) (*access, error) {
+	a := &access{settings: s, log: log}
+	passwords, err := a.passwords()
+	if err != nil {
+		return nil, cli.Unusable(err)
+	}
+	a.short = secrets.Short(passwords)
+	if a.users, err = broker.NewUsers(passwords); err != nil {
+		return nil, cli.Unusable(err)
+	}
+	if s.certificate == "" && s.key == "" && s.clientCA == "" {
+		return a, nil
+	}
+	a.certificates, err = httpserver.LoadCertificates(httpserver.CertificateFiles{
+		Certificate: s.certificate, Key: s.key, ClientCA: s.clientCA,
+	})
+	return a, cli.Unusable(err)
+}
+
+// reloadAt reads the files again for each signal, until ctx is done. What can't be read stays as it was.
+func (a *access) reloadAt(ctx context.Context, signals <-chan os.Signal) {
+	for {
+		select {
+		case <-signals:
+			a.reload()
+		case <-ctx.Done():
+			return
+		}
+	}
+}
+
+func (a *access) reload() {
+	if a.settings.usersFile != "" || a.settings.passwordFile != "" {
+		a.report("users", a.reloadUsers())
+	}
+	if a.certificates != nil {
+		a.report("certificates", a.certificates.Reload())
+	}
+}
+
+func (a *access) reloadUsers() error {
+	passwords, err := a.passwords()
+	if err != nil {
+		return err
+	}
+	if err := a.users.Replace(passwords); err != nil {
+		return err
+	}
+	a.warn(secrets.Short(passwords))
+	return nil
+}
+
+// report logs the result of reading again.
+func (a *access) report(what string, err error) {
+	if err != nil {
+		a.log.Error(what + "_not_reloaded").Err(err).Send()
+		return
+	}
+	a.log.Info(what + "_reloaded").Send()
+}
+
+// warn logs a warning of each of these users, whose passwords can be guessed.
+func (a *access) warn(short []string) {
+	for _, user := range short {
+		a.log.Warning("short_password").Str("user", user).Int("fewer_bytes_than", secrets.ShortestPassword).Send()
+	}
+}
+
+// passwords reads the passwords of each user, and logs a warning if others can read their file.
+func (a *access) passwords() (map[string][]string, error) {
+	all, warning, err := passwordsOf(a.settings)
+	if warning != "" {
+		a.log.Warning("secret").Str("warning", warning).Send()
+	}
+	return all, err
+}
+
+func passwordsOf(s *settings) (map[string][]string, string, error) {
+	if s.usersFile != "" {
+		if s.passwordFile != "" {
+			return nil, "", errors.New("give --users-file or --password-file, and not both")
+		}
+		return secrets.Users(s.usersFile)
+	}
+	if s.user == "" || strings.Contains(s.user, ":") {
+		return nil, "", errors.New("--user wants a name without a colon")
+	}
+	passwords, warning, err := secrets.Passwords("OSB_BROKER_PASSWORD", s.passwordFile)
+	return map[string][]string{s.user: passwords}, warning, wrap("the platform's password", err)
+}
+
+// serviceParts are what a service is made of, and the journal of its requests, or nil.
+type serviceParts struct {
+	store   broker.Store
+	backend broker.Backend
+	journal broker.Journal
+}
+
+// withJournal returns the parts, which write the journal if there is one.
+func (r *running) withJournal(catalogue *broker.Catalogue) (serviceParts, error) {
+	s := r.settings
+	with := serviceParts{store: r.parts.store, backend: r.parts.backend}
+	if s.journal == "" {
+		return with, nil
+	}
+	started, err := journal.StartMembers(cli.Version(), catalogue.Document(), s.rules(), r.parts.locks.CanBeLost())
+	if err != nil {
+		return with, err
+	}
+	r.journal, err = journal.Open(journal.Options{
+		Path: s.journal, Most: int64(s.journalSize) << 20, Started: started, Failed: r.journalFailed,
+	})
+	if err != nil {
+		return with, ofFiles("--journal", err)
+	}
+	to := journal.New(r.journal, isDoubtful)
+	return serviceParts{store: to.Store(with.store), backend: to.Backend(with.backend), journal: to}, nil
+}
+
+// isDoubtful is whether a change that has failed with an error may have been committed.
+func isDoubtful(err error) bool {
+	return errors.Is(err, pg.ErrUnknownCommit) || errors.Is(err, sqlitefile.ErrUnknownCommit)
+}
+
+func (r *running) journalFailed(err error) {
+	r.observer.OnFailure(broker.Failure{Event: "journal_failed", Err: fmt.Errorf("lines are lost: %w", err)})
+}
+
+// lostLines are the lines of the journal that couldn't be written.
+func (r *running) lostLines() uint64 {
+	if r.journal == nil {
+		return 0
+	}
+	return r.journal.LostLines()
+}
+
+// closeJournal ends the journal, unless work goes on: then it ends as after a crash.
+func (r *running) closeJournal() {
+	if r.journal != nil && !r.isCut {
+		r.journal.Close()
+	}
 }

@@ -1,7 +1,11 @@
 package main
 
 import (
+	"bufio"
 	"bytes"
+	"fmt"
+	"io"
+	"net"
 	"net/http"
 	"os"
 	"path/filepath"
@@ -51,7 +55,7 @@ func (g *gate) check(err error) {
 }
 
 // start starts a broker over the backend. It sweeps often.
-func (g *gate) start(arguments ...string) *served {
+func (g *gate) start(arguments ...string) *servedBroker {
 	g.t.Helper()
 	all := append([]string{
 		"--state", g.state, "--backend", "command:" + g.backend, "--sweep-seconds", "0.02", "--first-poll=false",
@@ -80,7 +84,7 @@ func (g *gate) in20Seconds(call func() error) {
 	case err := <-done:
 		g.check(err)
 	case <-time.After(time.Minute):
-		g.t.Fatal("the backend's create doesn't run")
+		g.t.Fatal("the backend's create: got no run in a minute, want one")
 	}
 }
 
@@ -93,7 +97,7 @@ func (g *gate) count() int {
 }
 
 // until asks again until the status is this one, and the body has the text.
-func (s *served) until(status int, text, method, path, body string) {
+func (s *servedBroker) until(status int, text, method, path, body string) {
 	s.t.Helper()
 	for end := time.Now().Add(time.Minute); ; time.Sleep(5 * time.Millisecond) {
 		given, got := s.ask(method, path, body)
@@ -101,7 +105,7 @@ func (s *served) until(status int, text, method, path, body string) {
 			return
 		}
 		if time.Now().After(end) {
-			s.t.Fatalf("%s %s: %d %s; %d and %s are wanted", method, path, given, got, status, text)
+			s.t.Fatalf("%s %s: got %d %s, want %d and %s", method, path, given, got, status, text)
 		}
 	}
 }
@@ -119,30 +123,30 @@ func TestStopWaitsForAnOperation(t *testing.T) {
 	g := newGate(t)
 	s := g.start()
 	if status, body := s.ask("PUT", one+async, asyncOrder); status != 202 {
-		t.Fatal(status, body)
+		t.Fatalf("got %d %s, want 202", status, body)
 	}
 	g.waits()
 	g.check(s.command.Process.Signal(syscall.SIGTERM))
 	s.event("stopping")
 	g.open()
 	if ended := s.event("operation_ended"); ended["succeeded"] != true {
-		t.Errorf("%v", ended)
+		t.Errorf("got %v, want an operation that has succeeded", ended)
 	}
 	if stopped := s.event("stopped"); stopped["all_work_ended"] != true {
-		t.Errorf("%v", stopped)
+		t.Errorf("got %v, want that all work has ended", stopped)
 	}
 	for range s.lines { // until it ends
 	}
 	if err := s.command.Wait(); err != nil {
-		t.Errorf("after SIGTERM: %v", err)
+		t.Errorf("after SIGTERM: got %v, want no error", err)
 	}
 	s = g.start("--existing")
 	if status, body := s.ask("GET", poll, ""); status != 200 || !strings.Contains(body, "succeeded") {
-		t.Error(status, body)
+		t.Errorf("got %d %s, want 200 and succeeded", status, body)
 	}
 	s.stop()
 	if count := g.count(); count != 1 {
-		t.Errorf("create was called %d times", count)
+		t.Errorf("create: got %d calls, want 1", count)
 	}
 }
 
@@ -151,17 +155,17 @@ func TestStopDoesNotWaitForEver(t *testing.T) {
 	g := newGate(t)
 	s := g.start("--stop-seconds", "0.1")
 	if status, body := s.ask("PUT", one+async, asyncOrder); status != 202 {
-		t.Fatal(status, body)
+		t.Fatalf("got %d %s, want 202", status, body)
 	}
 	g.waits()
 	g.check(s.command.Process.Signal(syscall.SIGTERM))
 	if stopped := s.event("stopped"); stopped["all_work_ended"] != false {
-		t.Errorf("%v", stopped)
+		t.Errorf("got %v, want that not all work has ended", stopped)
 	}
 	for range s.lines { // until it ends
 	}
 	if err := s.command.Wait(); err != nil {
-		t.Errorf("after SIGTERM: %v", err)
+		t.Errorf("after SIGTERM: got %v, want no error", err)
 	}
 	s = g.start("--existing")
 	g.waits() // the create was killed, and begins again
@@ -189,13 +193,13 @@ func TestKilledInsideCreate(t *testing.T) {
 					g.waits()
 				}
 				if status, body := s.ask("GET", poll, ""); status != 200 || !strings.Contains(body, "in progress") {
-					t.Error(status, body)
+					t.Errorf("got %d %s, want 200 and in progress", status, body)
 				}
 				g.open()
 				s.until(200, "succeeded", "GET", poll, "")
 				s.stop()
 				if count := g.count(); (count == 1) != livesOn {
-					t.Errorf("create was called %d times", count)
+					t.Errorf("create: got %d calls, want 1 exactly if the process lives on", count)
 				}
 			})
 		}
@@ -225,8 +229,8 @@ func (g *gate) killCreate() {
 	g.check(syscall.Kill(number, syscall.SIGKILL))
 }
 
-// send sends a request whose answer may never come.
-func (s *served) send(method, path, body string) {
+// send sends a request whose answer may never arrive.
+func (s *servedBroker) send(method, path, body string) {
 	s.t.Helper()
 	request, err := http.NewRequest(method, s.url+path, strings.NewReader(body))
 	if err != nil {
@@ -239,4 +243,157 @@ func (s *served) send(method, path, body string) {
 			_ = given.Body.Close()
 		}
 	}()
+}
+
+// A platform that sends all of a body before it reads gets the answer that the body is too long, however the length is
+// reported. Otherwise the broker would close the connection while the platform still sends, and the platform would see
+// only that.
+func TestAnswerToALongBodyArrives(t *testing.T) {
+	s := start(t, []string{password}, "--state", t.TempDir(), "--longest-body", "300")
+	const length = 8 << 20
+	body := order + strings.Repeat(" ", length-len(order))
+	chunk := fmt.Sprintf("%x\r\n%s\r\n", length/8, body[:length/8])
+	for name, request := range map[string]string{
+		"a length":                    fmt.Sprintf("Content-Length: %d\r\n\r\n", length) + body,
+		"a length, of a last request": fmt.Sprintf("Connection: close\r\nContent-Length: %d\r\n\r\n", length) + body,
+		"chunks":                      "Transfer-Encoding: chunked\r\n\r\n" + strings.Repeat(chunk, 8) + "0\r\n\r\n",
+	} {
+		t.Run(name, func(t *testing.T) {
+			conn := s.dial()
+			if _, err := io.WriteString(conn, "PUT "+one+" HTTP/1.1"+headers()+request); err != nil {
+				t.Fatalf("the body: got %v, want no error", err)
+			}
+			answer, err := http.ReadResponse(bufio.NewReader(conn), nil)
+			check(t, err)
+			defer answer.Body.Close()
+			text, err := io.ReadAll(answer.Body)
+			if answer.StatusCode != 413 || err != nil || !strings.Contains(string(text), "longer than 300 bytes") {
+				t.Errorf("got %s %s and the error %v, want 413 and the longest length", answer.Status, text, err)
+			}
+		})
+	}
+	s.stop()
+}
+
+const (
+	asynchronous = "00000000-0000-0000-0000-0000000000b2"
+	orderLater   = `{"service_id":"` + service + `","plan_id":"` + asynchronous +
+		`","organization_guid":"o","space_guid":"s"}`
+)
+
+// --wait-for-poll ends a creation for which no Poll arrives. Without a Poll, the broker looks at it as often as
+// --sweep-seconds says.
+func TestWaitForPoll(t *testing.T) {
+	for _, test := range []struct {
+		seconds string
+		fails   bool
+	}{{"0.2", true}, {"600", false}} {
+		t.Run(test.seconds+" seconds", func(t *testing.T) {
+			s := start(t, []string{password}, "--state", t.TempDir(), "--wait-for-poll", test.seconds, "--sweep-seconds", "0.1")
+			s.expect(202, "PUT", one+"?accepts_incomplete=true", orderLater)
+			if !test.fails {
+				s.expect(200, "GET", one+"/last_operation", "")
+				if ended := s.event("operation_ended"); ended["succeeded"] != true {
+					t.Errorf("got %v, want an operation that has succeeded", ended)
+				}
+				s.stop()
+				return
+			}
+			if found := s.event("creation_timed_out"); found["instance"] == "" || found["error"] == "" {
+				t.Errorf("got %v, want an instance and an error", found)
+			}
+			status, body := s.ask("GET", one+"/last_operation", "")
+			if status != 200 || !strings.Contains(body, `"failed"`) || !strings.Contains(body, "No Poll") {
+				t.Errorf("a Poll: got %d %s, want 200, failed and No Poll", status, body)
+			}
+			status, body = s.ask("PUT", one+"?accepts_incomplete=true", orderLater)
+			if status != 500 || !strings.Contains(body, "No Poll") {
+				t.Errorf("the Provision: got %d %s, want 500 and No Poll", status, body)
+			}
+			s.expect(202, "DELETE", one+"?service_id="+service+"&plan_id="+asynchronous+"&accepts_incomplete=true", "")
+			s.stop()
+		})
+	}
+}
+
+// hanging is a backend whose creations hang if their parameters ask for that.
+const hanging = `#!/bin/sh
+case $1 in
+    look) [ -e "$OSB_NAME" ] && echo '{"exists": "whole"}' || echo '{"exists": "none"}' ;;
+    create) ! grep -q hang || sleep 600; : >"$OSB_NAME" ;;
+    delete) rm -f "$OSB_NAME" ;;
+    *) exit 5 ;;
+esac
+`
+
+// Four creations hang, which is as many as there are workers. A good one of an asynchronous plan ends long before they
+// do, which would be in five minutes.
+func TestHungCommandsDontHoldUpOthers(t *testing.T) {
+	folder := t.TempDir()
+	program := filepath.Join(folder, "backend")
+	check(t, os.WriteFile(program, []byte(hanging), 0o700))
+	const byWorker = "00000000-0000-0000-0000-0000000000b2"
+	s := start(t, []string{password}, "--state", folder, "--backend", "command:"+program, "--stop-seconds", "0.1")
+	create := func(name, parameters string) string {
+		path := "/v2/service_instances/" + name
+		body := strings.Replace(order, atOnce, byWorker, 1)
+		body = strings.Replace(body, "{", `{"parameters":`+parameters+`,`, 1)
+		s.expect(202, "PUT", path+"?accepts_incomplete=true", body)
+		s.expect(200, "GET", path+"/last_operation", "") // which the creation waits for
+		return path
+	}
+	for n := 0; n < 4; n++ {
+		create(fmt.Sprint("bad", n), `{"mode":"hang"}`)
+	}
+	good, end := create("good", "{}"), time.Now().Add(2*time.Minute)
+	for {
+		_, body := s.ask("GET", good+"/last_operation", "")
+		if strings.Contains(body, "succeeded") {
+			break
+		}
+		if time.Now().After(end) {
+			t.Fatalf("the good creation: got %s, want its end", body)
+		}
+		time.Sleep(20 * time.Millisecond)
+	}
+	for n := 0; n < 4; n++ {
+		if _, body := s.ask("GET", fmt.Sprintf("/v2/service_instances/bad%d/last_operation", n), ""); !strings.Contains(body,
+			"in progress") {
+			t.Errorf("a creation that hangs: got %s, want it in progress", body)
+		}
+	}
+}
+
+// The service manager gets READY=1 once the broker listens, and STOPPING=1 after SIGTERM.
+func TestServiceManagerGetsReports(t *testing.T) {
+	name := filepath.Join(t.TempDir(), "notify")
+	manager, err := net.ListenUnixgram("unixgram", &net.UnixAddr{Name: name, Net: "unixgram"})
+	check(t, err)
+	defer manager.Close()
+	s := start(t, []string{password, "NOTIFY_SOCKET=" + name}, "--state", t.TempDir())
+	for _, want := range []string{"READY=1", "STOPPING=1"} {
+		buffer := make([]byte, 100)
+		check(t, manager.SetReadDeadline(time.Now().Add(20*time.Second)))
+		length, err := manager.Read(buffer)
+		if got := string(buffer[:length]); got != want || err != nil {
+			t.Fatalf("got %q, %v, want %q", got, err, want)
+		}
+		if want == "READY=1" {
+			s.expect(200, "GET", "/v2/catalog", "")
+			s.stop()
+		}
+	}
+}
+
+// A broker that can't reach the service manager serves, and logs why.
+func TestServesWithoutTheServiceManager(t *testing.T) {
+	name := filepath.Join(t.TempDir(), "nobody")
+	s := start(t, []string{password, "NOTIFY_SOCKET=" + name}, "--state", t.TempDir())
+	s.expect(200, "GET", "/v2/catalog", "")
+	check(t, s.command.Process.Signal(syscall.SIGTERM))
+	reason, _ := s.event("stopping")["notify_error"].(string)
+	if !strings.Contains(reason, "STOPPING=1") || !strings.Contains(reason, name) {
+		t.Errorf("the log: got %q, want STOPPING=1 and %s", reason, name)
+	}
+	s.stop()
 }

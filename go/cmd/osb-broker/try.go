@@ -15,6 +15,7 @@ import (
 	"github.com/spf13/pflag"
 
 	"pippinterm/broker"
+	"pippinterm/broker/backend/command"
 	"pippinterm/broker/backend/postgres"
 	"pippinterm/broker/try"
 	"pippinterm/internal/cli"
@@ -49,8 +50,8 @@ signal ended the test; 2 the command line can't be parsed; 78 change something f
 program that can't be run, or one whose capabilities can't be read; 75 the server of the backend is away, or
 the program failed to report its capabilities; 70 any other error`
 
-// tried are the options of `osb-broker try`.
-type tried struct {
+// tryOptions are the options of `osb-broker try`.
+type tryOptions struct {
 	settings   *settings
 	plans      []string
 	areAll     bool // whether all plans are tried
@@ -63,7 +64,7 @@ var sharedOptions = []string{"backend", "catalog", "customer-address", "backend-
 	"connections-per-instance", "template", "stop-seconds"}
 
 func tryCommand(o *outcome) *cobra.Command {
-	t := &tried{settings: &settings{}}
+	t := &tryOptions{settings: &settings{}}
 	made := &cobra.Command{
 		Use: "try", Short: "Test a backend of your own", Long: tryHelp,
 		Example: `  osb-broker try --backend command:./mine --catalog mine.json
@@ -79,7 +80,7 @@ func tryCommand(o *outcome) *cobra.Command {
 }
 
 // add adds the options. Those that serve has, too, are the same.
-func (t *tried) add(flags *pflag.FlagSet) {
+func (t *tryOptions) add(flags *pflag.FlagSet) {
 	flags.SortFlags = false
 	ofServe := pflag.NewFlagSet("", pflag.ContinueOnError)
 	t.settings.addPlaces(ofServe)
@@ -98,7 +99,7 @@ func (t *tried) add(flags *pflag.FlagSet) {
 }
 
 // run tries the backend, and writes a line for each call. It returns the exit status.
-func (t *tried) run(ctx context.Context, out, stderr io.Writer) (status int, err error) {
+func (t *tryOptions) run(ctx context.Context, out, stderr io.Writer) (status int, err error) {
 	if err := t.checkParameters(); err != nil {
 		return 0, cli.Unusable(err)
 	}
@@ -115,11 +116,17 @@ func (t *tried) run(ctx context.Context, out, stderr io.Writer) (status int, err
 		// A terminal that is closed sends SIGHUP several times, so no second one ends the process.
 		signal.Notify(make(chan os.Signal, 1), syscall.SIGHUP)
 	}
-	stop, forget := signal.NotifyContext(ctx, signals...)
-	defer forget()
+	stop, cancel := context.WithCancel(ctx)
+	defer cancel()
+	received := make(chan os.Signal, 1)
+	signal.Notify(received, signals...)
 	go func() {
-		<-stop.Done()
-		forget() // a second signal ends the process
+		select {
+		case <-received:
+		case <-stop.Done():
+		}
+		signal.Stop(received) // before anybody sees that it stops: from now on a second signal ends the process
+		cancel()
 	}()
 	if err := t.openState(); err != nil {
 		return 0, cli.Unusable(err)
@@ -130,7 +137,7 @@ func (t *tried) run(ctx context.Context, out, stderr io.Writer) (status int, err
 }
 
 // checkParameters checks that the parameters are an object, if there are any.
-func (t *tried) checkParameters() error {
+func (t *tryOptions) checkParameters() error {
 	if t.parameters == "" {
 		return nil
 	}
@@ -139,11 +146,11 @@ func (t *tried) checkParameters() error {
 	if err == nil && object == nil {
 		err = errors.New("want an object")
 	}
-	return wrapped("--parameters", err)
+	return wrap("--parameters", err)
 }
 
 // openState creates the state folder, a temporary one if none is named.
-func (t *tried) openState() (err error) {
+func (t *tryOptions) openState() (err error) {
 	s := t.settings
 	if s.state == "" {
 		s.state, err = os.MkdirTemp("", "osb-broker-try-")
@@ -151,12 +158,12 @@ func (t *tried) openState() (err error) {
 	} else {
 		err = os.MkdirAll(s.state, 0o700)
 	}
-	return wrapped("the state folder can't be created", err)
+	return wrap("the state folder can't be created", err)
 }
 
 // end writes the end of the report, and removes a temporary state folder if nothing has failed. It returns the exit
 // status. failed is the error of the test itself.
-func (t *tried) end(report *tryReport, failed error) (status int, err error) {
+func (t *tryOptions) end(report *tryReport, failed error) (status int, err error) {
 	if t.isOwn && report.isClean() {
 		if err := os.RemoveAll(t.settings.state); err != nil && failed == nil {
 			failed = fmt.Errorf("the temporary state folder can't be removed: %w", err)
@@ -177,11 +184,11 @@ func (t *tried) end(report *tryReport, failed error) (status int, err error) {
 }
 
 // tryAll opens the backend as serve does, and tries each plan that is asked for.
-func (t *tried) tryAll(ctx context.Context, log *logs.Logger, report *tryReport) error {
+func (t *tryOptions) tryAll(ctx context.Context, log *logs.Logger, report *tryReport) error {
 	p := &parts{}
 	defer p.closeAll()
 	if err := p.openBackend(ctx, t.settings, log); ctx.Err() != nil {
-		report.stopped()
+		report.writeStop()
 		return nil
 	} else if err != nil {
 		return err
@@ -197,7 +204,7 @@ func (t *tried) tryAll(ctx context.Context, log *logs.Logger, report *tryReport)
 	if err != nil {
 		return err
 	}
-	plans, err := t.chosen(catalogue.Document())
+	plans, err := t.choose(catalogue.Document())
 	if err != nil {
 		return cli.Unusable(err)
 	}
@@ -223,8 +230,8 @@ func hasOwner(ctx context.Context, backend broker.Backend) error {
 	return away("the backend can't be used", err)
 }
 
-// chosen returns the plans that are asked for.
-func (t *tried) chosen(document []byte) ([]try.Plan, error) {
+// choose returns the plans that are asked for.
+func (t *tryOptions) choose(document []byte) ([]try.Plan, error) {
 	all, err := try.Plans(document)
 	switch {
 	case err != nil:
@@ -250,9 +257,9 @@ func (t *tried) chosen(document []byte) ([]try.Plan, error) {
 }
 
 // tryPlan tries one plan, unless ctx is done.
-func (t *tried) tryPlan(ctx context.Context, p *parts, plan try.Plan, report *tryReport) error {
+func (t *tryOptions) tryPlan(ctx context.Context, p *parts, plan try.Plan, report *tryReport) error {
 	if ctx.Err() != nil {
-		report.stopped()
+		report.writeStop()
 		return nil
 	}
 	report.line("try", plan.String())
@@ -265,4 +272,82 @@ func (t *tried) tryPlan(ctx context.Context, p *parts, plan try.Plan, report *tr
 	}
 	report.add(result)
 	return nil
+}
+
+// statusFailedCalls is the exit status if a call of the backend failed, or not all was tried or deleted.
+const statusFailedCalls = 1
+
+// A tryReport is the output of `osb-broker try`.
+type tryReport struct {
+	out   io.Writer
+	total try.Result // of all plans
+	err   error      // the first error of writing
+}
+
+// line writes a line that begins with a word.
+func (r *tryReport) line(word, text string) {
+	if _, err := fmt.Fprintf(r.out, "%-8s%s\n", word, cli.OneLine(text)); r.err == nil {
+		r.err = err
+	}
+}
+
+// step writes the line of a step.
+func (r *tryReport) step(step try.Step) {
+	switch {
+	case step.Err != nil:
+		r.line("FAILED", step.Name+": "+reasonOf(step.Err))
+	case step.Found != "":
+		r.line("ok", step.Name+": "+step.Found)
+	default:
+		r.line("ok", step.Name)
+	}
+}
+
+// reasonOf is the text of an error, without the program and the call of a command backend: the line has the call.
+func reasonOf(err error) string {
+	var call *command.CallError
+	if errors.As(err, &call) {
+		return call.Err.Error()
+	}
+	return err.Error()
+}
+
+// add adds the result of a plan. It writes the ids if anything failed, and what is left.
+func (r *tryReport) add(result try.Result) {
+	r.total.OK += result.OK
+	r.total.Failed += result.Failed
+	r.total.Left = append(r.total.Left, result.Left...)
+	if result.Failed > 0 || len(result.Left) > 0 {
+		for _, id := range result.IDs {
+			r.line("id", id)
+		}
+	}
+	for _, resource := range result.Left {
+		r.line("left", resource+" couldn't be deleted. Delete it by hand")
+	}
+	if result.IsStopped {
+		r.writeStop()
+	}
+}
+
+// writeStop writes once that a signal has ended the test.
+func (r *tryReport) writeStop() {
+	if !r.total.IsStopped {
+		r.line("stopped", "by a signal, before all calls were tried")
+	}
+	r.total.IsStopped = true
+}
+
+// isClean is whether all was tried, succeeded and is deleted.
+func (r *tryReport) isClean() bool {
+	return r.total.Failed == 0 && !r.total.IsStopped && len(r.total.Left) == 0
+}
+
+// end writes the last line. It returns the first error of writing the report.
+func (r *tryReport) end() error {
+	text := fmt.Sprintf("%d ok, %d failed\n", r.total.OK, r.total.Failed)
+	if _, err := io.WriteString(r.out, text); r.err == nil {
+		r.err = err
+	}
+	return r.err
 }

@@ -33,9 +33,7 @@ func runTry(t *testing.T, environment []string, start func(*exec.Cmd), arguments
 	command := osbBroker(environment, append([]string{"try"}, arguments...)...)
 	var stdout, stderr bytes.Buffer
 	command.Stdout, command.Stderr = &stdout, &stderr
-	if err := command.Start(); err != nil {
-		t.Fatal(err)
-	}
+	check(t, command.Start())
 	late := time.AfterFunc(time.Minute, func() { _ = command.Process.Kill() })
 	defer late.Stop()
 	if start != nil {
@@ -43,9 +41,7 @@ func runTry(t *testing.T, environment []string, start func(*exec.Cmd), arguments
 	}
 	_ = command.Wait()
 	left, err := filepath.Glob(temporary + "/*")
-	if err != nil {
-		t.Fatal(err)
-	}
+	check(t, err)
 	return tryRun{command.ProcessState.ExitCode(), stdout.String(), stderr.String(), left}
 }
 
@@ -77,9 +73,7 @@ case $1 in
     *) exit 5 ;;
 esac
 `
-	if err := os.WriteFile(path, []byte(program), 0o700); err != nil {
-		t.Fatal(err)
-	}
+	check(t, os.WriteFile(path, []byte(program), 0o700))
 	return "command:" + path
 }
 
@@ -88,9 +82,7 @@ func unbindable(t *testing.T) string {
 	t.Helper()
 	path := filepath.Join(t.TempDir(), "catalogue")
 	text := bytes.ReplaceAll(catalogueWith(""), []byte(`"bindable": true`), []byte(`"bindable": false`))
-	if err := os.WriteFile(path, text, 0o600); err != nil {
-		t.Fatal(err)
-	}
+	check(t, os.WriteFile(path, text, 0o600))
 	return path
 }
 
@@ -104,15 +96,16 @@ func TestTryExample(t *testing.T) {
 		"delete-binding 1 again", "delete instance 2",
 	} {
 		if !strings.Contains(run.stdout, "\nok      "+line+"\n") {
-			t.Errorf("there is no line %q", line)
+			t.Errorf("got no line %q, want one", line)
 		}
 	}
 	if run.status != 0 || run.last() != "52 ok, 0 failed" || run.stderr != "" || len(run.temporary) > 0 ||
 		!strings.HasPrefix(run.stdout, "try     plan now of service database\n") {
-		t.Errorf("status %d, %s%s, left are %v", run.status, run.stdout, run.stderr, run.temporary)
+		t.Errorf("got the status %d, %s%s and %v left, want 0, 52 ok and nothing", run.status, run.stdout, run.stderr,
+			run.temporary)
 	}
 	if token := regexp.MustCompile(`[0-9a-f]{8}-`).FindString(run.stdout); token != "" {
-		t.Errorf("an id or a token is shown: %s", run.stdout)
+		t.Errorf("the output: got %s, want no id and no token", run.stdout)
 	}
 }
 
@@ -123,10 +116,10 @@ func TestTryFolders(t *testing.T) {
 	plans := strings.Join(run.lines("try"), ", ")
 	if run.status != 0 || run.last() != "104 ok, 0 failed" || run.stderr != "" ||
 		plans != "plan at-once of service folder, plan by-worker of service folder" {
-		t.Errorf("status %d, %s%s", run.status, run.stdout, run.stderr)
+		t.Errorf("got the status %d and %s%s, want 0 and 104 ok of both plans", run.status, run.stdout, run.stderr)
 	}
-	if _, err := os.Stat(state + "/instances"); err != nil || len(sold(t, state)) > 0 || len(run.temporary) > 0 {
-		t.Errorf("%v, %v exists, and %v", err, sold(t, state), run.temporary)
+	if _, err := os.Stat(state + "/instances"); err != nil || len(soldInstances(t, state)) > 0 || len(run.temporary) > 0 {
+		t.Errorf("got %v, %v and %v, want the folder, and nothing in it", err, soldInstances(t, state), run.temporary)
 	}
 }
 
@@ -137,12 +130,10 @@ func TestTryPlans(t *testing.T) {
 	run := runTry(t, []string{"BACKEND_SEEN=" + seen}, nil, "--backend", backend, "--plan", "by-worker", "--plan",
 		atOnce, "--parameters", `{"size": "small"}`)
 	if run.status != 0 || run.last() != "38 ok, 0 failed" || len(run.lines("try")) != 2 {
-		t.Errorf("status %d, %s%s", run.status, run.stdout, run.stderr)
+		t.Errorf("got the status %d and %s%s, want 0 and 38 ok of two plans", run.status, run.stdout, run.stderr)
 	}
 	text, err := os.ReadFile(seen)
-	if err != nil {
-		t.Fatal(err)
-	}
+	check(t, err)
 	var plans []string
 	for decoder := json.NewDecoder(bytes.NewReader(text)); decoder.More(); {
 		var read struct {
@@ -152,19 +143,19 @@ func TestTryPlans(t *testing.T) {
 			}
 		}
 		if err := decoder.Decode(&read); err != nil || read.Body.Parameters.Size != "small" {
-			t.Fatalf("%+v, %v", read, err)
+			t.Fatalf("got %+v and the error %v, want the size small", read, err)
 		}
 		plans = append(plans, read.Plan[len(read.Plan)-2:])
 	}
 	if got := strings.Join(plans, " "); got != "b2 b2 b2 b2 b1 b1 b1 b1" {
-		t.Errorf("the plans of the creations are %s", got)
+		t.Errorf("the plans of the creations: got %s, want those of b2, and then of b1", got)
 	}
 }
 
 // A mistake of a program ends with status 1. Its line has the reason, and the state folder is kept.
 func TestTryMistakes(t *testing.T) {
 	const repeated = `[ "$1" != create ] || [ ! -e "$OSB_NAME" ] || `
-	for name, it := range map[string]struct{ text, line, last string }{
+	for name, test := range map[string]struct{ text, line, last string }{
 		"not repeatable": {repeated + `{ echo 'first' >&2; printf 'it \033exists\n' >&2; exit 1; }`,
 			`create instance 1 again: exit status 1: it \x1bexists`, "17 ok, 2 failed"},
 		"output that isn't JSON": {repeated + `{ echo done; exit; }`,
@@ -179,23 +170,23 @@ func TestTryMistakes(t *testing.T) {
 		"rejected": {`[ "$1" != create ] || { echo '{"status": 400, "error": "Full", "description": "No."}'; exit 3; }`,
 			"create instance 1: rejected with 400 Full: No.", "5 ok, 2 failed"},
 	} {
-		it := it
+		it := test
 		t.Run(name, func(t *testing.T) {
 			t.Parallel()
 			run := runTry(t, nil, nil, "--backend", backendWith(t, it.text), "--catalog", unbindable(t))
 			failed := run.lines("FAILED")
 			if run.status != 1 || len(failed) == 0 || run.stderr != "" || it.last != "" && run.last() != it.last {
-				t.Fatalf("status %d, %s%s", run.status, run.stdout, run.stderr)
+				t.Fatalf("got the status %d and %s%s, want 1 and what failed", run.status, run.stdout, run.stderr)
 			}
 			if !strings.Contains(strings.Join(failed, "\n")+"\n", it.line+"\n") {
-				t.Errorf("%q isn't among %q", it.line, failed)
+				t.Errorf("got %[2]q, want %[1]q among it", it.line, failed)
 			}
 			kept := run.lines("kept")
 			if len(run.temporary) != 1 || len(kept) != 1 || kept[0] != "the state folder "+run.temporary[0] {
-				t.Errorf("kept are %v, and reported %q", run.temporary, kept)
+				t.Errorf("got %v kept, and %q reported, want one folder that is reported", run.temporary, kept)
 			}
 			if ids := run.lines("id"); len(ids) != 2 {
-				t.Errorf("the ids are %q", ids)
+				t.Errorf("the ids: got %q, want 2", ids)
 			}
 		})
 	}
@@ -207,14 +198,14 @@ func TestTryLeft(t *testing.T) {
 	left, folder := run.lines("left"), filepath.Join(run.temporary[0], "command")
 	found, err := filepath.Glob(folder + "/[0-9a-f]*")
 	if err != nil || len(found) != 2 || len(left) != 2 || run.status != 1 {
-		t.Fatalf("status %d, %s%s, %v exists, %v", run.status, run.stdout, run.stderr, found, err)
+		t.Fatalf("got the status %d, %s%s, %v and %v, want 1, and two named", run.status, run.stdout, run.stderr, found, err)
 	}
 	for _, path := range found {
 		if !strings.Contains(strings.Join(left, "\n"), " "+filepath.Base(path)+" couldn't be deleted") {
-			t.Errorf("%s isn't named in %q", path, left)
+			t.Errorf("%s: got it not in %q, want it named", path, left)
 		}
 		if file, err := os.Stat(path); err != nil || file.Mode().Perm() != 0o600 {
-			t.Errorf("%v, %v", file, err)
+			t.Errorf("got %v and the error %v, want mode 0600", file, err)
 		}
 	}
 }
@@ -256,27 +247,29 @@ func TestTryStops(t *testing.T) {
 			"stopped by a signal, before all calls were tried\n4 ok, 0 failed\n"
 		left, err := filepath.Glob(state + "/command/[0-9a-f]*")
 		if run.status != 1 || run.stdout != wanted || run.stderr != "" || len(left) > 0 || err != nil {
-			t.Errorf("%v: status %d, %s%s, %v is left, %v", signal, run.status, run.stdout, run.stderr, left, err)
+			t.Errorf("%v: got the status %d, %s%s, %v left and %v, want 1 and nothing left", signal, run.status, run.stdout,
+				run.stderr, left, err)
 		}
 	}
 }
 
-// The deletions after a signal end with --stop-seconds, or at once with a second signal.
+// The deletions after a signal end with --stop-seconds, or at once with a second signal. A second SIGINT does nothing if
+// the tests were started in the background by a shell, so here it is SIGTERM.
 func TestTryStopsLate(t *testing.T) {
 	const neverDeletes = `[ "$1" != delete ] || { : >../deleting; sleep 60; }`
 	state := t.TempDir()
-	run := runTry(t, nil, signalAt(t, state+"/begun", os.Interrupt), "--state", state, "--stop-seconds", "0.2",
+	run := runTry(t, nil, signalAt(t, state+"/begun", syscall.SIGTERM), "--state", state, "--stop-seconds", "0.2",
 		"--backend", slow(t, neverDeletes), "--catalog", unbindable(t))
 	if left := run.lines("left"); run.status != 1 || len(left) != 1 || !strings.HasPrefix(left[0], "instance 1: ") {
-		t.Errorf("status %d, %s%s", run.status, run.stdout, run.stderr)
+		t.Errorf("got the status %d and %s%s, want 1 and the instance 1 left", run.status, run.stdout, run.stderr)
 	}
 	state = t.TempDir()
 	run = runTry(t, nil, func(command *exec.Cmd) {
-		signalAt(t, state+"/begun", os.Interrupt)(command)
-		signalAt(t, state+"/deleting", os.Interrupt)(command)
+		signalAt(t, state+"/begun", syscall.SIGTERM)(command)
+		signalAt(t, state+"/deleting", syscall.SIGTERM)(command)
 	}, "--state", state, "--backend", slow(t, neverDeletes), "--catalog", unbindable(t))
 	if run.status != -1 || run.last() != "ok      look instance 1: none" {
-		t.Errorf("status %d, %s%s", run.status, run.stdout, run.stderr)
+		t.Errorf("got the status %d and %s%s, want a kill after the first look", run.status, run.stdout, run.stderr)
 	}
 }
 
@@ -287,7 +280,7 @@ func TestTryStopsAtOnce(t *testing.T) {
 		"--backend", backendWith(t, `[ "$1" != capabilities ] || { : >../begun; sleep 60; }`))
 	wanted := "stopped by a signal, before all calls were tried\n0 ok, 0 failed\n"
 	if run.status != 1 || run.stdout != wanted || run.stderr != "" {
-		t.Errorf("status %d, %s%s", run.status, run.stdout, run.stderr)
+		t.Errorf("got the status %d and %s%s, want 1 and %s", run.status, run.stdout, run.stderr, wanted)
 	}
 }
 
@@ -301,7 +294,7 @@ func TestTryHangsUpTwice(t *testing.T) {
 	}, "--state", state, "--catalog", unbindable(t),
 		"--backend", slow(t, `[ "$1" != delete ] || { : >../deleting; sleep 0.3; }`))
 	if run.status != 1 || run.last() != "4 ok, 0 failed" || run.stderr != "" {
-		t.Errorf("status %d, %s%s", run.status, run.stdout, run.stderr)
+		t.Errorf("got the status %d and %s%s, want 1 and 4 ok", run.status, run.stdout, run.stderr)
 	}
 }
 
@@ -326,15 +319,18 @@ func TestTryUnusable(t *testing.T) {
 		"PGPASSWORD":                        {"--backend", "postgresql://u:pw@h/d"},
 		"OSB_BACKEND_KEY":                   {"--backend", "postgresql://u@127.0.0.1:1/d"},
 	} {
-		want, isOther := others[says]
-		if !isOther {
-			want = 78
-		}
-		run := runTry(t, nil, nil, arguments...)
-		isLine := strings.HasPrefix(run.stderr, "osb-broker: ") && strings.Count(run.stderr, "\n") == 1
-		if run.status != want || !isLine || !strings.Contains(run.stderr, says) || run.stdout != "" || len(run.temporary) > 0 {
-			t.Errorf("%v: status %d, %s%s, left are %v", arguments, run.status, run.stdout, run.stderr, run.temporary)
-		}
+		t.Run(says, func(t *testing.T) {
+			want, isOther := others[says]
+			if !isOther {
+				want = 78
+			}
+			run := runTry(t, nil, nil, arguments...)
+			isLine := strings.HasPrefix(run.stderr, "osb-broker: ") && strings.Count(run.stderr, "\n") == 1
+			if run.status != want || !isLine || !strings.Contains(run.stderr, says) || run.stdout != "" || len(run.temporary) > 0 {
+				t.Errorf("%v: got the status %d, %s%s and %v left, want %d and %s", arguments, run.status, run.stdout, run.stderr,
+					run.temporary, want, says)
+			}
+		})
 	}
 }
 
@@ -349,12 +345,12 @@ func TestTryDatabases(t *testing.T) {
 	arguments := []string{"--backend", address, "--customer-address", "localhost:5432"}
 	run := runTry(t, environment, nil, arguments...)
 	if run.status != 78 || !strings.Contains(run.stderr, "no broker has used this server") || len(run.temporary) > 0 {
-		t.Errorf("status %d, %s%s", run.status, run.stdout, run.stderr)
+		t.Errorf("got the status %d and %s%s, want 78 and that no broker has used it", run.status, run.stdout, run.stderr)
 	}
 	s := start(t, append([]string{password}, environment...), append([]string{"--state", t.TempDir()}, arguments...)...)
 	s.stop()
 	run = runTry(t, environment, nil, arguments...)
 	if run.status != 0 || run.last() != "52 ok, 0 failed" || strings.Contains(run.stdout, "postgresql://") {
-		t.Errorf("status %d, %s%s", run.status, run.stdout, run.stderr)
+		t.Errorf("got the status %d and %s%s, want 0, 52 ok and no URL", run.status, run.stdout, run.stderr)
 	}
 }

@@ -1,16 +1,25 @@
 package main
 
 import (
+	"bytes"
 	"encoding/pem"
 	"errors"
+	"fmt"
+	"io"
 	"io/fs"
 	"net/http"
 	"net/http/httptest"
+	"net/http/httputil"
+	"net/url"
 	"os"
 	"path/filepath"
+	"strconv"
 	"strings"
+	"sync/atomic"
 	"testing"
+	"time"
 
+	"pippinterm/osb"
 	"pippinterm/platform"
 )
 
@@ -19,7 +28,7 @@ func TestBrokers(t *testing.T) {
 	store, password, key := newStore(t), filepath.Join(t.TempDir(), "password"), newKey(t)
 	write(t, password, "secret\n")
 	t.Setenv(passwordVariable, "")
-	check(t, store, []line{
+	wantLines(t, store, []line{
 		{"broker list", 0, "shop\thttp://127.0.0.1:1\tplatform\t2023-11-14T22:13:20Z\t", ``},
 		{"broker show shop", 0, `name	shop
 url	http://127.0.0.1:1
@@ -72,24 +81,24 @@ func TestStoredPassword(t *testing.T) {
 	store, key := newStore(t), newKey(t)
 	add := []string{"--store", store, "broker", "add", "two", "http://127.0.0.1:1", "--store-password"}
 	if got := callWith(t, "hunter2\n", add...); got.status != 78 || !strings.Contains(got.failed, "--key-file FILE") {
-		t.Errorf("without a key: %+v", got)
+		t.Errorf("without a key: got %+v, want 78 and the option", got)
 	}
 	if got := callWith(t, "hunter2\n", append(add, "--key-file", key)...); got.status != 0 {
-		t.Errorf("with a key: %+v", got)
+		t.Errorf("with a key: got %+v, want 0", got)
 	}
 	got := call(t, "--store", store, "broker", "show", "two")
 	if !strings.Contains(got.out, "password\tin the store, encrypted\n") || strings.Contains(got.out, "hunter2") {
-		t.Errorf("%+v", got)
+		t.Errorf("got %+v, want a password in the store that isn't shown", got)
 	}
 	other := newKey(t)
 	got = callWith(t, "hunter3\n", "--store", store, "broker", "set", "two", "--store-password", "--key-file", other)
 	if got.status != 78 || !strings.Contains(got.failed, "another key") {
-		t.Errorf("with another key: %+v", got)
+		t.Errorf("with another key: got %+v, want 78 and that it is another", got)
 	}
 	got = callWith(t, "hunter3\n", "--store", store, "broker", "set", "two", "--store-password", "--key-file", other,
 		"--key-file", key)
 	if got.status != 0 {
-		t.Errorf("with both keys: %+v", got)
+		t.Errorf("with both keys: got %+v, want 0", got)
 	}
 }
 
@@ -101,7 +110,7 @@ func TestRejectedBrokerLeavesNoStore(t *testing.T) {
 	write(t, password, "secret\n")
 	folder := filepath.Join(t.TempDir(), "state")
 	store := filepath.Join(folder, "store")
-	for _, it := range []line{
+	for _, expected := range []line{
 		{"one http://127.0.0.1:1 --store-password", 78, ``, `.*--key-file FILE.*`},
 		{"one http://127.0.0.1:1 --store-password --key-file /nowhere/key", 78, ``, `.*/nowhere/key.*`},
 		{"one http://127.0.0.1:1 --store-password --key-file " + key, 78, ``, `.*set OSB_PLATFORM_PASSWORD.*`},
@@ -111,13 +120,13 @@ func TestRejectedBrokerLeavesNoStore(t *testing.T) {
 		{"One http://127.0.0.1:1 --password-file " + password, 78, ``, `.*the name of a broker.*`},
 		{"one http://192.0.2.1 --password-file " + password, 78, ``, `.*with http://.*`},
 	} {
-		it.arguments = "broker add " + it.arguments
-		check(t, store, []line{it})
+		expected.arguments = "broker add " + expected.arguments
+		wantLines(t, store, []line{expected})
 		if _, err := os.Stat(folder); !errors.Is(err, fs.ErrNotExist) {
-			t.Fatalf("%s leaves %s (%v)", it.arguments, folder, err)
+			t.Fatalf("%s: got %s (%v), want no such folder", expected.arguments, folder, err)
 		}
 	}
-	check(t, store, []line{
+	wantLines(t, store, []line{
 		{"broker add one http://127.0.0.1:1 --password-file " + password, 0, ``, `.*warning: .*`},
 		{"broker list", 0, "one\thttp://127.0.0.1:1\t.*", ``},
 	})
@@ -135,7 +144,7 @@ func TestAddOverTLS(t *testing.T) {
 	write(t, ca, string(pem.EncodeToMemory(&pem.Block{Type: "CERTIFICATE", Bytes: server.Certificate().Raw})))
 	write(t, password, "secret\n")
 	add := " " + server.URL + " --password-file " + password
-	check(t, store, []line{
+	wantLines(t, store, []line{
 		{"broker add one" + add, 0, ``, `osb-platform: warning: .*certificate.*`},
 		{"broker add two" + add + " --tls-ca " + ca, 0, ``, ``},
 		{"broker add three" + add + " --tls-ca /nowhere/ca", 78, ``, `osb-platform: .*/nowhere/ca.*`},
@@ -153,7 +162,7 @@ func TestSetAsksForCatalogue(t *testing.T) {
 	wrong, right := filepath.Join(folder, "wrong"), filepath.Join(folder, "right")
 	write(t, wrong, "hunter2\n")
 	write(t, right, "secret\n")
-	check(t, store, []line{
+	wantLines(t, store, []line{
 		{"broker add shop " + s.url + " --password-file " + wrong, 0, ``, `osb-platform: warning: .*\(401\).*`},
 		{"broker list", 0, "shop\t.*\tnone\tthe broker shop rejects the user or the password \\(401\\): give it .*", ``},
 		{"create --plan at-once", 1, ``, `.*no catalogue yet \(.*rejects the user or the password \(401\).*`},
@@ -173,16 +182,212 @@ func TestShowsTombstones(t *testing.T) {
 		`{"services": []}`: "\ntombstones\tno\n",
 		`{"services": [], "x-osb-tombstones": true}`: "\ntombstones\tyes\n",
 	} {
-		broker := platform.Broker{Name: "shop"}
-		if catalogue != "" {
-			broker.Catalogue = []byte(catalogue)
-		}
-		var shown strings.Builder
-		if err := showBroker(&shown, broker); err != nil {
-			t.Fatal(err)
-		}
-		if !strings.Contains(shown.String(), wanted) || strings.Contains(shown.String(), "tombstones") != (wanted != "") {
-			t.Errorf("%q: %s", catalogue, shown.String())
+		t.Run("catalogue "+catalogue, func(t *testing.T) {
+			broker := platform.Broker{Name: "shop"}
+			if catalogue != "" {
+				broker.Catalogue = []byte(catalogue)
+			}
+			var shown strings.Builder
+			check(t, showBroker(&shown, broker))
+			if !strings.Contains(shown.String(), wanted) || strings.Contains(shown.String(), "tombstones") != (wanted != "") {
+				t.Errorf("%q: got %s, want %q", catalogue, shown.String(), wanted)
+			}
+		})
+	}
+}
+
+// The API takes no broker at a host that --broker-hosts doesn't name.
+func TestBrokerHosts(t *testing.T) {
+	store, key := newStore(t), newKey(t)
+	p := launch(t, "serving", osbPlatform(nil, "serve", "--store", store, "--key-file", key, "--api", "127.0.0.1:0",
+		"--api-tokens", newTokens(t), "--broker-hosts", "*.example,10.0.0.0/8"))
+	c := caller{t: t, client: http.DefaultClient, url: p.api, token: token}
+	c.call(400, "PUT", "/v1/brokers/other", `{"url": "https://127.0.0.1:22", "user": "me", "password": "p"}`)
+	c.call(201, "PUT", "/v1/brokers/other", `{"url": "https://new.example", "user": "me", "password": "p"}`)
+	c.call(200, "PUT", "/v1/brokers/other", `{"url": "https://10.1.2.3", "user": "me", "password": "p"}`)
+	c.call(400, "PUT", "/v1/brokers/other", `{"url": "https://evil.test", "user": "me", "password": "p"}`)
+	p.stop()
+}
+
+// The broker's password is replaced while a worker runs. After the first 401 nothing is sent until the worker has the
+// new password, and then everything that was ordered is done.
+func TestReplacedPassword(t *testing.T) {
+	for name, replace := range map[string]func(t *testing.T, store, file, key string){
+		"in the file": func(t *testing.T, _, file, _ string) { write(t, file, "another\n") },
+		"in another file": func(t *testing.T, store, _, _ string) {
+			other := filepath.Join(t.TempDir(), "password")
+			write(t, other, "another\n")
+			wantLines(t, store, []line{{"broker set local --password-file " + other, 0, ``, ``}})
+		},
+		"in the store": func(t *testing.T, store, _, key string) {
+			got := callWith(t, "another\n", "--store", store, "--key-file", key, "broker", "set", "local", "--store-password")
+			if got.status != 0 || got.failed != "" {
+				t.Errorf("got %+v, want the status 0 and no message", got)
+			}
+		},
+	} {
+		t.Run(name, func(t *testing.T) {
+			s, store, key := newSite(t), filepath.Join(t.TempDir(), "store"), newKey(t)
+			t.Setenv("XDG_STATE_HOME", t.TempDir())
+			file := filepath.Join(t.TempDir(), "password")
+			write(t, file, "secret\n")
+			wantLines(t, store, []line{
+				{"broker add local " + s.url + " --first-pace 0.01 --hold 0 --password-file " + file, 0, ``, ``},
+			})
+			p := start(t, store, nil, "--key-file", key, "--at-once", "4")
+			wantLines(t, store, []line{
+				{"create --plan at-once --id before --wait=60", 0, `before`, `ordered before`},
+				{"bind before --id one --wait=60 --key-file " + key, 0, `before/one`, `ordered before/one`},
+			})
+			s.setPassword("another")
+			for n := 1; n <= 9; n++ {
+				wantLines(t, store, []line{{fmt.Sprintf("create --plan by-worker --id new-%d --tries 3", n), 0, `.*`, ``}})
+			}
+			wantLines(t, store, []line{{"remove before --bindings", 0, ``, ``}})
+			p.event("broker_refuses")
+			refused := settledRefusals(t, s)
+			if refused == 0 || refused > 2*4 { // what was in flight, and what was claimed just before the first 401 was read
+				t.Errorf("got %d requests with the old password, want 1 to 8", refused)
+			}
+			replace(t, store, file, key)
+			p.event("broker_reached")
+			for n := 1; n <= 9; n++ {
+				wantReady(t, store, fmt.Sprintf("new-%d", n))
+			}
+			wantLines(t, store, []line{{"remove before --wait=60", 0, ``, `before is gone`}})
+			if again := s.refusals(); again != refused {
+				t.Errorf("got %d requests with the old password, want %d", again, refused)
+			}
+			p.stop()
+		})
+	}
+}
+
+// settledRefusals is how many requests had a wrong password, once there is none any more for a while.
+func settledRefusals(t *testing.T, s *site) int {
+	t.Helper()
+	for late := time.Now().Add(deadline); time.Now().Before(late); {
+		before := s.refusals()
+		time.Sleep(500 * time.Millisecond)
+		if s.refusals() == before {
+			return before
 		}
 	}
+	t.Fatal("got more and more requests with a wrong password, want their end")
+	return 0
+}
+
+// wantReady waits until an order is ready, under the id that it was given or that of a later try.
+func wantReady(t *testing.T, store, id string) {
+	t.Helper()
+	got := ""
+	for late := time.Now().Add(deadline); time.Now().Before(late); time.Sleep(50 * time.Millisecond) {
+		got = call(t, "--store", store, "show", id).out
+		if strings.Contains(got, "state\tready\n") || strings.Contains(got, " ready\n") &&
+			strings.Contains(got, "\ntry ") {
+			return
+		}
+	}
+	t.Errorf("%s: got %s, want it ready", id, got)
+}
+
+// A front is before a site. It names a store in each answer, and may stand for another broker.
+type front struct {
+	url      string
+	store    atomic.Value // of string: the store that answers name
+	isOther  atomic.Bool  // whether it answers as a broker that knows of no instance
+	deletion atomic.Int64 // how many deletions arrived
+}
+
+func newFront(t *testing.T, s *site) *front {
+	t.Helper()
+	f := &front{}
+	f.store.Store("one")
+	to, err := url.Parse(s.url)
+	check(t, err)
+	proxy := httputil.NewSingleHostReverseProxy(to)
+	proxy.ModifyResponse = f.name
+	server := httptest.NewServer(http.HandlerFunc(func(w http.ResponseWriter, r *http.Request) {
+		if r.Method == http.MethodDelete {
+			f.deletion.Add(1)
+		}
+		if !f.isOther.Load() || strings.HasSuffix(r.URL.Path, "/v2/catalog") {
+			proxy.ServeHTTP(w, r)
+			return
+		}
+		w.Header().Set("X-Osb-Store", f.store.Load().(string))
+		w.Header().Set(osb.RequestIdentityHeader, r.Header.Get(osb.RequestIdentityHeader))
+		w.WriteHeader(http.StatusGone)
+		_, _ = w.Write([]byte("{}"))
+	}))
+	t.Cleanup(server.Close)
+	f.url = server.URL
+	return f
+}
+
+// name names the store in an answer, and in the catalogue.
+func (f *front) name(answer *http.Response) error {
+	store := f.store.Load().(string)
+	answer.Header.Set("X-Osb-Store", store)
+	if !strings.HasSuffix(answer.Request.URL.Path, "/v2/catalog") {
+		return nil
+	}
+	text, err := io.ReadAll(answer.Body)
+	if err != nil {
+		return err
+	}
+	text = bytes.Replace(text, []byte("{"), []byte(`{"x-osb-store":"`+store+`",`), 1)
+	answer.Body, answer.ContentLength = io.NopCloser(bytes.NewReader(text)), int64(len(text))
+	answer.Header.Set("Content-Length", strconv.Itoa(len(text)))
+	return nil
+}
+
+// A broker is replaced by one over another store, which answers that each instance is gone. The platform believes none of
+// that, sends nothing more, and says what to do. Once the operator accepts the other store, it goes on.
+func TestBrokerOfAnotherStore(t *testing.T) {
+	s, store := newSite(t), filepath.Join(t.TempDir(), "store")
+	t.Setenv("XDG_STATE_HOME", t.TempDir())
+	f := newFront(t, s)
+	file := filepath.Join(t.TempDir(), "password")
+	write(t, file, "secret\n")
+	wantLines(t, store, []line{
+		{"broker add local " + f.url + " --first-pace 0.01 --hold 0 --password-file " + file, 0, ``, ``},
+		{"broker show local", 0, `(?s).*store\tone\n.*`, ``},
+	})
+	p := start(t, store, nil)
+	wantLines(t, store, []line{
+		{"create --plan at-once --id before --wait=60", 0, `before`, `ordered before`},
+		{"create --plan at-once --id beside --wait=60", 0, `beside`, `ordered beside`},
+	})
+	f.isOther.Store(true)
+	f.store.Store("two")
+	wantLines(t, store, []line{{"remove before", 0, ``, ``}})
+	p.event("other_store")
+	wantAccept := `(?s).*the broker names the store two, and one is recorded\..*` +
+		`osb-platform broker set local --accept-store two.*`
+	for end := time.Now().Add(deadline); ; time.Sleep(10 * time.Millisecond) {
+		if got := call(t, "--store", store, "broker", "list"); isAll(wantAccept, got.out) {
+			break
+		} else if time.Now().After(end) {
+			t.Fatalf("broker list: got %q after the time for it, want the new state", got.out)
+		}
+	}
+	if sent := f.deletion.Load(); sent != 1 {
+		t.Errorf("got %d deletions sent to the other broker, want 1", sent)
+	}
+	for _, text := range []string{"before", "beside"} {
+		if got := call(t, "--store", store, "show", text); strings.Contains(got.out, "state\tgone") {
+			t.Errorf("the answer of the other broker: got %s, want it not believed", got.out)
+		}
+	}
+	wantLines(t, store, []line{
+		{"broker set local --accept-store x;y", 78, ``, `osb-platform: .*the id of a store has 1 to 200 letters.*`},
+		{"broker set local --accept-store two", 0, ``, ``},
+	})
+	f.isOther.Store(false) // it is the same broker after all, over a copy of its store
+	wantLines(t, store, []line{
+		{"remove before --wait=60", 0, ``, `before is gone`}, {"remove beside --wait=60", 0, ``, `beside is gone`},
+		{"broker show local", 0, `(?s).*store\ttwo\n.*`, ``},
+	})
+	p.stop()
 }

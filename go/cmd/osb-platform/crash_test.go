@@ -19,19 +19,21 @@ func TestUnknownCrashPoint(t *testing.T) {
 	command := osbPlatform([]string{"OSB_CRASH_AT=claim-nxt"}, "list", "--store", filepath.Join(t.TempDir(), "store"))
 	out, _ := command.CombinedOutput()
 	if command.ProcessState.ExitCode() != 78 || !strings.Contains(string(out), strings.Join(platform.Points, ", ")) {
-		t.Errorf("status %d: %s", command.ProcessState.ExitCode(), out)
+		t.Errorf("got the status %d and %s, want 78 and the points", command.ProcessState.ExitCode(), out)
 	}
 }
 
 // A command that is killed before its commit has changed nothing, and after it all.
 func TestKilledCommand(t *testing.T) {
 	for point, status := range map[string]int{"order-next": 0, "order-written": 1} {
-		store := newStore(t)
-		create := []string{"--store", store, "create", "--plan", "small", "--id", "one"}
-		wantKilled(t, point, osbPlatform([]string{"OSB_CRASH_AT=" + point}, create...))
-		if got := call(t, create...); got.status != status {
-			t.Errorf("%s: %+v", point, got)
-		}
+		t.Run(point, func(t *testing.T) {
+			store := newStore(t)
+			create := []string{"--store", store, "create", "--plan", "small", "--id", "one"}
+			wantKilled(t, point, osbPlatform([]string{"OSB_CRASH_AT=" + point}, create...))
+			if got := call(t, create...); got.status != status {
+				t.Errorf("got %+v, want the status %d", got, status)
+			}
+		})
 	}
 }
 
@@ -47,7 +49,7 @@ func TestKilledWorker(t *testing.T) {
 			t.Setenv("XDG_STATE_HOME", t.TempDir())
 			t.Setenv(passwordVariable, "secret")
 			run := []string{"run", "--store", store, "--broker", s.url, "--worker", "one", "--first-pace", "0.01"}
-			check(t, store, []line{
+			wantLines(t, store, []line{
 				{"run --once --broker " + s.url, 0, ``, `.*`},
 				{"create --plan by-worker --id one --tries 3", 0, "one", ``},
 			})
@@ -62,13 +64,60 @@ func wantKilled(t *testing.T, point string, command *exec.Cmd) {
 	t.Helper()
 	var out bytes.Buffer
 	command.Stderr = &out
-	if err := command.Start(); err != nil {
-		t.Fatal(err)
-	}
+	check(t, command.Start())
 	late := time.AfterFunc(deadline, func() { _ = command.Process.Signal(syscall.SIGTERM) })
 	defer late.Stop()
 	_ = command.Wait()
 	if status := command.ProcessState.Sys().(syscall.WaitStatus); status.Signal() != syscall.SIGKILL {
-		t.Errorf("%s: it wasn't killed: %v\n%s", point, command.ProcessState, out.String())
+		t.Errorf("%s: got %v, want it killed\n%s", point, command.ProcessState, out.String())
+	}
+}
+
+// What the journal has once a worker was killed at a crash point of a creation: all that anybody else may have seen.
+// Beside the last line of a change, nobody knows whether it was committed.
+func TestJournalAtCrashPoints(t *testing.T) {
+	const sent = "changed claim wanted, sent provision"
+	for point, want := range map[string]string{
+		"claim-next":    "",
+		"claim-written": ", changed claim wanted",
+		"send-next":     ", changed claim wanted",
+		"take-next":     ", " + sent + ", answered provision",
+		"take-written":  ", " + creating,
+	} {
+		t.Run(point, func(t *testing.T) {
+			s, store := journaling(t)
+			wantLines(t, store, []line{{"create --plan at-once --id one", 0, "one", `.*`}})
+			folder := t.TempDir()
+			wantKilled(t, point, osbPlatform(append([]string{"OSB_CRASH_AT=" + point}, ownPassword...), "run", "--store", store,
+				"--broker", s.url, "--worker", "one", "--journal", folder))
+			if got := eventsIn(t, folder); strings.Join(got, "; ") != "started"+want {
+				t.Errorf("got %q, want %q", got, want)
+			}
+		})
+	}
+}
+
+// A rekey that is killed in the middle: no command begins with one of the keys, all go on with both, and a further
+// rekey ends it.
+func TestKilledRekey(t *testing.T) {
+	s := newSite(t)
+	for _, point := range []string{"order-next", "order-written"} {
+		store, key := bound(t, s, 3)
+		other := newKey(t)
+		arguments := []string{"--store", store, "rekey", "--key-file", key, "--new-key-file", other}
+		wantKilled(t, point, osbPlatform([]string{"OSB_CRASH_AT=" + point}, arguments...))
+		const credentials = `{"credentials":{"folder":".*","token":".*"}}`
+		wantLines(t, store, []line{
+			{"credentials one/1 --key-file " + key, 78, ``, `osb-platform: the key of the store is being replaced: .*`},
+			{"credentials one/1 --key-file " + other, 78, ``, `osb-platform: the key of the store is being replaced: .*`},
+			{"run --once --key-file " + key, 78, ``, `.*osb-platform: the key of the store is being replaced: .*`},
+			{"credentials one/1 --key-file " + other + " --key-file " + key, 0, credentials, ``},
+			{"credentials one/3 --key-file " + other + " --key-file " + key, 0, credentials, ``},
+			{"run --once --key-file " + other + " --key-file " + key, 0, ``, `.*"broker_reached".*`},
+			{"rekey --key-file " + key + " --new-key-file " + other, 0, `encrypted again: the credentials of .*`, ``},
+			{"credentials one/1 --key-file " + other, 0, credentials, ``},
+			{"credentials one/2 --key-file " + other, 0, credentials, ``},
+			{"credentials one/3 --key-file " + other, 0, credentials, ``},
+		})
 	}
 }

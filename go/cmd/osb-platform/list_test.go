@@ -3,12 +3,18 @@ package main
 import (
 	"bytes"
 	"context"
+	"encoding/json"
+	"io"
 	"os"
 	"path/filepath"
 	"strings"
 	"testing"
 	"time"
 
+	"github.com/mattn/go-sqlite3"
+	"github.com/spf13/cobra"
+
+	"pippinterm/osb"
 	"pippinterm/platform"
 )
 
@@ -37,16 +43,16 @@ func TestLatest(t *testing.T) {
 	}
 	first, latest := linesOf(), linesOf("--latest")
 	if len(first) != readAtOnce+20 || len(latest) != len(first) {
-		t.Fatalf("%d and %d lines", len(first), len(latest))
+		t.Fatalf("got %d and %d lines, want %d twice", len(first), len(latest), readAtOnce+20)
 	}
 	for at := range first {
 		if first[at] != latest[len(latest)-1-at] {
-			t.Fatalf("line %d is %q, and from the end it is %q", at, first[at], latest[len(latest)-1-at])
+			t.Fatalf("line %d: got %[3]q from the end, want %[2]q", at, first[at], latest[len(latest)-1-at])
 		}
 	}
 }
 
-// A moving is a store in which rows come to other states after each call that reads some.
+// A moving is a store in which rows change to other states after each call that reads some.
 type moving struct {
 	platform.Store
 	move func()
@@ -67,7 +73,7 @@ func (m moving) ReadAll(ctx context.Context, keys []platform.Key) ([]platform.En
 	return m.Store.ReadAll(ctx, keys)
 }
 
-// While instances come to other states, before and behind the place up to which they are listed, each is listed once.
+// While instances change to other states, before and behind the place up to which they are listed, each is listed once.
 func TestListWhileRowsMove(t *testing.T) {
 	const count = 2*readAtOnce + 20
 	over(t, newRows(t, count), func(ctx context.Context, in platform.Store) error {
@@ -80,10 +86,10 @@ func TestListWhileRowsMove(t *testing.T) {
 			for n := 0; n < 20; n++ {
 				moved++
 				err = in.Change(ctx, rows[moved*37%count].Key,
-					func(now time.Time, held platform.Held) (*platform.Change, error) {
-						held.Entry.Since = now
-						held.Entry.State = []platform.State{platform.Abandoned, platform.Withdrawn}[moved%2]
-						return &platform.Change{Entry: held.Entry}, nil
+					func(now time.Time, snapshot platform.Snapshot) (*platform.Change, error) {
+						snapshot.Entry.Since = now
+						snapshot.Entry.State = []platform.State{platform.Abandoned, platform.Withdrawn}[moved%2]
+						return &platform.Change{Entry: snapshot.Entry}, nil
 					})
 				if err != nil {
 					t.Error(err)
@@ -99,13 +105,13 @@ func TestListWhileRowsMove(t *testing.T) {
 			id, _, _ := strings.Cut(line, "\t")
 			listed[id]++
 		}
-		for _, it := range rows {
-			if got := listed[it.Names.Instance]; got != 1 {
-				t.Errorf("the instance %s is listed %d times, want 1", it.Names.Instance, got)
+		for _, row := range rows {
+			if got := listed[row.Names.Instance]; got != 1 {
+				t.Errorf("the instance %s: got it %d times, want 1", row.Names.Instance, got)
 			}
 		}
 		if len(listed) != count || moved == 0 {
-			t.Errorf("got %d instances of %d, %d moved", len(listed), count, moved)
+			t.Errorf("got %d instances, %d moved, want %d and at least one moved", len(listed), moved, count)
 		}
 		return nil
 	})
@@ -115,14 +121,12 @@ func TestListWhileRowsMove(t *testing.T) {
 func TestListWithoutReader(t *testing.T) {
 	command := osbPlatform(nil, "--store", newRows(t, 3), "list")
 	reader, writer, err := os.Pipe()
-	if err != nil {
-		t.Fatal(err)
-	}
+	check(t, err)
 	_ = reader.Close()
 	var failed bytes.Buffer
 	command.Stdout, command.Stderr = writer, &failed
 	if err := command.Run(); err != nil || failed.Len() > 0 {
-		t.Errorf("%v, %q", err, failed.String())
+		t.Errorf("got %v and %q, want no error and no message", err, failed.String())
 	}
 	_ = writer.Close()
 }
@@ -131,9 +135,9 @@ func TestListWithoutReader(t *testing.T) {
 func TestMissingStore(t *testing.T) {
 	for _, arguments := range ofExistingStores(t) {
 		store := filepath.Join(t.TempDir(), "folder", "store")
-		check(t, store, []line{{arguments, 78, ``, noStore}})
+		wantLines(t, store, []line{{arguments, 78, ``, noStore}})
 		if _, err := os.Stat(filepath.Dir(store)); !os.IsNotExist(err) {
-			t.Errorf("%s: there is a folder for it now: %v", arguments, err)
+			t.Errorf("%s: got %v, want no folder for it", arguments, err)
 		}
 	}
 }
@@ -157,9 +161,240 @@ func TestEmptyFile(t *testing.T) {
 	store := filepath.Join(t.TempDir(), "store")
 	write(t, store, "")
 	for _, arguments := range ofExistingStores(t) {
-		check(t, store, []line{{arguments, 78, ``, noStore}})
+		wantLines(t, store, []line{{arguments, 78, ``, noStore}})
 	}
 	if about, err := os.Stat(store); err != nil || about.Size() != 0 {
-		t.Errorf("the file: %v, %v", about, err)
+		t.Errorf("the file: got %v, %v, want an empty one", about, err)
+	}
+}
+
+// The head, the rows and the help of `list` have the same columns.
+func TestColumns(t *testing.T) {
+	e := rowWithBroker{Entry: platform.Entry{
+		Order:      platform.Order{Names: platform.Names{Instance: "one", Service: "s", Plan: "p"}, Broker: "shop"},
+		State:      platform.Ready,
+		EntryTexts: platform.EntryTexts{Because: "why"},
+	}}
+	for withReasons, want := range map[bool]string{
+		false: "one\tready\t0001-01-01T00:00:00Z\ts\tp\tshop", true: "one\tready\t0001-01-01T00:00:00Z\ts\tp\tshop\twhy",
+	} {
+		var head, row, plain strings.Builder
+		shown := shownColumns(withReasons)
+		check(t, printHead(&head, shown))
+		check(t, printRow(&row, shown, e, true))
+		check(t, printRow(&plain, shown, e, false))
+		if plain.String() != want+"\n" {
+			t.Errorf("got %q, want %q", plain.String(), want+"\n")
+		}
+		names, cells := strings.Fields(head.String()), strings.Split(want, "\t")
+		if len(names) != len(cells) || withReasons && names[len(names)-1] != "reason" {
+			t.Errorf("got the names %q and the cells %q, want one for each", names, cells)
+		}
+		for at, cell := range cells { // on a terminal, each cell is below its name
+			if strings.Index(head.String(), names[at]) != strings.Index(row.String(), cell) {
+				t.Errorf("%s: got the heads %q over %q, want them at the same places", names[at], head.String(), row.String())
+			}
+		}
+	}
+	if help := call(t, "list", "--help").out; !strings.Contains(help, "The columns are "+namesOfColumns()+".\n") ||
+		namesOfColumns() != "id, state, since, service, plan, broker, and with --reasons reason" {
+		t.Errorf("got %q and %s, want the columns in the help", namesOfColumns(), help)
+	}
+}
+
+func TestPrintable(t *testing.T) {
+	for text, want := range map[string]string{
+		"": "", "plain text": "plain text", "größe": "größe", "a\tb": `"a\tb"`, "a\nb": `"a\nb"`,
+		"\x1b[2J":  `"\x1b[2J"`,
+		"a\u202eb": `"a\u202eb"`, "a\u0085b": `"a\u0085b"`, "\xff": `"\xff"`, "a\u200bb": `"a\u200bb"`,
+	} {
+		t.Run(text, func(t *testing.T) {
+			if got := printable(text); got != want {
+				t.Errorf("got %s, want %s", got, want)
+			}
+		})
+	}
+}
+
+// JSON in ASCII means the same, and has no character that controls a terminal.
+func TestASCIIJSON(t *testing.T) {
+	for _, text := range []string{`{"a": "größe \u001b 😀 ` + "\u007f\u0085\u202e" + `"}`, `[1e400, "\ud83d"]`} {
+		got := asciiJSON([]byte(text))
+		for _, line := range got {
+			if line >= 0x7f {
+				t.Errorf("got %q, want only ASCII", got)
+			}
+		}
+		var one, other any
+		if json.Unmarshal([]byte(text), &one) == nil && (json.Unmarshal(got, &other) != nil ||
+			one.(map[string]any)["a"] != other.(map[string]any)["a"]) {
+			t.Errorf("got %q, want the value of %s", got, text)
+		}
+	}
+}
+
+func TestMoment(t *testing.T) {
+	for want, at := range map[string]time.Time{
+		"2023-11-14T22:13:20Z": time.Unix(1_700_000_000, 5).In(time.FixedZone("east", 3600)),
+		"9999-12-31T23:59:59Z": time.Unix(1<<40, 0),
+	} {
+		t.Run(want, func(t *testing.T) {
+			if got := moment(at); got != want {
+				t.Errorf("got %s, want %s", got, want)
+			}
+		})
+	}
+}
+
+func TestIsTerminal(t *testing.T) {
+	file, err := os.Open(os.DevNull)
+	check(t, err)
+	defer file.Close()
+	if isTerminal(file) || isTerminal(nil) {
+		t.Error("isTerminal: got true of what is no terminal, want false")
+	}
+}
+
+// A reason is one short sentence, whatever was lost by the way.
+func TestReasons(t *testing.T) {
+	unsure := "status 401: " + osb.ErrNoAnswer.Error()
+	for _, test := range []struct {
+		of   platform.Reason
+		want string
+	}{
+		{platform.Reason{}, ""},
+		{platform.Reason{Kind: "provision", Status: 503, Error: "Odd", Description: "no \x1b place"},
+			`provision 503 Odd "no \x1b place"`},
+		{platform.Reason{Kind: "provision", Status: 401, Lost: unsure},
+			"provision 401: the broker rejects the user or the password"},
+		{platform.Reason{Kind: "bind", Status: 401, Description: "bad \x1b password", Lost: unsure},
+			`bind 401: the broker rejects the user or the password: "bad \x1b password"`},
+		{platform.Reason{Kind: "unbind", Status: 403, Error: "Forbidden"},
+			"unbind 403: the broker doesn't let this user in: Forbidden"},
+		{platform.Reason{Kind: "poll", Status: 404, Lost: "status 404: " + osb.ErrNoAnswer.Error()},
+			"poll 404 the response isn't surely the broker's: a timeout takes its place"},
+		{platform.Reason{Kind: "poll", Lost: "the time of the exchange is over"},
+			"poll the time of the exchange is over"},
+		{platform.Reason{Kind: "catalogue", Status: 401, Lost: "the broker shop rejects the user or the password (401)"},
+			"the broker shop rejects the user or the password (401)"},
+	} {
+		t.Run(test.want, func(t *testing.T) {
+			if got := textOf(test.of); got != test.want {
+				t.Errorf("%+v: got %q, want %q", test.of, got, test.want)
+			}
+		})
+	}
+}
+
+// The reason of a broker counts for a row that says nothing itself, while something is to be sent for it.
+func TestReasonOfBroker(t *testing.T) {
+	away := platform.Broker{Name: "shop", Reason: platform.Reason{Kind: "catalogue", Lost: "connection \x1b refused"}}
+	due := platform.Entry{State: platform.Ordered, Due: time.Unix(1, 0)}
+	polled, ready := due, platform.Entry{State: platform.Ready}
+	polled.Last = platform.Reason{Kind: "poll", Status: 200}
+	for _, test := range []struct {
+		of          rowWithBroker
+		want, facts string
+	}{
+		{rowWithBroker{Entry: due, broker: away}, `broker: "connection \x1b refused"`, `"connection \x1b refused"`},
+		{rowWithBroker{Entry: polled, broker: away}, "poll 200", `"connection \x1b refused"`},
+		{rowWithBroker{Entry: due}, "", ""},
+		{rowWithBroker{Entry: ready, broker: away}, "", ""},
+	} {
+		t.Run(string(test.of.State)+" "+test.want, func(t *testing.T) {
+			if got, facts := test.of.reason(), textOf(test.of.brokerReason()); got != test.want || facts != test.facts {
+				t.Errorf("%s: got %q and %q, want %q and %q", test.of.State, got, facts, test.want, test.facts)
+			}
+		})
+	}
+}
+
+// The first 401 of a broker is in the list, in `--wait` and in the list of brokers.
+func TestRejectedPassword(t *testing.T) {
+	s, store := newSite(t), newStore(t)
+	wantLines(t, store, []line{{"broker drop shop", 0, ``, ``}})
+	p := start(t, store, []string{"OSB_PLATFORM_PASSWORD=secret"}, "--broker", s.url, "--first-pace", "0.01", "--hold", "0")
+	p.event("broker_reached")
+	s.setPassword("another")
+	wantLines(t, store, []line{
+		{"create --plan at-once --id one --wait=2", 4, `one`,
+			`ordered one\nosb-platform: one is still cleaning: provision 401: the broker rejects the user or the password.*`},
+		{"list --reasons", 0, "one\tcleaning\t.*\tprovision 401: the broker rejects the user or the password.*", ``},
+		{"create --plan at-once --id two --wait=0.1", 4, `two`,
+			`ordered two\nosb-platform: two is still ordered: the broker default rejects the user or the password \(401\).*`},
+		{"broker list", 0, "default\t.*\tthe broker default rejects the user or the password \\(401\\).*", ``},
+		{"list --reasons --state ordered", 0,
+			"two\tordered\t.*\tbroker: the broker default rejects the user or the password \\(401\\).*", ``},
+		{"list --json --state ordered", 0,
+			`{.*"broker_reason":{"at":"[^"]*","kind":"catalogue","status":401,"lost":"the broker .*`, ``},
+		{"show two", 0,
+			"id\ttwo\nstate\tordered\n.*\nbroker's reason\t" + since + " the broker default rejects the .*", ``},
+		{"show two --json", 0, `{.*"broker_reason":{.*`, ``},
+	})
+	s.setPassword("secret")
+	p.event("broker_reached")
+	wantLines(t, store, []line{
+		{"remove one --wait=60", 0, ``, `one is gone`},
+		{"show one", 0, ".*\nfailure\t.* provision 401: .*", ``}, // it had one try
+		{"create --plan at-once --id three --wait=60", 0, `three`, `ordered three`},
+		{"list --reasons --state ready", 0, "(t[^\t]*\tready\t[^\n]*\tprovision 201\n?){2}", ``},
+	})
+	p.stop()
+}
+
+// A row whose record can't be read is listed and shown with the reason, and hides no other row. A command that waits for
+// it fails.
+func TestUnreadableRow(t *testing.T) {
+	store := newStore(t)
+	over(t, store, func(ctx context.Context, in platform.Store) error {
+		orders := platform.NewOrders(in, nil)
+		for _, id := range []string{"one", "two", "three"} {
+			if _, err := orders.Create(ctx, platform.NewInstance{Plan: "small", ID: id}); err != nil {
+				return err
+			}
+			time.Sleep(2 * time.Millisecond) // a list orders them by the millisecond
+		}
+		return nil
+	})
+	spoil(t, store, "UPDATE osb_instances SET record = '{}' WHERE instance_name = 'two'")
+	const why = "its record can't be read: .*"
+	wantLines(t, store, []line{
+		{"list", 0, "one\t.*\ntwo\tordered\t.*\nthree\t.*", "1 record can't be read. .*--reasons' shows why."},
+		{"list --reasons", 0, "one\t[^\n]*\t\ntwo\t[^\n]*\t" + why + "\nthree\t.*", ".*"},
+		{"list --state ordered --json", 0, `.*"id":"two"[^\n]*"unreadable":"[^\n]*record[^\n]*\n.*`, ".*"},
+		{"show two", 0, "id\ttwo\nstate\tordered\n.*\nrecord\t" + why, ``},
+		{"show two --json", 0, `.*"unreadable":".*`, ``},
+		{"remove two --wait", 70, ``, ".*record.*"},
+	})
+	over(t, store, func(ctx context.Context, in platform.Store) error {
+		of, err := readEntry(ctx, in, "two")
+		if err != nil {
+			return err
+		}
+		command, goesOn := &cobra.Command{}, func(platform.Entry) (bool, bool) { return false, false }
+		command.SetErr(io.Discard)
+		ctx, cancel := context.WithTimeout(ctx, time.Minute)
+		defer cancel()
+		_, err = (&waiting{}).wait(ctx, command, session{store: in}, of, false, goesOn)
+		if err == nil || !strings.Contains(err.Error(), "two: its record can't be read: ") {
+			t.Errorf("the wait: got %v, want an error of the record", err)
+		}
+		return nil
+	})
+	if got := call(t, "--store", store, "show", "one", "--json"); strings.Contains(got.out, "unreadable") {
+		t.Errorf("the first: got %s, want no \"unreadable\" in it", got.out)
+	}
+}
+
+// spoil executes a statement in the file of a store.
+func spoil(t *testing.T, store, statement string) {
+	t.Helper()
+	made, err := (&sqlite3.SQLiteDriver{}).Open("file:" + store)
+	check(t, err)
+	defer made.Close()
+	if done, err := made.(*sqlite3.SQLiteConn).Exec(statement, nil); err != nil {
+		t.Fatal(err)
+	} else if count, err := done.RowsAffected(); err != nil || count != 1 {
+		t.Fatalf("got %d rows spoilt (%v), want 1", count, err)
 	}
 }

@@ -1,14 +1,18 @@
 package main
 
 import (
+	"context"
 	"fmt"
+	"io"
 	"math"
+	"sort"
 	"strings"
+	"sync"
 	"time"
 
 	"github.com/rs/zerolog"
 
-	"pippinterm/broker"
+	"pippinterm/internal/httpserver"
 	"pippinterm/internal/logs"
 	"pippinterm/platform"
 	"pippinterm/platform/api"
@@ -32,8 +36,8 @@ func (l *level) String() string { return levels[*l] }
 func (l *level) Type() string { return "level" }
 
 func (l *level) Set(text string) error {
-	for at, it := range levels {
-		if it == text {
+	for at, name := range levels {
+		if name == text {
 			*l = level(at)
 			return nil
 		}
@@ -71,10 +75,10 @@ func (l eventLog) apiRequest(of api.Exchange) {
 		level = warningLevel
 	}
 	event := l.at(level, "api_request")
-	for _, it := range [][2]string{
+	for _, pair := range [][2]string{
 		{"client", of.Client}, {"token", of.Token}, {"method", of.Method}, {"target", of.Target}, {"route", of.Route},
 	} {
-		add(event, it[0], it[1])
+		add(event, pair[0], pair[1])
 	}
 	event.Int("status", of.Status)
 	add(event, "code", of.Code)
@@ -108,13 +112,13 @@ type logObserver struct {
 
 var _ platform.Observer = logObserver{}
 
-// Sent logs a request that is about to be sent.
-func (o logObserver) Sent(of platform.Exchange) {
+// OnRequest logs a request that is about to be sent.
+func (o logObserver) OnRequest(of platform.Exchange) {
 	o.addExchange(o.at(debugLevel, "request_sent"), of).Send()
 }
 
-// Answered logs a request and its answer.
-func (o logObserver) Answered(of platform.Exchange) {
+// OnAnswer logs a request and its answer.
+func (o logObserver) OnAnswer(of platform.Exchange) {
 	level := infoLevel
 	if of.Lost != nil || of.Status >= 400 && of.Status != 410 {
 		level = warningLevel
@@ -134,14 +138,14 @@ func (o logObserver) Answered(of platform.Exchange) {
 	event.Float64("milliseconds", milliseconds(of.Duration)).Send()
 }
 
-// Changed logs another state.
-func (o logObserver) Changed(key platform.Key, before, after platform.State) {
+// OnChange logs another state.
+func (o logObserver) OnChange(key platform.Key, before, after platform.State) {
 	event := o.addKey(o.at(infoLevel, "state_changed"), key)
 	event.Str("before", string(before)).Str("after", string(after)).Send()
 }
 
-// Failed logs a failure.
-func (o logObserver) Failed(of platform.Failure) {
+// OnFailure logs a failure.
+func (o logObserver) OnFailure(of platform.Failure) {
 	event := o.at(errorLevel, of.Event)
 	add(event, "broker", of.Broker)
 	if of.IsNamed {
@@ -154,8 +158,8 @@ func (o logObserver) Failed(of platform.Failure) {
 	event.Send()
 }
 
-// Orphan logs the answer to the last deletion.
-func (o logObserver) Orphan(key platform.Key, status int, isFound bool) {
+// OnOrphan logs the answer to the last deletion.
+func (o logObserver) OnOrphan(key platform.Key, status int, isFound bool) {
 	name := "orphan_unknown"
 	if isFound {
 		name = "orphan_found"
@@ -163,8 +167,8 @@ func (o logObserver) Orphan(key platform.Key, status int, isFound bool) {
 	o.addKey(o.at(warningLevel, name), key).Int("status", status).Send()
 }
 
-// Reached logs that a broker is reached.
-func (o logObserver) Reached(name string) {
+// OnCatalogue logs that a broker is reached.
+func (o logObserver) OnCatalogue(name string) {
 	o.at(infoLevel, "broker_reached").Str("broker", name).Send()
 }
 
@@ -191,49 +195,200 @@ func (o logObserver) addKey(event *zerolog.Event, key platform.Key) *zerolog.Eve
 // Observers are observers that get all events, in this order.
 type observers []platform.Observer
 
-func (o observers) Sent(of platform.Exchange) {
-	for _, it := range o {
-		it.Sent(of)
+func (o observers) OnRequest(of platform.Exchange) {
+	for _, observer := range o {
+		observer.OnRequest(of)
 	}
 }
 
-func (o observers) Answered(of platform.Exchange) {
-	for _, it := range o {
-		it.Answered(of)
+func (o observers) OnAnswer(of platform.Exchange) {
+	for _, observer := range o {
+		observer.OnAnswer(of)
 	}
 }
 
-func (o observers) Changed(key platform.Key, before, after platform.State) {
-	for _, it := range o {
-		it.Changed(key, before, after)
+func (o observers) OnChange(key platform.Key, before, after platform.State) {
+	for _, observer := range o {
+		observer.OnChange(key, before, after)
 	}
 }
 
-func (o observers) Failed(of platform.Failure) {
-	for _, it := range o {
-		it.Failed(of)
+func (o observers) OnFailure(of platform.Failure) {
+	for _, observer := range o {
+		observer.OnFailure(of)
 	}
 }
 
-func (o observers) Orphan(key platform.Key, status int, isFound bool) {
-	for _, it := range o {
-		it.Orphan(key, status, isFound)
+func (o observers) OnOrphan(key platform.Key, status int, isFound bool) {
+	for _, observer := range o {
+		observer.OnOrphan(key, status, isFound)
 	}
 }
 
-func (o observers) Reached(broker string) {
-	for _, it := range o {
-		it.Reached(broker)
+func (o observers) OnCatalogue(broker string) {
+	for _, observer := range o {
+		observer.OnCatalogue(broker)
 	}
 }
 
-// A serverObserver has the failures of packages health and server in the log and the metrics.
-type serverObserver struct {
-	broker.Silent
-	to platform.Observer
+// A serverObserver has the failures of package httpserver in the log and the metrics.
+type serverObserver struct{ to platform.Observer }
+
+// OnRejection does nothing: the log has the requests that the platform sends.
+func (serverObserver) OnRejection(httpserver.Rejection) {}
+
+// OnFailure hands a failure on.
+func (o serverObserver) OnFailure(event string, err error) {
+	o.to.OnFailure(platform.Failure{Event: event, Err: err})
 }
 
-// Failed hands a failure on.
-func (o serverObserver) Failed(of broker.Failure) {
-	o.to.Failed(platform.Failure{Event: of.Event, RequestID: of.RequestID, Err: of.Err})
+// mostOrderedIDs is of how many rows orderedIDs know the ids.
+const mostOrderedIDs = 10_000
+
+// OrderedIDs know by which ids rows were ordered, if these aren't GUIDs. An observer gets only keys. Any number of
+// goroutines use them. A nil *orderedIDs knows none.
+type orderedIDs struct {
+	mutex sync.Mutex
+	of    map[platform.Key]platform.Names
+}
+
+func newOrderedIDs() *orderedIDs { return &orderedIDs{of: map[platform.Key]platform.Names{}} }
+
+// learn notes the ids of a row. If there are too many, it forgets another row, whose GUID stands for it then.
+func (n *orderedIDs) learn(e platform.Entry) {
+	if idOf(e) == e.Key.String() {
+		return
+	}
+	n.mutex.Lock()
+	defer n.mutex.Unlock()
+	if _, isKnown := n.of[e.Key]; !isKnown && len(n.of) >= mostOrderedIDs {
+		for other := range n.of {
+			delete(n.of, other)
+			break
+		}
+	}
+	n.of[e.Key] = e.Names
+}
+
+// find is the id of the instance of a key, and that of the binding, or empty: as they were ordered, or as GUIDs.
+func (n *orderedIDs) find(key platform.Key) (instance, binding string) {
+	if n != nil {
+		n.mutex.Lock()
+		known, isKnown := n.of[key]
+		n.mutex.Unlock()
+		if isKnown {
+			return known.Instance, known.Binding
+		}
+	}
+	if key.IsBinding {
+		return key.Instance.String(), key.Binding.String()
+	}
+	return key.Instance.String(), ""
+}
+
+// A namingStore is a store from which names learn, before an observer gets a row.
+type namingStore struct {
+	platform.Store
+	names *orderedIDs
+}
+
+// Claim learns the ids of the rows that it steps.
+func (s namingStore) Claim(
+	ctx context.Context, brokers []string, most int, step platform.Step,
+) ([]platform.ClaimedRow, error) {
+	return s.Store.Claim(ctx, brokers, most, s.learning(step))
+}
+
+// Change learns the ids of the row.
+func (s namingStore) Change(ctx context.Context, key platform.Key, step platform.Step) error {
+	return s.Store.Change(ctx, key, s.learning(step))
+}
+
+func (s namingStore) learning(step platform.Step) platform.Step {
+	return func(now time.Time, snapshot platform.Snapshot) (*platform.Change, error) {
+		s.names.learn(snapshot.Entry)
+		return step(now, snapshot)
+	}
+}
+
+// Changes prints a line for each row that has changed to another state: the time, the id, and the state.
+type changes struct {
+	platform.Silent
+	to    io.Writer // doesn't wait
+	names *orderedIDs
+}
+
+// OnChange prints a line.
+func (c changes) OnChange(key platform.Key, _, after platform.State) {
+	id, binding := c.names.find(key)
+	if key.IsBinding {
+		id += "/" + binding
+	}
+	fmt.Fprintf(c.to, "%s\t%s\t%s\n", moment(time.Now()), printable(id), after)
+}
+
+// showCounts shows on a terminal how many rows are in each state, until ctx is done.
+func showCounts(ctx context.Context, to io.Writer, store platform.Store) {
+	shown := newProgress(to)
+	defer shown.end()
+	for {
+		if counts, err := store.Counts(ctx); err == nil {
+			shown.show(textOfCounts(counts))
+		}
+		if sleep(ctx, time.Second) != nil {
+			return
+		}
+	}
+}
+
+func textOfCounts(counts []platform.Count) string {
+	sums := map[platform.State]int{}
+	for _, count := range counts {
+		sums[count.State] += count.Count
+	}
+	texts := make([]string, 0, len(sums))
+	for state, sum := range sums {
+		texts = append(texts, fmt.Sprintf("%d %s", sum, state))
+	}
+	sort.Slice(texts, func(one, other int) bool {
+		return texts[one][strings.IndexByte(texts[one], ' '):] < texts[other][strings.IndexByte(texts[other], ' '):]
+	})
+	if len(texts) == 0 {
+		return "nothing yet"
+	}
+	return strings.Join(texts, ", ")
+}
+
+// A progress is a line on a terminal that is written anew. Elsewhere it shows nothing.
+type progress struct {
+	to    io.Writer // nil if it isn't a terminal
+	shown string
+}
+
+func newProgress(to io.Writer) *progress {
+	if !isTerminal(to) {
+		to = nil
+	}
+	return &progress{to: to}
+}
+
+// show writes the line.
+func (p *progress) show(text string) {
+	if p.to == nil || text == p.shown {
+		return
+	}
+	blanks := len(p.shown) - len(text)
+	if blanks < 0 {
+		blanks = 0
+	}
+	fmt.Fprintf(p.to, "\r%s%s", text, strings.Repeat(" ", blanks))
+	p.shown = text
+}
+
+// end ends the line.
+func (p *progress) end() {
+	if p.to != nil && p.shown != "" {
+		fmt.Fprintln(p.to)
+		p.shown = ""
+	}
 }

@@ -3,14 +3,27 @@ package main
 
 import (
 	"context"
+	"encoding/base64"
+	"encoding/json"
+	"errors"
+	"fmt"
+	"io"
 	"os"
 	"runtime/debug"
+	"strconv"
+	"strings"
 	"syscall"
+	"time"
 
 	"github.com/spf13/cobra"
+	"github.com/spf13/pflag"
 
 	"pippinterm/internal/cli"
+	pgsession "pippinterm/internal/pg"
+	"pippinterm/internal/sqlitefile"
+	"pippinterm/osb"
 	"pippinterm/platform"
+	"pippinterm/platform/vault"
 )
 
 func main() {
@@ -59,9 +72,9 @@ docs/platform-guide.md says how to run it.
 		&cobra.Group{ID: "orders", Title: "Instances and bindings:"}, &cobra.Group{ID: "run", Title: "The program:"},
 	)
 	add := func(group string, commands ...*cobra.Command) {
-		for _, it := range commands {
-			it.GroupID = group
-			root.AddCommand(it)
+		for _, command := range commands {
+			command.GroupID = group
+			root.AddCommand(command)
 		}
 	}
 	add("orders", createCommand(a), bindCommand(a), unbindCommand(a), credentialsCommand(a), removeCommand(a),
@@ -72,4 +85,275 @@ docs/platform-guide.md says how to run it.
 	a.places.add(root.PersistentFlags())
 	wrapUsage(root)
 	return root
+}
+
+// The exit statuses besides those of package cli.
+const (
+	statusRejected  = 1 // an order that can't be taken
+	statusOtherwise = 3 // --wait: it has ended otherwise than asked for
+	statusGoesOn    = 4 // --wait: the time is over
+)
+
+// An app is one run of the program.
+type app struct {
+	places  places
+	journal journalSettings // of a command that changes records
+	status  int             // that of the error of the command, or 0 for that of cli.Run
+}
+
+// exit is the exit status, by that of cli.Run.
+func (a *app) exit(status int) int {
+	if a.status != 0 && status == cli.StatusFailed {
+		return a.status
+	}
+	return status
+}
+
+// withStatus marks the error of a command with its exit status.
+func (a *app) withStatus(err error) error {
+	var fault *platform.Fault
+	var ended *endError
+	switch {
+	case errors.As(err, &ended):
+		a.status = ended.status
+	case errors.As(err, &fault) && fault.Kind == platform.Invalid:
+		return cli.Unusable(err)
+	case errors.As(err, &fault):
+		a.status = statusRejected
+	case pgsession.IsCode(err, pgsession.QueryCanceled, pgsession.LockNotAvailable):
+		return cli.Unavailable(fmt.Errorf("the store hasn't answered in time: %w. Another session may have locked a "+
+			"table, for example by VACUUM FULL: see pg_stat_activity, and try again", err))
+	case errors.Is(err, platform.ErrAway), sqlitefile.MayPass(err):
+		return cli.Unavailable(err)
+	}
+	return err
+}
+
+// An endError is how a wait has ended, if not as it was asked for.
+type endError struct {
+	text   string
+	status int
+}
+
+func (e *endError) Error() string { return e.text }
+
+// A session is what the commands but run work with.
+type session struct {
+	store  platform.Store
+	vault  platform.Vault // or nil
+	orders *platform.Orders
+	keys   []string // the files with keys
+}
+
+// A need is what a command works with.
+type need int
+
+const (
+	needsStore need = iota // a store that exists
+	needsKey               // that, and the vault, if there is a file with its key
+)
+
+// over is the RunE of a command over a store that exists.
+func (a *app) over(
+	needs need, do func(ctx context.Context, c *cobra.Command, s session, arguments []string) error,
+) func(*cobra.Command, []string) error {
+	return func(c *cobra.Command, arguments []string) error {
+		store, err := existingStore(c.Context(), a.places.store, 1)
+		if err != nil {
+			return err
+		}
+		var keys *vault.Vault
+		if needs == needsKey {
+			if keys, err = readVault(a.places.keys(), warner(c.ErrOrStderr())); err != nil {
+				return closeStore(store, err)
+			}
+		}
+		return closeStore(store, a.within(c.Context(), store, keys, warner(c.ErrOrStderr()), func(s session) error {
+			return do(c.Context(), c, s, arguments)
+		}))
+	}
+}
+
+// within calls do in a session over a store, with these keys or nil.
+func (a *app) within(
+	ctx context.Context, store platform.Store, keys *vault.Vault, warn func(string), do func(session) error,
+) error {
+	if keys != nil {
+		if err := useVault(ctx, store, keys, warn); err != nil {
+			return a.withStatus(err)
+		}
+	}
+	sealing, journal := asVault(keys), &platformJournal{failed: func(of platform.Failure) {
+		warner(os.Stderr)(of.Err.Error())
+	}}
+	if err := journal.open(a.journal, "", sealing); err != nil {
+		return err
+	}
+	defer journal.close()
+	orders := platform.NewOrders(journal.ordersStore(store), sealing)
+	return a.withStatus(do(session{store: store, vault: sealing, orders: orders, keys: a.places.keys()}))
+}
+
+// closeStore closes a store, and returns the error of what was done with it, or else that of Close.
+func closeStore(store platform.Store, err error) error {
+	if failed := store.Close(); err == nil {
+		return failed
+	}
+	return err
+}
+
+// wrapUsage has the options of all commands shown in lines that fit a wide terminal.
+func wrapUsage(command *cobra.Command) {
+	text := strings.ReplaceAll(command.UsageTemplate(), ".FlagUsages", ".FlagUsagesWrapped 110")
+	command.SetUsageTemplate(text)
+}
+
+// wants is the Args of a command that takes these arguments.
+func wants(names ...string) cobra.PositionalArgs {
+	return func(c *cobra.Command, given []string) error {
+		wait := c.Flag("wait")
+		switch {
+		case len(given) == len(names):
+			return nil
+		case len(given) > len(names) && wait != nil && wait.Changed:
+			return fmt.Errorf("too many arguments: the seconds of --wait follow an equals sign, as in --wait=600")
+		case len(names) == 0:
+			return fmt.Errorf("it takes no argument, and %q is one", given[0])
+		}
+		return fmt.Errorf("it takes %s, and there are %d arguments", strings.Join(names, " and "), len(given))
+	}
+}
+
+// mostObject is how long a file with an object may be.
+const mostObject = 1 << 20
+
+// An object is the value of a flag that is an object of JSON: the object itself, or the name of a file with it, behind
+// @ or alone. @- is the standard input.
+type object struct {
+	to    *json.RawMessage
+	stdin func() io.Reader
+	shown string
+}
+
+func objectValue(to *json.RawMessage, stdin func() io.Reader) pflag.Value {
+	return &object{to: to, stdin: stdin}
+}
+
+func (o *object) String() string { return o.shown }
+
+func (o *object) Type() string { return "JSON|@FILE" }
+
+func (o *object) Set(text string) error {
+	given := []byte(text)
+	if !strings.HasPrefix(strings.TrimSpace(text), "{") {
+		name := strings.TrimPrefix(text, "@")
+		var err error
+		if given, err = o.read(name, text == "@-"); err != nil {
+			return err
+		}
+	}
+	var members map[string]json.RawMessage
+	if err := json.Unmarshal(given, &members); err != nil || members == nil {
+		return fmt.Errorf("it isn't an object of JSON")
+	}
+	*o.to, o.shown = given, text
+	return nil
+}
+
+func (o *object) read(name string, isStandard bool) ([]byte, error) {
+	var from io.Reader
+	if isStandard {
+		from = o.stdin()
+	} else {
+		file, err := os.Open(name)
+		if err != nil {
+			return nil, fmt.Errorf("it is neither an object of JSON nor a file that can be read: %w", err)
+		}
+		defer file.Close()
+		from = file
+	}
+	given, err := io.ReadAll(io.LimitReader(from, mostObject+1))
+	switch {
+	case err != nil:
+		return nil, err
+	case len(given) > mostObject:
+		return nil, fmt.Errorf("it is longer than %d bytes", mostObject)
+	}
+	return given, nil
+}
+
+// An identity is the value of a flag PLATFORM=JSON: the user behind an order. It becomes the value of a header.
+type identity struct {
+	to    *string
+	shown string
+}
+
+func (i *identity) String() string { return i.shown }
+
+func (i *identity) Type() string { return "PLATFORM=JSON" }
+
+func (i *identity) Set(text string) error {
+	platform, object, isWhole := strings.Cut(text, "=")
+	value := platform + " " + base64.StdEncoding.EncodeToString([]byte(object))
+	if _, err := osb.OriginatingIdentity(value); err != nil || !isWhole {
+		return fmt.Errorf(`want PLATFORM=JSON, such as cloudfoundry={"user_id":"one"}`)
+	}
+	*i.to, i.shown = value, text
+	return nil
+}
+
+// A chosenID is the value of a flag that is an id. It isn't empty: a variable of a script may have been empty by
+// mistake.
+type chosenID string
+
+func (i *chosenID) String() string { return string(*i) }
+
+func (i *chosenID) Type() string { return "id" }
+
+func (i *chosenID) Set(text string) error {
+	if text == "" {
+		return errors.New("it is empty: give an id, or leave --id out for a new GUID")
+	}
+	*i = chosenID(text)
+	return nil
+}
+
+// longestTime is the longest time of a setting.
+const longestTime = 366 * 24 * time.Hour
+
+// A setting is the value of a flag with a number of seconds from least, or the word default.
+type setting struct {
+	to      **time.Duration
+	least   time.Duration
+	changed bool
+}
+
+func (s *setting) String() string {
+	if s.to == nil || *s.to == nil {
+		return ""
+	}
+	return strconv.FormatFloat((*s.to).Seconds(), 'f', -1, 64)
+}
+
+func (s *setting) Type() string { return "seconds" }
+
+func (s *setting) Set(text string) error {
+	if text == "default" {
+		*s.to, s.changed = nil, true
+		return nil
+	}
+	chosen, err := secondsOf(text, s.least)
+	if err != nil {
+		return err
+	}
+	*s.to, s.changed = &chosen, true
+	return nil
+}
+
+func secondsOf(text string, least time.Duration) (time.Duration, error) {
+	number, err := strconv.ParseFloat(text, 64)
+	if err != nil || !(number >= least.Seconds() && number <= longestTime.Seconds()) {
+		return 0, fmt.Errorf("want a number of seconds from %v to %v", least.Seconds(), longestTime.Seconds())
+	}
+	return time.Duration(number * float64(time.Second)), nil
 }

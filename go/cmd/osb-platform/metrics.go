@@ -18,21 +18,8 @@ import (
 
 const prefix = "osb_platform_"
 
-// Metrics are a platform.Observer that counts events, for Prometheus:
-//
-//	osb_platform_requests_total{broker,kind,status}   answered requests; the status is lost if no answer was taken
-//	osb_platform_rejections_total{broker,kind,status,error}
-//	                                                  answers of 400 or more. The error is the answer's, if the standard
-//	                                                  has it, and else other, or none
-//	osb_platform_request_seconds{kind}                durations of requests, a histogram
-//	osb_platform_in_flight                            requests of this worker that aren't answered yet
-//	osb_platform_failures_total{event}                failures, by their event in the log
-//	osb_platform_leases_lost_total                    leases that another worker has taken over
-//	osb_platform_orphans_total{result}                answers to last deletions: found or unknown
-//	osb_platform_log_lines_dropped_total              dropped lines of the log
-//	osb_platform_journal_lines_lost_total             lines of the journal that couldn't be written
-//
-// and those of a storeCollector, of the process (process_*) and of Go's runtime (go_*).
+// Metrics are a platform.Observer that counts events, for Prometheus. metricTable has what they are. Those of a
+// storeCollector, of the process (process_*) and of Go's runtime (go_*) are beside them.
 type metrics struct {
 	registry   *prometheus.Registry
 	requests   *prometheus.CounterVec
@@ -46,36 +33,37 @@ type metrics struct {
 }
 
 func newMetrics(dropped, lost func() uint64) *metrics {
-	vector := func(name, help string, labels ...string) *prometheus.CounterVec {
-		return prometheus.NewCounterVec(prometheus.CounterOpts{Name: prefix + name, Help: help}, labels)
-	}
 	m := &metrics{
-		registry: prometheus.NewRegistry(),
-		requests: vector("requests_total", "Answered requests.", "broker", "kind", "status"),
-		rejections: vector("rejections_total", "Answers of 400 or more, by their error.", "broker", "kind", "status",
-			"error"),
+		registry:   prometheus.NewRegistry(),
+		requests:   counter("requests_total"),
+		rejections: counter("rejections_total"),
 		seconds: prometheus.NewHistogramVec(prometheus.HistogramOpts{
-			Name: prefix + "request_seconds", Help: "Durations of requests, in seconds.",
+			Name: prefix + "request_seconds", Help: metricTable[prefix+"request_seconds"].help,
 			Buckets: []float64{.001, .0025, .005, .01, .025, .05, .1, .25, .5, 1, 2.5, 5, 10, 30, 60},
-		}, []string{"kind"}),
+		}, metricTable[prefix+"request_seconds"].labels),
 		inFlight: prometheus.NewGauge(prometheus.GaugeOpts{
-			Name: prefix + "in_flight", Help: "Requests of this worker that aren't answered yet.",
+			Name: prefix + "in_flight", Help: metricTable[prefix+"in_flight"].help,
 		}),
-		failures: vector("failures_total", "Failures, by their event in the log.", "event"),
-		lost: prometheus.NewCounter(prometheus.CounterOpts{
-			Name: prefix + "leases_lost_total", Help: "Leases that another worker has taken over.",
-		}),
-		orphans: vector("orphans_total", "Answers to last deletions.", "result"),
+		failures: counter("failures_total"),
+		lost:     counter("leases_lost_total").WithLabelValues(),
+		orphans:  counter("orphans_total"),
 	}
 	m.registry.MustRegister(m.requests, m.rejections, m.seconds, m.inFlight, m.failures, m.lost, m.orphans,
-		prometheus.NewCounterFunc(prometheus.CounterOpts{
-			Name: prefix + "log_lines_dropped_total", Help: "Dropped lines of the log.",
-		}, func() float64 { return float64(dropped()) }),
-		prometheus.NewCounterFunc(prometheus.CounterOpts{
-			Name: prefix + "journal_lines_lost_total", Help: "Lines of the journal that couldn't be written.",
-		}, func() float64 { return float64(lost()) }),
+		counterOf("log_lines_dropped_total", dropped), counterOf("journal_lines_lost_total", lost),
 		collectors.NewGoCollector(), collectors.NewProcessCollector(collectors.ProcessCollectorOpts{}))
 	return m
+}
+
+func counter(name string) *prometheus.CounterVec {
+	name = prefix + name
+	return prometheus.NewCounterVec(prometheus.CounterOpts{Name: name, Help: metricTable[name].help}, metricTable[name].labels)
+}
+
+// counterOf returns a counter whose value a function returns.
+func counterOf(name string, value func() uint64) prometheus.CounterFunc {
+	name = prefix + name
+	return prometheus.NewCounterFunc(prometheus.CounterOpts{Name: name, Help: metricTable[name].help},
+		func() float64 { return float64(value()) })
 }
 
 // addStore adds what a store counts. The store isn't asked after ctx is done, and a scrape waits for it for 2 seconds at
@@ -88,11 +76,11 @@ func (m *metrics) handler() http.Handler {
 	return promhttp.HandlerFor(m.registry, promhttp.HandlerOpts{MaxRequestsInFlight: 10})
 }
 
-// Sent counts a request in flight.
-func (m *metrics) Sent(platform.Exchange) { m.inFlight.Inc() }
+// OnRequest counts a request in flight.
+func (m *metrics) OnRequest(platform.Exchange) { m.inFlight.Inc() }
 
-// Answered counts a request. There are at most 99 brokers with a time series of their own.
-func (m *metrics) Answered(of platform.Exchange) {
+// OnAnswer counts a request. There are at most 99 brokers with a time series of their own.
+func (m *metrics) OnAnswer(of platform.Exchange) {
 	m.inFlight.Dec()
 	status := "lost"
 	if of.Lost == nil && of.Status >= 100 && of.Status <= 599 {
@@ -123,19 +111,19 @@ func errorLabel(code string) string {
 	return other
 }
 
-// Changed counts nothing: the collector counts states.
-func (m *metrics) Changed(platform.Key, platform.State, platform.State) {}
+// OnChange counts nothing: the collector counts states.
+func (m *metrics) OnChange(platform.Key, platform.State, platform.State) {}
 
-// Failed counts a failure.
-func (m *metrics) Failed(of platform.Failure) {
+// OnFailure counts a failure.
+func (m *metrics) OnFailure(of platform.Failure) {
 	m.failures.WithLabelValues(of.Event).Inc()
 	if of.Event == "lease_lost" {
 		m.lost.Inc()
 	}
 }
 
-// Orphan counts the answer to a last deletion.
-func (m *metrics) Orphan(_ platform.Key, _ int, isFound bool) {
+// OnOrphan counts the answer to a last deletion.
+func (m *metrics) OnOrphan(_ platform.Key, _ int, isFound bool) {
 	result := "unknown"
 	if isFound {
 		result = "found"
@@ -143,8 +131,8 @@ func (m *metrics) Orphan(_ platform.Key, _ int, isFound bool) {
 	m.orphans.WithLabelValues(result).Inc()
 }
 
-// Reached counts nothing.
-func (m *metrics) Reached(string) {}
+// OnCatalogue counts nothing.
+func (m *metrics) OnCatalogue(string) {}
 
 // Names are the values of a label, of which there may only be few.
 type names struct {
@@ -180,12 +168,6 @@ const (
 
 // A storeCollector has the counts of a store. If the store fails, or doesn't answer in time, only store_up is sent, and
 // oldest_due_seconds by what was read last. While only the counting takes long, the last counts are sent.
-//
-//	osb_platform_records{broker,kind,state}   instances and bindings in each state
-//	osb_platform_unsettled                    those that are unsettled
-//	osb_platform_oldest_unsettled_seconds     for how long the oldest of them is, or 0
-//	osb_platform_oldest_due_seconds           for how long the oldest row is due that isn't carried out, or 0
-//	osb_platform_store_up                     1, or 0 if the store fails or doesn't answer within 2 seconds
 type storeCollector struct {
 	due      *latest.Value[dueTime]
 	counts   *latest.Value[counts]
@@ -216,8 +198,9 @@ type counts struct {
 }
 
 func newStoreCollector(ctx context.Context, store platform.Store, now func() time.Time) *storeCollector {
-	describe := func(name, help string, labels ...string) *prometheus.Desc {
-		return prometheus.NewDesc(prefix+name, help, labels, nil)
+	describe := func(name string) *prometheus.Desc {
+		row := metricTable[prefix+name]
+		return prometheus.NewDesc(prefix+name, row.help, row.labels, nil)
 	}
 	askDue := func(ctx context.Context) (found dueTime, err error) {
 		found.due, found.now, err = store.OldestDue(ctx)
@@ -235,18 +218,18 @@ func newStoreCollector(ctx context.Context, store platform.Store, now func() tim
 		counts:    latest.New(ctx, count, latest.Options{Kept: keptFor, Longest: mostToCount, Now: now}),
 		now:       now,
 		mostWait:  mostWait,
-		up:        describe("store_up", "Whether the store could count."),
-		records:   describe("records", "Instances and bindings in each state.", "broker", "kind", "state"),
-		unsettled: describe("unsettled", "Instances and bindings that are unsettled."),
-		oldest:    describe("oldest_unsettled_seconds", "For how long the oldest of them is, or 0."),
-		oldestDue: describe("oldest_due_seconds", "For how long the oldest row is due that isn't carried out, or 0."),
+		up:        describe("store_up"),
+		records:   describe("records"),
+		unsettled: describe("unsettled"),
+		oldest:    describe("oldest_unsettled_seconds"),
+		oldestDue: describe("oldest_due_seconds"),
 	}
 }
 
 // Describe sends the descriptions.
 func (c *storeCollector) Describe(to chan<- *prometheus.Desc) {
-	for _, it := range []*prometheus.Desc{c.up, c.records, c.unsettled, c.oldest, c.oldestDue} {
-		to <- it
+	for _, desc := range []*prometheus.Desc{c.up, c.records, c.unsettled, c.oldest, c.oldestDue} {
+		to <- desc
 	}
 }
 
@@ -275,13 +258,13 @@ func (c *storeCollector) Collect(to chan<- prometheus.Metric) {
 		return
 	}
 	unsettled, oldest := 0, time.Duration(0)
-	for _, it := range found.rows {
-		send(c.records, float64(it.Count), it.Broker, kindOf(it.IsBinding), string(it.State))
-		if it.State != platform.Unsettled {
+	for _, row := range found.rows {
+		send(c.records, float64(row.Count), row.Broker, kindOf(row.IsBinding), string(row.State))
+		if row.State != platform.Unsettled {
 			continue
 		}
-		unsettled += it.Count
-		if age := found.now.Sub(it.Oldest); age > oldest {
+		unsettled += row.Count
+		if age := found.now.Sub(row.Oldest); age > oldest {
 			oldest = age
 		}
 	}

@@ -2,6 +2,7 @@ package main
 
 import (
 	"context"
+	"errors"
 	"fmt"
 	"io"
 	"os/signal"
@@ -9,13 +10,17 @@ import (
 	"syscall"
 	"time"
 
+	"github.com/spf13/pflag"
+
 	"pippinterm/internal/cli"
 	"pippinterm/internal/cli/notify"
 	"pippinterm/internal/httpserver"
 	"pippinterm/internal/logs"
 	pgsession "pippinterm/internal/pg"
+	"pippinterm/internal/sqlitefile"
 	"pippinterm/platform"
 	"pippinterm/platform/client"
+	"pippinterm/platform/journal"
 	"pippinterm/platform/vault"
 )
 
@@ -60,8 +65,8 @@ func runWorker(ctx context.Context, s *runSettings, p places, stdout, stderr io.
 	defer closeQueue(told)
 	r := &running{settings: s, places: p, log: eventLog{logger: logs.New(lines), least: s.level}}
 	r.opened, r.notServed, r.names = make(chan struct{}), make(chan error, 1), newOrderedIDs()
-	r.journal.failed = func(of platform.Failure) { r.observer.Failed(of) }
-	r.metrics = newMetrics(lines.Dropped, r.journal.lost)
+	r.journal.failed = func(of platform.Failure) { r.observer.OnFailure(of) }
+	r.metrics = newMetrics(lines.DroppedLines, r.journal.lostLines)
 	r.observer = observers{logObserver{r.log, r.names}, r.metrics}
 	showsCounts := isTerminal(stdout) && !s.servesOnly
 	if !showsCounts {
@@ -238,7 +243,7 @@ func (r *running) openEngine(ctx context.Context, own string) (err error) {
 	}
 	r.client, err = client.New(client.Options{
 		Password: passwordsOf(own, client.NewPasswords(r.vault, r.log.warn, r.places.keys()...)), TLS: s.tls,
-		Connections: s.atOnce, AllowHTTP: s.allowHTTP,
+		Connections: platform.MostInFlight(s.atOnce), AllowHTTP: s.allowHTTP,
 	})
 	if err != nil {
 		return cli.Unusable(err)
@@ -272,4 +277,193 @@ func (r *running) showCounts(work context.Context, to io.Writer) (end func()) {
 		}
 	}()
 	return func() { cancel(); <-done }
+}
+
+// A right is that of a worker to its name.
+type right struct {
+	end  func()
+	lost <-chan struct{}
+}
+
+// work steps what is due until stop is done. If the right to the name of the worker is lost, as after an outage of
+// PostgreSQL, it takes it again.
+func (r *running) work(work, stop context.Context) error {
+	end, lost, err := r.store.Only(stop, string(r.settings.worker))
+	if err != nil {
+		return err
+	}
+	if end == nil { // such as a worker that lost its power, and whose session the server hasn't ended yet
+		return cli.Unavailable(fmt.Errorf("a worker %s runs already over this store, or its session hasn't ended "+
+			"yet. If it is another worker, name this one with --worker", r.settings.worker))
+	}
+	r.logStart()
+	for name := (&right{end, lost}); name != nil; {
+		name, err = r.workAs(work, stop, name)
+	}
+	return err
+}
+
+// workAs works under the name of the worker until stop is done. If the name is lost, no further requests are begun, and
+// workAs returns the name, taken again, once those in flight are answered and written. Otherwise it returns nil and the
+// error.
+func (r *running) workAs(work, stop context.Context, name *right) (again *right, err error) {
+	held, cancel := context.WithCancel(stop)
+	taken := make(chan *right, 1)
+	go func() {
+		select {
+		case <-name.lost:
+			cancel()
+			r.log.at(warningLevel, "worker_name_lost").Str("worker", string(r.settings.worker)).Send()
+			name.end()
+			taken <- r.nameAgain(stop)
+		case <-held.Done():
+			taken <- nil
+		}
+	}()
+	err = r.engineRuns(work, held)
+	cancel()
+	if again = <-taken; again == nil {
+		name.end()
+	} else if stop.Err() != nil {
+		again.end()
+		again = nil
+	}
+	return again, err
+}
+
+// nameAgain takes the name of the worker again, or returns nil if stop is done before. The server may need a moment to
+// notice that the session has ended.
+func (r *running) nameAgain(stop context.Context) *right {
+	for {
+		end, lost, err := r.store.Only(stop, string(r.settings.worker))
+		if err == nil && end != nil {
+			return &right{end, lost}
+		}
+		if sleep(stop, time.Second) != nil {
+			return nil
+		}
+	}
+}
+
+// engineRuns has the engine run until stop is done, and what was in flight is answered and written, or until work is
+// done.
+func (r *running) engineRuns(work, stop context.Context) error {
+	for _, begin := range []func(context.Context) error{r.checkKeys, r.free} {
+		err := begin(work)
+		for errors.Is(err, platform.ErrAway) && sleep(stop, time.Second) == nil {
+			err = begin(work)
+		}
+		if err != nil {
+			return err
+		}
+	}
+	if !r.settings.once {
+		return r.engine.Run(work, stop.Done())
+	}
+	err := r.engine.RunOnceUntil(work, stop.Done())
+	if errors.Is(err, platform.ErrUnreached) || errors.Is(err, platform.ErrLocked) {
+		return &endError{status: statusRejected, text: err.Error()}
+	}
+	return err
+}
+
+// checkKeys returns an error if the key of the store was replaced since it was opened. Once the worker has its name,
+// the key isn't replaced any more.
+func (r *running) checkKeys(ctx context.Context) error {
+	if r.keys == nil {
+		return nil
+	}
+	return checkVault(ctx, r.store, r.keys)
+}
+
+// free gives up what an earlier worker of this name has left in flight. Nothing of this one is in flight.
+func (r *running) free(ctx context.Context) error {
+	return r.store.Free(ctx, string(r.settings.worker))
+}
+
+// A platformJournal is the journal of a process, if --journal names one. The zero platformJournal wraps nothing.
+type platformJournal struct {
+	failed func(platform.Failure)
+	writer *journal.Writer // or nil
+	to     *journal.Journal
+}
+
+// journalSettings are the options of a journal.
+type journalSettings struct {
+	path string
+	size int // in MiB
+}
+
+func (s *journalSettings) add(flags *pflag.FlagSet) { cli.JournalFlags(flags, &s.path, &s.size) }
+
+// open opens the journal that the settings name, if they name one, for a worker of this name, or for none. vault seals
+// the credentials of the store, or is nil.
+func (j *platformJournal) open(s journalSettings, worker string, vault platform.Vault) (err error) {
+	if s.path == "" {
+		return nil
+	}
+	j.writer, err = journal.Open(journal.Options{
+		Path: s.path, Most: int64(s.size) << 20,
+		Started: journal.StartMembers(cli.Version(), worker),
+		Failed: func(err error) {
+			j.failed(platform.Failure{Event: "journal_failed", Err: fmt.Errorf("lines are lost: %w", err)})
+		},
+	})
+	if err != nil {
+		return journalError(err)
+	}
+	j.to = journal.New(j.writer, vault, isDoubtful)
+	return nil
+}
+
+// journalError is the error of a journal that can't be opened: an operator has to change something, unless the disk is
+// full.
+func journalError(err error) error {
+	mayPass := sqlitefile.MayPass(err)
+	err = fmt.Errorf("--journal: %w", err)
+	if mayPass {
+		return cli.Unavailable(err)
+	}
+	return cli.Unusable(err)
+}
+
+// isDoubtful is whether a transaction that has failed with an error may have been committed.
+func isDoubtful(err error) bool {
+	return errors.Is(err, platform.ErrAway) || errors.Is(err, sqlitefile.ErrUnknownCommit)
+}
+
+func (j *platformJournal) engineStore(of platform.Store) platform.Store {
+	if j.to == nil {
+		return of
+	}
+	return j.to.EngineStore(of)
+}
+
+func (j *platformJournal) ordersStore(of platform.Store) platform.Store {
+	if j.to == nil {
+		return of
+	}
+	return j.to.OrdersStore(of)
+}
+
+func (j *platformJournal) client(of platform.Client) platform.Client {
+	if j.to == nil {
+		return of
+	}
+	return j.to.Client(of)
+}
+
+// lostLines are the lines that couldn't be written.
+func (j *platformJournal) lostLines() uint64 {
+	if j.writer == nil {
+		return 0
+	}
+	return j.writer.LostLines()
+}
+
+// close ends the journal, once nothing goes on any more.
+func (j *platformJournal) close() {
+	if j.writer != nil {
+		j.writer.Close()
+	}
 }

@@ -5,16 +5,28 @@ import (
 	"bytes"
 	"encoding/json"
 	"encoding/pem"
+	"fmt"
 	"io"
+	"net"
 	"net/http"
 	"net/http/httptest"
+	"net/http/httputil"
+	"net/url"
 	"os"
 	"os/exec"
 	"path/filepath"
+	"regexp"
+	"strconv"
 	"strings"
 	"syscall"
 	"testing"
 	"time"
+
+	"golang.org/x/sys/unix"
+
+	"pippinterm/internal/journalfile"
+	"pippinterm/internal/sqlitefile"
+	"pippinterm/platform"
 )
 
 // A process is the program while it runs.
@@ -39,13 +51,9 @@ func launch(t *testing.T, event string, command *exec.Cmd) *process {
 	t.Helper()
 	p := &process{t: t, lines: make(chan string, 100_000), command: command}
 	stderr, err := p.command.StderrPipe()
-	if err != nil {
-		t.Fatal(err)
-	}
+	check(t, err)
 	p.command.Stdout = &p.out
-	if err := p.command.Start(); err != nil {
-		t.Fatal(err)
-	}
+	check(t, p.command.Start())
 	t.Cleanup(func() {
 		_ = p.command.Process.Kill()
 		_ = p.command.Wait()
@@ -71,17 +79,17 @@ func (p *process) event(name string) map[string]any {
 		select {
 		case line, isOpen := <-p.lines:
 			if !isOpen {
-				p.t.Fatalf("it has ended without %s", name)
+				p.t.Fatalf("got an end without %s, want it", name)
 			}
 			var read map[string]any
 			if err := json.Unmarshal([]byte(line), &read); err != nil {
-				p.t.Fatalf("a line isn't JSON: %q", line)
+				p.t.Fatalf("a line: got %q, want JSON", line)
 			}
 			if read["event"] == name {
 				return read
 			}
 		case <-late:
-			p.t.Fatalf("there is no %s in the log", name)
+			p.t.Fatalf("the log: got no %s in time, want one", name)
 		}
 	}
 }
@@ -90,25 +98,23 @@ func (p *process) event(name string) map[string]any {
 func (p *process) stop() string {
 	p.t.Helper()
 	p.terminate()
-	return p.ended()
+	return p.wait()
 }
 
 func (p *process) terminate() {
 	p.t.Helper()
-	if err := p.command.Process.Signal(syscall.SIGTERM); err != nil {
-		p.t.Fatal(err)
-	}
+	check(p.t, p.command.Process.Signal(syscall.SIGTERM))
 }
 
-// ended waits for the status 0, and returns the rest of the log.
-func (p *process) ended() string {
+// wait waits for the status 0, and returns the rest of the log.
+func (p *process) wait() string {
 	p.t.Helper()
 	var rest strings.Builder
 	for line := range p.lines {
 		rest.WriteString(line + "\n")
 	}
 	if err := p.command.Wait(); err != nil {
-		p.t.Errorf("after SIGTERM: %v", err)
+		p.t.Errorf("after SIGTERM: got %v, want no error", err)
 	}
 	return rest.String()
 }
@@ -120,12 +126,12 @@ func TestWholeWay(t *testing.T) {
 	folder := t.TempDir()
 	password, secret := filepath.Join(folder, "password"), filepath.Join(folder, "secret")
 	write(t, password, "secret\n")
-	check(t, store, []line{
+	wantLines(t, store, []line{
 		{"broker add local " + s.url + " --password-file " + password + " --first-pace 0.01", 0, ``, ``},
 		{"broker show local", 0, ".*\nplan\tSOLD\tby-worker\t.*\tbindable", ``},
 	})
 	p := start(t, store, nil, "--key-file", key, "--health-listen", "127.0.0.1:0", "--log-level", "debug")
-	check(t, store, []line{
+	wantLines(t, store, []line{
 		{"create --plan by-worker --id one --wait=60", 0, `one`, `ordered one`},
 		{"bind one --id two --wait=60 --key-file " + key, 0, `one/two`, `ordered one/two`},
 		{"credentials one/two", 78, ``, `osb-platform: name the file with the key .*--key-file FILE`},
@@ -142,31 +148,31 @@ func TestWholeWay(t *testing.T) {
 	})
 	text, err := os.ReadFile(secret)
 	if err != nil || !strings.Contains(string(text), `"token"`) {
-		t.Errorf("%q, %v", text, err)
+		t.Errorf("got %q, %v, want a token", text, err)
 	}
 	if about, err := os.Stat(secret); err != nil || about.Mode().Perm() != 0o600 {
-		t.Errorf("%v, %v", about, err)
+		t.Errorf("got %v, %v, want the mode 600", about, err)
 	}
 	log := p.stop()
 	var read struct{ Credentials struct{ Token string } }
 	if err := json.Unmarshal(text, &read); err != nil || read.Credentials.Token == "" {
 		t.Fatal(err)
 	}
-	for name, it := range map[string]string{"the log": log, "standard output": p.out.String()} {
-		if strings.Contains(it, read.Credentials.Token) || strings.Contains(it, "secret") {
-			t.Errorf("%s has a secret: %s", name, it)
+	for name, output := range map[string]string{"the log": log, "standard output": p.out.String()} {
+		if strings.Contains(output, read.Credentials.Token) || strings.Contains(output, "secret") {
+			t.Errorf("%s: got %s, want no secret in it", name, output)
 		}
 	}
-	for _, it := range []string{"\tone\tready\n", "\tone\tgone\n", "\tone/two\tready\n", "\tone/two\tgone\n"} {
-		if strings.Count(p.out.String(), it) != 1 {
-			t.Errorf("%q isn't once in %q", it, p.out.String())
+	for _, row := range []string{"\tone\tready\n", "\tone\tgone\n", "\tone/two\tready\n", "\tone/two\tgone\n"} {
+		if strings.Count(p.out.String(), row) != 1 {
+			t.Errorf("got %[2]q, want %[1]q in it once", row, p.out.String())
 		}
 	}
-	for _, it := range []string{
+	for _, event := range []string{
 		`"instance":"one","binding":"two","kind":"bind"`, `"event":"state_changed","instance":"one",`,
 	} {
-		if !strings.Contains(log, it) {
-			t.Errorf("%s isn't in the log: %s", it, log)
+		if !strings.Contains(log, event) {
+			t.Errorf("the log: got %[2]s, want %[1]s in it", event, log)
 		}
 	}
 }
@@ -177,17 +183,17 @@ func TestLogAndMetrics(t *testing.T) {
 	p := start(t, store, []string{"OSB_PLATFORM_PASSWORD=secret"}, "--broker", s.url, "--health-listen", "127.0.0.1:0",
 		"--worker", "one", "--log-level", "debug")
 	p.event("broker_reached")
-	check(t, store, []line{
+	wantLines(t, store, []line{
 		{"create --broker default --plan at-once --id one --wait=60", 0, `one`, `ordered one`},
 		{"broker drop shop", 0, ``, ``},
 	})
 	sent, answered := p.event("request_sent"), p.event("request")
 	if sent["request"] != answered["request"] || answered["status"] != 201.0 || answered["broker"] != "default" ||
 		answered["kind"] != "provision" || answered["level"] != "info" || answered["instance"] == nil {
-		t.Errorf("%v, %v", sent, answered)
+		t.Errorf("got %v and %v, want the Provision at the broker default, with its number, and 201", sent, answered)
 	}
 	if changed := p.event("state_changed"); changed["before"] != "ordered" || changed["after"] != "ready" {
-		t.Error(changed)
+		t.Errorf("got %v, want the change from ordered to ready", changed)
 	}
 	p.stop()
 }
@@ -198,23 +204,25 @@ func TestHealth(t *testing.T) {
 	t.Setenv("XDG_STATE_HOME", t.TempDir())
 	p := start(t, store, []string{"OSB_PLATFORM_PASSWORD=secret"}, "--broker", s.url, "--health-listen", "127.0.0.1:0")
 	p.event("broker_reached")
-	check(t, store, []line{{"create --plan at-once --id one --wait=60", 0, `one`, `ordered one`}})
+	wantLines(t, store, []line{{"create --plan at-once --id one --wait=60", 0, `one`, `ordered one`}})
 	for path, text := range map[string]string{
 		"/healthz": `"ok"`, "/readyz": `"ok"`,
 		"/metrics": `osb_platform_requests_total{broker="default",kind="provision",status="201"} 1`,
 	} {
-		if status, body := get(t, p.health+path); status != 200 || !strings.Contains(body, text) {
-			t.Errorf("%s: %d %s", path, status, body)
-		}
+		t.Run(path, func(t *testing.T) {
+			if status, body := get(t, p.health+path); status != 200 || !strings.Contains(body, text) {
+				t.Errorf("got %d %s, want 200 with %s", status, body, text)
+			}
+		})
 	}
 	_, body := get(t, p.health+"/metrics")
-	for _, it := range []string{
+	for _, want := range []string{
 		`osb_platform_records{broker="default",kind="instance",state="ready"} 1`, "osb_platform_store_up 1",
 		"osb_platform_in_flight 0", "osb_platform_oldest_due_seconds 0", "osb_platform_unsettled 0",
 		"osb_platform_leases_lost_total 0", `osb_platform_request_seconds_count{kind="provision"} 1`,
 	} {
-		if !strings.Contains(body, it+"\n") {
-			t.Errorf("%s isn't in %s", it, body)
+		if !strings.Contains(body, want+"\n") {
+			t.Errorf("got %[2]s, want %[1]s in it", want, body)
 		}
 	}
 	p.stop()
@@ -229,40 +237,40 @@ func TestTries(t *testing.T) {
 		"--longest-pace", "0.02", "--hold", "0")
 	p.event("broker_reached")
 	s.answer(503)
-	check(t, store, []line{
+	wantLines(t, store, []line{
 		{"create --plan at-once --id one --tries 3 --wait=60", 0, guid,
 			"ordered one\none has failed: tried again as " + guid},
 		{"show one", 0, ".*\nfailure\t" + since + ` provision 503 Odd "no \\x1b\[2J place"` +
 			"\ntry 1 of 3\tone gone\ntry 2 of 3\t" + guid + " ready\n.*", ``},
 	})
 	s.answer(503)
-	check(t, store, []line{
+	wantLines(t, store, []line{
 		{"create --plan at-once --wait=60", 0, guid, "ordered " + guid + "\n" + guid + " has failed: tried again as " + guid},
 	})
 	s.answer(503)
-	check(t, store, []line{
+	wantLines(t, store, []line{
 		{"create --plan at-once --id only --wait=60", 3, `only`,
 			`ordered only\nosb-platform: only is gone: provision 503 Odd "no \\x1b\[2J place"`},
 	})
 	s.answer(400)
-	check(t, store, []line{
+	wantLines(t, store, []line{
 		{"create --plan at-once --id two --tries 3 --wait=60", 3, `two`,
 			`ordered two\nosb-platform: two is gone: provision 400 Odd "no \\x1b\[2J place"`},
 		{"list --state gone --reasons", 0, "(.*\tgone\t.*\tdefault\tprovision (503|400) Odd .*\n?){4}", ``},
 	})
 	s.answer(409)
-	check(t, store, []line{{"create --plan at-once --id three --wait=60", 3, `three`,
+	wantLines(t, store, []line{{"create --plan at-once --id three --wait=60", 3, `three`,
 		`ordered three\n.*: three is unsettled: provision 409 Odd .*`}})
 	if got := call(t, "--store", store, "list"); !strings.HasPrefix(got.failed, "1 unsettled (oldest: 20") {
-		t.Errorf("%+v", got)
+		t.Errorf("got %+v, want one that is unsettled", got)
 	}
 	s.answer(409)
-	check(t, store, []line{
+	wantLines(t, store, []line{
 		{"create --plan at-once --tries 1 --wait=60", 3, guid, `ordered .*\n.*: provision 409 Odd .*`},
 		{"remove three --wait=60", 0, ``, `three is gone`},
 	})
 	s.answer(409)
-	check(t, store, []line{
+	wantLines(t, store, []line{
 		{"create --plan at-once --id four --wait=60", 3, `four`, `ordered four\n.*`},
 		{"abandon four --because shut", 0, ``, ``},
 		{"list --state abandoned --reasons", 0, "four\tabandoned\t.*\tdefault\tshut", ``},
@@ -285,15 +293,11 @@ func TestHangUp(t *testing.T) {
 	write(t, name, string(pem.EncodeToMemory(&pem.Block{Type: "CERTIFICATE", Bytes: server.Certificate().Raw})))
 	for _, arguments := range [][]string{{"--tls-ca", name}, nil} {
 		p := start(t, store, nil, arguments...)
-		if err := p.command.Process.Signal(syscall.SIGHUP); err != nil {
-			t.Fatal(err)
-		}
+		check(t, p.command.Process.Signal(syscall.SIGHUP))
 		if arguments != nil {
 			p.event("certificates_reloaded")
 			write(t, name, "none")
-			if err := p.command.Process.Signal(syscall.SIGHUP); err != nil {
-				t.Fatal(err)
-			}
+			check(t, p.command.Process.Signal(syscall.SIGHUP))
 			p.event("certificates_not_reloaded")
 		}
 		p.stop()
@@ -306,12 +310,12 @@ func TestWorkers(t *testing.T) {
 	t.Setenv("XDG_STATE_HOME", t.TempDir())
 	t.Setenv(passwordVariable, "secret")
 	p := start(t, store, []string{"OSB_PLATFORM_PASSWORD=secret"}, "--broker", s.url, "--worker", "one")
-	check(t, store, []line{
+	wantLines(t, store, []line{
 		{"run --worker one --once", 75, ``, `.*osb-platform: a worker one runs already.*`},
 		{"run --worker a/b", 2, ``, `osb-platform: .*a worker's name.*`},
 	})
 	p.stop()
-	for _, it := range []struct {
+	for _, test := range []struct {
 		arguments []string
 		status    int
 		says      string
@@ -322,26 +326,377 @@ func TestWorkers(t *testing.T) {
 		{[]string{"--broker", s.url, "--moved", "--late-for", "0", "--pace", "0.5", "--threads", "2", "--once"}, 0, ""},
 	} {
 		command := osbPlatform([]string{"OSB_PLATFORM_PASSWORD=secret"}, append([]string{"run", "--store", store},
-			it.arguments...)...)
+			test.arguments...)...)
 		out, _ := command.CombinedOutput()
-		if command.ProcessState.ExitCode() != it.status || !strings.Contains(string(out), it.says) {
-			t.Errorf("%v: status %d: %s", it.arguments, command.ProcessState.ExitCode(), out)
+		if command.ProcessState.ExitCode() != test.status || !strings.Contains(string(out), test.says) {
+			t.Errorf("%v: got the status %d and %s, want %d and %s", test.arguments, command.ProcessState.ExitCode(), out,
+				test.status, test.says)
 		}
 	}
-	check(t, store, []line{{"broker show default", 0, ".*password\tnone.*\nhold\t0\nfirst pace\t0.5\n.*", ``}})
+	wantLines(t, store, []line{{"broker show default", 0, ".*password\tnone.*\nhold\t0\nfirst pace\t0.5\n.*", ``}})
 }
 
 // get is the answer to a GET.
 func get(t *testing.T, url string) (int, string) {
 	t.Helper()
 	given, err := http.Get(url)
-	if err != nil {
-		t.Fatal(err)
-	}
+	check(t, err)
 	defer given.Body.Close()
 	text, err := io.ReadAll(given.Body)
-	if err != nil {
-		t.Fatal(err)
-	}
+	check(t, err)
 	return given.StatusCode, string(text)
+}
+
+// newOne is a store with a broker of this process, and a worker over it, after an order was taken up and while its
+// answer is held.
+func newOne(t *testing.T, s *site, arguments ...string) (p *process, store string) {
+	t.Helper()
+	store = filepath.Join(t.TempDir(), "store")
+	t.Setenv("XDG_STATE_HOME", t.TempDir())
+	all := append([]string{"--broker", s.url, "--first-pace", "0.01", "--hold", "0", "--worker", "one"}, arguments...)
+	p = start(t, store, []string{"OSB_PLATFORM_PASSWORD=secret"}, all...)
+	p.event("broker_reached")
+	wantLines(t, store, []line{{"create --plan at-once --id one --tries 3", 0, "one", ``}})
+	s.await(t, 1)
+	return p, store
+}
+
+// SIGTERM waits for the answer that is awaited, and writes it.
+func TestStopTakesAnAnswer(t *testing.T) {
+	s := newSite(t)
+	release := s.hold()
+	defer release()
+	p, store := newOne(t, s, "--stop-seconds", "60", "--health-listen", "127.0.0.1:0")
+	if status, _ := get(t, p.health+"/readyz"); status != 200 {
+		t.Errorf("got %d, want 200", status)
+	}
+	p.terminate()
+	p.event("stopping")
+	for late := time.Now().Add(deadline); ; time.Sleep(5 * time.Millisecond) {
+		if status, _ := get(t, p.health+"/readyz"); status == 503 {
+			break
+		}
+		if time.Now().After(late) {
+			t.Fatal("got it ready while it is being stopped, want it not ready")
+		}
+	}
+	release()
+	if rest := p.wait(); !strings.Contains(rest, `"all_work_ended":true`) {
+		t.Errorf("the log: got %s, want %q in it", rest, `"all_work_ended":true`)
+	}
+	wantLines(t, store, []line{{"list", 0, "one\tready\t.*", ``}})
+}
+
+// SIGTERM doesn't wait for ever for an answer. What the request has done is found out at the next start.
+func TestStopDoesNotWaitForEver(t *testing.T) {
+	s := newSite(t)
+	release := s.hold()
+	defer release()
+	p, store := newOne(t, s, "--stop-seconds", "0.1")
+	if rest := p.stop(); !strings.Contains(rest, `"all_work_ended":false,"store_closed":true`) {
+		t.Errorf("the log: got %s, want %q in it", rest, `"all_work_ended":false,"store_closed":true`)
+	}
+	wantLines(t, store, []line{{"show one", 0, ".*\nworker\tone\nleased until\t.*", ``}})
+	release()
+	endsWell(t, s, store)
+}
+
+// A worker that is killed with a request in flight: the next one of its name gives it up at once, and goes on.
+func TestKilled(t *testing.T) {
+	s := newSite(t)
+	release := s.hold()
+	defer release()
+	p, store := newOne(t, s)
+	check(t, p.command.Process.Kill())
+	_ = p.command.Wait()
+	release()
+	endsWell(t, s, store)
+}
+
+// endsWell starts a worker, after which nothing is in flight, and of the order one try is ready.
+func endsWell(t *testing.T, s *site, store string) {
+	t.Helper()
+	p := start(t, store, []string{"OSB_PLATFORM_PASSWORD=secret"}, "--broker", s.url, "--worker", "one")
+	for late := time.Now().Add(deadline); ; time.Sleep(20 * time.Millisecond) {
+		if got := call(t, "--store", store, "list", "--state", "ready"); strings.Count(got.out, "\n") == 1 {
+			break
+		}
+		if time.Now().After(late) {
+			t.Fatalf("the list: got %s after the time for it, want all of them there", call(t, "--store", store, "list").out)
+		}
+	}
+	p.stop()
+}
+
+// The service manager gets READY=1 once a worker runs, and STOPPING=1 after SIGTERM.
+func TestServiceManagerGetsReports(t *testing.T) {
+	name := filepath.Join(t.TempDir(), "notify")
+	manager, err := net.ListenUnixgram("unixgram", &net.UnixAddr{Name: name, Net: "unixgram"})
+	check(t, err)
+	defer manager.Close()
+	p := start(t, filepath.Join(t.TempDir(), "store"), []string{"NOTIFY_SOCKET=" + name})
+	for _, want := range []string{"READY=1", "STOPPING=1"} {
+		buffer := make([]byte, 100)
+		check(t, manager.SetReadDeadline(time.Now().Add(deadline)))
+		length, err := manager.Read(buffer)
+		if got := string(buffer[:length]); got != want || err != nil {
+			t.Fatalf("got %q, %v, want %q", got, err, want)
+		}
+		if want == "READY=1" {
+			p.stop()
+		}
+	}
+}
+
+// oldestDue is the metric of a worker.
+func oldestDue(t *testing.T, p *process) float64 {
+	t.Helper()
+	_, text := get(t, p.health+"/metrics")
+	found := regexp.MustCompile(`(?m)^osb_platform_oldest_due_seconds (\S+)$`).FindStringSubmatch(text)
+	if found == nil {
+		t.Fatalf("got %s, want oldest_due_seconds", text)
+	}
+	seconds, err := strconv.ParseFloat(found[1], 64)
+	check(t, err)
+	return seconds
+}
+
+// While a broker doesn't answer, its oldest order counts as due since it was ordered, though each request is sent
+// again.
+func TestOldestDueOfSilentBroker(t *testing.T) {
+	s, store := newSite(t), filepath.Join(t.TempDir(), "store")
+	t.Setenv("XDG_STATE_HOME", t.TempDir())
+	password := filepath.Join(t.TempDir(), "password")
+	write(t, password, "secret")
+	settings := " --hold 0 --first-pace 0.01 --longest-pace 0.01 --password-file "
+	wantLines(t, store, []line{{"broker add local " + s.url + settings + password, 0, ``, ``}})
+	p := start(t, store, nil, "--seconds", "1", "--health-listen", "127.0.0.1:0")
+	p.event("broker_reached")
+	defer s.hold()()
+	begun := time.Now()
+	wantLines(t, store, []line{{"create --plan at-once --id one", 0, `one`, ``}})
+	created := time.Now()
+	s.await(t, 3)                                   // the first two weren't answered within their second
+	least := time.Since(created) - time.Millisecond // the store has whole milliseconds
+	if got := oldestDue(t, p); got < least.Seconds() || got > time.Since(begun).Seconds() {
+		t.Errorf("the oldest due: got %v s, want at least %v and at most the time since", got, least)
+	}
+}
+
+// longest sets how long the files of a process may become. With 0, every write to a file fails, as on a full disk.
+func (p *process) longest(bytes uint64) {
+	p.t.Helper()
+	limit := unix.Rlimit{Cur: bytes, Max: unix.RLIM_INFINITY}
+	check(p.t, unix.Prlimit(p.command.Process.Pid, unix.RLIMIT_FSIZE, &limit, nil))
+}
+
+// On a full disk the orders of others stay as they are. What the worker prints and logs is what is on disk, and the log
+// says once why nothing goes on. Once there is space, each order is sent once.
+func TestFullDisk(t *testing.T) {
+	const orders = 20
+	s, store := newSite(t), filepath.Join(t.TempDir(), "store")
+	t.Setenv("XDG_STATE_HOME", t.TempDir())
+	p := start(t, store, []string{"OSB_PLATFORM_PASSWORD=secret"}, "--broker", s.url)
+	p.event("broker_reached")
+	p.longest(0)
+	for n := 0; n < orders; n++ {
+		id := fmt.Sprint("q", n)
+		wantLines(t, store, []line{{"create --plan at-once --id " + id, 0, id, ``}})
+	}
+	time.Sleep(2 * time.Second)
+	if count := countListed(t, store, "ordered"); count != orders || s.requests() > 0 {
+		t.Errorf("got %d orders and %d requests sent, want all and none", count, s.requests())
+	}
+	p.longest(unix.RLIM_INFINITY)
+	for late := time.Now().Add(deadline); countListed(t, store, "ready") < orders; time.Sleep(50 * time.Millisecond) {
+		if time.Now().After(late) {
+			t.Fatal("the orders: got them at rest, want them to go on")
+		}
+	}
+	log := p.stop()
+	printed := p.out.String()
+	if strings.Count(printed, "\n") != orders || strings.Count(printed, "\tready\n") != orders {
+		t.Errorf("the output: got\n%s\nwant all orders ready", printed)
+	}
+	for event, want := range map[string]int{"store_failed": 1, "state_changed": orders, "request": orders} {
+		if got := strings.Count(log, `"event":"`+event+`"`); got != want {
+			t.Errorf("the log: got %s %d times, want %d:\n%.3000s", event, got, want, log)
+		}
+	}
+}
+
+// countListed is how many records are in a state.
+func countListed(t *testing.T, store, state string) int {
+	t.Helper()
+	return strings.Count(call(t, "--store", store, "list", "--state", state).out, "\n")
+}
+
+// eventsIn are the events of all files of a folder with journals, one text for each file, by name.
+func eventsIn(t *testing.T, folder string) (all []string) {
+	t.Helper()
+	paths, err := filepath.Glob(filepath.Join(folder, "*"))
+	check(t, err)
+	for _, path := range paths {
+		text, err := os.ReadFile(path)
+		check(t, err)
+		var events []string
+		for _, line := range strings.Split(strings.TrimSuffix(string(text), "\n"), "\n") {
+			var read struct{ Event, Kind, Cause, State string }
+			if err := json.Unmarshal([]byte(line), &read); err != nil {
+				t.Fatalf("%s: the line %q: got %v, want no error", path, line, err)
+			}
+			events = append(events, strings.Join(strings.Fields(read.Event+" "+read.Kind+read.Cause+" "+read.State), " "))
+		}
+		all = append(all, strings.Join(events, ", "))
+	}
+	return all
+}
+
+const creating = "changed claim wanted, sent provision, answered provision, changed take ready"
+
+// journaling is a store with an order at a broker, and the arguments of a worker over it.
+func journaling(t *testing.T) (s *site, store string) {
+	t.Helper()
+	s, store = newSite(t), filepath.Join(t.TempDir(), "store")
+	t.Setenv("XDG_STATE_HOME", t.TempDir())
+	t.Setenv(passwordVariable, "secret")
+	wantLines(t, store, []line{{"run --once --broker " + s.url, 0, ``, `.*`}})
+	return s, store
+}
+
+var ownPassword = []string{"OSB_PLATFORM_PASSWORD=secret"}
+
+// A folder gets a file for each run, and the journal ends with stopped.
+func TestJournal(t *testing.T) {
+	s, store := journaling(t)
+	folder := t.TempDir()
+	for _, id := range []string{"one", "two"} {
+		p := start(t, store, ownPassword, "--broker", s.url, "--worker", "one", "--journal", folder)
+		wantLines(t, store, []line{{"create --plan at-once --wait=60 --id " + id, 0, id, `.*`}})
+		p.stop()
+		files := eventsIn(t, folder)
+		if want := "started, " + creating + ", stopped"; files[len(files)-1] != want {
+			t.Errorf("got %q, want %q", files[len(files)-1], want)
+		}
+	}
+	if files := eventsIn(t, folder); len(files) != 2 {
+		t.Errorf("got %q, want two files", files)
+	}
+}
+
+// What operators order by the API is in the journal of the process that serves it.
+func TestJournalOfServe(t *testing.T) {
+	_, store := journaling(t)
+	folder := t.TempDir()
+	p := launch(t, "serving", osbPlatform(nil, "serve", "--store", store, "--api", "127.0.0.1:0", "--api-tokens",
+		newTokens(t), "--journal", folder))
+	caller{t, http.DefaultClient, p.api, token}.call(201, "POST", "/v1/instances", `{"plan":"at-once"}`)
+	p.stop()
+	if got := strings.Join(eventsIn(t, folder), "; "); got != "started, changed order ordered, stopped" {
+		t.Errorf("got %s, want started, changed order ordered, stopped", got)
+	}
+}
+
+// The commands that order write a journal, too, if they are to. That of create --wait ends once the wait has ended.
+func TestJournalOfCommands(t *testing.T) {
+	s, store := journaling(t)
+	folder := t.TempDir()
+	p := start(t, store, ownPassword, "--broker", s.url, "--worker", "one")
+	wantLines(t, store, []line{{"create --plan at-once --wait=60 --id one --journal " + folder, 0, "one", `.*`}})
+	p.stop()
+	wantLines(t, store, []line{
+		{"retry one --journal " + folder, 1, ``, `.*nothing is to be done for it`},
+		{"abandon one --because why --journal " + folder, 0, ``, ``},
+		{"create --plan at-once --id two --journal " + folder, 0, "two", ``},
+		{"remove two --journal " + folder, 0, ``, ``},
+	})
+	got := strings.Join(eventsIn(t, folder), "; ")
+	if want := "started, changed order ordered, stopped; started, stopped; started, changed command abandoned, stopped; " +
+		"started, changed order ordered, stopped; started, changed command withdrawn, stopped"; got != want {
+		t.Errorf("got %q, want %q", got, want)
+	}
+}
+
+// Two workers can't write to one file.
+func TestJournalTaken(t *testing.T) {
+	s, store := journaling(t)
+	file := filepath.Join(t.TempDir(), "journal")
+	start(t, store, ownPassword, "--broker", s.url, "--worker", "one", "--journal", file)
+	command := osbPlatform(ownPassword, "run", "--store", store, "--worker", "two", "--journal", file)
+	out, _ := command.CombinedOutput()
+	if command.ProcessState.ExitCode() != 78 || !strings.Contains(string(out), "--journal: "+file+": another process writes") {
+		t.Errorf("got the status %d and %s, want 78 and that another process writes", command.ProcessState.ExitCode(), out)
+	}
+}
+
+// Without --journal nothing is wrapped.
+func TestNoJournal(t *testing.T) {
+	j := &platformJournal{}
+	check(t, j.open(journalSettings{}, "", nil))
+	store, client := platform.Store(&ownStore{}), platform.Client(&ownClient{})
+	if j.engineStore(store) != store || j.ordersStore(store) != store || j.client(client) != client || j.lostLines() != 0 {
+		t.Error("without a journal: got something wrapped, want nothing")
+	}
+	j.close()
+}
+
+type (
+	ownStore  struct{ platform.Store }
+	ownClient struct{ platform.Client }
+)
+
+// A request has the time of its line, and the line of its answer is later than the time that the answer has.
+func TestTimesCross(t *testing.T) {
+	s, store := journaling(t)
+	file, ahead := filepath.Join(t.TempDir(), "journal"), time.Now().Add(time.Hour).UnixMicro()
+	front, received := inFrontOf(t, s, strconv.FormatInt(ahead, 10))
+	p := start(t, store, ownPassword, "--broker", front, "--moved", "--worker", "one", "--journal", file)
+	wantLines(t, store, []line{{"create --plan at-once --wait=60 --id one", 0, "one", `.*`}})
+	p.stop()
+	text, err := os.ReadFile(file)
+	check(t, err)
+	at := map[string]int64{}
+	for _, line := range strings.Split(strings.TrimSuffix(string(text), "\n"), "\n") {
+		var read struct {
+			Time  int64
+			Event string
+		}
+		check(t, json.Unmarshal([]byte(line), &read))
+		at[read.Event] = read.Time
+	}
+	if got := <-received; got != strconv.FormatInt(at["sent"], 10) || at["sent"] == 0 || at["answered"] <= ahead {
+		t.Errorf("got %v and %s received, want the time of its sending, and a later one of the answer", at, got)
+	}
+}
+
+// inFrontOf is a server in front of a site, whose answers have this time. It returns the times of the requests about
+// instances.
+func inFrontOf(t *testing.T, s *site, given string) (front string, received chan string) {
+	t.Helper()
+	behind, err := url.Parse(s.url)
+	check(t, err)
+	received = make(chan string, 100)
+	proxy := httputil.NewSingleHostReverseProxy(behind)
+	proxy.ModifyResponse = func(of *http.Response) error {
+		if strings.Contains(of.Request.URL.Path, "service_instances") {
+			received <- of.Request.Header.Get(journalfile.Header)
+		}
+		of.Header.Set(journalfile.Header, given)
+		return nil
+	}
+	server := httptest.NewServer(proxy)
+	t.Cleanup(server.Close)
+	return server.URL, received
+}
+
+// Which failed transactions may have been committed.
+func TestDoubtful(t *testing.T) {
+	for err, want := range map[error]bool{
+		platform.ErrAway: true, sqlitefile.ErrUnknownCommit: true,
+		platform.ErrUsed: false, platform.ErrUnknown: false, sqlitefile.ErrBusy: false,
+	} {
+		if got := isDoubtful(fmt.Errorf("it has failed: %w", err)); got != want {
+			t.Errorf("%v: got %t, want %t", err, got, want)
+		}
+	}
 }

@@ -26,7 +26,10 @@ import (
 	"testing"
 	"time"
 
+	"github.com/mattn/go-sqlite3"
+
 	"pippinterm/internal/logs"
+	"pippinterm/internal/pg/pgtest"
 	"pippinterm/platform"
 	"pippinterm/platform/sqlite"
 )
@@ -50,17 +53,17 @@ type caller struct {
 	token  string
 }
 
-// answered is an answer of the API.
-type answered map[string]any
+// jsonObject is an answer of the API.
+type jsonObject map[string]any
 
 // call makes a request, whose answer must have this status.
-func (c caller) call(status int, method, path, body string) answered {
+func (c caller) call(status int, method, path, body string) jsonObject {
 	c.t.Helper()
 	given, text := c.try(method, path, body)
 	if given != status {
-		c.t.Fatalf("%s %s: %d %s", method, path, given, text)
+		c.t.Fatalf("%s %s: got %d %s, want %d", method, path, given, text, status)
 	}
-	var read answered
+	var read jsonObject
 	if err := json.Unmarshal(text, &read); err != nil && len(text) > 0 {
 		c.t.Fatal(err)
 	}
@@ -70,17 +73,13 @@ func (c caller) call(status int, method, path, body string) answered {
 func (c caller) try(method, path, body string) (status int, text []byte) {
 	c.t.Helper()
 	request, err := http.NewRequest(method, c.url+path, strings.NewReader(body))
-	if err != nil {
-		c.t.Fatal(err)
-	}
+	check(c.t, err)
 	if body != "" {
 		request.Header.Set("Content-Type", "application/json")
 	}
 	request.Header.Set("Authorization", "Bearer "+c.token)
 	given, err := c.client.Do(request)
-	if err != nil {
-		c.t.Fatal(err)
-	}
+	check(c.t, err)
 	defer given.Body.Close()
 	if text, err = io.ReadAll(given.Body); err != nil {
 		c.t.Fatal(err)
@@ -97,7 +96,7 @@ func (c caller) await(path, state string) {
 			return
 		}
 		if time.Now().After(late) {
-			c.t.Fatalf("%s is %v", path, got)
+			c.t.Fatalf("%s: got %v after the time for it, want another", path, got)
 		}
 	}
 }
@@ -113,7 +112,7 @@ func TestWholeWayOverAPI(t *testing.T) {
 	c.call(201, "PUT", "/v1/brokers/local", fmt.Sprintf(
 		`{"url": %q, "user": "platform", "password": "secret", "settings": {"first_pace_seconds": 0.01}}`, s.url))
 	if reached := p.event("broker_reached"); reached["broker"] != "local" {
-		t.Error(reached)
+		t.Errorf("got %v, want the broker local", reached)
 	}
 	c.call(201, "POST", "/v1/instances", `{"plan": "by-worker", "id": "one"}`)
 	c.await("/v1/instances/one", "ready")
@@ -123,10 +122,10 @@ func TestWholeWayOverAPI(t *testing.T) {
 	credentials, _ := given["credentials"].(map[string]any)
 	secret, _ := credentials["token"].(string)
 	if secret == "" {
-		t.Errorf("%v", given)
+		t.Errorf("got %v, want a token", given)
 	}
 	pageShows(t, p)
-	for _, it := range []struct {
+	for _, test := range []struct {
 		token, method, path string
 		status              int
 	}{
@@ -136,25 +135,25 @@ func TestWholeWayOverAPI(t *testing.T) {
 		{token, "DELETE", "/v1/instances/one", 409},
 	} {
 		other := c
-		other.token = it.token
-		other.call(it.status, it.method, it.path, "")
+		other.token = test.token
+		other.call(test.status, test.method, test.path, "")
 	}
 	c.call(202, "DELETE", "/v1/instances/one?bindings=true", "")
 	c.await("/v1/instances/one", "gone")
 	c.await("/v1/instances/one/bindings/two", "gone")
 	log := p.stop()
-	for _, it := range []string{
+	for _, text := range []string{
 		`"level":"info","event":"api_request","client":"127.0.0.1","token":"portal","method":"DELETE",` +
 			`"target":"/v1/instances/one","route":"/v1/instances/{id}","status":202,`,
 		`"level":"warning","event":"api_request","client":"127.0.0.1","method":"GET","target":"/v1/counts",` +
 			`"route":"/v1/counts","status":401,"code":"unauthorized",`,
 	} {
-		if !strings.Contains(log, it) {
-			t.Errorf("%s isn't in the log: %s", it, log)
+		if !strings.Contains(log, text) {
+			t.Errorf("the log: got %[2]s, want %[1]s in it", text, log)
 		}
 	}
 	if strings.Contains(log, token) || secret != "" && strings.Contains(log, secret) {
-		t.Errorf("the log has a secret: %s", log)
+		t.Errorf("the log: got %s, want no secret in it", log)
 	}
 }
 
@@ -163,21 +162,17 @@ func pageShows(t *testing.T, p *process) {
 	t.Helper()
 	for host, want := range map[string]int{"": 200, "platform.example": 200, "elsewhere.example": 421} {
 		request, err := http.NewRequest("GET", p.page+"/instance/one", nil)
-		if err != nil {
-			t.Fatal(err)
-		}
+		check(t, err)
 		request.Host = host
 		given, err := http.DefaultClient.Do(request)
-		if err != nil {
-			t.Fatal(err)
-		}
+		check(t, err)
 		text, err := io.ReadAll(given.Body)
 		_ = given.Body.Close()
 		if err != nil || given.StatusCode != want {
-			t.Errorf("%q: %d %v %s", host, given.StatusCode, err, text)
+			t.Errorf("%q: got %d %v %s, want %d", host, given.StatusCode, err, text, want)
 		}
 		if isShown := strings.Contains(string(text), "Instance <code>one</code>"); isShown != (want == 200) {
-			t.Errorf("%q: %s", host, text)
+			t.Errorf("%q: got %s, want the instance: %t", host, text, want == 200)
 		}
 	}
 }
@@ -190,31 +185,31 @@ func TestServe(t *testing.T) {
 	users := filepath.Join(t.TempDir(), "users")
 	write(t, password, "secret\n")
 	write(t, users, "operator:hidden\n")
-	check(t, store, []line{{"broker add local " + s.url + " --password-file " + password, 0, ``, ``}})
+	wantLines(t, store, []line{{"broker add local " + s.url + " --password-file " + password, 0, ``, ``}})
 	p := launch(t, "serving", osbPlatform(nil, "serve", "--store", store, "--api", "127.0.0.1:0", "--api-tokens",
 		newTokens(t), "--page", "127.0.0.1:0", "--page-users", users, "--health-listen", "127.0.0.1:0"))
 	c := caller{t: t, client: http.DefaultClient, url: p.api, token: token}
 	c.call(201, "POST", "/v1/instances", `{"plan": "at-once", "id": "one"}`)
 	if status, _ := get(t, p.page+"/"); status != 401 {
-		t.Errorf("without a password: %d", status)
+		t.Errorf("without a password: got %d, want 401", status)
 	}
 	if status, text := get(t, strings.Replace(p.page, "//", "//operator:hidden@", 1)+"/instance/one"); status != 200 ||
 		!strings.Contains(text, "ordered") {
-		t.Errorf("the page: %d %s", status, text)
+		t.Errorf("the page: got %d %s, want 200 and the order", status, text)
 	}
 	if status, _ := get(t, p.health+"/readyz"); status != 200 {
-		t.Errorf("/readyz: %d", status)
+		t.Errorf("/readyz: got %d, want 200", status)
 	}
 	c.await("/v1/instances/one", "ordered")
-	check(t, store, []line{{"run --once", 0, "20.*\tone\tready", `.*"worker":".*`}})
+	wantLines(t, store, []line{{"run --once", 0, "20.*\tone\tready", `.*"worker":".*`}})
 	c.await("/v1/instances/one", "ready")
 	s.mutex.Lock()
 	if s.asked != 1 {
-		t.Errorf("%d requests", s.asked)
+		t.Errorf("got %d requests, want 1", s.asked)
 	}
 	s.mutex.Unlock()
 	if rest := p.stop(); strings.Contains(rest, `"event":"request"`) || p.out.Len() > 0 {
-		t.Errorf("the log: %s; %s", rest, p.out.String())
+		t.Errorf("the log: got %s and %s, want no request", rest, p.out.String())
 	}
 }
 
@@ -228,13 +223,11 @@ func TestAPIOverTLS(t *testing.T) {
 		"--api", "127.0.0.1:0", "--api-tokens", newTokens(t),
 		"--api-tls-certificate", certificate, "--api-tls-key", key))
 	if !strings.HasPrefix(p.api, "https://") {
-		t.Errorf("the API is at %s", p.api)
+		t.Errorf("the API: got the address %s, want one of https", p.api)
 	}
 	secureCaller(t, p, first).call(200, "GET", "/v1/counts", "")
 	second := newCertificate(t, certificate, key)
-	if err := p.command.Process.Signal(syscall.SIGHUP); err != nil {
-		t.Fatal(err)
-	}
+	check(t, p.command.Process.Signal(syscall.SIGHUP))
 	p.event("certificates_reloaded")
 	secureCaller(t, p, second).call(200, "GET", "/v1/counts", "")
 	p.stop()
@@ -252,21 +245,15 @@ func secureCaller(t *testing.T, p *process, trusted *x509.CertPool) caller {
 func newCertificate(t *testing.T, certificate, key string) *x509.CertPool {
 	t.Helper()
 	private, err := ecdsa.GenerateKey(elliptic.P256(), rand.Reader)
-	if err != nil {
-		t.Fatal(err)
-	}
+	check(t, err)
 	of := &x509.Certificate{
 		SerialNumber: big.NewInt(time.Now().UnixNano()), NotAfter: time.Now().Add(time.Hour),
 		IPAddresses: []net.IP{net.IPv4(127, 0, 0, 1)}, IsCA: true, BasicConstraintsValid: true,
 	}
 	made, err := x509.CreateCertificate(rand.Reader, of, of, &private.PublicKey, private)
-	if err != nil {
-		t.Fatal(err)
-	}
+	check(t, err)
 	encoded, err := x509.MarshalPKCS8PrivateKey(private)
-	if err != nil {
-		t.Fatal(err)
-	}
+	check(t, err)
 	text := pem.EncodeToMemory(&pem.Block{Type: "CERTIFICATE", Bytes: made})
 	write(t, certificate, string(text))
 	write(t, key, string(pem.EncodeToMemory(&pem.Block{Type: "PRIVATE KEY", Bytes: encoded})))
@@ -279,32 +266,28 @@ func newCertificate(t *testing.T, certificate, key string) *x509.CertPool {
 func TestServeWarns(t *testing.T) {
 	t.Setenv("XDG_STATE_HOME", t.TempDir())
 	tokens := newTokens(t)
-	if err := os.Chmod(tokens, 0o644); err != nil {
-		t.Fatal(err)
-	}
+	check(t, os.Chmod(tokens, 0o644))
 	p := launch(t, "no_tls", osbPlatform(nil, "serve", "--store", filepath.Join(t.TempDir(), "store"),
 		"--page", "0.0.0.0:0", "--api", "127.0.0.1:0", "--api-tokens", tokens))
 	p.event("no_page_users")
 	if secret, _ := p.event("secret")["warning"].(string); !strings.Contains(secret, "chmod 600") {
-		t.Errorf("the warning: %q", secret)
+		t.Errorf("the warning: got %q, want \"chmod 600\" in it", secret)
 	}
 	p.event("serving")
 	if rest := p.stop(); strings.Contains(rest, "no_tls") {
-		t.Errorf("the log: %s", rest)
+		t.Errorf("the log: got %s, want no \"no_tls\" in it", rest)
 	}
 }
 
 // A user of the page whose password can be guessed is named in a warning, without the password.
 func TestWarningOfShortPasswords(t *testing.T) {
 	users := filepath.Join(t.TempDir(), "users")
-	if err := os.WriteFile(users, []byte("me:guessed\nyou:0123456789abcdef\n"), 0o600); err != nil {
-		t.Fatal(err)
-	}
+	check(t, os.WriteFile(users, []byte("me:guessed\nyou:0123456789abcdef\n"), 0o600))
 	p := launch(t, "short_password", osbPlatform(nil, "serve", "--store", filepath.Join(t.TempDir(), "store"),
 		"--page", "127.0.0.1:0", "--page-users", users))
 	serving := p.event("serving")
 	if rest := p.stop(); serving == nil || strings.Contains(rest, "guessed") || strings.Contains(rest, "short_password") {
-		t.Errorf("the log: %s", rest)
+		t.Errorf("the log: got %s, want it served without a guess", rest)
 	}
 }
 
@@ -317,14 +300,14 @@ func TestOrderedIDs(t *testing.T) {
 	learnID(t, ids, "00000000-0000-0000-0000-000000000001")
 	last := learnID(t, ids, "last")
 	if len(ids.of) != mostOrderedIDs {
-		t.Errorf("it knows %d", len(ids.of))
+		t.Errorf("the ids: got %d, want %d", len(ids.of), mostOrderedIDs)
 	}
 	if instance, binding := ids.find(last); instance != "last" || binding != "" {
-		t.Errorf("it is %q, %q", instance, binding)
+		t.Errorf("got %q and %q, want \"last\" and none", instance, binding)
 	}
 	var none *orderedIDs
 	if instance, _ := none.find(last); instance != last.String() {
-		t.Errorf("it is %q", instance)
+		t.Errorf("got %q, want %q", instance, last.String())
 	}
 }
 
@@ -332,27 +315,27 @@ func TestOrderedIDs(t *testing.T) {
 func learnID(t *testing.T, ids *orderedIDs, id string) platform.Key {
 	t.Helper()
 	key, err := platform.ParseKey(id)
-	if err != nil {
-		t.Fatal(err)
-	}
+	check(t, err)
 	ids.learn(platform.Entry{Order: platform.Order{Key: key, Names: platform.Names{Instance: id}}})
 	return key
 }
 
 // The connections of what is served count among the files that may be open.
 func TestFiles(t *testing.T) {
-	for _, it := range []struct {
+	for _, test := range []struct {
 		sites siteSettings
 		want  uint64
 	}{
-		{siteSettings{}, 116},
-		{siteSettings{healthListen: "127.0.0.1:0"}, 116 + healthConnections},
-		{siteSettings{page: "127.0.0.1:0", api: "127.0.0.1:0"}, 116 + pageConnections + apiConnections},
+		{siteSettings{}, 124},
+		{siteSettings{healthListen: "127.0.0.1:0"}, 124 + healthConnections},
+		{siteSettings{page: "127.0.0.1:0", api: "127.0.0.1:0"}, 124 + pageConnections + apiConnections},
 	} {
-		r := &running{settings: &runSettings{atOnce: 16, sites: it.sites}}
-		if got := r.files(); got != it.want {
-			t.Errorf("%+v: %d", it.sites, got)
-		}
+		t.Run(fmt.Sprintf("%+v", test.sites), func(t *testing.T) {
+			r := &running{settings: &runSettings{atOnce: 16, sites: test.sites}}
+			if got := r.files(); got != test.want {
+				t.Errorf("%+v: got %d, want %d", test.sites, got, test.want)
+			}
+		})
 	}
 }
 
@@ -374,25 +357,24 @@ func TestServedStoreFails(t *testing.T) {
 	var written bytes.Buffer
 	r := servingOver(t, &countStore{err: platform.ErrAway}, &written)
 	page := func() (http.Handler, error) { return r.page(context.Background()) }
-	for target, it := range map[string]struct {
+	for target, test := range map[string]struct {
 		make func() (http.Handler, error)
 		log  string
 	}{
-		"/?still=1": {page, `"error","event":"api_request","token":"page",.*"error":"the store is away"(.|\n)*` +
-			`"error","event":"page_failed","error":"GET /v1/counts: status 503, store_away`},
+		"/?still=1":  {page, `"error","event":"page_failed","error":"the store is away"`},
 		"/v1/counts": {r.api, `"level":"error","event":"api_request",.*"status":503,.*"error":"the store is away"`},
 	} {
-		handler, err := it.make()
-		if err != nil {
-			t.Fatal(err)
-		}
-		recorder := answerOf(handler, target)
-		if recorder.Code != 503 || strings.Contains(recorder.Body.String(), "is away") {
-			t.Errorf("%s: %d %s", target, recorder.Code, recorder.Body)
-		}
-		if !regexp.MustCompile(it.log).MatchString(written.String()) {
-			t.Errorf("%s: the log: %s", target, written.String())
-		}
+		t.Run(target, func(t *testing.T) {
+			handler, err := test.make()
+			check(t, err)
+			recorder := answerOf(handler, target)
+			if recorder.Code != 503 || strings.Contains(recorder.Body.String(), "is away") {
+				t.Errorf("got %d %s, want 503 without the store's error", recorder.Code, recorder.Body)
+			}
+			if !regexp.MustCompile(test.log).MatchString(written.String()) {
+				t.Errorf("got the log %s, want %s", written.String(), test.log)
+			}
+		})
 	}
 }
 
@@ -441,21 +423,15 @@ func (b *lockedBuffer) String() string {
 // the log.
 func TestPageBesideBusyAPI(t *testing.T) {
 	file, err := sqlite.Open(context.Background(), filepath.Join(t.TempDir(), "store"))
-	if err != nil {
-		t.Fatal(err)
-	}
+	check(t, err)
 	defer file.Close()
 	written := &lockedBuffer{}
 	store := &lockedStore{Store: file, listing: make(chan struct{}), letGo: make(chan struct{})}
 	r := servingOver(t, store, written)
 	api, err := r.api()
-	if err != nil {
-		t.Fatal(err)
-	}
+	check(t, err)
 	page, err := r.page(context.Background())
-	if err != nil {
-		t.Fatal(err)
-	}
+	check(t, err)
 	const atOnce = 64 // of the API
 	var all sync.WaitGroup
 	for n := 0; n < atOnce; n++ {
@@ -463,17 +439,173 @@ func TestPageBesideBusyAPI(t *testing.T) {
 		go func() {
 			defer all.Done()
 			if got := answerOf(api, "/v1/bindings"); got.Code != 200 {
-				t.Errorf("the API: %d %s", got.Code, got.Body)
+				t.Errorf("the API: got %d %s, want 200", got.Code, got.Body)
 			}
 		}()
 		<-store.listing
 	}
 	if got := answerOf(page, "/"); got.Code != 200 || !strings.Contains(got.Body.String(), "0 instances") {
-		t.Errorf("the page: %d %s", got.Code, got.Body)
+		t.Errorf("the page: got %d %s, want 200 and no instance", got.Code, got.Body)
 	}
 	if text := written.String(); text != "" {
-		t.Errorf("the log: %s", text)
+		t.Errorf("the log: got %s, want none", text)
 	}
 	close(store.letGo)
 	all.Wait()
+}
+
+// The files with the API's tokens and with the page's users are read again at SIGHUP. After a file that can't be read,
+// the old ones stay valid.
+func TestUsersAndTokensAreReadAgain(t *testing.T) {
+	t.Setenv("XDG_STATE_HOME", t.TempDir())
+	folder := t.TempDir()
+	tokens, users := filepath.Join(folder, "tokens"), filepath.Join(folder, "users")
+	const other = "fedcba9876543210fedcba9876543210"
+	lineOf := func(token string) string { return fmt.Sprintf("portal read %x\n", sha256.Sum256([]byte(token))) }
+	write(t, tokens, lineOf(token))
+	write(t, users, "operator:first\n")
+	p := launch(t, "serving", osbPlatform(nil, "serve", "--store", filepath.Join(folder, "store"),
+		"--api", "127.0.0.1:0", "--api-tokens", tokens, "--page", "127.0.0.1:0", "--page-users", users))
+	logins := func(want map[string]int) {
+		t.Helper()
+		for secret, status := range want {
+			c := caller{t: t, client: http.DefaultClient, url: p.api, token: secret}
+			got, _ := c.try("GET", "/v1/counts", "")
+			if !strings.HasPrefix(secret, "operator") && got != status {
+				t.Errorf("the token %s: got %d, want %d", secret, got, status)
+			}
+			if strings.HasPrefix(secret, "operator") {
+				if got, _ := get(t, strings.Replace(p.page, "//", "//"+secret+"@", 1)+"/"); got != status {
+					t.Errorf("%s: got %d, want %d", secret, got, status)
+				}
+			}
+		}
+	}
+	reload := func(events ...string) {
+		t.Helper()
+		check(t, p.command.Process.Signal(syscall.SIGHUP))
+		for _, event := range events {
+			p.event(event)
+		}
+	}
+	logins(map[string]int{token: 200, other: 401, "operator:first": 200, "operator:second": 401})
+	write(t, tokens, lineOf(token)+lineOf(other))
+	write(t, users, "operator:first\noperator:second\n")
+	reload("users_reloaded", "tokens_reloaded")
+	both := map[string]int{token: 200, other: 200, "operator:first": 200, "operator:second": 200}
+	logins(both)
+	write(t, tokens, "")
+	write(t, users, "operator\n")
+	reload("users_not_reloaded", "tokens_not_reloaded")
+	logins(both)
+	check(t, os.Remove(users))
+	write(t, tokens, lineOf(other))
+	reload("users_not_reloaded", "tokens_reloaded")
+	logins(map[string]int{token: 401, other: 200, "operator:first": 200})
+	write(t, users, "operator:second\n")
+	reload("users_reloaded", "tokens_reloaded")
+	logins(map[string]int{token: 401, other: 200, "operator:first": 401, "operator:second": 200})
+	p.stop()
+}
+
+func TestRowsCannotBeWritten(t *testing.T) {
+	store := filepath.Join(t.TempDir(), "store")
+	checkUnwritten(t, store, []string{"OSB_PLATFORM_PASSWORD=secret"}, func(statement string) {
+		execute(t, store, statement)
+	}, "CREATE TRIGGER full BEFORE UPDATE ON osb_instances BEGIN SELECT RAISE(ABORT, 'no space'); END",
+		"DROP TRIGGER full")
+}
+
+func TestRowsCannotBeWrittenInPostgreSQL(t *testing.T) {
+	_, address, environment := newWire(t, "osb_program_full")
+	for _, variable := range environment {
+		name, value, _ := strings.Cut(variable, "=")
+		t.Setenv(name, value)
+	}
+	execute := func(statement string) { pgtest.Exec(t, pgtest.DB(t, address), statement) }
+	checkUnwritten(t, address, environment, execute,
+		"CREATE FUNCTION no_space() RETURNS trigger LANGUAGE plpgsql AS $$ BEGIN RAISE 'no space'; END $$; "+
+			"CREATE TRIGGER no_space BEFORE UPDATE ON osb_instances FOR EACH ROW EXECUTE FUNCTION no_space()",
+		"DROP TRIGGER no_space ON osb_instances")
+}
+
+// checkUnwritten spoils a store so that a worker's rows can't be written. Then /readyz answers 503 and the log says why,
+// once. Nothing is printed and nothing is sent. Once the store is repaired, the order goes on.
+func checkUnwritten(t *testing.T, store string, environment []string, execute func(string), spoil, repair string) {
+	t.Helper()
+	s := newSite(t)
+	t.Setenv("XDG_STATE_HOME", t.TempDir())
+	p := start(t, store, environment, "--broker", s.url, "--health-listen", "127.0.0.1:0")
+	p.event("broker_reached")
+	execute(spoil)
+	wantLines(t, store, []line{{"create --plan at-once --id one", 0, `one`, ``}})
+	readyIs(t, p, 503)
+	time.Sleep(2 * time.Second)
+	readyIs(t, p, 503)
+	wantLines(t, store, []line{{"show one", 0, "id\tone\nstate\tordered\n.*", ``}})
+	if count := s.requests(); count > 0 {
+		t.Errorf("got %d requests sent, want none", count)
+	}
+	execute(repair)
+	readyIs(t, p, 200)
+	for late := time.Now().Add(deadline); !strings.Contains(call(t, "--store", store, "list").out, "\tready\t"); {
+		if time.Now().After(late) {
+			t.Fatal("the order: got it at rest, want it to go on")
+		}
+		time.Sleep(50 * time.Millisecond)
+	}
+	log := p.stop()
+	if printed := p.out.String(); strings.Count(printed, "\n") != 1 || !strings.HasSuffix(printed, "\tone\tready\n") {
+		t.Errorf("the output: got %q, want the order ready", printed)
+	}
+	for event, want := range map[string]int{"store_failed": 1, "not_ready": 1, "state_changed": 1, "lease_lost": 0} {
+		if got := strings.Count(log, `"event":"`+event+`"`); got != want {
+			t.Errorf("the log: got %s %d times, want %d:\n%s", event, got, want, log)
+		}
+	}
+	if strings.Count(log, "no space") < 2 {
+		t.Errorf("the log: got\n%s\nwant no space in it twice", log)
+	}
+}
+
+// readyIs waits until /readyz is answered so.
+func readyIs(t *testing.T, p *process, want int) {
+	t.Helper()
+	for late := time.Now().Add(deadline); ; time.Sleep(50 * time.Millisecond) {
+		status, _ := get(t, p.health+"/readyz")
+		if status == want {
+			return
+		}
+		if time.Now().After(late) {
+			t.Fatalf("/readyz: got %d, want %d", status, want)
+		}
+	}
+}
+
+// execute executes a statement in the file of a store.
+func execute(t *testing.T, store, statement string) {
+	t.Helper()
+	made, err := (&sqlite3.SQLiteDriver{}).Open("file:" + store + "?_busy_timeout=5000")
+	check(t, err)
+	defer made.Close()
+	if _, err := made.(*sqlite3.SQLiteConn).Exec(statement, nil); err != nil {
+		t.Fatal(err)
+	}
+}
+
+// A connection to the page that sends nothing is closed soon: it takes the place of another one.
+func TestSilentConnectionToPage(t *testing.T) {
+	t.Setenv("XDG_STATE_HOME", t.TempDir())
+	p := launch(t, "serving", osbPlatform(nil, "serve", "--store", filepath.Join(t.TempDir(), "store"),
+		"--page", "127.0.0.1:0"))
+	silent, err := net.Dial("tcp", strings.TrimPrefix(p.page, "http://"))
+	check(t, err)
+	defer silent.Close()
+	begun := time.Now()
+	check(t, silent.SetReadDeadline(begun.Add(deadline)))
+	got, err := io.ReadAll(silent)
+	if took := time.Since(begun); err != nil || len(got) > 0 || took < pageSilence/2 || took > 5*pageSilence {
+		t.Errorf("got it closed after %v with %q, %v, want it closed in time", took, got, err)
+	}
+	p.stop()
 }

@@ -4,6 +4,8 @@ import (
 	"context"
 	"encoding/json"
 	"fmt"
+	"net/http"
+	"strconv"
 	"strings"
 	"time"
 
@@ -31,8 +33,8 @@ credentials aren't shown.`,
 			if inJSON {
 				return printJSON(c.OutOrStdout(), all.json())
 			}
-			for _, it := range all.facts() {
-				if _, err := fmt.Fprintf(c.OutOrStdout(), "%s\t%s\n", it[0], it[1]); err != nil {
+			for _, fact := range all.facts() {
+				if _, err := fmt.Fprintf(c.OutOrStdout(), "%s\t%s\n", fact[0], fact[1]); err != nil {
 					return err
 				}
 			}
@@ -70,7 +72,9 @@ func readWhole(ctx context.Context, store platform.Store, id string) (whole, err
 		return whole{}, err
 	}
 	before, err := tryBefore(ctx, store, entry)
-	return whole{entry: entry, broker: brokers[entry.Broker], life: life, tries: tries, before: before}, err
+	return whole{
+		entry: entry, broker: brokers[entry.Broker], life: entry.Before(life), tries: tries, before: before,
+	}, err
 }
 
 // asked are the texts of what an operator has asked for.
@@ -78,8 +82,10 @@ var asked = map[platform.Removal]string{
 	platform.Removed: "removal is asked for", platform.RemovedWhole: "removal is asked for, with all bindings",
 }
 
-// placed is the row alone.
-func (w whole) placed() placed { return placed{Entry: w.entry, broker: w.broker, before: w.before} }
+// row is the row alone.
+func (w whole) row() rowWithBroker {
+	return rowWithBroker{Entry: w.entry, broker: w.broker, before: w.before}
+}
 
 // facts are what is known, each with its name before it.
 func (w whole) facts() [][2]string {
@@ -99,7 +105,7 @@ func (w whole) facts() [][2]string {
 	add("space", printable(e.Space))
 	add("asked", asked[e.Removal])
 	add("due", momentOf(e.Due))
-	add("waits", strings.TrimPrefix(w.placed().waits(), "waits "))
+	add("waits", strings.TrimPrefix(w.row().waits(), "waits "))
 	if e.State == platform.Polling || e.State == platform.CleaningPolling {
 		add("polled since", momentOf(e.PolledSince))
 	}
@@ -117,16 +123,16 @@ func (w whole) facts() [][2]string {
 	add("dashboard", printable(e.Dashboard))
 	add("metadata", printable(string(e.Metadata)))
 	add("last reason", at(e.Last))
-	add("broker's reason", at(w.placed().brokerReason()))
+	add("broker's reason", at(w.row().brokerReason()))
 	add("failure", at(e.Failure))
 	add("abandoned because", printable(e.Because))
 	if len(w.tries) > 1 {
-		for _, it := range w.tries {
-			add(fmt.Sprintf("try %d of %d", it.Try, it.Tries), printable(idOf(it))+" "+string(it.State))
+		for _, try := range w.tries {
+			add(fmt.Sprintf("try %d of %d", try.Try, try.Tries), printable(idOf(try))+" "+string(try.State))
 		}
 	}
-	for _, it := range w.life {
-		add("was", moment(it.Since)+" "+string(it.State))
+	for _, stay := range w.life {
+		add("was", moment(stay.Since)+" "+string(stay.State))
 	}
 	return facts
 }
@@ -176,7 +182,7 @@ type row struct {
 	Tries        int              `json:"tries"`
 }
 
-func jsonOf(e placed) row {
+func jsonOf(e rowWithBroker) row {
 	return row{
 		ID: idOf(e.Entry), Instance: e.Names.Instance, Binding: e.Names.Binding, State: e.State, Since: e.Since.UTC(),
 		Broker: e.Broker, Service: e.Names.Service, Plan: e.Names.Plan, Organization: e.Organization, Space: e.Space,
@@ -220,12 +226,143 @@ type try struct {
 }
 
 func (w whole) json() wholeRow {
-	made := wholeRow{row: jsonOf(w.placed()), Life: []stay{}, Chain: []try{}}
-	for _, it := range w.life {
-		made.Life = append(made.Life, stay{State: it.State, Since: it.Since.UTC()})
+	made := wholeRow{row: jsonOf(w.row()), Life: []stay{}, Chain: []try{}}
+	for _, one := range w.life {
+		made.Life = append(made.Life, stay{State: one.State, Since: one.Since.UTC()})
 	}
-	for _, it := range w.tries {
-		made.Chain = append(made.Chain, try{ID: idOf(it), State: it.State})
+	for _, other := range w.tries {
+		made.Chain = append(made.Chain, try{ID: idOf(other), State: other.State})
 	}
 	return made
+}
+
+// reasonOf is why a row is as it is, in one line, or empty: of what is gone, why its creation has failed, if it has.
+func reasonOf(e platform.Entry) string {
+	switch {
+	case e.Unreadable != "":
+		return unreadable(e)
+	case e.Because != "":
+		return printable(e.Because)
+	case e.State == platform.Gone && e.Failure != (platform.Reason{}):
+		return textOf(e.Failure)
+	}
+	return textOf(e.Last)
+}
+
+// A rowWithBroker is a row with its broker, and with the try before it if it is a further try that waits.
+type rowWithBroker struct {
+	platform.Entry
+	broker platform.Broker
+	before platform.Entry // or the zero Entry
+}
+
+// reason is why a row is as it is, in one line, or empty. If the row says nothing, it is why it waits, or the reason of
+// its broker, marked as such.
+func (p rowWithBroker) reason() string {
+	text := reasonOf(p.Entry)
+	if waits := p.waits(); text == "" && waits != "" {
+		return waits
+	}
+	if of := textOf(p.brokerReason()); text == "" && of != "" {
+		return "broker: " + of
+	}
+	return text
+}
+
+// brokerReason is why the broker hasn't answered its catalogue, if something is to be sent for the row.
+func (p rowWithBroker) brokerReason() platform.Reason {
+	if p.Rests() {
+		return platform.Reason{}
+	}
+	return p.broker.Reason
+}
+
+// waits is until when a further try waits, and why, in one line that begins with "waits", or empty.
+func (p rowWithBroker) waits() string {
+	if p.before.Failure == (platform.Reason{}) {
+		return ""
+	}
+	text := "waits until " + moment(p.Due)
+	if wait := p.Due.Sub(p.before.Failure.At); wait <= p.before.After*3/2 { // up to a half is chance
+		text += ", as the broker has asked"
+	}
+	return text + ". The try before: " + textOf(p.before.Failure)
+}
+
+// leastWait is how long a further try must still wait for the wait to be shown.
+const leastWait = time.Second
+
+// tryBefore is the try before a further try that waits, or the zero Entry for any other row.
+func tryBefore(ctx context.Context, store platform.Store, e platform.Entry) (platform.Entry, error) {
+	if e.State != platform.Ordered || e.Try <= 1 || time.Until(e.Due) < leastWait {
+		return platform.Entry{}, nil
+	}
+	all, err := triesOf(ctx, store, e)
+	for _, text := range all {
+		if text.Try == e.Try-1 {
+			return text, err
+		}
+	}
+	return platform.Entry{}, err
+}
+
+// brokersOf are the brokers of a store, by their names.
+func brokersOf(ctx context.Context, store platform.Store) (map[string]platform.Broker, error) {
+	all, err := store.Brokers(ctx)
+	if err != nil {
+		return nil, err
+	}
+	byName := map[string]platform.Broker{}
+	for _, broker := range all {
+		byName[broker.Name] = broker
+	}
+	return byName, nil
+}
+
+// unreadable is why a row can't be read, in one line, or empty.
+func unreadable(e platform.Entry) string {
+	if e.Unreadable == "" {
+		return ""
+	}
+	return "its record can't be read: " + printable(e.Unreadable)
+}
+
+// rejections are what a broker has done that has answered a request with one of these statuses. The body of such an
+// answer says little: it is often that of a proxy.
+var rejections = map[int]string{
+	http.StatusUnauthorized: "the broker rejects the user or the password",
+	http.StatusForbidden:    "the broker doesn't let this user in",
+}
+
+// kindOfCatalogue is the kind of the reason why a broker hasn't answered its catalogue. That reason is a whole sentence.
+const kindOfCatalogue = "catalogue"
+
+// textOf is a reason in one line.
+func textOf(r platform.Reason) string {
+	switch {
+	case r == (platform.Reason{}):
+		return ""
+	case r.Kind == kindOfCatalogue && r.Lost != "":
+		return printable(r.Lost)
+	}
+	parts := []string{r.Kind}
+	if r.Status != 0 {
+		parts = append(parts, strconv.Itoa(r.Status))
+	}
+	said := printableTexts(r.Error, r.Description)
+	if rejection := rejections[r.Status]; rejection != "" {
+		return strings.Join(append([]string{strings.Join(parts, " "), rejection}, said...), ": ")
+	}
+	lost := strings.TrimPrefix(strings.TrimPrefix(r.Lost, fmt.Sprintf("status %d: ", r.Status)), "osb: ")
+	return strings.Join(append(append(parts, said...), printableTexts(lost)...), " ")
+}
+
+// printableTexts are those of the texts that aren't empty, as a terminal can show them.
+func printableTexts(texts ...string) (all []string) {
+	for _, text := range texts {
+		if text != "" {
+			all = append(all, printable(text))
+		}
+	}
+	return all
 }

@@ -13,7 +13,6 @@ import (
 	"pippinterm/broker"
 	"pippinterm/broker/backend/folders"
 	"pippinterm/broker/sqlite"
-	"pippinterm/internal/filelock"
 	"pippinterm/osb"
 )
 
@@ -41,40 +40,26 @@ func newSite(t *testing.T) *site {
 func newSiteFor(t *testing.T, observer broker.Observer) *site {
 	t.Helper()
 	document, err := os.ReadFile("../osb-broker/catalogue.json")
-	if err != nil {
-		t.Fatal(err)
-	}
+	check(t, err)
 	catalogue, err := broker.NewCatalogue(document, true)
-	if err != nil {
-		t.Fatal(err)
-	}
+	check(t, err)
 	folder, ctx := t.TempDir(), context.Background()
 	backend, err := folders.New(filepath.Join(folder, "instances"))
-	if err != nil {
-		t.Fatal(err)
-	}
+	check(t, err)
 	store, err := sqlite.Open(ctx, filepath.Join(folder, "holdings"), broker.Silent{})
-	if err != nil {
-		t.Fatal(err)
-	}
-	locks, err := filelock.New(filepath.Join(folder, "locks"))
-	if err != nil {
-		t.Fatal(err)
-	}
+	check(t, err)
+	locks, err := broker.NewFileLocks(filepath.Join(folder, "locks"))
+	check(t, err)
 	service := broker.NewService(catalogue, store, backend, locks, broker.Rules{
 		FirstPoll: true, WaitForPoll: time.Minute,
 	}, broker.Silent{})
 	sweeper := broker.NewSweeper(service, broker.Silent{})
 	users, err := broker.NewUsers(map[string][]string{"platform": {"secret"}})
-	if err != nil {
-		t.Fatal(err)
-	}
+	check(t, err)
 	handler, err := broker.NewHandler(ctx, service, broker.Config{
 		Users: users, LongestBody: 1 << 20, AtOnce: 8, Touch: sweeper.Touch, Observer: observer,
 	})
-	if err != nil {
-		t.Fatal(err)
-	}
+	check(t, err)
 	stop, cancel := context.WithCancel(ctx)
 	swept := make(chan struct{})
 	go func() {
@@ -166,7 +151,7 @@ func (s *site) await(t *testing.T, count int) {
 			return
 		}
 		if time.Now().After(late) {
-			t.Fatalf("%d requests", asked)
+			t.Fatalf("got %d requests in the time for it, want more", asked)
 		}
 	}
 }

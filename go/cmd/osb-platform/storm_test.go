@@ -3,18 +3,20 @@
 package main
 
 import (
+	"fmt"
 	"reflect"
 	"strings"
 	"testing"
 	"time"
 
+	"pippinterm/internal/diff"
 	"pippinterm/platform"
 )
 
 // A storm shortens the leases, and takes a part out of the client.
 func TestForStorm(t *testing.T) {
 	given := platform.Options{Worker: "one"}
-	for _, it := range []struct {
+	for _, test := range []struct {
 		margin, without, fails string
 		options                platform.Options
 		isOther                bool // whether another client is returned
@@ -26,16 +28,19 @@ func TestForStorm(t *testing.T) {
 		{margin: "soon", fails: "OSB_MARGIN"},
 		{without: "tombstones", fails: `without "tombstones"`},
 	} {
-		t.Setenv("OSB_MARGIN", it.margin)
-		t.Setenv("OSB_WITHOUT", it.without)
-		with, options, err := forStorm(nil, nil, given)
-		switch {
-		case it.fails != "":
-			if err == nil || !strings.Contains(err.Error(), it.fails) {
-				t.Errorf("%+v: %v", it, err)
+		t.Run(fmt.Sprintf("margin %q, without %q", test.margin, test.without), func(t *testing.T) {
+			t.Setenv("OSB_MARGIN", test.margin)
+			t.Setenv("OSB_WITHOUT", test.without)
+			with, options, err := forStorm(nil, nil, given)
+			switch {
+			case test.fails != "":
+				if err == nil || !strings.Contains(err.Error(), test.fails) {
+					t.Errorf("%+v: got %v, want an error with %s", test, err, test.fails)
+				}
+			case err != nil || !reflect.DeepEqual(options, test.options) || (with != nil) != test.isOther:
+				t.Errorf("%+v: got %v, %v, want another: %t; %s",
+					test, with, err, test.isOther, diff.Of(options, test.options))
 			}
-		case err != nil || !reflect.DeepEqual(options, it.options) || (with != nil) != it.isOther:
-			t.Errorf("%+v: %v, %+v, %v", it, with, options, err)
-		}
+		})
 	}
 }

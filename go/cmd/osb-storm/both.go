@@ -2,7 +2,6 @@ package main
 
 import (
 	"context"
-	"errors"
 	"fmt"
 	"io"
 	"os"
@@ -51,9 +50,8 @@ error`
 func bothCommand(o *outcome) *cobra.Command {
 	s := &bothSettings{}
 	run := func(c *cobra.Command) (int, error) {
-		s.chooseSeed(c)
 		s.chooseSettleTime(c)
-		return s.run(c.Context(), c.OutOrStdout(), c.ErrOrStderr())
+		return s.run(c, s.open)
 	}
 	return commandOf(o, "both",
 		"Run osb-broker and osb-platform through faults and kills, and find what was lost", bothHelp, "", s.add, run)
@@ -112,51 +110,29 @@ func (s *bothSettings) add(made *cobra.Command) {
 	s.addReports(made)
 }
 
-// run runs the storm, and writes the reports. It returns the exit status.
-func (s *bothSettings) run(ctx context.Context, out, stderr io.Writer) (status int, err error) {
-	files, err := s.open()
-	if err != nil {
-		return 0, err
-	}
-	defer files.close()
-	running, _, forget := untilSignals(ctx)
-	defer forget()
-	both, err := s.start(running)
-	if err != nil {
-		return 0, cli.Unusable(err)
-	}
-	fmt.Fprintf(out, "The seed is %d.\n\n", s.seed)
-	found, failure := both.Run(running)
-	closed := both.Close()
-	if failure != nil {
-		return 0, cli.Unusable(failure)
-	}
-	switch {
-	case closed != nil:
-		failure = cli.Unusable(closed)
-	case len(found.Failed) > 0:
-		failure = errors.New(found.Failed[0])
-	case !found.IsClean():
-		status = statusDeviates
-	}
-	return concluded(status, failure, s.write(found, files, out), stderr)
-}
-
-// start finds the programs, reads the list of faults, and opens a storm of both.
-func (s *bothSettings) start(ctx context.Context) (both *run.Both, err error) {
-	for _, it := range []struct {
+// open finds the programs, reads the list of faults, and opens a storm of both.
+func (s *bothSettings) open(running context.Context, _ io.Writer) (opened storm, err error) {
+	for _, test := range []struct {
 		to             *string
 		name, variable string
 	}{{&s.config.Broker, "osb-broker", "OSB_BROKER"}, {&s.config.Platform, "osb-platform", "OSB_PLATFORM"}} {
-		if *it.to, err = programOf(*it.to, it.name, it.variable); err != nil {
-			return nil, err
+		if *test.to, err = programOf(*test.to, test.name, test.variable); err != nil {
+			return opened, err
 		}
 	}
-	s.config.Seed, s.config.Share, s.config.MinimizeTime = s.seed, s.share(), s.forMinimize()
-	if s.config.List, err = s.list(); err != nil {
-		return nil, err
+	if err := s.fill(&s.config.Config); err != nil {
+		return opened, err
 	}
-	return run.NewBoth(ctx, s.config)
+	both, err := run.NewBoth(running, s.config)
+	if err != nil {
+		return opened, err
+	}
+	start := func(running, _ context.Context) (*run.Report, error) {
+		found, err := both.Run(running)
+		return found, cli.Unusable(err)
+	}
+	intro := fmt.Sprintf("The seed is %d.", s.seed)
+	return storm{intro: intro, run: start, close: func() error { return cli.Unusable(both.Close()) }}, nil
 }
 
 // programOf returns the path of a program: the one that an option or a variable names, or the one beside this program.

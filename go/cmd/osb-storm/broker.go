@@ -2,7 +2,6 @@ package main
 
 import (
 	"context"
-	"errors"
 	"fmt"
 	"io"
 	"time"
@@ -10,14 +9,13 @@ import (
 	"github.com/spf13/cobra"
 
 	"pippinterm/internal/cli"
-	"pippinterm/storm/conform"
 	"pippinterm/storm/run"
 )
 
 // brokerSettings are the options of `osb-storm broker`.
 type brokerSettings struct {
 	stormSettings
-	config run.Config
+	config run.BrokerConfig
 }
 
 const brokerHelp = `Let a platform drive a broker through a network that loses, delays, repeats and garbles requests and
@@ -48,10 +46,7 @@ be created without faults, or a command that doesn't list what exists; 70 any ot
 
 func brokerCommand(o *outcome) *cobra.Command {
 	s := &brokerSettings{}
-	run := func(c *cobra.Command) (int, error) {
-		s.chooseSeed(c)
-		return s.run(c.Context(), c.OutOrStdout(), c.ErrOrStderr())
-	}
+	run := func(c *cobra.Command) (int, error) { return s.run(c, s.open) }
 	return commandOf(o, "broker --url URL",
 		"Drive a broker through a faulty network, and find what was lost", brokerHelp, "url", s.add, run)
 }
@@ -103,69 +98,19 @@ func (s *brokerSettings) addStorm(made *cobra.Command) {
 		"a `directory`: the journal of the storm's platform is written to DIRECTORY/platform, for osb-audit")
 }
 
-// run runs the storm, and writes the reports. It returns the exit status.
-func (s *brokerSettings) run(ctx context.Context, out, stderr io.Writer) (int, error) {
-	files, err := s.open()
-	if err != nil {
-		return 0, err
-	}
-	defer files.close()
-	running, deleting, forget := untilSignals(ctx)
-	defer forget()
+// open reads the password and the list of faults, and opens a storm for the settings.
+func (s *brokerSettings) open(running context.Context, stderr io.Writer) (opened storm, err error) {
 	s.config.Broker.Tell = waits(running, stderr)
-	storm, err := s.storm(stderr)
+	if s.config.Broker.Password, err = s.password(stderr); err != nil {
+		return opened, err
+	}
+	if err := s.fill(&s.config.Config); err != nil {
+		return opened, err
+	}
+	of, err := run.New(s.config)
 	if err != nil {
-		return 0, cli.Unusable(err)
+		return opened, err
 	}
-	fmt.Fprintf(out, "Each id begins with %s. The seed is %d.\n\n", storm.Prefix(), s.seed)
-	report, failure := storm.Run(running, deleting)
-	if failure != nil {
-		return failed(report, failure, out, stderr)
-	}
-	status, failure := s.status(report)
-	return concluded(status, failure, s.write(report, files, out), stderr)
-}
-
-// status returns the exit status for a report, or what the run has failed at.
-func (s *brokerSettings) status(report *run.Report) (int, error) {
-	switch {
-	case len(report.Leftovers) > 0:
-		return statusLeft, nil
-	case len(report.Failed) > 0:
-		return 0, errors.New(report.Failed[0])
-	case !report.IsClean():
-		return statusDeviates, nil
-	}
-	return cli.StatusDone, nil
-}
-
-// failed returns the exit status of a storm that has failed, and writes what couldn't be deleted.
-func failed(report *run.Report, failure error, out, stderr io.Writer) (int, error) {
-	for _, it := range report.Leftovers {
-		fmt.Fprintf(out, "not deleted: %s\n", it)
-	}
-	switch {
-	case len(report.Leftovers) > 0:
-		fmt.Fprintf(stderr, "osb-storm: %v\n", failure)
-		return statusLeft, nil
-	case errors.Is(failure, conform.ErrUnreachable):
-		fmt.Fprintf(stderr, "osb-storm: %v\n", failure)
-		return statusUnreachable, nil
-	case errors.Is(failure, conform.ErrLogin), errors.Is(failure, conform.ErrNoPlan),
-		errors.Is(failure, run.ErrTrial), errors.Is(failure, run.ErrList):
-		return 0, cli.Unusable(failure)
-	}
-	return 0, failure
-}
-
-// storm reads the password and the list of faults, and returns a Storm for the settings.
-func (s *brokerSettings) storm(warnings io.Writer) (storm *run.Storm, err error) {
-	if s.config.Broker.Password, err = s.password(warnings); err != nil {
-		return nil, err
-	}
-	s.config.Seed, s.config.Share, s.config.MinimizeTime = s.seed, s.share(), s.forMinimize()
-	if s.config.List, err = s.list(); err != nil {
-		return nil, err
-	}
-	return run.New(s.config)
+	intro := fmt.Sprintf("Each id begins with %s. The seed is %d.", of.Prefix(), s.seed)
+	return storm{intro: intro, run: of.Run, close: func() error { return nil }}, nil
 }

@@ -88,9 +88,9 @@ func (s *conformSettings) run(ctx context.Context, out, stderr io.Writer) (int, 
 	report.Leftovers = runner.CleanUp(deletions)
 	cancel()
 	if failure != nil {
-		return s.failed(failure, stderr)
+		return s.failureStatus(failure, stderr)
 	}
-	return concluded(s.status(report), nil, files.write(out, report.WriteText, report.WriteJSON), stderr)
+	return conclude(s.status(report), nil, files.write(out, report.WriteText, report.WriteJSON), stderr)
 }
 
 // runner reads the password, and returns a Runner for the settings.
@@ -108,8 +108,8 @@ func (s *conformSettings) runner(warnings io.Writer) (*conform.Runner, error) {
 
 func (s *conformSettings) checkExcept() error {
 	known := map[string]bool{}
-	for _, it := range conform.Cases() {
-		known[it.Name] = true
+	for _, test := range conform.Cases() {
+		known[test.Name] = true
 	}
 	for _, name := range s.except {
 		if !known[name] {
@@ -119,8 +119,8 @@ func (s *conformSettings) checkExcept() error {
 	return nil
 }
 
-// failed returns the exit status of a run that has tried no case.
-func (s *conformSettings) failed(failure error, stderr io.Writer) (int, error) {
+// failureStatus returns the exit status of a run that has tried no case.
+func (s *conformSettings) failureStatus(failure error, stderr io.Writer) (int, error) {
 	if errors.Is(failure, conform.ErrUnreachable) {
 		fmt.Fprintf(stderr, "osb-storm: %v\n", failure)
 		return statusUnreachable, nil
@@ -137,8 +137,8 @@ func (s *conformSettings) status(report *conform.Report) int {
 	for _, name := range s.except {
 		excepted[name] = true
 	}
-	for _, it := range report.Results {
-		if it.Level == conform.Must && it.Verdict == conform.Fail && !excepted[it.Name] {
+	for _, result := range report.Results {
+		if result.Level == conform.Must && result.Verdict == conform.Fail && !excepted[result.Name] {
 			return statusDeviates
 		}
 	}

@@ -3,9 +3,12 @@ package main
 
 import (
 	"context"
+	"fmt"
 	"os"
+	"strings"
 
 	"github.com/spf13/cobra"
+	"github.com/spf13/pflag"
 
 	"pippinterm/internal/cli"
 )
@@ -22,7 +25,7 @@ func main() {
 // An outcome is what a command has found. It is the exit status of the program if the command itself has succeeded.
 type outcome struct{ status int }
 
-// The exit statuses besides those of the package program.
+// The exit statuses besides those of the package cli.
 const (
 	statusDeviates    = 1  // what is tested deviates from the standard or loses something, or not everything was tried
 	statusLeft        = 3  // something couldn't be deleted
@@ -49,4 +52,40 @@ docs/storm.md says how to run it against a broker or a platform of your own.`,
 	root.AddCommand(conformCommand(o), brokerCommand(o), platformCommand(o), bothCommand(o))
 	root.CompletionOptions.DisableDefaultCmd = true
 	return root
+}
+
+// A choice is an option that has one of some values.
+type choice struct {
+	to     *string
+	values []string
+}
+
+var _ pflag.Value = (*choice)(nil)
+
+// choiceOf returns an option that has one of some values.
+func choiceOf(to *string, value string, values ...string) *choice {
+	*to = value
+	return &choice{to, values}
+}
+
+// String returns the value.
+func (c *choice) String() string {
+	if c.to == nil {
+		return ""
+	}
+	return *c.to
+}
+
+// Type returns the word for a value in the help.
+func (c *choice) Type() string { return "word" }
+
+// Set sets the value.
+func (c *choice) Set(text string) error {
+	for _, value := range c.values {
+		if text == value {
+			*c.to = text
+			return nil
+		}
+	}
+	return fmt.Errorf("choose one of: %s", strings.Join(c.values, ", "))
 }

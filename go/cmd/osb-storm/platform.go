@@ -2,7 +2,6 @@ package main
 
 import (
 	"context"
-	"errors"
 	"fmt"
 	"io"
 	"time"
@@ -10,6 +9,7 @@ import (
 	"github.com/spf13/cobra"
 
 	"pippinterm/internal/cli"
+	"pippinterm/storm/run"
 	"pippinterm/storm/run/platform"
 )
 
@@ -52,10 +52,7 @@ error, such as a command that fails`
 
 func platformCommand(o *outcome) *cobra.Command {
 	s := &platformSettings{}
-	run := func(c *cobra.Command) (int, error) {
-		s.chooseSeed(c)
-		return s.run(c.Context(), c.OutOrStdout(), c.ErrOrStderr())
-	}
+	run := func(c *cobra.Command) (int, error) { return s.run(c, s.open) }
 	return commandOf(o, "platform --listen HOST:PORT",
 		"Be a broker behind a faulty network, and find what your platform abandons", platformHelp, "listen", s.add, run)
 }
@@ -104,42 +101,21 @@ func (s *platformSettings) addStorm(made *cobra.Command) {
 		"a `directory`: the journal of the storm's broker is written to DIRECTORY/broker, for osb-audit")
 }
 
-// run runs the storm, and writes the reports. It returns the exit status.
-func (s *platformSettings) run(ctx context.Context, out, stderr io.Writer) (status int, err error) {
-	files, err := s.open()
+// open reads the password and the list of faults, and starts a storm for the settings.
+func (s *platformSettings) open(running context.Context, stderr io.Writer) (opened storm, err error) {
+	if s.config.Password, err = s.password(stderr); err != nil {
+		return opened, err
+	}
+	s.config.Warnings = stderr
+	if err := s.fill(&s.config.Config); err != nil {
+		return opened, err
+	}
+	of, err := platform.Start(running, s.config)
 	if err != nil {
-		return 0, err
+		return opened, err
 	}
-	defer files.close()
-	running, _, forget := untilSignals(ctx)
-	defer forget()
-	storm, err := s.start(ctx, stderr)
-	if err != nil {
-		return 0, cli.Unusable(err)
-	}
-	fmt.Fprintf(out, "The broker listens at %s for the user %s. The seed is %d.\n"+
-		"The faults begin with the first request about an instance.\n\n", storm.URL(), s.config.User, s.seed)
-	found := storm.Run(running)
-	failure := storm.Close()
-	switch {
-	case failure != nil:
-	case len(found.Failed) > 0:
-		failure = errors.New(found.Failed[0])
-	case !found.IsClean():
-		status = statusDeviates
-	}
-	return concluded(status, failure, s.write(found, files, out), stderr)
-}
-
-// start reads the password and the list of faults, and starts a Storm for the settings.
-func (s *platformSettings) start(ctx context.Context, warnings io.Writer) (storm *platform.Storm, err error) {
-	if s.config.Password, err = s.password(warnings); err != nil {
-		return nil, err
-	}
-	s.config.Seed, s.config.Share, s.config.MinimizeTime = s.seed, s.share(), s.forMinimize()
-	s.config.Warnings = warnings
-	if s.config.List, err = s.list(); err != nil {
-		return nil, err
-	}
-	return platform.Start(ctx, s.config)
+	intro := fmt.Sprintf("The broker listens at %s for the user %s. The seed is %d.\n"+
+		"The faults begin with the first request about an instance.", of.URL(), s.config.User, s.seed)
+	start := func(running, _ context.Context) (*run.Report, error) { return of.Run(running), nil }
+	return storm{intro: intro, run: start, close: of.Close}, nil
 }

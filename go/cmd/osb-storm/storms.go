@@ -1,8 +1,11 @@
 package main
 
 import (
+	"context"
+	"errors"
 	"fmt"
 	"io"
+	"io/fs"
 	"math/rand"
 	"os"
 	"strings"
@@ -12,7 +15,9 @@ import (
 
 	"pippinterm/internal/cli"
 	"pippinterm/internal/secrets"
+	"pippinterm/storm/conform"
 	"pippinterm/storm/fault"
+	"pippinterm/storm/run"
 )
 
 // stormSettings are the options of all storms.
@@ -45,14 +50,6 @@ func (s *stormSettings) addMinimize(made *cobra.Command, usage string) {
 		"for --minimize. If the time is over before, the list may not be the shortest")
 }
 
-// forMinimize is for how long the list of faults is shrunk.
-func (s *stormSettings) forMinimize() time.Duration {
-	if !s.minimize {
-		return 0
-	}
-	return s.minimizeTime
-}
-
 // addReports adds the options about the reports.
 func (s *stormSettings) addReports(made *cobra.Command) {
 	flags := made.Flags()
@@ -67,8 +64,15 @@ func (s *stormSettings) chooseSeed(c *cobra.Command) {
 	}
 }
 
-// share is how many of all requests have a fault.
-func (s *stormSettings) share() float64 { return float64(s.percent) / 100 }
+// fill writes the seed, the faults and the time for --minimize into a configuration.
+func (s *stormSettings) fill(config *run.Config) (err error) {
+	config.Seed, config.Share = s.seed, float64(s.percent)/100
+	if s.minimize {
+		config.MinimizeTime = s.minimizeTime
+	}
+	config.List, err = s.list()
+	return err
+}
 
 // password reads the password.
 func (s *stormSettings) password(warnings io.Writer) (string, error) {
@@ -88,7 +92,7 @@ func passwordOf(file string, warnings io.Writer) (string, error) {
 }
 
 // list reads the list of faults. It is nil if there is no file, and isn't if the file has no fault.
-func (s *stormSettings) list() ([]fault.Numbered, error) {
+func (s *stormSettings) list() ([]fault.Entry, error) {
 	if s.faultsFile == "" {
 		return nil, nil
 	}
@@ -101,23 +105,76 @@ func (s *stormSettings) list() ([]fault.Numbered, error) {
 	if err != nil {
 		return nil, fmt.Errorf("%s: %w", s.faultsFile, err)
 	}
-	return append([]fault.Numbered{}, list...), nil
+	return append([]fault.Entry{}, list...), nil
 }
 
-// A report is what a storm has found.
-type report interface {
-	WriteText(io.Writer) error
-	WriteJSON(io.Writer) error
-	WriteHTML(io.Writer) error
-	WriteFaults(io.Writer) error
+// A storm is one that was opened, of any kind.
+type storm struct {
+	intro string // what is printed before it runs
+	run   func(running, deleting context.Context) (*run.Report, error)
+	close func() error
 }
 
-// open opens the files for the reports.
-func (s *stormSettings) open() (reportFiles, error) { return openReports(s.json, s.html, s.faultsTo) }
+// run opens a storm, runs it, and writes the reports. It returns the exit status.
+func (s *stormSettings) run(
+	c *cobra.Command, open func(running context.Context, stderr io.Writer) (storm, error),
+) (int, error) {
+	s.chooseSeed(c)
+	out, stderr := c.OutOrStdout(), c.ErrOrStderr()
+	files, err := openReports(s.json, s.html, s.faultsTo)
+	if err != nil {
+		return 0, err
+	}
+	defer files.close()
+	running, deleting, forget := untilSignals(c.Context())
+	defer forget()
+	storm, err := open(running, stderr)
+	if err != nil {
+		return 0, cli.Unusable(err)
+	}
+	fmt.Fprint(out, storm.intro+"\n\n")
+	found, failure := storm.run(running, deleting)
+	closing := storm.close()
+	if failure != nil {
+		return statusOfFailure(found, failure, out, stderr)
+	}
+	status, failure := statusOf(found, closing)
+	unwritten := files.write(out, found.WriteText, found.WriteJSON, found.WriteHTML, found.WriteFaults)
+	return conclude(status, failure, unwritten, stderr)
+}
 
-// write writes the report as text, and into each of the files.
-func (s *stormSettings) write(r report, files reportFiles, out io.Writer) error {
-	return files.write(out, r.WriteText, r.WriteJSON, r.WriteHTML, r.WriteFaults)
+// statusOf returns the exit status for a report, or what the storm has failed at. closing is the error of its close.
+func statusOf(found *run.Report, closing error) (int, error) {
+	switch {
+	case closing != nil:
+		return 0, closing
+	case len(found.Leftovers) > 0:
+		return statusLeft, nil
+	case len(found.Failed) > 0:
+		return 0, errors.New(found.Failed[0])
+	case !found.IsClean():
+		return statusDeviates, nil
+	}
+	return cli.StatusDone, nil
+}
+
+// statusOfFailure returns the exit status of a storm that has failed, and writes what couldn't be deleted.
+func statusOfFailure(found *run.Report, failure error, out, stderr io.Writer) (int, error) {
+	for _, leftover := range found.Leftovers {
+		fmt.Fprintf(out, "not deleted: %s\n", leftover)
+	}
+	switch {
+	case len(found.Leftovers) > 0:
+		fmt.Fprintf(stderr, "osb-storm: %v\n", failure)
+		return statusLeft, nil
+	case errors.Is(failure, conform.ErrUnreachable):
+		fmt.Fprintf(stderr, "osb-storm: %v\n", failure)
+		return statusUnreachable, nil
+	case errors.Is(failure, conform.ErrLogin), errors.Is(failure, conform.ErrNoPlan),
+		errors.Is(failure, run.ErrTrial), errors.Is(failure, run.ErrList):
+		return 0, cli.Unusable(failure)
+	}
+	return 0, failure
 }
 
 // commandOf returns a command. required is the option without which the command isn't run, or "". run returns the exit
@@ -147,4 +204,96 @@ func commandOf(
 func wrapUsages(made *cobra.Command) {
 	made.SetUsageTemplate(strings.ReplaceAll(made.UsageTemplate(), ".FlagUsages", ".FlagUsagesWrapped 110"))
 	made.Flags().SortFlags = false
+}
+
+// A reportFile is a file for a report. It is opened before the run, so that no report is lost because of its name. It
+// is nil if there is no name.
+type reportFile struct {
+	*os.File
+	isNew, isWritten bool
+}
+
+// reportFiles are the files of a run.
+type reportFiles []*reportFile
+
+// openReports opens a file for each name. Until write, it changes no file that was there before.
+func openReports(names ...string) (files reportFiles, err error) {
+	for _, name := range names {
+		file, err := openReport(name)
+		if err != nil {
+			files.close()
+			return nil, cli.Unusable(fmt.Errorf("the report can't be written: %w", err))
+		}
+		files = append(files, file)
+	}
+	return files, nil
+}
+
+func openReport(name string) (*reportFile, error) {
+	if name == "" {
+		return nil, nil
+	}
+	file, err := os.OpenFile(name, os.O_WRONLY|os.O_CREATE|os.O_EXCL, 0o666)
+	if errors.Is(err, fs.ErrExist) {
+		file, err = os.OpenFile(name, os.O_WRONLY|os.O_CREATE, 0o666)
+		return &reportFile{File: file}, err
+	}
+	return &reportFile{File: file, isNew: true}, err
+}
+
+// write writes the report to out, and in the form of each file into this file. It goes on after an error, and returns
+// the first one.
+func (f reportFiles) write(out io.Writer, text func(io.Writer) error, forms ...func(io.Writer) error) error {
+	first := text(out)
+	for at, file := range f {
+		if file == nil {
+			continue
+		}
+		if err := file.replace(forms[at]); err != nil && first == nil {
+			first = err
+		}
+	}
+	if first != nil {
+		return fmt.Errorf("the report can't be written: %w", first)
+	}
+	return nil
+}
+
+// replace writes a report in place of what the file has.
+func (f *reportFile) replace(write func(io.Writer) error) error {
+	f.isWritten = true
+	state, err := f.Stat()
+	if err == nil && state.Mode().IsRegular() {
+		err = f.Truncate(0)
+	}
+	if err != nil {
+		return err
+	}
+	return write(f)
+}
+
+// close closes the files, and deletes those that are new and have no report.
+func (f reportFiles) close() {
+	for _, file := range f {
+		if file == nil {
+			continue
+		}
+		_ = file.Close()
+		if file.isNew && !file.isWritten {
+			_ = os.Remove(file.Name())
+		}
+	}
+}
+
+// conclude returns the exit status of a run, and its error. unwritten is the error of its reports. If the run has
+// found something, or has failed, unwritten changes neither.
+func conclude(status int, failure, unwritten error, stderr io.Writer) (int, error) {
+	switch {
+	case unwritten == nil:
+		return status, failure
+	case status == cli.StatusDone && failure == nil:
+		return 0, unwritten
+	}
+	fmt.Fprintf(stderr, "osb-storm: %v\n", unwritten)
+	return status, failure
 }

@@ -25,12 +25,12 @@ func (b backend) path(key broker.Key) string {
 
 // Look goes by the names alone, because the content of a folder is its user's.
 func (b backend) Look(_ context.Context, r broker.Request) (broker.There, error) {
-	for _, it := range []struct {
+	for _, test := range []struct {
 		end   string
 		there broker.There
 	}{{"", broker.Whole}, {".part", broker.Part}} {
-		if _, err := os.Lstat(b.path(r.Key) + it.end); !errors.Is(err, fs.ErrNotExist) {
-			return it.there, err // with an error nobody knows what exists
+		if _, err := os.Lstat(b.path(r.Key) + test.end); !errors.Is(err, fs.ErrNotExist) {
+			return test.there, err // with an error nobody knows what exists
 		}
 	}
 	return broker.None, nil

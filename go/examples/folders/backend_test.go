@@ -17,7 +17,7 @@ var ofInstance = broker.Request{Key: broker.InstanceKey(osb.ID{15: 1})}
 // What Look returns is what exists, and Create and Delete begin with whatever exists.
 func TestParts(t *testing.T) {
 	ctx := context.Background()
-	for _, it := range []struct {
+	for _, test := range []struct {
 		name        string
 		whole, part bool
 		there       broker.There
@@ -26,26 +26,28 @@ func TestParts(t *testing.T) {
 		{"a whole folder", true, false, broker.Whole},
 		{"a part", false, true, broker.Part},
 	} {
-		for what, call := range map[broker.There]func(backend) error{
-			broker.Whole: func(b backend) error { return b.Create(ctx, ofInstance) },
-			broker.None:  func(b backend) error { return b.Delete(ctx, ofInstance) },
-		} {
-			b := backend(t.TempDir())
-			path := b.path(ofInstance.Key)
-			makeFull(t, path, it.whole)
-			makeFull(t, path+".part", it.part)
-			if there, err := b.Look(ctx, ofInstance); there != it.there || err != nil {
-				t.Errorf("%s: %v, %v", it.name, there, err)
-			}
-			for again := 0; again < 2; again++ { // the second call does nothing
-				if err := call(b); err != nil {
-					t.Errorf("%s: %v", it.name, err)
+		t.Run(test.name, func(t *testing.T) {
+			for what, call := range map[broker.There]func(backend) error{
+				broker.Whole: func(b backend) error { return b.Create(ctx, ofInstance) },
+				broker.None:  func(b backend) error { return b.Delete(ctx, ofInstance) },
+			} {
+				b := backend(t.TempDir())
+				path := b.path(ofInstance.Key)
+				makeFull(t, path, test.whole)
+				makeFull(t, path+".part", test.part)
+				if there, err := b.Look(ctx, ofInstance); there != test.there || err != nil {
+					t.Errorf("got %v and the error %v, want what exists", there, err)
 				}
-				if there, err := b.Look(ctx, ofInstance); there != what || err != nil {
-					t.Errorf("%s: %v, %v, and not %v", it.name, there, err, what)
+				for again := 0; again < 2; again++ { // the second call does nothing
+					if err := call(b); err != nil {
+						t.Errorf("got the error %v, want none", err)
+					}
+					if there, err := b.Look(ctx, ofInstance); there != what || err != nil {
+						t.Errorf("got %v, %v, want %v", there, err, what)
+					}
 				}
 			}
-		}
+		})
 	}
 }
 
@@ -55,19 +57,15 @@ func makeFull(t *testing.T, path string, exists bool) {
 	if !exists {
 		return
 	}
-	if err := os.MkdirAll(filepath.Join(path, "data"), 0o700); err != nil {
-		t.Fatal(err)
-	}
+	check(t, os.MkdirAll(filepath.Join(path, "data"), 0o700))
 }
 
 // If nobody can look, nobody knows what exists.
 func TestUnknown(t *testing.T) {
 	file := filepath.Join(t.TempDir(), "file")
-	if err := os.WriteFile(file, nil, 0o600); err != nil {
-		t.Fatal(err)
-	}
+	check(t, os.WriteFile(file, nil, 0o600))
 	if there, err := backend(file).Look(context.Background(), ofInstance); err == nil {
-		t.Error(there)
+		t.Errorf("Look: got %v, want an error", there)
 	}
 }
 
@@ -77,17 +75,13 @@ func TestUnfinishedDeletion(t *testing.T) {
 	defer withoutRights(t, string(b))()
 	path := b.path(ofInstance.Key)
 	makeFull(t, path, true)
-	if err := os.Chmod(path, 0o500); err != nil {
-		t.Fatal(err)
-	}
+	check(t, os.Chmod(path, 0o500))
 	failed := b.Delete(ctx, ofInstance)
 	there, err := b.Look(ctx, ofInstance)
 	if failed == nil || there != broker.Part || err != nil {
-		t.Errorf("%v, %v, %v", failed, there, err)
+		t.Errorf("got the failure %v, %v and the error %v, want a part", failed, there, err)
 	}
-	if err := os.Chmod(path+".part", 0o700); err != nil {
-		t.Fatal(err)
-	}
+	check(t, os.Chmod(path+".part", 0o700))
 	if err := b.Delete(ctx, ofInstance); err != nil {
 		t.Error(err)
 	}
@@ -104,15 +98,19 @@ func withoutRights(t *testing.T, folder string) (restore func()) {
 	if err := os.Chmod(filepath.Dir(folder), 0o711); err != nil { // the folder of all folders of the test
 		t.Fatal(err)
 	}
-	if err := os.Chown(folder, nobody, nobody); err != nil {
-		t.Fatal(err)
-	}
+	check(t, os.Chown(folder, nobody, nobody))
 	runtime.LockOSThread() // the right belongs to the thread
-	if err := syscall.Setfsuid(nobody); err != nil {
-		t.Fatal(err)
-	}
+	check(t, syscall.Setfsuid(nobody))
 	return func() {
 		_ = syscall.Setfsuid(0)
 		runtime.UnlockOSThread()
+	}
+}
+
+// check ends the test at an error.
+func check(t testing.TB, err error) {
+	t.Helper()
+	if err != nil {
+		t.Fatal(err)
 	}
 }

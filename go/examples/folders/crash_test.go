@@ -8,6 +8,7 @@ import (
 	"errors"
 	"fmt"
 	"log"
+	"net"
 	"net/http"
 	"os"
 	"os/exec"
@@ -15,8 +16,6 @@ import (
 	"strings"
 	"syscall"
 	"testing"
-
-	"pippinterm/internal/httpserver"
 )
 
 const (
@@ -30,7 +29,7 @@ func TestMain(m *testing.M) {
 	if state == "" {
 		os.Exit(m.Run())
 	}
-	listener, err := httpserver.Listen(context.Background(), "127.0.0.1:0", httpserver.Options{})
+	listener, err := net.Listen("tcp", "127.0.0.1:0")
 	if err != nil {
 		log.Fatal(err)
 	}
@@ -39,37 +38,33 @@ func TestMain(m *testing.M) {
 }
 
 // startProcess starts the broker in a process of its own, which kills itself at a crash point.
-func startProcess(t *testing.T, state, place string) (s *served, process *exec.Cmd) {
+func startProcess(t *testing.T, state, point string) (s *servedBroker, process *exec.Cmd) {
 	t.Helper()
 	process = exec.Command(os.Args[0])
-	process.Env = append(os.Environ(), "FOLDERS_STATE="+state, "OSB_CRASH_AT="+place)
+	process.Env = append(os.Environ(), "FOLDERS_STATE="+state, "OSB_CRASH_AT="+point)
 	printed, err := process.StdoutPipe()
 	if err == nil {
 		err = process.Start()
 	}
-	if err != nil {
-		t.Fatal(err)
-	}
+	check(t, err)
 	t.Cleanup(func() { _ = process.Process.Kill() })
 	address, err := bufio.NewReader(printed).ReadString('\n')
-	if err != nil {
-		t.Fatal(err)
-	}
-	return &served{t: t, state: state, url: "http://" + strings.TrimSpace(address)}, process
+	check(t, err)
+	return &servedBroker{t: t, state: state, url: "http://" + strings.TrimSpace(address)}, process
 }
 
 // live creates and deletes an instance with a binding, and an instance of the asynchronous plan. It returns an error
-// once no answer comes back.
-func (s *served) live() error {
-	for _, it := range []struct{ method, target, plan string }{
+// once there is no answer.
+func (s *servedBroker) live() error {
+	for _, test := range []struct{ method, target, plan string }{
 		{"DELETE", absent, now},
 		{"PUT", instance, now}, {"PUT", binding, now}, {"DELETE", binding, now}, {"DELETE", instance, now},
 		{"PUT", second, later}, {"DELETE", second, later},
 	} {
-		_, _, err := s.try(it.method, it.target, it.plan)
-		for isRunning := it.plan == later; isRunning && err == nil; {
+		_, _, err := s.try(test.method, test.target, test.plan)
+		for isRunning := test.plan == later; isRunning && err == nil; {
 			var body string
-			_, body, err = s.try("GET", it.target+"/last_operation", it.plan)
+			_, body, err = s.try("GET", test.target+"/last_operation", test.plan)
 			isRunning = strings.Contains(body, "in progress")
 		}
 		if err != nil {
@@ -82,19 +77,19 @@ func (s *served) live() error {
 // At whichever crash point the broker is killed: once it is started again, it says that a resource exists if that
 // exists, and everything can be deleted.
 func TestCrashes(t *testing.T) {
-	for _, place := range []string{
+	for _, point := range []string{
 		"begin-next", "begin-written", "mark-next", "mark-written", "work-next", "work-running", "work-done", "end-next",
 		"end-written", "operation-next", "operation-done", "finish-next", "finish-written",
 	} {
-		place := place
-		t.Run(place, func(t *testing.T) {
-			s, process := startProcess(t, t.TempDir(), place)
+		point := point
+		t.Run(point, func(t *testing.T) {
+			s, process := startProcess(t, t.TempDir(), point)
 			if err := s.live(); err == nil {
-				t.Fatal("the broker doesn't come to this crash point")
+				t.Fatal("this crash point: got no crash of the broker, want one")
 			}
 			var exit *exec.ExitError
 			if err := process.Wait(); !errors.As(err, &exit) || exit.Sys().(syscall.WaitStatus).Signal() != syscall.SIGKILL {
-				t.Fatalf("the broker wasn't killed: %v", err)
+				t.Fatalf("the broker: got %v, want it killed", err)
 			}
 			s = start(t, s.state)
 			s.agree(instance, now, folder)
@@ -111,23 +106,23 @@ func TestCrashes(t *testing.T) {
 }
 
 // agree fails unless the broker says that a resource exists exactly if that exists.
-func (s *served) agree(target, plan, name string) {
+func (s *servedBroker) agree(target, plan, name string) {
 	s.t.Helper()
 	status, body := s.poll(target, plan)
 	_, err := os.Lstat(filepath.Join(s.state, "sold", name))
 	if isSaid := status == http.StatusOK && strings.Contains(body, "succeeded"); isSaid != (err == nil) {
-		s.t.Errorf("%s: the broker says %d %s, and %v", target, status, body, err)
+		s.t.Errorf("%s: got %d %s, and %v, want both to say the same", target, status, body, err)
 	}
 }
 
 // remove deletes a resource, as a platform does that doesn't know whether it exists.
-func (s *served) remove(target, plan string) {
+func (s *servedBroker) remove(target, plan string) {
 	s.t.Helper()
 	status, body := s.ask("DELETE", target, plan)
 	if status == http.StatusAccepted {
 		status, body = s.poll(target, plan)
 	}
 	if status != http.StatusOK && status != http.StatusGone {
-		s.t.Errorf("%s: %d %s", target, status, body)
+		s.t.Errorf("%s: got %d %s, want 200 or 410", target, status, body)
 	}
 }

@@ -6,6 +6,7 @@ import (
 	_ "embed"
 	"flag"
 	"log"
+	"net"
 	"os"
 	"os/signal"
 	"path/filepath"
@@ -14,8 +15,6 @@ import (
 
 	"pippinterm/broker"
 	"pippinterm/broker/sqlite"
-	"pippinterm/internal/filelock"
-	"pippinterm/internal/httpserver"
 )
 
 //go:embed catalogue.json
@@ -26,10 +25,9 @@ func main() {
 	flag.Parse()
 	stop, cancel := signal.NotifyContext(context.Background(), os.Interrupt, syscall.SIGTERM)
 	defer cancel()
-	ctx := context.Background()
-	listener, err := httpserver.Listen(ctx, "127.0.0.1:"+os.Getenv("PORT"), httpserver.Options{Observer: observer{}})
+	listener, err := net.Listen("tcp", "127.0.0.1:"+os.Getenv("PORT"))
 	if err == nil {
-		err = serve(ctx, stop, listener, *state, os.Getenv("BROKER_PASSWORD"))
+		err = serve(context.Background(), stop, listener, *state, os.Getenv("BROKER_PASSWORD"))
 	}
 	if err != nil {
 		log.Fatal(err)
@@ -37,7 +35,7 @@ func main() {
 }
 
 // serve answers requests until stop is done. What has begun then goes on to its end, with ctx.
-func serve(ctx, stop context.Context, listener *httpserver.Listener, state, password string) error {
+func serve(ctx, stop context.Context, listener net.Listener, state, password string) error {
 	users, err := broker.NewUsers(map[string][]string{"platform": {password}})
 	if err != nil {
 		return err
@@ -65,8 +63,7 @@ func serve(ctx, stop context.Context, listener *httpserver.Listener, state, pass
 	served := make(chan error, 1)
 	go func() {
 		defer end()
-		sites := []httpserver.Site{{Listener: listener, Handler: handler}}
-		served <- httpserver.Server{Sites: sites}.Serve(stop) // waits for the requests that are being answered
+		served <- broker.Serve(stop, listener, handler, observer{}) // waits for the requests that are being answered
 	}()
 	sweeper.Run(ctx, stop, 4, 5*time.Second) // goes on with unfinished work, also of a process that was killed
 	return <-served
@@ -77,7 +74,7 @@ func newService(store broker.Store, state string) (*broker.Service, error) {
 	if err != nil {
 		return nil, err
 	}
-	locks, err := filelock.New(filepath.Join(state, "locks"))
+	locks, err := broker.NewFileLocks(filepath.Join(state, "locks"))
 	if err != nil {
 		return nil, err
 	}
@@ -89,4 +86,4 @@ func newService(store broker.Store, state string) (*broker.Service, error) {
 // An observer logs what an operator has to know.
 type observer struct{ broker.Silent }
 
-func (observer) Failed(it broker.Failure) { log.Printf("%s %v: %v", it.Event, it.Key, it.Err) }
+func (observer) OnFailure(it broker.Failure) { log.Printf("%s %v: %v", it.Event, it.Key, it.Err) }

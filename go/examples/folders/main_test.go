@@ -12,7 +12,6 @@ import (
 	"testing"
 	"time"
 
-	"pippinterm/internal/httpserver"
 	"pippinterm/osb"
 )
 
@@ -22,8 +21,8 @@ const (
 	folder   = "00000000-0000-0000-0000-000000000001"
 )
 
-// A served broker, over a folder that outlives it.
-type served struct {
+// A servedBroker serves over a folder that outlives it.
+type servedBroker struct {
 	t     *testing.T
 	state string
 	url   string
@@ -32,14 +31,12 @@ type served struct {
 }
 
 // start starts the broker.
-func start(t *testing.T, state string) *served {
+func start(t *testing.T, state string) *servedBroker {
 	t.Helper()
-	listener, err := httpserver.Listen(context.Background(), "127.0.0.1:0", httpserver.Options{})
-	if err != nil {
-		t.Fatal(err)
-	}
+	listener, err := net.Listen("tcp", "127.0.0.1:0")
+	check(t, err)
 	stop, cancel := context.WithCancel(context.Background())
-	s := &served{
+	s := &servedBroker{
 		t: t, state: state, url: "http://" + listener.Addr().String(), stop: cancel, ended: make(chan error, 1),
 	}
 	go func() { s.ended <- serve(context.Background(), stop, listener, state, "secret") }()
@@ -48,7 +45,7 @@ func start(t *testing.T, state string) *served {
 }
 
 // end stops the broker, and waits for it.
-func (s *served) end() {
+func (s *servedBroker) end() {
 	s.t.Helper()
 	s.stop()
 	if err := <-s.ended; err != nil {
@@ -57,7 +54,7 @@ func (s *served) end() {
 }
 
 // ask sends a request for a plan, as a platform does, and returns the status and the body of the answer.
-func (s *served) ask(method, target, plan string) (int, string) {
+func (s *servedBroker) ask(method, target, plan string) (int, string) {
 	s.t.Helper()
 	status, body, err := s.try(method, target, plan)
 	if err != nil {
@@ -66,8 +63,8 @@ func (s *served) ask(method, target, plan string) (int, string) {
 	return status, body
 }
 
-// try does so too. If no answer comes back, it returns an error.
-func (s *served) try(method, target, plan string) (status int, body string, err error) {
+// try does so too. If there is no answer, it returns an error.
+func (s *servedBroker) try(method, target, plan string) (status int, body string, err error) {
 	ids := "service_id=00000000-0000-0000-0000-0000000000a0&plan_id=" + plan + "&accepts_incomplete=true"
 	asked := ""
 	if method == http.MethodPut {
@@ -90,17 +87,17 @@ func (s *served) try(method, target, plan string) (status int, body string, err 
 }
 
 // want fails unless the answer has this status, and this text in its body.
-func (s *served) want(method, target, plan string, status int, text string) string {
+func (s *servedBroker) want(method, target, plan string, status int, text string) string {
 	s.t.Helper()
 	got, body := s.ask(method, target, plan)
 	if got != status || !strings.Contains(body, text) {
-		s.t.Fatalf("%s %s: %d %s, and not %d with %s", method, target, got, body, status, text)
+		s.t.Fatalf("%s %s: got %d %s, want %d with %s", method, target, got, body, status, text)
 	}
 	return body
 }
 
 // poll polls until the operation has ended.
-func (s *served) poll(target, plan string) (int, string) {
+func (s *servedBroker) poll(target, plan string) (int, string) {
 	s.t.Helper()
 	for deadline := time.Now().Add(time.Minute); ; {
 		status, body := s.ask(http.MethodGet, target+"/last_operation", plan)
@@ -108,24 +105,24 @@ func (s *served) poll(target, plan string) (int, string) {
 			return status, body
 		}
 		if time.Now().After(deadline) {
-			s.t.Fatal("the operation doesn't end")
+			s.t.Fatal("the operation: got no end in time, want one")
 		}
 	}
 }
 
 // sells fails unless exactly these names exist.
-func (s *served) sells(names ...string) {
+func (s *servedBroker) sells(names ...string) {
 	s.t.Helper()
 	found, err := os.ReadDir(filepath.Join(s.state, "sold"))
 	if err != nil && !os.IsNotExist(err) {
 		s.t.Fatal(err)
 	}
 	var all []string
-	for _, it := range found {
-		all = append(all, it.Name())
+	for _, entry := range found {
+		all = append(all, entry.Name())
 	}
 	if strings.Join(all, " ") != strings.Join(names, " ") {
-		s.t.Fatalf("%v exist, and not %v", all, names)
+		s.t.Fatalf("got %v, want %v", all, names)
 	}
 }
 
@@ -148,7 +145,7 @@ func TestSynchronous(t *testing.T) {
 	s = start(t, s.state)
 	for _, method := range []string{"PUT", "GET"} {
 		if again := s.want(method, binding, now, 200, ""); again != credentials {
-			t.Errorf("%s: %s, and not %s", method, again, credentials)
+			t.Errorf("%s: got %s, want %s", method, again, credentials)
 		}
 	}
 	s.want("DELETE", instance, now, 422, "ConcurrencyError") // it has a binding
@@ -168,11 +165,11 @@ func TestCredentials(t *testing.T) {
 	answer := s.want("PUT", binding, now, 201, "")
 	file, err := os.ReadFile(filepath.Join(s.state, "sold", folder+".00000000-0000-0000-0000-000000000002"))
 	if err != nil || answer != `{"credentials":`+string(file)+"}" {
-		t.Errorf("%s, %s, %v", answer, file, err)
+		t.Errorf("got %s, the file %s and the error %v, want its content as credentials", answer, file, err)
 	}
 	var read struct{ Token string }
 	if err := json.Unmarshal(file, &read); err != nil || len(read.Token) != 32 {
-		t.Errorf("%s, %v", file, err)
+		t.Errorf("got %s and the error %v, want a token of 32 characters", file, err)
 	}
 }
 
@@ -181,37 +178,33 @@ func TestAsynchronous(t *testing.T) {
 	s := start(t, t.TempDir())
 	s.want("PUT", instance, later, 202, "{}")
 	if status, body := s.poll(instance, later); status != 200 || body != `{"state":"succeeded"}` {
-		t.Fatalf("%d %s", status, body)
+		t.Fatalf("got %d %s, want 200 and succeeded", status, body)
 	}
 	s.sells(folder)
 	s.want("PUT", binding, later, 201, `"token"`)
 	s.want("DELETE", binding, later, 200, "{}")
 	s.want("DELETE", instance, later, 202, "{}")
 	if status, body := s.poll(instance, later); status != 410 {
-		t.Fatalf("%d %s", status, body)
+		t.Fatalf("got %d %s, want 410", status, body)
 	}
 	s.sells()
 	s.end()
 }
 
-// A request line that is cut is answered with 408, and not with the 400 of net/http: a 4xx that says that the broker has
-// rejected the request has to depend on the request alone.
+// A request line that is cut is answered with 408, and not with the 400 of net/http: a 4xx that says that the broker
+// has rejected the request has to depend on the request alone.
 func TestCutRequest(t *testing.T) {
 	s := start(t, t.TempDir())
 	connection, err := net.Dial("tcp", strings.TrimPrefix(s.url, "http://"))
-	if err != nil {
-		t.Fatal(err)
-	}
+	check(t, err)
 	defer connection.Close()
 	if _, err := io.WriteString(connection, "PUT /v2/service_inst"); err != nil {
 		t.Fatal(err)
 	}
-	if err := connection.(*net.TCPConn).CloseWrite(); err != nil {
-		t.Fatal(err)
-	}
+	check(t, connection.(*net.TCPConn).CloseWrite())
 	answer, err := io.ReadAll(connection)
 	if err != nil || !strings.HasPrefix(string(answer), "HTTP/1.1 408 ") {
-		t.Errorf("it is answered with %q, %v", answer, err)
+		t.Errorf("got %q, %v, want 408", answer, err)
 	}
 	s.end()
 }
@@ -221,9 +214,9 @@ func TestPassword(t *testing.T) {
 	s := start(t, t.TempDir())
 	answer, err := http.Get(s.url + "/v2/catalog")
 	if err != nil || answer.StatusCode != http.StatusUnauthorized {
-		t.Fatal(answer, err)
+		t.Fatalf("got %v, %v, want 401", answer, err)
 	}
 	if err := serve(context.Background(), context.Background(), nil, t.TempDir(), ""); err == nil {
-		t.Error("it serves without a password")
+		t.Error("serve without a password: got no error, want one")
 	}
 }

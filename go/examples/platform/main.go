@@ -77,4 +77,4 @@ func check(err error) {
 
 type observer struct{ platform.Silent }
 
-func (observer) Failed(it platform.Failure) { log.Printf("%s %v: %v", it.Event, it.Key, it.Err) }
+func (observer) OnFailure(it platform.Failure) { log.Printf("%s %v: %v", it.Event, it.Key, it.Err) }

@@ -17,7 +17,6 @@ import (
 
 	"pippinterm/broker"
 	holdings "pippinterm/broker/sqlite"
-	"pippinterm/internal/filelock"
 	"pippinterm/osb"
 	"pippinterm/platform"
 	"pippinterm/platform/sqlite"
@@ -95,8 +94,8 @@ func (s *shelf) counts() (made, exist int) {
 	return s.made, len(s.names)
 }
 
-// served is the port of a broker that sells what a shelf has, until the end of the test.
-func served(t *testing.T, sold *shelf) (port string) {
+// serveBroker returns the port of a broker that sells what a shelf has, until the end of the test.
+func serveBroker(t *testing.T, sold *shelf) (port string) {
 	t.Helper()
 	document, err := os.ReadFile("../folders/catalogue.json")
 	need(t, err)
@@ -104,7 +103,7 @@ func served(t *testing.T, sold *shelf) (port string) {
 	need(t, err)
 	store, err := holdings.Open(context.Background(), filepath.Join(t.TempDir(), "holdings.sqlite"), broker.Silent{})
 	need(t, err)
-	locks, err := filelock.New(filepath.Join(t.TempDir(), "locks"))
+	locks, err := broker.NewFileLocks(filepath.Join(t.TempDir(), "locks"))
 	need(t, err)
 	rules := broker.Rules{FirstPoll: true, WaitForPoll: time.Minute}
 	service := broker.NewService(catalogue, store, sold, locks, rules, broker.Silent{})
@@ -160,20 +159,20 @@ func TestProgram(t *testing.T) {
 	wanted, err := os.ReadFile("platform.out")
 	need(t, err)
 	sold := &shelf{names: map[broker.Key]bool{}}
-	state, port := withKey(t), served(t, sold)
+	state, port := withKey(t), serveBroker(t, sold)
 	for made := 2; made <= 4; made += 2 {
 		printed, err := command(state, port).CombinedOutput()
 		if err != nil || !bytes.Equal(printed, wanted) {
-			t.Fatalf("%v: %s", err, printed)
+			t.Fatalf("got the error %v and the output %s, want what was recorded", err, printed)
 		}
 		if ever, exist := sold.counts(); ever != made || exist != 0 {
-			t.Errorf("%d were created, and %d exist", ever, exist)
+			t.Errorf("got %d created and %d left, want %d and none", ever, exist, made)
 		}
 	}
 	kept, err := os.ReadFile(filepath.Join(state, "orders.sqlite"))
 	need(t, err)
 	if bytes.Contains(kept, []byte(token)) {
-		t.Error("the credentials stand in the file in clear")
+		t.Error("the file: got the credentials in clear, want them encrypted")
 	}
 }
 
@@ -181,19 +180,19 @@ func TestProgram(t *testing.T) {
 // nobody knows its credentials. If there is time, it creates another one. The instance stays.
 func TestKilled(t *testing.T) {
 	sold := &shelf{names: map[broker.Key]bool{}, begun: make(chan struct{}), release: make(chan struct{})}
-	state, port := withKey(t), served(t, sold)
+	state, port := withKey(t), serveBroker(t, sold)
 	first := command(state, port)
 	need(t, first.Start())
 	select {
 	case <-sold.begun:
 	case <-time.After(time.Minute):
-		t.Error("no Bind has come")
+		t.Error("got no Bind in a minute, want one")
 	}
 	need(t, first.Process.Kill())
 	_ = first.Wait()
 	close(sold.release)
 	if printed, err := command(state, port).CombinedOutput(); err != nil {
-		t.Fatalf("%v: %s", err, printed)
+		t.Fatalf("got the error %v and the output %s, want none", err, printed)
 	}
 	store, err := sqlite.Open(context.Background(), filepath.Join(state, "orders.sqlite"))
 	need(t, err)
@@ -202,29 +201,29 @@ func TestKilled(t *testing.T) {
 	need(t, err)
 	states := map[platform.State]int{}
 	further := 0
-	for _, it := range rows {
-		if it.IsSent && it.Record.InFlight() != osb.KindNone {
-			t.Errorf("a request of %v is still in flight", it.Key)
+	for _, row := range rows {
+		if row.IsSent && row.Record.InFlight() != osb.KindNone {
+			t.Errorf("%v: got a request in flight, want none", row.Key)
 		}
-		if it.Key.IsBinding && it.Try == 2 {
+		if row.Key.IsBinding && row.Try == 2 {
 			further++
 			continue
 		}
-		states[it.State]++
+		states[row.State]++
 	}
 	deleted := states[platform.Gone] + states[platform.Cleaning] // perhaps there was no time for the last of them
 	if len(rows) != 4+further || states[platform.Ready] != 1 || states[platform.Gone] < 2 || deleted != 3 || further > 1 {
-		t.Error(states, further)
+		t.Errorf("got %v with %d further, want one ready and the others gone", states, further)
 	}
 	if ever, _ := sold.counts(); ever < 4 || ever > 4+further {
-		t.Errorf("%d were created", ever)
+		t.Errorf("got %d created, want 4 and those tried again", ever)
 	}
 }
 
 // A key that is missing, and a worker that runs already: it says so and fails.
 func TestFails(t *testing.T) {
 	sold := &shelf{names: map[broker.Key]bool{}}
-	state, port := withKey(t), served(t, sold)
+	state, port := withKey(t), serveBroker(t, sold)
 	fails(t, command(t.TempDir(), port), "key")
 	store, err := sqlite.Open(context.Background(), filepath.Join(state, "orders.sqlite"))
 	need(t, err)
@@ -234,7 +233,7 @@ func TestFails(t *testing.T) {
 	defer end()
 	fails(t, command(state, port), "another process")
 	if ever, _ := sold.counts(); ever != 0 {
-		t.Errorf("%d were created", ever)
+		t.Errorf("got %d were created, want 0", ever)
 	}
 }
 
@@ -243,6 +242,6 @@ func fails(t *testing.T, asked *exec.Cmd, text string) {
 	printed, err := asked.CombinedOutput()
 	var status *exec.ExitError
 	if !errors.As(err, &status) || status.ExitCode() != 1 || !strings.Contains(string(printed), text) {
-		t.Errorf("%v: %s", err, printed)
+		t.Errorf("got the error %v and the output %s, want status 1", err, printed)
 	}
 }

@@ -16,7 +16,7 @@ type Budget struct {
 	mutex   sync.Mutex
 	taken   int
 	of      map[string]int // what each user has
-	waiting []*waiter      // in the order in which they came
+	waiting []*waiter      // in the order in which they began to wait
 }
 
 // A waiter is a request that waits for its part.
@@ -31,7 +31,7 @@ func New(total int) *Budget { return &Budget{total: total, of: make(map[string]i
 
 // Take takes an amount for a user, and returns whether the user got it in time. If so, give it back. An amount above
 // the total counts as the total, and for 0 nobody waits. The requests of a user get their parts in the order in which
-// they came.
+// they began to wait.
 func (b *Budget) Take(user string, amount int, within time.Duration) bool {
 	if amount = b.part(amount); amount == 0 {
 		return true
@@ -83,13 +83,13 @@ func (b *Budget) serve() {
 		return
 	}
 	left, isBlocked := b.waiting[:0], make(map[string]bool)
-	for _, it := range b.waiting {
-		if isBlocked[it.user] || !b.mayHave(it.user, it.amount) {
-			left, isBlocked[it.user] = append(left, it), true
+	for _, waiter := range b.waiting {
+		if isBlocked[waiter.user] || !b.mayHave(waiter.user, waiter.amount) {
+			left, isBlocked[waiter.user] = append(left, waiter), true
 			continue
 		}
-		b.have(it.user, it.amount)
-		close(it.given)
+		b.have(waiter.user, waiter.amount)
+		close(waiter.given)
 	}
 	for at := len(left); at < len(b.waiting); at++ {
 		b.waiting[at] = nil

@@ -10,8 +10,8 @@ import (
 
 const long = time.Minute // in which everything has to happen
 
-// taken counts how often a user gets an amount at once.
-func taken(b *Budget, user string, amount int) (count int) {
+// countTakes counts how often a user gets an amount at once.
+func countTakes(b *Budget, user string, amount int) (count int) {
 	for b.Take(user, amount, 0) {
 		count++
 	}
@@ -22,12 +22,12 @@ func taken(b *Budget, user string, amount int) (count int) {
 func TestAUserLeavesAsMuchFree(t *testing.T) {
 	b := New(120)
 	for number, want := range []int{60, 30, 15, 7, 4} {
-		if got := taken(b, fmt.Sprint(number), 1); got != want {
+		if got := countTakes(b, fmt.Sprint(number), 1); got != want {
 			t.Errorf("got %d for user %d, want %d", got, number, want)
 		}
 	}
 	b.Give("0", 60)
-	if got := taken(b, "0", 1); got != 32 {
+	if got := countTakes(b, "0", 1); got != 32 {
 		t.Errorf("got %d after all was given back, want half of what is free, 32", got)
 	}
 }
@@ -36,12 +36,12 @@ func TestAUserLeavesAsMuchFree(t *testing.T) {
 func TestTheFirstPartOfAUser(t *testing.T) {
 	b := New(100)
 	for user, want := range []int{1, 0} {
-		if got := taken(b, fmt.Sprint(user), 70); got != want {
+		if got := countTakes(b, fmt.Sprint(user), 70); got != want {
 			t.Errorf("got %d for user %d, want %d", got, user, want)
 		}
 	}
 	b.Give("0", 70)
-	if got := taken(b, "1", 1000); got != 1 {
+	if got := countTakes(b, "1", 1000); got != 1 {
 		t.Errorf("got %d parts above the total, want 1, as the total", got)
 	}
 	b.Give("1", 1000)
@@ -50,10 +50,10 @@ func TestTheFirstPartOfAUser(t *testing.T) {
 	}
 }
 
-// Who waits gets its part once it is free. Nobody waits for another user, and those of one user come in their order.
+// Who waits gets its part once it is free. Nobody waits for another user, and those of one user get it in their order.
 func TestWaiting(t *testing.T) {
 	b := New(4)
-	if got := taken(b, "one", 1); got != 2 {
+	if got := countTakes(b, "one", 1); got != 2 {
 		t.Fatalf("got %d, want 2", got)
 	}
 	order := make(chan int, 2)
@@ -67,7 +67,7 @@ func TestWaiting(t *testing.T) {
 		waitFor(t, b, number+1)
 	}
 	if !b.Take("two", 1, 0) {
-		t.Error("another user waits")
+		t.Error("another user: got it to wait, want its part")
 	}
 	b.Give("two", 1)
 	b.Give("one", 1)
@@ -80,7 +80,7 @@ func TestWaiting(t *testing.T) {
 			}
 			b.Give("one", 2-got)
 		case <-time.After(long):
-			t.Fatal("a part isn't given")
+			t.Fatal("got no part in time, want one")
 		}
 	}
 }
@@ -88,12 +88,12 @@ func TestWaiting(t *testing.T) {
 // Who waits for too long gets nothing, and holds up nobody any more.
 func TestWhoLeaves(t *testing.T) {
 	b := New(4)
-	taken(b, "one", 1)
+	countTakes(b, "one", 1)
 	if b.Take("one", 2, time.Millisecond) {
-		t.Error("got a part that isn't free")
+		t.Error("got a part that isn't free, want none")
 	}
 	if !b.Take("one", 0, 0) {
-		t.Error("got no part of 0")
+		t.Error("got no part of 0, want one")
 	}
 	if len(b.waiting) != 0 {
 		t.Errorf("got %d that wait, want 0", len(b.waiting))
@@ -119,7 +119,7 @@ func TestManyGoroutines(t *testing.T) {
 					continue
 				}
 				if now := has.Add(int64(amount)); now > total {
-					t.Errorf("%d are taken, want at most %d", now, total)
+					t.Errorf("got %d taken, want at most %d", now, total)
 				}
 				got.Add(1)
 				has.Add(int64(-amount))
@@ -143,7 +143,7 @@ func waitFor(t *testing.T, b *Budget, count int) {
 			return
 		}
 		if time.Now().After(late) {
-			t.Fatalf("not in time: %d wait", count)
+			t.Fatalf("got %d that wait, want another number in time", count)
 		}
 	}
 }

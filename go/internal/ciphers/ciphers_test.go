@@ -9,17 +9,17 @@ import (
 // Each suite has forward secrecy and authenticated encryption, by its name, and none is one that Go calls insecure.
 func TestSuites(t *testing.T) {
 	known := map[uint16]string{}
-	for _, it := range tls.CipherSuites() {
-		known[it.ID] = it.Name
+	for _, suite := range tls.CipherSuites() {
+		known[suite.ID] = suite.Name
 	}
 	if len(Suites()) != 6 {
-		t.Errorf("there are %d suites", len(Suites()))
+		t.Errorf("got %d suites, want 6", len(Suites()))
 	}
-	for _, it := range Suites() {
-		name := known[it]
+	for _, suite := range Suites() {
+		name := known[suite]
 		if !strings.HasPrefix(name, "TLS_ECDHE_") || strings.Contains(name, "CBC") ||
 			!strings.Contains(name, "GCM") && !strings.Contains(name, "POLY1305") {
-			t.Errorf("suite %x: %q", it, name)
+			t.Errorf("suite %x: got %q, want one with forward secrecy and AEAD", suite, name)
 		}
 	}
 }

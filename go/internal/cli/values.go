@@ -1,13 +1,18 @@
 package cli
 
 import (
+	"crypto/rand"
+	"encoding/base64"
+	"errors"
 	"fmt"
 	"net"
 	"net/netip"
+	"os"
 	"strconv"
 	"strings"
 	"time"
 
+	"github.com/spf13/cobra"
 	"github.com/spf13/pflag"
 )
 
@@ -67,9 +72,9 @@ func CheckPlace(text string) error {
 
 // isScheme is whether a text has the form of a scheme (RFC 3986, section 3.1).
 func isScheme(text string) bool {
-	for at, it := range text {
-		isLetter := it >= 'a' && it <= 'z' || it >= 'A' && it <= 'Z'
-		if !isLetter && (at == 0 || !strings.ContainsRune("0123456789+-.", it)) {
+	for at, character := range text {
+		isLetter := character >= 'a' && character <= 'z' || character >= 'A' && character <= 'Z'
+		if !isLetter && (at == 0 || !strings.ContainsRune("0123456789+-.", character)) {
 			return false
 		}
 	}
@@ -155,8 +160,8 @@ type networks []netip.Prefix
 
 func (n *networks) String() string {
 	var texts []string
-	for _, it := range *n {
-		texts = append(texts, it.String())
+	for _, network := range *n {
+		texts = append(texts, network.String())
 	}
 	return strings.Join(texts, ",")
 }
@@ -193,4 +198,53 @@ func JournalFlags(flags *pflag.FlagSet, path *string, size *int) {
 		"write a journal of all changes, requests and answers, which osb-audit reads: to a `file`, or to new files of a "+
 			"folder (docs/journal.md)")
 	flags.Var(Count(size, 64, 1, 1<<20), "journal-size", "the MiB after which the journal goes on in another file")
+}
+
+// KeyCommand returns the command `key` of a program. It prints a new random key of 43 characters (256 bits), or writes
+// it to the new file that --to names.
+func KeyCommand(short, long, example string) *cobra.Command {
+	name := ""
+	made := &cobra.Command{
+		Use: "key", Short: short, Long: long, Example: example,
+		RunE: func(c *cobra.Command, _ []string) error {
+			var random [32]byte
+			if _, err := rand.Read(random[:]); err != nil {
+				return fmt.Errorf("no random bytes: %w", err)
+			}
+			key := base64.RawURLEncoding.EncodeToString(random[:]) + "\n"
+			if name != "" {
+				return WriteSecret(name, []byte(key))
+			}
+			_, err := fmt.Fprint(c.OutOrStdout(), key)
+			return err
+		},
+	}
+	made.Flags().StringVar(&name, "to", "", "a new `file` to write it to, that only its owner can read (mode 0600)")
+	return made
+}
+
+// WriteSecret writes a secret to a new file that only its owner can read (mode 0600), and has it on disk.
+//
+// Errors, after which there is no new file: there is something of this name already, which stays as it is, or the file
+// can't be created (both marked by Unusable); it can't be written.
+func WriteSecret(name string, secret []byte) (err error) {
+	file, err := os.OpenFile(name, os.O_WRONLY|os.O_CREATE|os.O_EXCL, 0o600)
+	switch {
+	case errors.Is(err, os.ErrExist):
+		return Unusable(fmt.Errorf("%s exists already: name a new file", name))
+	case err != nil:
+		return Unusable(err)
+	}
+	defer func() {
+		if closed := file.Close(); err == nil {
+			err = closed
+		}
+		if err != nil {
+			_ = os.Remove(name)
+		}
+	}()
+	if _, err := file.Write(secret); err != nil {
+		return err
+	}
+	return file.Sync()
 }

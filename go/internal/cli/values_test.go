@@ -1,10 +1,17 @@
 package cli
 
 import (
+	"bytes"
+	"context"
 	"net/netip"
+	"os"
+	"path/filepath"
+	"regexp"
+	"strings"
 	"testing"
 	"time"
 
+	"github.com/spf13/cobra"
 	"github.com/spf13/pflag"
 )
 
@@ -13,21 +20,23 @@ func TestSeconds(t *testing.T) {
 		"0.001": time.Millisecond, "0.5": 500 * time.Millisecond, "30": 30 * time.Second, "86400": 24 * time.Hour,
 		"0": 0, "0.0009": 0, "-1": 0, "86400.1": 0, "nan": 0, "inf": 0, "": 0, "1s": 0, "x": 0,
 	} {
-		var got time.Duration
-		value := Seconds(&got, 7*time.Second)
-		if err := value.Set(text); (err == nil) != (want > 0) {
-			t.Errorf("%q: %v", text, err)
-		}
-		if want == 0 {
-			want = 7 * time.Second
-		}
-		if got != want {
-			t.Errorf("%q: %v, want %v", text, got, want)
-		}
+		t.Run(text, func(t *testing.T) {
+			var got time.Duration
+			value := Seconds(&got, 7*time.Second)
+			if err := value.Set(text); (err == nil) != (want > 0) {
+				t.Errorf("got the error %v, want one for wrong values alone", err)
+			}
+			if want == 0 {
+				want = 7 * time.Second
+			}
+			if got != want {
+				t.Errorf("got %v, want %v", got, want)
+			}
+		})
 	}
 	var got time.Duration
 	if text := Seconds(&got, 1500*time.Millisecond).String(); text != "1.5" {
-		t.Errorf("the default is printed as %q", text)
+		t.Errorf("the default: got %q, want \"1.5\"", text)
 	}
 }
 
@@ -36,16 +45,18 @@ func TestCount(t *testing.T) {
 		"1": 1, "16": 16, "1024": 1024,
 		"0": 0, "1025": 0, "-1": 0, "+1": 0, "1.0": 0, "": 0, "x": 0, "0x10": 0, "99999999999999999999": 0, " 1": 0,
 	} {
-		var got int
-		if err := Count(&got, 4, 1, 1024).Set(text); (err == nil) != (want > 0) {
-			t.Errorf("%q: %v", text, err)
-		}
-		if want == 0 {
-			want = 4
-		}
-		if got != want {
-			t.Errorf("%q: %d, want %d", text, got, want)
-		}
+		t.Run(text, func(t *testing.T) {
+			var got int
+			if err := Count(&got, 4, 1, 1024).Set(text); (err == nil) != (want > 0) {
+				t.Errorf("got the error %v, want one for wrong values alone", err)
+			}
+			if want == 0 {
+				want = 4
+			}
+			if got != want {
+				t.Errorf("got %d, want %d", got, want)
+			}
+		})
 	}
 }
 
@@ -56,16 +67,18 @@ func TestAddress(t *testing.T) {
 		"8080":       "", ":8080": "", "x:": "", "x:70000": "", "x:-1": "", "x:+1": "", "x:http": "", "[]:1": "",
 		"http://x:80": "", "u@x:80": "", "": "", "[::1]": "", "a b:1": "",
 	} {
-		var got string
-		if err := Address(&got, "127.0.0.1:1").Set(text); (err == nil) != (want != "") {
-			t.Errorf("%q: %v", text, err)
-		}
-		if want == "" {
-			want = "127.0.0.1:1"
-		}
-		if got != want {
-			t.Errorf("%q: %q, want %q", text, got, want)
-		}
+		t.Run(text, func(t *testing.T) {
+			var got string
+			if err := Address(&got, "127.0.0.1:1").Set(text); (err == nil) != (want != "") {
+				t.Errorf("got the error %v, want one for wrong values alone", err)
+			}
+			if want == "" {
+				want = "127.0.0.1:1"
+			}
+			if got != want {
+				t.Errorf("got %q, want %q", got, want)
+			}
+		})
 	}
 }
 
@@ -77,14 +90,16 @@ func TestNetworks(t *testing.T) {
 		"0.0.0.0/0": false, "::/0": false, "10.1.2": false, "10.1.0.0/33": false, "a.example": false, "": false,
 		"fe80::1%eth0": false, "::ffff:10.0.0.0/104": false, "10.1.2.3:80": false, "10.0.0.1,10.0.0.2": false,
 	} {
-		got = nil
-		if err := value.Set(text); (err == nil) != isNetwork || len(got) > 0 != isNetwork {
-			t.Errorf("%q: got %v, %v", text, got, err)
-		}
+		t.Run(text, func(t *testing.T) {
+			got = nil
+			if err := value.Set(text); (err == nil) != isNetwork || len(got) > 0 != isNetwork {
+				t.Errorf("got %v, %v, want a network: %v", got, err, isNetwork)
+			}
+		})
 	}
 	got = nil
-	for _, it := range []string{"10.1.2.3/16", "192.0.2.1"} {
-		if err := value.Set(it); err != nil {
+	for _, network := range []string{"10.1.2.3/16", "192.0.2.1"} {
+		if err := value.Set(network); err != nil {
 			t.Fatal(err)
 		}
 	}
@@ -99,14 +114,16 @@ func TestPlace(t *testing.T) {
 		"command:./be": true, "command:./be://x": true, "./a://b": true, "://x": true, "a b://c": true,
 		"postgresq://u@h/d": false, "mysql://h": false, "http://h": false, "FILE://x": false, "a+b-c.1://x": false,
 	} {
-		got := "before"
-		want := text
-		if !isPlace {
-			want = "before"
-		}
-		if err := Place(&got, got).Set(text); (err == nil) != isPlace || got != want {
-			t.Errorf("%q: %q, %v", text, got, err)
-		}
+		t.Run(text, func(t *testing.T) {
+			got := "before"
+			want := text
+			if !isPlace {
+				want = "before"
+			}
+			if err := Place(&got, got).Set(text); (err == nil) != isPlace || got != want {
+				t.Errorf("got %q and the error %v, want an error for wrong values alone", got, err)
+			}
+		})
 	}
 }
 
@@ -122,12 +139,58 @@ func TestValuesInUse(t *testing.T) {
 		"      --request-seconds seconds   how long a request may take to arrive (default 30)\n" +
 		"      --threads number            requests at once (default 16)\n"
 	if usage := flags.FlagUsages(); usage != want {
-		t.Errorf("the help is\n%swant\n%s", usage, want)
+		t.Errorf("the help: got\n%swant\n%s", usage, want)
 	}
 	if err := flags.Parse([]string{"--listen=x:1", "--threads", "2"}); err != nil {
 		t.Fatal(err)
 	}
 	if limit != 30*time.Second || most != 2 || at != "x:1" {
-		t.Errorf("%v, %d, %q", limit, most, at)
+		t.Errorf("got %v, %d and %q, want 30s, 2 and x:1", limit, most, at)
+	}
+}
+
+// key runs `key` with these arguments, and returns its status and what it has printed.
+func key(arguments ...string) (status int, out, failed string) {
+	root := &cobra.Command{Use: "tool"}
+	root.AddCommand(KeyCommand("a key", "a key", "tool key"))
+	var printed, reported bytes.Buffer
+	root.SetArgs(append([]string{"key"}, arguments...))
+	root.SetOut(&printed)
+	root.SetErr(&reported)
+	return Run(context.Background(), root), printed.String(), reported.String()
+}
+
+var oneKey = regexp.MustCompile(`^[A-Za-z0-9_-]{43}\n$`)
+
+func TestKeyIsPrinted(t *testing.T) {
+	status, first, failed := key()
+	_, second, _ := key()
+	if status != StatusDone || failed != "" || !oneKey.MatchString(first) || first == second {
+		t.Errorf("got the status %d, %q, %q and %q, want 0 and two keys", status, first, second, failed)
+	}
+}
+
+// A key is written to a new file that only its owner reads, and to no other.
+func TestKeyIsWritten(t *testing.T) {
+	file := filepath.Join(t.TempDir(), "key")
+	if status, out, failed := key("--to", file); status != StatusDone || out+failed != "" {
+		t.Fatalf("got the status %d, %q and %q, want 0 and nothing printed", status, out, failed)
+	}
+	written, err := os.ReadFile(file)
+	if err != nil || !oneKey.Match(written) {
+		t.Errorf("got %q and the error %v, want one key", written, err)
+	}
+	if about, err := os.Stat(file); err != nil || about.Mode().Perm() != 0o600 {
+		t.Errorf("got %v and the error %v, want mode 0600", about, err)
+	}
+	status, out, failed := key("--to", file)
+	if status != StatusUnusable || out != "" || !strings.Contains(failed, file+" exists already") {
+		t.Errorf("again: got the status %d, %q and %q, want %d and that the file exists", status, out, failed, StatusUnusable)
+	}
+	if after, err := os.ReadFile(file); err != nil || !bytes.Equal(after, written) {
+		t.Errorf("the key: got %q (%v), want %q", after, err, written)
+	}
+	if status, _, failed := key("--to", file+"/below"); status != StatusUnusable || !strings.Contains(failed, file) {
+		t.Errorf("below a file: got the status %d and %q, want %d and the file", status, failed, StatusUnusable)
 	}
 }

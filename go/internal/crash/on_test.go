@@ -8,20 +8,20 @@ import (
 )
 
 func TestCheck(t *testing.T) {
-	for _, it := range append([]string{""}, places...) {
-		t.Setenv(variable, it)
+	for _, point := range append([]string{""}, points...) {
+		t.Setenv(variable, point)
 		if err := Check(); err != nil {
-			t.Errorf("%q: %v", it, err)
+			t.Errorf("%q: got the error %v, want none", point, err)
 		}
 	}
 	t.Setenv(variable, "begin-nxt")
 	err := Check()
 	if err == nil || !strings.Contains(err.Error(), `"begin-nxt"`) {
-		t.Fatalf("%v", err)
+		t.Fatalf("got the error %v, want one that names begin-nxt", err)
 	}
-	for _, it := range places {
-		if !strings.Contains(err.Error(), it) {
-			t.Errorf("%v: %s is missing", err, it)
+	for _, point := range points {
+		if !strings.Contains(err.Error(), point) {
+			t.Errorf("got %v, want %s in it", err, point)
 		}
 	}
 }

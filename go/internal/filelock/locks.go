@@ -23,8 +23,6 @@ import (
 	"os"
 	"syscall"
 	"time"
-
-	"pippinterm/broker"
 )
 
 // setLock is F_OFD_SETLK of Linux (fcntl.h), which package syscall doesn't have.
@@ -42,7 +40,8 @@ var ErrLent = errors.New("a process still has the lock that it inherited")
 // mostSpare is how many open files without a lock are kept at most.
 const mostSpare = 64
 
-// Locks are broker.Locks in one file. Any number of goroutines and processes use the file at once.
+// Locks are locks of keys in one file. Any number of goroutines and processes use the file at once. A lock ends only by
+// Unlock, or with its process.
 type Locks struct {
 	path  string
 	file  syscall.Stat_t // of the file that New opened
@@ -68,14 +67,11 @@ func New(path string) (*Locks, error) {
 	return &Locks{path: path, file: found, spare: make(chan *os.File, mostSpare)}, nil
 }
 
-// CanBeLost returns false: a lock ends only by Unlock, or with its process.
-func (l *Locks) CanBeLost() bool { return false }
-
 // TryLock returns the lock of a key, or nil if somebody else has it. It doesn't wait.
 //
 // Errors: those of opening and locking the file, and if the file was deleted or replaced since New. Nothing is locked
 // then.
-func (l *Locks) TryLock(_ context.Context, key broker.Key) (broker.Lock, error) {
+func (l *Locks) TryLock(key string) (*Lock, error) {
 	file, err := l.take()
 	if err != nil {
 		return nil, err
@@ -86,14 +82,14 @@ func (l *Locks) TryLock(_ context.Context, key broker.Key) (broker.Lock, error) 
 		_ = file.Close()
 		return nil, err
 	}
-	return &lock{locks: l, file: file, bytes: bytes}, nil
+	return &Lock{locks: l, file: file, bytes: bytes}, nil
 }
 
 // Lock waits for the lock of a key until ctx is done. It tries again after 1 ms, and then after longer pauses of at
 // most 20 ms. So the order of those who wait isn't the order in which they get the lock.
 //
 // Errors: that of ctx; those of TryLock. Nothing is locked then.
-func (l *Locks) Lock(ctx context.Context, key broker.Key) (broker.Lock, error) {
+func (l *Locks) Lock(ctx context.Context, key string) (*Lock, error) {
 	file, err := l.take()
 	if err != nil {
 		return nil, err
@@ -103,7 +99,7 @@ func (l *Locks) Lock(ctx context.Context, key broker.Key) (broker.Lock, error) {
 		_ = file.Close()
 		return nil, err
 	}
-	return &lock{locks: l, file: file, bytes: bytes}, nil
+	return &Lock{locks: l, file: file, bytes: bytes}, nil
 }
 
 // wait returns once the bytes are locked.
@@ -207,8 +203,8 @@ func open(path string, flags int) (file *os.File, found syscall.Stat_t, err erro
 type span struct{ start, length int64 }
 
 // bytesOf returns the two bytes of a key, from 0 to 2^62-1. Two keys with the same bytes wait for each other.
-func bytesOf(key broker.Key) span {
-	hash := sha256.Sum256([]byte(key.String()))
+func bytesOf(key string) span {
+	hash := sha256.Sum256([]byte(key))
 	return span{start: int64(binary.BigEndian.Uint64(hash[:8])>>2) &^ 1, length: 2}
 }
 
@@ -237,9 +233,9 @@ func set(file *os.File, bytes span, kind int16) error {
 	return nil
 }
 
-// A lock is an open file, which no process inherits, with the first byte locked. The second one is locked for the same
+// A Lock is an open file, which no process inherits, with the first byte locked. The second one is locked for the same
 // open file, or for the one that Lend has returned last.
-type lock struct {
+type Lock struct {
 	locks *Locks
 	file  *os.File
 	bytes span
@@ -248,14 +244,14 @@ type lock struct {
 type lockKey struct{}
 
 // Context returns a context from which Lend lends the lock.
-func (l *lock) Context(ctx context.Context) context.Context {
+func (l *Lock) Context(ctx context.Context) context.Context {
 	return context.WithValue(ctx, lockKey{}, l)
 }
 
 // Unlock unlocks the bytes, and keeps the open file for the next lock. A second byte that is lent stays locked. A file
 // that can't be unlocked is closed, which isn't enough by itself: between fork and exec any process that is being
 // started has the file open for a moment.
-func (l *lock) Unlock() {
+func (l *Lock) Unlock() {
 	file := l.file
 	if file == nil {
 		return // a file that was given twice would be two locks
@@ -268,9 +264,9 @@ func (l *lock) Unlock() {
 	l.locks.give(file)
 }
 
-// Lend returns an open file for a child process to inherit (exec.Cmd.ExtraFiles), or nil if ctx doesn't come from the
-// Context of a lock of this package. As long as any process has the file open, nobody else gets the lock, even after
-// Unlock, and even if this process is killed. The caller closes the file, at the earliest once the child has started.
+// Lend returns an open file for a child process to inherit (exec.Cmd.ExtraFiles), or nil if ctx isn't from the Context
+// of a lock of this package. As long as any process has the file open, nobody else gets the lock, even after Unlock,
+// and even if this process is killed. The caller closes the file, at the earliest once the child has started.
 //
 // A lock lends one file at a time. If any process still has the file that was lent before, Lend waits for its end, and
 // nobody else gets the lock meanwhile. Don't call Lend from two goroutines at once, or after Unlock.
@@ -278,7 +274,7 @@ func (l *lock) Unlock() {
 // Errors: ErrLent, if a process still has that file after the time within; that of ctx, if it is done; those of
 // TryLock. Nothing is lent then, and the lock stays.
 func Lend(ctx context.Context, within time.Duration) (*os.File, error) {
-	l, ok := ctx.Value(lockKey{}).(*lock)
+	l, ok := ctx.Value(lockKey{}).(*Lock)
 	if !ok {
 		return nil, nil
 	}
@@ -295,7 +291,7 @@ func Lend(ctx context.Context, within time.Duration) (*os.File, error) {
 
 // moveTo moves the second byte from the lock's own file, or the file that was lent before, to another one. Nobody else
 // can get it in between, because whoever else tries needs the first byte too.
-func (l *lock) moveTo(ctx context.Context, file *os.File, within time.Duration) error {
+func (l *Lock) moveTo(ctx context.Context, file *os.File, within time.Duration) error {
 	second := l.bytes.second()
 	if err := set(l.file, second, syscall.F_UNLCK); err != nil {
 		return err

@@ -1,9 +1,13 @@
 package filelock
 
 import (
+	"bufio"
 	"context"
 	"errors"
+	"fmt"
+	"io"
 	"os"
+	"os/exec"
 	"path/filepath"
 	"strings"
 	"sync"
@@ -11,35 +15,27 @@ import (
 	"syscall"
 	"testing"
 	"time"
-
-	"pippinterm/broker"
-	"pippinterm/osb"
 )
 
-var (
-	one   = broker.InstanceKey(osb.MustParseID("00000000-0000-0000-0000-000000000001"))
-	two   = broker.InstanceKey(osb.MustParseID("00000000-0000-0000-0000-000000000002"))
-	bound = broker.BindingKey(one.Instance, one.Instance)
+// These keys have the form of those of a broker: an instance, another one, and a binding of the first one.
+const (
+	one   = "00000000-0000-0000-0000-000000000001"
+	two   = "00000000-0000-0000-0000-000000000002"
+	bound = one + "/" + one
 )
-
-var _ broker.Locks = (*Locks)(nil)
 
 func newLocks(t *testing.T, path string) *Locks {
 	t.Helper()
 	locks, err := New(path)
-	if err != nil {
-		t.Fatal(err)
-	}
+	check(t, err)
 	return locks
 }
 
 // isFree returns whether the lock of a key is free.
-func isFree(t *testing.T, locks *Locks, key broker.Key) bool {
+func isFree(t *testing.T, locks *Locks, key string) bool {
 	t.Helper()
-	lock, err := locks.TryLock(context.Background(), key)
-	if err != nil {
-		t.Fatal(err)
-	}
+	lock, err := locks.TryLock(key)
+	check(t, err)
 	if lock == nil {
 		return false
 	}
@@ -47,15 +43,13 @@ func isFree(t *testing.T, locks *Locks, key broker.Key) bool {
 	return true
 }
 
-// locked returns the lock of a key. It fails if it has to wait for more than a minute.
-func locked(t *testing.T, locks *Locks, key broker.Key) broker.Lock {
+// mustLock returns the lock of a key. It fails if it has to wait for more than a minute.
+func mustLock(t *testing.T, locks *Locks, key string) *Lock {
 	t.Helper()
 	ctx, cancel := context.WithTimeout(context.Background(), time.Minute)
 	defer cancel()
 	lock, err := locks.Lock(ctx, key)
-	if err != nil {
-		t.Fatal(err)
-	}
+	check(t, err)
 	return lock
 }
 
@@ -79,7 +73,7 @@ func TestGoroutinesExcludeEachOther(t *testing.T) {
 					return
 				}
 				if atomic.AddInt32(&inside, 1) != 1 {
-					t.Error("two goroutines have the lock at once")
+					t.Error("got two goroutines in the lock at once, want one")
 				}
 				atomic.AddInt32(&entered, 1)
 				atomic.AddInt32(&inside, -1)
@@ -89,73 +83,68 @@ func TestGoroutinesExcludeEachOther(t *testing.T) {
 	}
 	all.Wait()
 	if entered != 80 {
-		t.Errorf("%d locks were taken, and not 80", entered)
+		t.Errorf("got %d locks taken, want 80", entered)
 	}
 }
 
 func TestKeysHaveLocksOfTheirOwn(t *testing.T) {
 	locks := newLocks(t, filepath.Join(t.TempDir(), "locks"))
-	lock := locked(t, locks, one)
+	lock := mustLock(t, locks, one)
 	if isFree(t, locks, one) {
-		t.Error("the lock that was taken is free")
+		t.Error("the lock that was taken: got it free, want it taken")
 	}
 	if !isFree(t, locks, two) || !isFree(t, locks, bound) {
-		t.Error("the lock of another instance, or of a binding, isn't free")
+		t.Error("the lock of another instance, or of a binding: got it taken, want it free")
 	}
 	lock.Unlock()
 	if !isFree(t, locks, one) {
-		t.Error("the lock that was unlocked isn't free")
-	}
-	if locks.CanBeLost() {
-		t.Error("CanBeLost returned true")
+		t.Error("the lock that was unlocked: got it taken, want it free")
 	}
 }
 
 // One lock after the other uses the same open file, and never two at once, even after a second Unlock.
 func TestOpenFileIsUsedAgain(t *testing.T) {
 	locks := newLocks(t, filepath.Join(t.TempDir(), "locks"))
-	lock := locked(t, locks, one)
+	lock := mustLock(t, locks, one)
 	lock.Unlock()
 	lock.Unlock()
 	before := openFiles(t)
-	lock = locked(t, locks, one)
+	lock = mustLock(t, locks, one)
 	defer lock.Unlock()
 	if after := openFiles(t); after != before {
-		t.Errorf("%d files are open, and %d were open before", after, before)
+		t.Errorf("got %d files open, want %d", after, before)
 	}
 	if isFree(t, locks, one) {
-		t.Error("a lock that was taken is free")
+		t.Error("a lock that was taken: got it free, want it taken")
 	}
 }
 
 func TestLockWaitsUntilItsContextIsDone(t *testing.T) {
 	locks := newLocks(t, filepath.Join(t.TempDir(), "locks"))
-	lock := locked(t, locks, one)
+	lock := mustLock(t, locks, one)
 	defer lock.Unlock()
 	before := openFiles(t)
 	ctx, cancel := context.WithTimeout(context.Background(), 30*time.Millisecond)
 	defer cancel()
 	if _, err := locks.Lock(ctx, one); !errors.Is(err, context.DeadlineExceeded) {
-		t.Errorf("Lock returned %v, and not that its context is done", err)
+		t.Errorf("Lock: got %v, want %v", err, context.DeadlineExceeded)
 	}
-	if lock, err := locks.TryLock(context.Background(), one); lock != nil || err != nil {
-		t.Errorf("TryLock returned %v, %v, and not nil, nil", lock, err)
+	if lock, err := locks.TryLock(one); lock != nil || err != nil {
+		t.Errorf("TryLock: got %v, %v, want nil, nil", lock, err)
 	}
 	if after := openFiles(t); after != before {
-		t.Errorf("%d files are open, and %d were open before", after, before)
+		t.Errorf("got %d files open, want %d", after, before)
 	}
 }
 
-// openFiles returns how many files are open, without those that were deleted: the locks of an earlier test leave some open
-// until they are collected as garbage.
+// openFiles returns how many files are open, without those that were deleted: the locks of an earlier test leave some
+// open until they are collected as garbage.
 func openFiles(t *testing.T) (count int) {
 	t.Helper()
 	found, err := os.ReadDir("/proc/self/fd")
-	if err != nil {
-		t.Fatal(err)
-	}
-	for _, it := range found {
-		path, err := os.Readlink("/proc/self/fd/" + it.Name())
+	check(t, err)
+	for _, entry := range found {
+		path, err := os.Readlink("/proc/self/fd/" + entry.Name())
 		if err == nil && !strings.HasSuffix(path, " (deleted)") {
 			count++
 		}
@@ -165,40 +154,38 @@ func openFiles(t *testing.T) (count int) {
 
 func TestLentFile(t *testing.T) {
 	path := filepath.Join(t.TempDir(), "locks")
-	lock := locked(t, newLocks(t, path), one)
+	lock := mustLock(t, newLocks(t, path), one)
 	defer lock.Unlock()
 	if lent, err := Lend(context.Background(), time.Second); lent != nil || err != nil {
-		t.Errorf("without a lock Lend returned %v, %v", lent, err)
+		t.Errorf("Lend without a lock: got %v, %v, want none", lent, err)
 	}
 	lent := lend(t, lock)
 	defer lent.Close()
 	if lent.Name() != path {
-		t.Fatalf("the file is %s", lent.Name())
+		t.Fatalf("the file: got %s, want %s", lent.Name(), path)
 	}
 	flags, _, errno := syscall.Syscall(syscall.SYS_FCNTL, lent.Fd(), syscall.F_GETFD, 0)
 	if errno != 0 || flags&syscall.FD_CLOEXEC == 0 {
-		t.Errorf("the file isn't closed on exec: flags %d, %v", flags, errno)
+		t.Errorf("the file: got the flags %d and %v, want it closed on exec", flags, errno)
 	}
 }
 
 func TestFilesThatNewRejects(t *testing.T) {
 	folder := t.TempDir()
 	target, link, fifo := filepath.Join(folder, "target"), filepath.Join(folder, "link"), filepath.Join(folder, "fifo")
-	if err := os.Symlink(target, link); err != nil {
-		t.Fatal(err)
-	}
-	if err := syscall.Mkfifo(fifo, 0o600); err != nil {
-		t.Fatal(err)
-	}
+	check(t, os.Symlink(target, link))
+	check(t, syscall.Mkfifo(fifo, 0o600))
 	for name, path := range map[string]string{
 		"a symbolic link": link, "a fifo": fifo, "a folder": folder, "no folder": filepath.Join(folder, "none", "locks"),
 	} {
-		if _, err := New(path); err == nil {
-			t.Errorf("New took %s", name)
-		}
+		t.Run(name, func(t *testing.T) {
+			if _, err := New(path); err == nil {
+				t.Errorf("New with %s: got no error, want one", name)
+			}
+		})
 	}
 	if _, err := os.Lstat(target); !os.IsNotExist(err) {
-		t.Errorf("New followed the link: %v", err)
+		t.Errorf("New: got %v, want a link that isn't followed", err)
 	}
 }
 
@@ -207,44 +194,314 @@ func TestNewCreatesAPrivateFile(t *testing.T) {
 	newLocks(t, path)
 	found, err := os.Stat(path)
 	if err != nil || found.Mode() != 0o600 || found.Size() != 0 {
-		t.Errorf("the file is %v, %v", found, err)
+		t.Errorf("the file: got %v, %v, want an empty one of mode 0600", found, err)
 	}
 }
 
 func TestFileThatWasReplaced(t *testing.T) {
 	path := filepath.Join(t.TempDir(), "locks")
 	locks := newLocks(t, path)
-	lock := locked(t, locks, one) // keeps the number of the old file from being used again
+	lock := mustLock(t, locks, one) // keeps the number of the old file from being used again
 	defer lock.Unlock()
-	locked(t, locks, two).Unlock() // leaves an open file, which the next lock would use
-	if err := os.Remove(path); err != nil {
-		t.Fatal(err)
-	}
-	if lock, err := locks.TryLock(context.Background(), one); lock != nil || !errors.Is(err, os.ErrNotExist) {
-		t.Errorf("after the file was deleted TryLock returned %v, %v", lock, err)
+	mustLock(t, locks, two).Unlock() // leaves an open file, which the next lock would use
+	check(t, os.Remove(path))
+	if lock, err := locks.TryLock(one); lock != nil || !errors.Is(err, os.ErrNotExist) {
+		t.Errorf("TryLock after the file was deleted: got %v, %v, want %v", lock, err, os.ErrNotExist)
 	}
 	newLocks(t, path)
-	if lock, err := locks.TryLock(context.Background(), one); lock != nil || err == nil {
-		t.Errorf("after the file was replaced TryLock returned %v, %v", lock, err)
+	if lock, err := locks.TryLock(one); lock != nil || err == nil {
+		t.Errorf("TryLock after the file was replaced: got %v, %v, want an error", lock, err)
 	}
 	if lock, err := locks.Lock(context.Background(), one); lock != nil || err == nil {
-		t.Errorf("after the file was replaced Lock returned %v, %v", lock, err)
+		t.Errorf("Lock after the file was replaced: got %v, %v, want an error", lock, err)
 	}
 	if lent, err := Lend(lock.Context(context.Background()), time.Second); lent != nil || err == nil {
-		t.Errorf("after the file was replaced Lend returned %v, %v", lent, err)
+		t.Errorf("Lend after the file was replaced: got %v, %v, want an error", lent, err)
 	}
 }
 
 func BenchmarkLock(b *testing.B) {
 	locks, err := New(filepath.Join(b.TempDir(), "locks"))
-	if err != nil {
-		b.Fatal(err)
-	}
+	check(b, err)
 	for n := 0; n < b.N; n++ {
-		lock, err := locks.TryLock(context.Background(), one)
+		lock, err := locks.TryLock(one)
 		if err != nil || lock == nil {
-			b.Fatal(lock, err)
+			b.Fatalf("got the lock %v, %v, want one", lock, err)
 		}
 		lock.Unlock()
+	}
+}
+
+// roleVariable makes the test binary another process of a test: it takes the lock of the key one in the file
+// pathVariable.
+const roleVariable, pathVariable = "FILELOCK_TEST_ROLE", "FILELOCK_TEST_PATH"
+
+func TestMain(m *testing.M) {
+	switch role := os.Getenv(roleVariable); role {
+	case "":
+		os.Exit(m.Run())
+	default:
+		if err := play(role); err != nil {
+			fmt.Fprintln(os.Stderr, err)
+			os.Exit(1)
+		}
+	}
+}
+
+// play takes the lock, writes a line, and then keeps the lock until standard input ends: itself (holder), or by a child
+// that inherits the lock and the standard input (parent).
+func play(role string) error {
+	locks, err := New(os.Getenv(pathVariable))
+	if err != nil {
+		return err
+	}
+	lock, err := locks.Lock(context.Background(), one)
+	if err != nil {
+		return err
+	}
+	if role == "parent" {
+		lent, err := Lend(lock.Context(context.Background()), time.Second)
+		if err != nil {
+			return err
+		}
+		child := exec.Command("cat")
+		child.Stdin = os.Stdin
+		child.ExtraFiles = []*os.File{lent}
+		if err := child.Start(); err != nil {
+			return err
+		}
+	}
+	fmt.Println("locked")
+	_, err = io.Copy(io.Discard, os.Stdin)
+	return err
+}
+
+// A process is the test binary in a role.
+type process struct {
+	cmd   *exec.Cmd
+	input io.Closer
+}
+
+// start starts the test binary in a role, and returns once it has the lock.
+func start(t *testing.T, role, path string) process {
+	t.Helper()
+	cmd := exec.Command(os.Args[0])
+	cmd.Env = append(os.Environ(), roleVariable+"="+role, pathVariable+"="+path)
+	cmd.Stderr = os.Stderr
+	// A pipe whose other end the child inherits: the child of a killed process reads from it too.
+	read, write, err := os.Pipe()
+	check(t, err)
+	cmd.Stdin = read
+	output, err := cmd.StdoutPipe()
+	check(t, err)
+	check(t, cmd.Start())
+	_ = read.Close()
+	t.Cleanup(func() { _ = write.Close(); _ = cmd.Process.Kill(); _ = cmd.Wait() })
+	if line, err := bufio.NewReader(output).ReadString('\n'); line != "locked\n" {
+		t.Fatalf("the process %s: got %q, %v, want \"locked\"", role, line, err)
+	}
+	return process{cmd: cmd, input: write}
+}
+
+func TestProcessesExcludeEachOther(t *testing.T) {
+	path := filepath.Join(t.TempDir(), "locks")
+	locks := newLocks(t, path)
+	other := start(t, "holder", path)
+	if isFree(t, locks, one) {
+		t.Error("the lock of another process: got it free, want it taken")
+	}
+	if !isFree(t, locks, two) {
+		t.Error("the lock of another key: got it taken, want it free")
+	}
+	_ = other.input.Close() // the other process exits
+	mustLock(t, locks, one).Unlock()
+}
+
+func TestLockEndsWithItsProcess(t *testing.T) {
+	path := filepath.Join(t.TempDir(), "locks")
+	locks := newLocks(t, path)
+	other := start(t, "holder", path)
+	kill(t, other.cmd)
+	if !isFree(t, locks, one) {
+		t.Error("the lock of a process that was killed: got it taken, want it free")
+	}
+}
+
+func TestChildKeepsTheLockOfAKilledProcess(t *testing.T) {
+	path := filepath.Join(t.TempDir(), "locks")
+	locks := newLocks(t, path)
+	parent := start(t, "parent", path)
+	kill(t, parent.cmd)
+	if isFree(t, locks, one) {
+		t.Error("the lock that a child has: got it free, want it taken")
+	}
+	_ = parent.input.Close() // the child exits
+	mustLock(t, locks, one).Unlock()
+}
+
+// kill kills a process, and returns once it has ended.
+func kill(t *testing.T, cmd *exec.Cmd) {
+	t.Helper()
+	check(t, cmd.Process.Signal(syscall.SIGKILL))
+	_ = cmd.Wait()
+}
+
+func TestChildKeepsTheLockAfterUnlock(t *testing.T) {
+	locks := newLocks(t, filepath.Join(t.TempDir(), "locks"))
+	lock := mustLock(t, locks, one)
+	child, end := catWith(t, lock)
+	lock.Unlock()
+	if isFree(t, locks, one) {
+		t.Error("the lock that a child has: got it free, want it taken")
+	}
+	_ = end.Close()
+	_ = child.Wait()
+	if !isFree(t, locks, one) {
+		t.Error("the lock after the child has ended: got it taken, want it free")
+	}
+}
+
+func TestOtherChildrenDoNotInherit(t *testing.T) {
+	locks := newLocks(t, filepath.Join(t.TempDir(), "locks"))
+	lock := mustLock(t, locks, one)
+	child, end := catWith(t, nil)
+	lock.Unlock()
+	if !isFree(t, locks, one) {
+		t.Error("a lock that wasn't lent to the child: got it taken, want it free")
+	}
+	_ = end.Close()
+	_ = child.Wait()
+}
+
+// A lock is free once Unlock has returned, even while other goroutines start processes: between fork and exec, those
+// have all files open.
+func TestUnlockWhileProcessesStart(t *testing.T) {
+	locks := newLocks(t, filepath.Join(t.TempDir(), "locks"))
+	done := make(chan error)
+	go func() {
+		defer close(done)
+		for n := 0; n < 100; n++ {
+			if err := exec.Command("true").Run(); err != nil {
+				done <- err
+				return
+			}
+		}
+	}()
+	for {
+		select {
+		case err := <-done:
+			if err != nil {
+				t.Error(err)
+			}
+			return
+		default:
+			if !isFree(t, locks, one) {
+				t.Error("a lock that was unlocked: got it taken, want it free")
+				<-done
+				return
+			}
+		}
+	}
+}
+
+// catWith starts a process that inherits a lock, if there is one. It runs until its input is closed.
+func catWith(t *testing.T, lock *Lock) (*exec.Cmd, io.Closer) {
+	t.Helper()
+	child := exec.Command("cat")
+	if lock != nil {
+		lent := lend(t, lock)
+		defer lent.Close()
+		child.ExtraFiles = []*os.File{lent}
+	}
+	input, err := child.StdinPipe()
+	check(t, err)
+	check(t, child.Start())
+	return child, input
+}
+
+// lend lends a lock. It fails if that isn't possible within ten seconds.
+func lend(t *testing.T, lock *Lock) *os.File {
+	t.Helper()
+	lent, err := Lend(lock.Context(context.Background()), 10*time.Second)
+	check(t, err)
+	return lent
+}
+
+// While a child has the lock, it isn't lent to another one, and nobody else gets it. Afterwards it is lent again.
+func TestLendToOneChildAtATime(t *testing.T) {
+	locks := newLocks(t, filepath.Join(t.TempDir(), "locks"))
+	lock := mustLock(t, locks, one)
+	defer lock.Unlock()
+	child, end := catWith(t, lock)
+	lent, err := Lend(lock.Context(context.Background()), 20*time.Millisecond)
+	if lent != nil || !errors.Is(err, ErrLent) {
+		t.Errorf("Lend while a child has the lock: got %v, %v, want %v", lent, err, ErrLent)
+	}
+	stopped, stop := context.WithCancel(context.Background())
+	stop()
+	if lent, err := Lend(lock.Context(stopped), time.Minute); lent != nil || !errors.Is(err, context.Canceled) {
+		t.Errorf("Lend with a context that is done: got %v, %v, want %v", lent, err, context.Canceled)
+	}
+	if isFree(t, locks, one) {
+		t.Error("the lock after Lend has failed: got it free, want it taken")
+	}
+	_ = end.Close()
+	_ = child.Wait()
+	_ = lend(t, lock).Close()
+}
+
+// Lend waits for the end of the child that the lock was lent to.
+func TestLendWaits(t *testing.T) {
+	lock := mustLock(t, newLocks(t, filepath.Join(t.TempDir(), "locks")), one)
+	defer lock.Unlock()
+	child, end := catWith(t, lock)
+	go func() {
+		time.Sleep(20 * time.Millisecond)
+		_ = end.Close()
+	}()
+	_ = lend(t, lock).Close()
+	if err := child.Wait(); err != nil {
+		t.Error(err)
+	}
+}
+
+// Nobody else gets a lock while its holder lends it and takes it back, again and again.
+func TestLockStaysWhileItIsLent(t *testing.T) {
+	path := filepath.Join(t.TempDir(), "locks")
+	lock := mustLock(t, newLocks(t, path), one)
+	others := newLocks(t, path)
+	done := make(chan struct{})
+	tried := make(chan int)
+	go func() {
+		count := 0
+		defer func() { tried <- count }()
+		for {
+			select {
+			case <-done:
+				return
+			default:
+			}
+			taken, err := others.TryLock(one)
+			if taken != nil || err != nil {
+				t.Errorf("TryLock after %d tries: got %v, %v, want none", count, taken, err)
+				return
+			}
+			count++
+		}
+	}()
+	for n := 0; n < 2000; n++ {
+		_ = lend(t, lock).Close()
+	}
+	close(done)
+	t.Logf("the other goroutine tried %d times", <-tried)
+	lock.Unlock()
+	mustLock(t, others, one).Unlock()
+}
+
+// check ends the test at an error.
+func check(t testing.TB, err error) {
+	t.Helper()
+	if err != nil {
+		t.Fatal(err)
 	}
 }

@@ -1,20 +1,22 @@
 package httpserver
 
 import (
+	"bufio"
 	"crypto/tls"
 	"errors"
 	"io"
 	"net"
 	"net/http"
 	"net/netip"
+	"strings"
 	"sync"
 	"sync/atomic"
 	"time"
 
-	"pippinterm/broker"
+	"github.com/pires/go-proxyproto"
 )
 
-// A conn is a connection for net/http. It closes itself if nothing of a request comes. It follows the heads of
+// A conn is a connection for net/http. It closes itself if nothing of a request arrives. It follows the heads of
 // requests. If a head doesn't arrive whole, a conn answers with 408, because net/http answers with 400 or not at all.
 //
 // One goroutine at a time may read, and one may write. Any goroutine may close the conn and set its deadlines. The
@@ -22,8 +24,8 @@ import (
 type conn struct {
 	net.Conn // gives plain text
 	listener *Listener
-	secure   *tls.Conn // nil without TLS
-	proxied  *proxied  // nil unless it comes from a trusted proxy
+	secure   *tls.Conn  // nil without TLS
+	proxied  *proxyConn // nil unless it is from a trusted proxy
 	opened   time.Time
 	closing  sync.Once
 
@@ -52,19 +54,19 @@ type conn struct {
 func newConn(listener *Listener, raw net.Conn) *conn {
 	c := &conn{listener: listener, opened: time.Now(), isSilent: true}
 	if listener.trusts(ipOf(raw.RemoteAddr())) {
-		c.proxied = &proxied{Conn: raw, named: c.named}
+		c.proxied = &proxyConn{Conn: raw, named: c.takeClient}
 		raw = c.proxied
 	}
 	c.Conn, c.secure = listener.plain(raw)
 	return c
 }
 
-// named takes the client that a PROXY header names. The connection counts as one of that client from then on, unless it
-// is a trusted proxy too.
+// takeClient takes the client that a PROXY header names. The connection counts as one of that client from then on,
+// unless it is a trusted proxy too.
 //
 // Errors: io.EOF, for which net/http closes the connection without an answer, if the client has all connections that it
 // may have.
-func (c *conn) named(client *net.TCPAddr) error {
+func (c *conn) takeClient(client *net.TCPAddr) error {
 	c.client.Store(client)
 	if c.listener.trusts(ipOf(client)) || c.count() {
 		return nil
@@ -233,7 +235,7 @@ func (c *conn) reject() {
 
 // report reports a request that the handler doesn't get.
 func (c *conn) report(status int) {
-	c.listener.options.Observer.Answered(broker.Exchange{Route: otherRoute, Status: status, Address: c.host()})
+	c.listener.options.Observer.OnRejection(Rejection{Status: status, Address: c.host()})
 }
 
 // host returns the address of the client without its port.
@@ -276,4 +278,154 @@ func (c *conn) uncount() {
 	if c.isCounted {
 		c.listener.addresses.give(c.address)
 	}
+}
+
+// A proxyConn is from a trusted proxy. It may begin with a header of the PROXY protocol, of version 1 or 2, which isn't
+// given to the reader. One goroutine at a time may read.
+type proxyConn struct {
+	net.Conn
+	named    func(client *net.TCPAddr) error // is called with the client that the header names
+	hasBegun bool
+	isOwn    bool          // whether the header says that the proxy itself asks, and no client
+	start    *bufio.Reader // has what was read with the header, or is nil once all of it was taken
+	err      error         // of the header, after which nothing is read
+}
+
+// Read reads what follows the header. Errors: the header can't be read or names no client of TCP, that of named, and
+// those of the connection.
+func (p *proxyConn) Read(to []byte) (int, error) {
+	if !p.hasBegun {
+		p.hasBegun = true
+		p.err = p.begin()
+	}
+	switch {
+	case p.err != nil:
+		return 0, p.err
+	case p.start == nil:
+		return p.Conn.Read(to)
+	}
+	count, err := p.start.Read(to)
+	if p.start.Buffered() == 0 {
+		p.start = nil
+	}
+	return count, err
+}
+
+// begin reads the header, if there is one. It reads no more than its reader's buffer has room for.
+func (p *proxyConn) begin() error {
+	p.start = bufio.NewReader(p.Conn)
+	read := readVersion2
+	if isVersion1(p.start) {
+		read = readVersion1
+	}
+	client, err := read(p.start)
+	switch {
+	case errors.Is(err, proxyproto.ErrNoProxyProtocol): // also at the end of what arrives
+		return nil
+	case err != nil:
+		return err
+	}
+	if p.isOwn = client == nil; p.isOwn {
+		return nil
+	}
+	return p.named(client)
+}
+
+var errNoClient = errors.New("the PROXY header names no client of TCP")
+
+// readVersion2 returns the client that a header names, or nil if the proxy itself asks.
+func readVersion2(start *bufio.Reader) (*net.TCPAddr, error) {
+	header, err := proxyproto.Read(start)
+	if err != nil || header.Command == proxyproto.LOCAL {
+		return nil, err
+	}
+	client, _, isTCP := header.TCPAddrs()
+	if !isTCP || !ipOf(client).IsValid() {
+		return nil, errNoClient
+	}
+	return client, nil
+}
+
+const (
+	version1Start   = "PROXY "
+	longestVersion1 = 107 // bytes, with the end of the line
+)
+
+func isVersion1(start *bufio.Reader) bool {
+	if first, err := start.Peek(1); err != nil || first[0] != version1Start[0] {
+		return false
+	}
+	first, err := start.Peek(len(version1Start))
+	return err == nil && string(first) == version1Start
+}
+
+// readVersion1 is readVersion2 for a header of version 1. Debian's version of the library rejects addresses such as
+// ::ffff:192.0.2.1. HAProxy sends them if it listens on IPv4 and IPv6 at once.
+func readVersion1(start *bufio.Reader) (*net.TCPAddr, error) {
+	line, err := start.ReadSlice('\n')
+	if err != nil || len(line) > longestVersion1 {
+		return nil, errNoClient
+	}
+	fields := strings.Split(strings.TrimSuffix(string(line), "\r\n"), " ")
+	if fields[1] == "UNKNOWN" {
+		return nil, nil
+	}
+	if len(fields) != 6 || fields[1] != "TCP4" && fields[1] != "TCP6" {
+		return nil, errNoClient
+	}
+	client, err := netip.ParseAddrPort(net.JoinHostPort(fields[2], fields[4]))
+	if _, failed := netip.ParseAddrPort(net.JoinHostPort(fields[3], fields[5])); err != nil || failed != nil {
+		return nil, errNoClient
+	}
+	return net.TCPAddrFromAddrPort(client), nil
+}
+
+// CloseWrite closes the sending side.
+func (p *proxyConn) CloseWrite() error {
+	closer, canClose := p.Conn.(interface{ CloseWrite() error })
+	if !canClose {
+		return nil
+	}
+	return closer.CloseWrite()
+}
+
+// nameClient sets r.RemoteAddr to the address of the client, HOST:PORT with port 0 if nobody knows the port. Of a
+// connection from a trusted proxy it is the client that the PROXY header names. If there is no such header, or it names
+// a trusted proxy too, it is the right-most address of X-Forwarded-For that isn't a trusted proxy's. Then nameClient
+// returns it, since the connection isn't counted as one of this client. Otherwise it returns the zero Addr.
+func (c *conn) nameClient(r *http.Request) (forwarded netip.Addr) {
+	if c.proxied == nil {
+		return forwarded
+	}
+	peer := c.RemoteAddr()
+	if c.listener.trusts(ipOf(peer)) && !c.proxied.isOwn {
+		forwarded = c.listener.forwardedFor(r.Header["X-Forwarded-For"])
+	}
+	if r.RemoteAddr = peer.String(); forwarded.IsValid() {
+		r.RemoteAddr = netip.AddrPortFrom(forwarded, 0).String()
+	}
+	return forwarded
+}
+
+// forwardedFor returns the right-most address that isn't a trusted proxy's. What stands left of it, or of a text that
+// is no address, may be made up by the client. If there is none, it returns the zero Addr.
+func (l *Listener) forwardedFor(values []string) netip.Addr {
+	all := strings.Split(strings.Join(values, ","), ",")
+	for at := len(all) - 1; at >= 0; at-- {
+		client, err := forwardedAddress(strings.Trim(all[at], " \t"))
+		if err != nil || !l.trusts(client) {
+			return client
+		}
+	}
+	return netip.Addr{}
+}
+
+// forwardedAddress reads an address of X-Forwarded-For, with a port or without. Errors: it is none.
+func forwardedAddress(text string) (netip.Addr, error) {
+	if whole, err := netip.ParseAddrPort(text); err == nil {
+		return whole.Addr().Unmap(), nil
+	}
+	text = strings.TrimSuffix(strings.TrimPrefix(text, "["), "]")
+	client, err := netip.ParseAddr(text)
+	return client.Unmap(), err
 }

@@ -2,11 +2,13 @@ package httpserver
 
 import (
 	"bytes"
+	"fmt"
+	"net/http"
 	"strconv"
 	"sync/atomic"
 )
 
-// heads follows the requests on a connection in the bytes that come, in the same way as net/http will parse them. It
+// heads follows the requests on a connection in the bytes that arrive, in the same way as net/http will parse them. It
 // finds heads that net/http accepts, although a proxy may see another end of the request (RFC 9112, sections 5.2, 6.1
 // and 6.3):
 //
@@ -20,26 +22,26 @@ import (
 //
 // One goroutine at a time may use heads. Any goroutine may load bad.
 type heads struct {
-	place place
-	line  []byte // the beginning of a line whose end hasn't come
+	state state
+	line  []byte // the beginning of a line whose end hasn't arrived
 	head  head
 	body  uint64        // how many bytes of the body are missing
 	ended uint64        // how many heads have ended
 	bad   atomic.Uint64 // the number of the bad head, from 1 on, or 0
 }
 
-// A place is the place of the next byte.
-type place int
+// A state is where the next byte stands.
+type state int
 
 const (
-	between     place = iota // before a request, or in empty lines before it
+	between     state = iota // before a request, or in empty lines before it
 	requestLine              // in the first line of a head
 	headerLines              // in another line of a head
 	inBody                   // in a body whose length is known
 	unfollowed               // after the last head that is followed
 )
 
-// A head is what has come of a head.
+// A head is what is known of a head.
 type head struct {
 	is11        bool // the version is HTTP/1.1
 	isBad       bool
@@ -49,10 +51,10 @@ type head struct {
 }
 
 // isInside returns whether the head of a request has begun and hasn't ended.
-func (h *heads) isInside() bool { return h.place == requestLine || h.place == headerLines }
+func (h *heads) isInside() bool { return h.state == requestLine || h.state == headerLines }
 
-// hasBegun returns whether a byte of a head has come.
-func (h *heads) hasBegun() bool { return h.place != between || h.ended > 0 }
+// hasBegun returns whether a byte of a head has arrived.
+func (h *heads) hasBegun() bool { return h.state != between || h.ended > 0 }
 
 // read follows the bytes in p, and returns how many bytes of p are left for net/http. It removes empty lines before a
 // request, which net/http would reject (RFC 9112, section 2.2). It replaces the target * of OPTIONS, which net/http
@@ -62,13 +64,13 @@ func (h *heads) read(p []byte) int {
 	for at := 0; at < len(p); {
 		rest := p[at:]
 		var count int
-		switch h.place {
+		switch h.state {
 		case between:
 			if rest[0] == '\r' || rest[0] == '\n' {
 				at++
 				continue
 			}
-			h.place, h.head = requestLine, head{}
+			h.state, h.head = requestLine, head{}
 			continue
 		case requestLine, headerLines:
 			count = h.readLine(rest)
@@ -89,7 +91,7 @@ func (h *heads) readBody(p []byte) int {
 		count = int(h.body)
 	}
 	if h.body -= uint64(count); h.body == 0 {
-		h.place = between
+		h.state = between
 	}
 	return count
 }
@@ -102,7 +104,7 @@ func (h *heads) readLine(p []byte) int {
 	if end >= 0 {
 		part = p[:end]
 	}
-	if h.place == requestLine {
+	if h.state == requestLine {
 		h.replaceAsterisk(part)
 	}
 	if end < 0 {
@@ -134,9 +136,9 @@ func (h *heads) replaceAsterisk(part []byte) {
 
 func (h *heads) endLine(line []byte) {
 	switch {
-	case h.place == requestLine:
+	case h.state == requestLine:
 		h.head.is11 = bytes.HasSuffix(line, []byte(" HTTP/1.1"))
-		h.place = headerLines
+		h.state = headerLines
 	case len(line) == 0:
 		h.endHead()
 	case line[0] == ' ' || line[0] == '\t':
@@ -165,12 +167,43 @@ func (h *heads) endHead() {
 	switch {
 	case isBad:
 		h.bad.Store(h.ended)
-		h.place = unfollowed
+		h.state = unfollowed
 	case head.hasEncoding:
-		h.place = unfollowed
+		h.state = unfollowed
 	case head.length > 0:
-		h.place, h.body = inBody, head.length
+		h.state, h.body = inBody, head.length
 	default:
-		h.place = between
+		h.state = between
 	}
+}
+
+// If net/http rejects a request by itself, it sends a status line, these headers, and a text. An answer of a handler
+// has further headers, such as Date.
+const (
+	rejectionStart   = "HTTP/1.1 "
+	rejectionHeaders = "Content-Type: text/plain; charset=utf-8\r\nConnection: close\r\n\r\n"
+)
+
+// rejectionOf returns the status if p is an answer by which net/http itself rejects a request, and 0 otherwise.
+func rejectionOf(p []byte) int {
+	if !bytes.HasPrefix(p, []byte(rejectionStart)) {
+		return 0
+	}
+	line, rest, _ := bytes.Cut(p[len(rejectionStart):], []byte("\r\n"))
+	if !bytes.HasPrefix(rest, []byte(rejectionHeaders)) {
+		return 0
+	}
+	code, _, _ := bytes.Cut(line, []byte(" "))
+	status, err := strconv.Atoi(string(code))
+	if err != nil {
+		return 0
+	}
+	return status
+}
+
+// rejectionWith returns an answer as net/http itself gives it, with this status. It isn't JSON, so a platform doesn't
+// take it for a decision of the broker about an instance.
+func rejectionWith(status int) []byte {
+	text := fmt.Sprintf("%d %s", status, http.StatusText(status))
+	return []byte(rejectionStart + text + "\r\n" + rejectionHeaders + text)
 }

@@ -17,7 +17,7 @@ import (
 	"syscall"
 	"time"
 
-	"pippinterm/broker"
+	"pippinterm/internal/httpserver/limiter"
 )
 
 // Options are the limits and the parts of a Listener. The zero Options are usable. (The limits are this project's
@@ -45,10 +45,8 @@ type Options struct {
 	Share bool
 	// Certificates makes the Listener serve HTTPS, with TLS 1.2 or later, instead of HTTP.
 	Certificates *Certificates
-	// Observer gets an Exchange with the route other for each request that is rejected before the handler gets it. It
-	// gets the failures tls_handshake_failed, address_at_limit once an address has all connections that it may have, and
-	// http_server for what net/http logs. It may be nil.
-	Observer broker.Observer
+	// Observer may be nil.
+	Observer Observer
 }
 
 func (o Options) withDefaults() Options {
@@ -65,7 +63,7 @@ func (o Options) withDefaults() Options {
 		o.Write = 30 * time.Second
 	}
 	if o.Observer == nil {
-		o.Observer = broker.Silent{}
+		o.Observer = noObserver{}
 	}
 	return o
 }
@@ -80,7 +78,7 @@ type Listener struct {
 
 	mutex    sync.Mutex
 	isClosed bool
-	silent   map[*conn]struct{} // the connections on which nothing of a request has come
+	silent   map[*conn]struct{} // the connections on which nothing of a request has arrived
 }
 
 // reusePort is SO_REUSEPORT of Linux, which package syscall doesn't have on each machine.
@@ -105,6 +103,16 @@ func Listen(ctx context.Context, address string, options Options) (*Listener, er
 	case err != nil:
 		return nil, fmt.Errorf("can't listen: %w", err)
 	}
+	return newListener(listener, options), nil
+}
+
+// NewListener returns a Listener that accepts the connections of another one, such as one of net.Listen.
+// Options.Share means nothing here.
+func NewListener(listener net.Listener, options Options) *Listener {
+	return newListener(listener, options.withDefaults())
+}
+
+func newListener(listener net.Listener, options Options) *Listener {
 	return &Listener{
 		Listener:  listener,
 		options:   options,
@@ -112,7 +120,7 @@ func Listen(ctx context.Context, address string, options Options) (*Listener, er
 		slots:     make(chan struct{}, options.Connections),
 		closed:    make(chan struct{}),
 		silent:    make(map[*conn]struct{}),
-	}, nil
+	}
 }
 
 // networkOf returns the network of an address HOST:PORT, as package net names it. With "tcp", 0.0.0.0 would be [::].
@@ -186,7 +194,7 @@ func (l *Listener) accept() (*conn, error) {
 	}
 }
 
-// Close stops listening, and closes the connections on which nothing of a request has come.
+// Close stops listening, and closes the connections on which nothing of a request has arrived.
 //
 // Errors: net.ErrClosed if the Listener is closed already.
 func (l *Listener) Close() error {
@@ -229,4 +237,140 @@ func (l *Listener) plain(raw net.Conn) (net.Conn, *tls.Conn) {
 	}
 	secure := tls.Server(raw, l.options.Certificates.config())
 	return secure, secure
+}
+
+// Addresses count what each address has at once: connections, and requests that a trusted proxy forwards for it. Those
+// that share a limit of failed logins (limiter.Neighbours) count as one. Any number of goroutines may use them.
+type addresses struct {
+	most int // of each
+
+	mutex sync.Mutex
+	of    map[netip.Prefix]usage
+}
+
+// A usage is what an address has.
+type usage struct {
+	count      int
+	isReported bool // whether it was reported that the address has all that it may have
+}
+
+func newAddresses(most int) *addresses {
+	return &addresses{most: most, of: make(map[netip.Prefix]usage)}
+}
+
+// take counts one more of an address, unless it has all that it may have. isNews is whether that has to be reported: it
+// wasn't since the address had at most half.
+func (a *addresses) take(address netip.Prefix) (isTaken, isNews bool) {
+	a.mutex.Lock()
+	defer a.mutex.Unlock()
+	it := a.of[address]
+	if isTaken = it.count < a.most; isTaken {
+		it.count++
+	} else {
+		isNews = !it.isReported
+		it.isReported = true
+	}
+	a.of[address] = it
+	return isTaken, isNews
+}
+
+// give takes back what take has counted.
+func (a *addresses) give(address netip.Prefix) {
+	a.mutex.Lock()
+	defer a.mutex.Unlock()
+	it := a.of[address]
+	if it.count--; it.count == 0 {
+		delete(a.of, address)
+		return
+	}
+	it.isReported = it.isReported && it.count > a.most/2
+	a.of[address] = it
+}
+
+// take counts a connection or a request of an address, and returns whether the address may have it. If so, give it
+// back.
+func (l *Listener) take(address netip.Prefix) bool {
+	isTaken, isNews := l.addresses.take(address)
+	if isNews {
+		l.options.Observer.OnFailure("address_at_limit",
+			fmt.Errorf("%s has %d connections, and gets no further one", address, l.addresses.most))
+	}
+	return isTaken
+}
+
+// trusts returns whether an address is that of a trusted proxy.
+func (l *Listener) trusts(address netip.Addr) bool {
+	for _, proxy := range l.options.TrustedProxies {
+		if proxy.Contains(address) {
+			return true
+		}
+	}
+	return false
+}
+
+// ipOf returns the IP address of an address of TCP. That of another network is the zero Addr, which nobody trusts.
+func ipOf(address net.Addr) netip.Addr {
+	tcp, isTCP := address.(*net.TCPAddr)
+	if !isTCP {
+		return netip.Addr{}
+	}
+	found, _ := netip.AddrFromSlice(tcp.IP) // the zero Addr if it is none
+	return found.Unmap()
+}
+
+// neighboursOf returns what an IP address is counted as.
+func neighboursOf(address netip.Addr) netip.Prefix { return limiter.Neighbours(address.String()) }
+
+// A tally counts the requests that run. Once it is closed, it counts no further ones.
+type tally struct {
+	mutex    sync.Mutex
+	count    int
+	isClosed bool
+	ended    chan struct{} // is closed once the tally is closed and nothing that it counts runs
+}
+
+func newTally() *tally { return &tally{ended: make(chan struct{})} }
+
+// begin counts a request, and returns whether the tally still counts. If it does, call end.
+func (t *tally) begin() bool {
+	t.mutex.Lock()
+	defer t.mutex.Unlock()
+	if !t.isClosed {
+		t.count++
+	}
+	return !t.isClosed
+}
+
+func (t *tally) end() {
+	t.mutex.Lock()
+	defer t.mutex.Unlock()
+	t.count--
+	t.check()
+}
+
+// close ends the counting. Call it once.
+func (t *tally) close() {
+	t.mutex.Lock()
+	defer t.mutex.Unlock()
+	t.isClosed = true
+	t.check()
+}
+
+func (t *tally) check() {
+	if t.isClosed && t.count == 0 {
+		close(t.ended)
+	}
+}
+
+// CheckFiles returns an error if the process can't have this many files open. Each connection is an open file.
+func CheckFiles(needed uint64) error {
+	var limit syscall.Rlimit
+	if err := syscall.Getrlimit(syscall.RLIMIT_NOFILE, &limit); err != nil {
+		return fmt.Errorf("the limit of open files: %w", err)
+	}
+	if limit.Cur < needed {
+		return fmt.Errorf("at most %d files can be open, and %d are needed. Raise LimitNOFILE in the unit file, "+
+			"or ulimit -n", limit.Cur, needed)
+	}
+	return nil
 }

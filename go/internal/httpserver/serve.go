@@ -4,9 +4,11 @@ import (
 	"context"
 	"errors"
 	"fmt"
+	"io"
 	"log"
 	"net"
 	"net/http"
+	"strings"
 	"time"
 )
 
@@ -21,7 +23,7 @@ type Server struct {
 	// Sites are served side by side, and stopped in this order. Put a site for requests about the health of the program
 	// last.
 	Sites []Site
-	// Request is how long a request may take to arrive whole, however often a byte of it comes. It is 30 seconds by
+	// Request is how long a request may take to arrive whole, however often a byte of it arrives. It is 30 seconds by
 	// default. If the head takes longer, the answer is 408. If the body does, reading it in the handler fails.
 	Request time.Duration
 	// Idle is how long a connection may be idle between two requests. It is as long as Request by default.
@@ -32,8 +34,8 @@ type Server struct {
 	Stopping func()
 	// Work waits for work that goes on without a request. If Work isn't nil, the sites take connections until the
 	// requests that run have been answered and Work has returned, at most for Stop. So after Stopping the handlers can
-	// answer that the program is being stopped. A Listener with Options.Share is closed at once all the same, because the
-	// kernel would give it connections that another process can serve. The context of Work is done after Stop.
+	// answer that the program is being stopped. A Listener with Options.Share is closed at once all the same, because
+	// the kernel would give it connections that another process can serve. The context of Work is done after Stop.
 	Work func(context.Context)
 }
 
@@ -154,3 +156,160 @@ func (s Server) serverOf(site Site, requests *tally) *http.Server {
 
 // connKey is the key of the conn among the values of the context of a request.
 type connKey struct{}
+
+// A front is the handler that net/http gets. It rejects requests with a bad head, and refuses those of a client that
+// has too many through a trusted proxy.
+type front struct {
+	next     http.Handler
+	observer Observer
+	running  *tally // of the Server
+}
+
+// ServeHTTP answers one request.
+func (f front) ServeHTTP(w http.ResponseWriter, r *http.Request) {
+	c, isOurs := r.Context().Value(connKey{}).(*conn)
+	if !isOurs {
+		panic("the connection isn't one of a Listener") // Serve uses no others
+	}
+	isBad := c.begin()
+	defer c.end()
+	if f.running.begin() {
+		defer f.running.end()
+	}
+	client := c.nameClient(r)
+	if isBad {
+		f.reject(w, r)
+		return
+	}
+	rest := drainTime
+	if client.IsValid() {
+		if address := neighboursOf(client); c.listener.take(address) {
+			defer c.listener.addresses.give(address)
+		} else {
+			f.next, rest = http.HandlerFunc(f.refuse), refusedTime
+		}
+	}
+	if len(r.TransferEncoding) > 0 {
+		w.Header().Set("Connection", "close") // the heads after it aren't followed
+	}
+	r.TLS = c.state() // as net/http does for a *tls.Conn
+	if r.ContentLength == 0 {
+		f.next.ServeHTTP(w, r)
+		return
+	}
+	f.serveWithBody(w, r, c, rest)
+}
+
+// reject answers a request with a bad head.
+func (f front) reject(w http.ResponseWriter, r *http.Request) {
+	w.Header().Set("Connection", "close")
+	f.answer(w, r, http.StatusBadRequest, "The head of the request can be read in more than one way.")
+}
+
+// refuse answers a request of a client that has as many requests as it may have at once. Nothing of it was done.
+func (f front) refuse(w http.ResponseWriter, r *http.Request) {
+	w.Header().Set("Retry-After", "5")
+	f.answer(w, r, http.StatusServiceUnavailable, "Too many requests of this address at once. Nothing was done.")
+}
+
+// answer answers a request that the handler doesn't get. The answer isn't JSON, so a platform doesn't take it for a
+// decision of the broker about an instance.
+func (f front) answer(w http.ResponseWriter, r *http.Request, status int, text string) {
+	began := time.Now()
+	http.Error(w, text, status)
+	f.observer.OnRejection(Rejection{
+		Method:   first(r.Method, longestMethod),
+		Target:   LoggedTarget(r.RequestURI),
+		Status:   status,
+		Reason:   text,
+		Duration: time.Since(began),
+		Address:  hostOf(r.RemoteAddr),
+	})
+}
+
+// An errorLog reports what net/http logs.
+type errorLog struct{ observer Observer }
+
+// semicolon begins a line about a query with a semicolon. Any client can cause it, and no operator has to know.
+const semicolon = "http: URL query contains semicolon"
+
+func (e errorLog) Write(line []byte) (int, error) {
+	if text := strings.TrimSpace(string(line)); !strings.HasPrefix(text, semicolon) {
+		e.observer.OnFailure("http_server", errors.New(text))
+	}
+	return len(line), nil
+}
+
+const (
+	// drained is how many bytes of a body are read that the handler left: more than most bodies have.
+	drained = 2 << 20
+	// drainTime is how long the rest of a body may take to arrive after the answer.
+	drainTime = 5 * time.Second
+	// refusedTime is the same for a request that is refused because its client has too many. Meanwhile the connection
+	// counts as nobody's, so a client that sends many such bodies slowly would take all connections of the proxy.
+	refusedTime = 250 * time.Millisecond
+)
+
+// serveWithBody answers a request that has a body. If the handler leaves a part of the body, the answer is sent at
+// once, and the connection is closed after it. Before that, some of the body is read for as long as rest: otherwise the
+// connection would be closed while the client still sends, and a client that sends all of the body before it reads
+// would never see the answer.
+func (f front) serveWithBody(w http.ResponseWriter, r *http.Request, c *conn, rest time.Duration) {
+	body := &trackedBody{ReadCloser: r.Body}
+	r.Body = body
+	f.next.ServeHTTP(&answer{ResponseWriter: w, body: body}, r)
+	r.Body = body.ReadCloser                           // net/http looks at its own
+	if body.hasEnded || r.Header.Get("Expect") != "" { // a client that expects 100-continue sends nothing
+		return
+	}
+	if flusher, canFlush := w.(http.Flusher); canFlush {
+		flusher.Flush()
+	}
+	c.limitReads(time.Now().Add(rest))
+	_, _ = io.CopyN(io.Discard, r.Body, drained) // the answer is the same if the body ends, or is cut
+}
+
+// A trackedBody knows whether all of it was read.
+type trackedBody struct {
+	io.ReadCloser
+	hasEnded bool
+}
+
+func (f *trackedBody) Read(p []byte) (int, error) {
+	count, err := f.ReadCloser.Read(p)
+	f.hasEnded = f.hasEnded || err == io.EOF
+	return count, err
+}
+
+// An answer has its connection closed if it begins before all of the body was read. Otherwise net/http would wait for
+// the body before it sends anything of the answer.
+type answer struct {
+	http.ResponseWriter
+	body     *trackedBody
+	hasBegun bool
+}
+
+func (a *answer) WriteHeader(status int) {
+	a.begin()
+	a.ResponseWriter.WriteHeader(status)
+}
+
+func (a *answer) Write(p []byte) (int, error) {
+	a.begin()
+	return a.ResponseWriter.Write(p)
+}
+
+// Flush sends what was written.
+func (a *answer) Flush() {
+	a.begin()
+	if flusher, canFlush := a.ResponseWriter.(http.Flusher); canFlush {
+		flusher.Flush()
+	}
+}
+
+func (a *answer) begin() {
+	if !a.hasBegun && !a.body.hasEnded {
+		a.Header().Set("Connection", "close")
+	}
+	a.hasBegun = true
+}

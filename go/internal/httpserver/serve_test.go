@@ -10,7 +10,9 @@ import (
 	"os"
 	"os/exec"
 	"reflect"
+	"strconv"
 	"strings"
+	"sync"
 	"sync/atomic"
 	"testing"
 	"time"
@@ -40,18 +42,14 @@ func TestConnectionsBeyondTheLimitWait(t *testing.T) {
 	}
 	third := dial(t, listener) // the kernel takes it
 	third.send(whole)
-	if err := third.SetReadDeadline(time.Now().Add(short)); err != nil {
-		t.Fatal(err)
-	}
+	check(t, third.SetReadDeadline(time.Now().Add(short)))
 	if count, err := third.Read(make([]byte, 1)); count != 0 || !isTimeout(err) {
-		t.Fatalf("the third is answered: %d, %v", count, err)
+		t.Fatalf("the third: got %d, %v, want a timeout", count, err)
 	}
 	if got := listener.Connections(); got != 2 {
-		t.Errorf("%d connections are open", got)
+		t.Errorf("got %d connections open, want 2", got)
 	}
-	if err := third.SetReadDeadline(time.Now().Add(limit)); err != nil {
-		t.Fatal(err)
-	}
+	check(t, third.SetReadDeadline(time.Now().Add(limit)))
 	clients[0].Close()
 	third.until("GET /a ;")
 }
@@ -70,18 +68,16 @@ func TestAClosedConnectionFreesItsPlaceOnce(t *testing.T) {
 func TestTwoListenersShareAnAddress(t *testing.T) {
 	first := listen(t, Options{Share: true})
 	second, err := Listen(context.Background(), first.Addr().String(), Options{Share: true})
-	if err != nil {
-		t.Fatal(err)
-	}
+	check(t, err)
 	second.Close()
 	if third, err := Listen(context.Background(), first.Addr().String(), Options{}); err == nil {
 		third.Close()
-		t.Error("one that doesn't share listens there too")
+		t.Error("a listener that doesn't share: got no error, want one")
 	}
 	alone := listen(t, Options{})
 	if third, err := Listen(context.Background(), alone.Addr().String(), Options{Share: true}); err == nil {
 		third.Close()
-		t.Error("an address that isn't shared is listened at twice")
+		t.Error("a second listener at an address that isn't shared: got no error, want one")
 	}
 }
 
@@ -92,7 +88,7 @@ func TestURL(t *testing.T) {
 	}
 	defer listener.Close()
 	if want := fmt.Sprintf("http://[::1]:%d", listener.Addr().(*net.TCPAddr).Port); listener.URL() != want {
-		t.Errorf("%s, want %s", listener.URL(), want)
+		t.Errorf("got %s, want %s", listener.URL(), want)
 	}
 }
 
@@ -107,10 +103,10 @@ func TestAClientThatReadsNothingIsCut(t *testing.T) {
 	select {
 	case err := <-wrote:
 		if !errors.Is(err, os.ErrDeadlineExceeded) {
-			t.Errorf("the handler's write returns %v", err)
+			t.Errorf("the handler's write: got %v, want %v", err, os.ErrDeadlineExceeded)
 		}
 	case <-time.After(limit):
-		t.Fatal("the handler still writes")
+		t.Fatal("the handler: got it still writing in time, want its end")
 	}
 }
 
@@ -147,22 +143,22 @@ func TestStopAnswersWhatRuns(t *testing.T) {
 		t.Fatal(err)
 	}
 	if got := silent.rest() + idle.rest(); got != "" {
-		t.Errorf("the silent and the idle one get %q", got)
+		t.Errorf("the silent and the idle one: got %q, want none", got)
 	}
 	if _, err := net.DialTimeout("tcp", listener.Addr().String(), limit); err == nil {
-		t.Error("a new connection is taken")
+		t.Error("a new connection: got no error, want one")
 	}
 	select {
 	case err := <-served:
-		t.Fatalf("Serve returned %v while a request runs", err)
+		t.Fatalf("Serve while a request runs: got %v, want it to wait", err)
 	case <-time.After(3 * short):
 	}
 	handler.pass <- struct{}{}
 	if got := running.rest(); !strings.HasSuffix(got, "GET /a ;") || !strings.Contains(got, "Connection: close") {
-		t.Errorf("the running one gets %q", got)
+		t.Errorf("the running one: got %q, want its answer and a close", got)
 	}
 	if err := <-served; err != nil {
-		t.Errorf("Serve returned %v", err)
+		t.Errorf("Serve: got %v, want no error", err)
 	}
 }
 
@@ -174,10 +170,10 @@ func TestStopHasALimit(t *testing.T) {
 	client.send(whole)
 	<-handler.begun
 	if err := stop(); !errors.Is(err, ErrCut) {
-		t.Errorf("Serve returned %v", err)
+		t.Errorf("Serve: got %v, want %v", err, ErrCut)
 	}
 	if got, err := io.ReadAll(client); len(got) > 0 || isTimeout(err) {
-		t.Errorf("the client gets %q, %v; want a connection that is closed", got, err)
+		t.Errorf("the client: got %q, %v, want a connection that is closed", got, err)
 	}
 	close(handler.pass)
 }
@@ -197,7 +193,7 @@ func TestTheLastSiteStopsLast(t *testing.T) {
 		client := dial(t, health)
 		client.send("GET /healthz HTTP/1.1\r\nHost: x\r\nConnection: close\r\n\r\n")
 		if got := client.rest(); !strings.HasSuffix(got, "GET /healthz ;") {
-			t.Errorf("%s the second site answers %q", when, got)
+			t.Errorf("%s: got %q from the second site, want its answer", when, got)
 		}
 	}
 	ask("while the first has all its connections,")
@@ -212,7 +208,7 @@ func TestTheLastSiteStopsLast(t *testing.T) {
 	ask("while the first stops,")
 	handler.pass <- struct{}{}
 	if err := <-served; err != nil {
-		t.Errorf("Serve returned %v", err)
+		t.Errorf("Serve: got %v, want no error", err)
 	}
 }
 
@@ -274,33 +270,33 @@ func TestWhileWorkRunsRequestsAreAnswered(t *testing.T) {
 		<-goOn
 	})
 	if got := idle.rest(); got != "" {
-		t.Errorf("the idle connection gets %q", got)
+		t.Errorf("the idle connection: got %q, want none", got)
 	}
 	for count := 0; count < 3; count++ {
 		if got := statusAt(t, listener); !reflect.DeepEqual(got, []string{"503"}) {
-			t.Fatalf("while a request runs, another is answered %v", got)
+			t.Fatalf("another request while one runs: got %v, want 503", got)
 		}
 	}
 	select {
 	case <-begun:
-		t.Error("Work is called while a request runs")
+		t.Error("while a request runs: got a call of Work, want none")
 	default:
 	}
 	handler.pass <- struct{}{}
 	if got := statusesIn(running.rest()); !reflect.DeepEqual(got, []string{"200"}) {
-		t.Errorf("the running request is answered %v", got)
+		t.Errorf("the running request: got %v, want 200", got)
 	}
 	<-begun
 	if got := statusAt(t, listener); !reflect.DeepEqual(got, []string{"503"}) {
-		t.Errorf("while the work runs, a request is answered %v", got)
+		t.Errorf("a request while the work runs: got %v, want 503", got)
 	}
 	close(goOn)
 	if err := <-served; err != nil {
-		t.Errorf("Serve returned %v", err)
+		t.Errorf("Serve: got %v, want no error", err)
 	}
 	if connection, err := net.DialTimeout("tcp", listener.Addr().String(), limit); err == nil {
 		connection.Close()
-		t.Error("it still listens")
+		t.Error("a connection to it: got no error, want one")
 	}
 }
 
@@ -316,10 +312,10 @@ func TestASharedListenerIsClosedAtOnce(t *testing.T) {
 	})
 	handler.pass <- struct{}{}
 	if got := statusesIn(running.rest()); !reflect.DeepEqual(got, []string{"200"}) {
-		t.Errorf("the running request is answered %v", got)
+		t.Errorf("the running request: got %v, want 200", got)
 	}
 	if err := <-served; err != nil {
-		t.Errorf("Serve returned %v", err)
+		t.Errorf("Serve: got %v, want no error", err)
 	}
 }
 
@@ -327,7 +323,7 @@ func TestASharedListenerIsClosedAtOnce(t *testing.T) {
 func TestWorkHasALimit(t *testing.T) {
 	_, handler, _, _, served := startStopping(t, Options{}, short, func(within context.Context) { <-within.Done() })
 	if err := <-served; !errors.Is(err, ErrCut) {
-		t.Errorf("with a request that runs, Serve returned %v", err)
+		t.Errorf("Serve with a request that runs: got %v, want %v", err, ErrCut)
 	}
 	close(handler.pass)
 	untilDone := func(within context.Context) { <-within.Done() }
@@ -335,10 +331,10 @@ func TestWorkHasALimit(t *testing.T) {
 	time.Sleep(3 * short)
 	handler.pass <- struct{}{}
 	if got := running.rest(); !strings.HasSuffix(got, "GET /a ;") {
-		t.Errorf("the running one gets %q", got)
+		t.Errorf("the running one: got %q, want its answer", got)
 	}
 	if err := <-served; err != nil {
-		t.Errorf("with other work that runs, Serve returned %v", err)
+		t.Errorf("Serve with other work that runs: got %v, want no error", err)
 	}
 }
 
@@ -351,11 +347,11 @@ func TestASiteThatFailsStopsTheOthers(t *testing.T) {
 	}
 	failing.Close()
 	if err := server.Serve(context.Background()); !errors.Is(err, net.ErrClosed) || !isStopping {
-		t.Errorf("Serve returned %v, stopping %v", err, isStopping)
+		t.Errorf("Serve: got %v and stopping %v, want %v and true", err, isStopping, net.ErrClosed)
 	}
 	if connection, err := net.DialTimeout("tcp", other.Addr().String(), limit); err == nil {
 		connection.Close()
-		t.Error("the other still listens")
+		t.Error("a connection to the other: got no error, want one")
 	}
 }
 
@@ -364,7 +360,7 @@ func TestStopBeforeTheBegin(t *testing.T) {
 	ctx, cancel := context.WithCancel(context.Background())
 	cancel()
 	if err := (Server{Sites: []Site{{listener, http.HandlerFunc(echo)}}}).Serve(ctx); err != nil {
-		t.Errorf("Serve returned %v", err)
+		t.Errorf("Serve: got %v, want no error", err)
 	}
 }
 
@@ -374,11 +370,9 @@ const limited = "OSB_TEST_LIMITED"
 // TestTheLimitOfFilesIsRaised starts itself with a soft limit of 64 files, and a hard limit that the machine gives.
 func TestTheLimitOfFilesIsRaised(t *testing.T) {
 	if os.Getenv(limited) != "" {
-		if err := CheckFiles(65); err != nil {
-			t.Fatal(err)
-		}
+		check(t, CheckFiles(65))
 		if err := CheckFiles(1 << 62); err == nil || !strings.Contains(err.Error(), "LimitNOFILE") {
-			t.Fatalf("no limit: %v", err)
+			t.Fatalf("no limit: got %v, want an error with LimitNOFILE", err)
 		}
 		return
 	}
@@ -386,6 +380,350 @@ func TestTheLimitOfFilesIsRaised(t *testing.T) {
 	child := exec.Command("sh", "-c", script, os.Args[0])
 	child.Env = append(os.Environ(), limited+"=1")
 	if output, err := child.CombinedOutput(); err != nil || !strings.Contains(string(output), "--- PASS") {
-		t.Errorf("%v: %s", err, output)
+		t.Errorf("got the error %v and the output %s, want a test that passes", err, output)
+	}
+}
+
+// rejectUnread answers without a look at the body, as a handler does that rejects who asks.
+func rejectUnread(w http.ResponseWriter, r *http.Request) {
+	if r.URL.Path == "/last" {
+		w.Header().Set("Connection", "close")
+	}
+	http.Error(w, "wrong password", http.StatusUnauthorized)
+}
+
+// A client that sends all of a body, slowly, before it reads sees the answer of a handler that reads nothing. net/http
+// alone closes the connection half a second after such an answer.
+func TestTheAnswerToAnUnreadBodyArrives(t *testing.T) {
+	const length, first = 1 << 20, 1000
+	body := strings.Repeat("a", length)
+	chunked := fmt.Sprintf("%x\r\n%s\r\n0\r\n\r\n", length, body)
+	for name, test := range map[string]struct {
+		head, body string
+		next       []string // the statuses of two requests
+	}{
+		"a length":    {"PUT /a HTTP/1.1\r\nHost: x\r\nContent-Length: 1048576\r\n\r\n", body, []string{"401"}},
+		"a last one":  {"PUT /last HTTP/1.1\r\nHost: x\r\nContent-Length: 1048576\r\n\r\n", body, []string{"401"}},
+		"chunks":      {"PUT /a HTTP/1.1\r\nHost: x\r\nTransfer-Encoding: chunked\r\n\r\n", chunked, []string{"401"}},
+		"of HTTP/1.0": {"PUT /a HTTP/1.0\r\nContent-Length: 1048576\r\n\r\n", body, []string{"401"}},
+		"no body":     {"PUT /a HTTP/1.1\r\nHost: x\r\n\r\n", "", []string{"401", "401"}},
+	} {
+		test := test
+		t.Run(name, func(t *testing.T) {
+			t.Parallel()
+			client := dial(t, start(t, Options{}, Server{}, rejectUnread))
+			client.send(test.head)
+			if len(test.body) > 0 {
+				client.send(test.body[:first])
+				time.Sleep(800 * time.Millisecond) // nothing can be waited for
+				client.send(test.body[first:])
+			}
+			if len(test.next) > 1 {
+				client.send(strings.Replace(whole, "\r\n\r\n", "\r\nConnection: close\r\n\r\n", 1))
+			}
+			if got := statusesIn(client.rest()); !reflect.DeepEqual(got, test.next) {
+				t.Errorf("the answers: got %v, want %v", got, test.next)
+			}
+		})
+	}
+}
+
+// A body that never arrives keeps nobody waiting for the answer, and the connection is closed soon after it. The time
+// of the request, 30 seconds, isn't waited for.
+func TestABodyThatNeverComesIsntWaitedFor(t *testing.T) {
+	for name, head := range map[string]string{
+		"a length":    "Content-Length: 100\r\n\r\n",
+		"a part":      "Content-Length: 100\r\n\r\n{",
+		"chunks":      "Transfer-Encoding: chunked\r\n\r\n",
+		"a last one":  "Connection: close\r\nContent-Length: 100\r\n\r\n",
+		"beyond 256K": "Content-Length: 1000000\r\n\r\n",
+	} {
+		head := head
+		t.Run(name, func(t *testing.T) {
+			t.Parallel()
+			client := dial(t, start(t, Options{}, Server{}, func(w http.ResponseWriter, _ *http.Request) {
+				w.Header().Set("Content-Length", "2")
+				w.WriteHeader(http.StatusUnauthorized)
+				_, _ = io.WriteString(w, "{}")
+			}))
+			client.send("PUT /a HTTP/1.1\r\nHost: x\r\n" + head)
+			began := time.Now()
+			client.until("{}")
+			if took := time.Since(began); took > drainTime/2 {
+				t.Errorf("got an answer after %v, want one within %v", took, drainTime/2)
+			}
+			if got := client.rest(); got != "" { // which fails after 10 seconds
+				t.Errorf("after the answer: got %q, want none", got)
+			}
+		})
+	}
+}
+
+// What the handler has read whole doesn't end the connection.
+func TestABodyThatWasReadKeepsTheConnection(t *testing.T) {
+	client := dial(t, start(t, Options{}, Server{}, echo))
+	for count := 0; count < 2; count++ {
+		client.send("PUT /a HTTP/1.1\r\nHost: x\r\nContent-Length: 3\r\n\r\nabc")
+		if got := client.until("PUT /a abc;"); strings.Contains(got, "Connection: close") {
+			t.Errorf("got %q, want no \"Connection: close\" in it", got)
+		}
+	}
+}
+
+// A client that waits until it may send the body gets the answer at once.
+func TestABodyThatIsntSentIsntWaitedFor(t *testing.T) {
+	client := dial(t, start(t, Options{}, Server{}, rejectUnread))
+	client.send("PUT /a HTTP/1.1\r\nHost: x\r\nExpect: 100-continue\r\nContent-Length: 9\r\n\r\n")
+	if got := client.until("\r\n"); got != "HTTP/1.1 401 Unauthorized\r\n" {
+		t.Errorf("got %q, want %q", got, "HTTP/1.1 401 Unauthorized\r\n")
+	}
+}
+
+// A body without an end doesn't keep the server reading for ever.
+func TestABodyIsDrainedUpToALimit(t *testing.T) {
+	client := dial(t, start(t, Options{}, Server{}, rejectUnread))
+	client.send(fmt.Sprintf("PUT /a HTTP/1.1\r\nHost: x\r\nContent-Length: %d\r\n\r\n", int64(1)<<40))
+	over := make(chan struct{})
+	go func() {
+		defer close(over)
+		_, _ = io.Copy(client, endless{}) // until the server closes the connection
+	}()
+	if got := client.until("\r\n"); got != "HTTP/1.1 401 Unauthorized\r\n" {
+		t.Errorf("got %q, want %q", got, "HTTP/1.1 401 Unauthorized\r\n")
+	}
+	<-over
+}
+
+type endless struct{}
+
+func (endless) Read(p []byte) (int, error) { return len(p), nil }
+
+// A host that is an IPv4 address is listened at over IPv4 alone, also if it stands for all addresses.
+func TestIPv4HasNoIPv6(t *testing.T) {
+	listener, err := Listen(context.Background(), "0.0.0.0:0", Options{})
+	check(t, err)
+	defer listener.Close()
+	at := listener.Addr().(*net.TCPAddr)
+	if at.IP.String() != "0.0.0.0" {
+		t.Errorf("got the address %v, want 0.0.0.0", at.IP)
+	}
+	port := strconv.Itoa(at.Port)
+	if conn, err := net.DialTimeout("tcp", "127.0.0.1:"+port, limit); err != nil {
+		t.Error(err)
+	} else {
+		_ = conn.Close()
+	}
+	if conn, err := net.DialTimeout("tcp", "[::1]:"+port, limit); err == nil {
+		_ = conn.Close()
+		t.Error("got a connection at ::1, want none")
+	}
+}
+
+// What is logged of a target has no user and no password.
+func TestLoggedTarget(t *testing.T) {
+	for target, want := range map[string]string{
+		"/v2/catalog":              "/v2/catalog",
+		"/v2/a@b//c@d?e=f@g":       "/v2/a@b//c@d?e=f@g",
+		"http://u:p@host/v2?a=b@c": "http://host/v2?a=b@c",
+		"http://u:p@q@host:80":     "http://host:80",
+		"http://host/v2/a@b":       "http://host/v2/a@b",
+		"http:u:p@host//x":         "host//x",
+		"//u:p@host/x":             "//host/x",
+		"u:p@host:443":             "host:443",
+		"http://u:" + strings.Repeat("a", 2000) + "@h/": "http://h/",
+		"/" + strings.Repeat("a", 2000):                 "/" + strings.Repeat("a", 999),
+		"*":                                             "*",
+		"":                                              "",
+	} {
+		t.Run(fmt.Sprintf("%.50q", target), func(t *testing.T) {
+			if got := LoggedTarget(target); got != want {
+				t.Errorf("%.50q: got %.50q, want %.50q", target, got, want)
+			}
+		})
+	}
+}
+
+const limit = 10 * time.Second // of what has to happen soon
+
+// A recorder is an Observer that has what it got.
+type recorder struct {
+	mutex      sync.Mutex
+	rejections []Rejection
+	failures   []string
+}
+
+func (r *recorder) OnRejection(rejection Rejection) {
+	r.mutex.Lock()
+	defer r.mutex.Unlock()
+	r.rejections = append(r.rejections, rejection)
+}
+
+func (r *recorder) OnFailure(event string, err error) {
+	r.mutex.Lock()
+	defer r.mutex.Unlock()
+	r.failures = append(r.failures, event+": "+err.Error())
+}
+
+// waitForRejections returns the rejections, once there are so many: an answer is sent before the observer gets it.
+func (r *recorder) waitForRejections(t *testing.T, count int) []Rejection {
+	t.Helper()
+	waitUntil(t, "what the observer is told", func() bool {
+		r.mutex.Lock()
+		defer r.mutex.Unlock()
+		return len(r.rejections) >= count
+	})
+	r.mutex.Lock()
+	defer r.mutex.Unlock()
+	return append([]Rejection(nil), r.rejections...)
+}
+
+// waitForStatuses returns the statuses of the rejections, which have to be of the address 127.0.0.1, once there are so
+// many.
+func (r *recorder) waitForStatuses(t *testing.T, count int) []int {
+	t.Helper()
+	var statuses []int
+	for _, rejection := range r.waitForRejections(t, count) {
+		if rejection.Address != "127.0.0.1" {
+			t.Errorf("got a rejection of the address %q, want 127.0.0.1", rejection.Address)
+		}
+		statuses = append(statuses, rejection.Status)
+	}
+	return statuses
+}
+
+func (r *recorder) events() []string {
+	r.mutex.Lock()
+	defer r.mutex.Unlock()
+	return append([]string(nil), r.failures...)
+}
+
+func listen(t *testing.T, options Options) *Listener {
+	t.Helper()
+	listener, err := Listen(context.Background(), "127.0.0.1:0", options)
+	check(t, err)
+	t.Cleanup(func() { _ = listener.Close() }) // it may be closed already
+	return listener
+}
+
+// serve serves until the test ends or the function that it returns is called, which returns what Serve returned.
+func serve(t *testing.T, server Server) (stop func() error) {
+	t.Helper()
+	ctx, cancel := context.WithCancel(context.Background())
+	served := make(chan error, 1)
+	go func() { served <- server.Serve(ctx) }()
+	var once sync.Once
+	var err error
+	stop = func() error {
+		once.Do(func() {
+			cancel()
+			err = <-served
+		})
+		return err
+	}
+	t.Cleanup(func() { _ = stop() }) // tests that ask for the error call it before
+	return stop
+}
+
+// start serves a handler with these options, and returns the listener.
+func start(t *testing.T, options Options, server Server, handler http.HandlerFunc) *Listener {
+	t.Helper()
+	listener := listen(t, options)
+	server.Sites = []Site{{Listener: listener, Handler: handler}}
+	serve(t, server)
+	return listener
+}
+
+// echo answers with the method, the target and the body, or with 408 if the body can't be read.
+func echo(w http.ResponseWriter, r *http.Request) {
+	body, err := io.ReadAll(r.Body)
+	if err != nil {
+		w.Header().Set("Connection", "close")
+		w.WriteHeader(http.StatusRequestTimeout)
+		return
+	}
+	_, _ = io.WriteString(w, r.Method+" "+r.RequestURI+" "+string(body)+";")
+}
+
+// A client is a connection that fails the test if it takes too long.
+type client struct {
+	net.Conn
+	t *testing.T
+}
+
+func dial(t *testing.T, listener *Listener) client {
+	t.Helper()
+	connection, err := net.DialTimeout("tcp", listener.Addr().String(), limit)
+	check(t, err)
+	return clientOf(t, connection)
+}
+
+func clientOf(t *testing.T, connection net.Conn) client {
+	t.Helper()
+	t.Cleanup(func() { _ = connection.Close() }) // it may be closed already
+	check(t, connection.SetDeadline(time.Now().Add(limit)))
+	return client{connection, t}
+}
+
+func (c client) send(text string) {
+	c.t.Helper()
+	if _, err := io.WriteString(c, text); err != nil {
+		c.t.Fatal(err)
+	}
+}
+
+// closeWrite reports to the server that nothing follows.
+func (c client) closeWrite() {
+	c.t.Helper()
+	if err := c.Conn.(interface{ CloseWrite() error }).CloseWrite(); err != nil {
+		c.t.Fatal(err)
+	}
+}
+
+// rest returns what arrives until the server closes the connection.
+func (c client) rest() string {
+	c.t.Helper()
+	got, err := io.ReadAll(c)
+	if err != nil {
+		c.t.Fatalf("after %q: got %v, want no error", got, err)
+	}
+	return string(got)
+}
+
+// until returns what arrives up to the end of this text.
+func (c client) until(text string) string {
+	c.t.Helper()
+	var got []byte
+	for one := make([]byte, 1); !strings.HasSuffix(string(got), text); {
+		if _, err := c.Read(one); err != nil {
+			c.t.Fatalf("after %q: got %v, want no error", got, err)
+		}
+		got = append(got, one[0])
+	}
+	return string(got)
+}
+
+// statusesIn returns the statuses of the answers in a text.
+func statusesIn(text string) []string {
+	var statuses []string
+	for _, part := range strings.Split(text, "HTTP/1.")[1:] {
+		statuses = append(statuses, strings.Fields(part)[1])
+	}
+	return statuses
+}
+
+func waitUntil(t *testing.T, what string, isSo func() bool) {
+	t.Helper()
+	for until := time.Now().Add(limit); !isSo(); time.Sleep(time.Millisecond) {
+		if time.Now().After(until) {
+			t.Fatalf("got no %s in time, want it", what)
+		}
+	}
+}
+
+// check ends the test at an error.
+func check(t testing.TB, err error) {
+	t.Helper()
+	if err != nil {
+		t.Fatal(err)
 	}
 }

@@ -1,10 +1,19 @@
 package httpserver
 
 import (
+	"crypto/ecdsa"
+	"crypto/elliptic"
+	"crypto/rand"
 	"crypto/tls"
+	"crypto/x509"
+	"crypto/x509/pkix"
+	"encoding/pem"
 	"fmt"
+	"math/big"
+	"net"
 	"net/http"
 	"os"
+	"path/filepath"
 	"reflect"
 	"strings"
 	"testing"
@@ -15,13 +24,11 @@ import (
 func startTLS(t *testing.T, files CertificateFiles, options Options, server Server) (*Listener, *Certificates) {
 	t.Helper()
 	certificates, err := LoadCertificates(files)
-	if err != nil {
-		t.Fatal(err)
-	}
+	check(t, err)
 	options.Certificates = certificates
 	return start(t, options, server, func(w http.ResponseWriter, r *http.Request) {
 		if r.TLS == nil {
-			t.Error("the request has no state of TLS")
+			t.Error("the request: got no state of TLS, want one")
 		} else if len(r.TLS.PeerCertificates) > 0 {
 			w.Header().Set("Client", r.TLS.PeerCertificates[0].Subject.CommonName)
 		}
@@ -33,9 +40,7 @@ func startTLS(t *testing.T, files CertificateFiles, options Options, server Serv
 func dialTLS(t *testing.T, listener *Listener, config *tls.Config) (client, tls.ConnectionState) {
 	t.Helper()
 	secure := tls.Client(dial(t, listener).Conn, config)
-	if err := secure.Handshake(); err != nil {
-		t.Fatal(err)
-	}
+	check(t, secure.Handshake())
 	return clientOf(t, secure), secure.ConnectionState()
 }
 
@@ -43,17 +48,17 @@ func TestTLS(t *testing.T) {
 	authority := newAuthority(t)
 	listener, certificates := startTLS(t, authority.issue("server"), Options{}, Server{})
 	if !strings.HasPrefix(listener.URL(), "https://127.0.0.1:") {
-		t.Errorf("the URL is %s", listener.URL())
+		t.Errorf("the URL: got %s, want one of https", listener.URL())
 	}
 	if left := time.Until(certificates.Expires()); left < 50*time.Second || left > time.Minute {
-		t.Errorf("the certificate expires in %v", left)
+		t.Errorf("the certificate: got %v left, want about a minute", left)
 	}
 	for _, version := range []uint16{tls.VersionTLS12, tls.VersionTLS13} {
 		config := authority.client(CertificateFiles{})
 		config.MinVersion, config.MaxVersion = version, version
 		client, state := dialTLS(t, listener, config)
 		if state.Version != version {
-			t.Errorf("version %x, want %x", state.Version, version)
+			t.Errorf("got version %x, want %x", state.Version, version)
 		}
 		client.send(whole)
 		client.until("GET /a ;")
@@ -77,11 +82,11 @@ func TestTLSIsBoundedAsHTTPIs(t *testing.T) {
 		client, _ := dialTLS(t, listener, authority.client(CertificateFiles{}))
 		client.send(test.sent)
 		if got := client.rest(); !strings.HasPrefix(got, test.want) || test.want == "" && got != "" {
-			t.Errorf("%q is answered with %q", test.sent, got)
+			t.Errorf("%q: got %q, want %q", test.sent, got, test.want)
 		}
 	}
-	if got := observer.rejected(t, 3); !reflect.DeepEqual(got, []int{408, 400, 400}) {
-		t.Errorf("the observer is told of %v", got)
+	if got := observer.waitForStatuses(t, 3); !reflect.DeepEqual(got, []int{408, 400, 400}) {
+		t.Errorf("the observer: got %v, want 408 and 400 twice", got)
 	}
 }
 
@@ -107,12 +112,12 @@ func TestClientsThatCantShakeHands(t *testing.T) {
 			observer := &recorder{}
 			listener, _ := startTLS(t, authority.issue("server"), Options{Observer: observer}, Server{})
 			if err := tls.Client(dial(t, listener).Conn, test.config).Handshake(); err == nil {
-				t.Fatal("the handshake succeeds")
+				t.Fatal("the handshake: got no error, want one")
 			}
 			waitUntil(t, "an event", func() bool { return len(observer.events()) > 0 })
 			if got := observer.events()[0]; !strings.HasPrefix(got, "tls_handshake_failed: client 127.0.0.1: ") ||
 				!strings.Contains(got, test.event) {
-				t.Errorf("the observer is told of %q", got)
+				t.Errorf("the observer: got %q, want a handshake that failed with %q", got, test.event)
 			}
 		})
 	}
@@ -124,11 +129,11 @@ func TestHTTPAtAPortOfTLS(t *testing.T) {
 	client := dial(t, listener)
 	client.send(whole)
 	if got := client.rest(); got != plainAnswer {
-		t.Errorf("it is answered with %q", got)
+		t.Errorf("got %q, want %q", got, plainAnswer)
 	}
 	waitUntil(t, "an event", func() bool { return len(observer.events()) > 0 })
 	if got := observer.events(); len(got) != 1 || !strings.HasSuffix(got[0], "the client sent HTTP") {
-		t.Errorf("the observer is told of %q", got)
+		t.Errorf("the observer: got %q, want one of a client that sent HTTP", got)
 	}
 }
 
@@ -137,11 +142,11 @@ func TestAProbeOfThePortIsNoFailure(t *testing.T) {
 	listener, _ := startTLS(t, newAuthority(t).issue("server"), Options{Silent: short, Observer: observer}, Server{})
 	dial(t, listener).Close()
 	if got := dial(t, listener).rest(); got != "" {
-		t.Errorf("a silent client gets %q", got)
+		t.Errorf("a silent client: got %q, want none", got)
 	}
 	waitUntil(t, "both are closed", func() bool { return listener.Connections() == 1 })
 	if got := observer.events(); got != nil {
-		t.Errorf("the observer is told of %q", got)
+		t.Errorf("the observer: got %q, want none", got)
 	}
 }
 
@@ -153,7 +158,7 @@ func TestClientCertificates(t *testing.T) {
 	client, _ := dialTLS(t, listener, authority.client(authority.issue("cloudfoundry")))
 	client.send(whole)
 	if got := client.until("GET /a ;"); !strings.Contains(got, "\r\nClient: cloudfoundry\r\n") {
-		t.Errorf("the answer is %q", got)
+		t.Errorf("the answer: got %q, want %q in it", got, "\r\nClient: cloudfoundry\r\n")
 	}
 	others := map[string]CertificateFiles{"none": {}, "of another authority": newAuthority(t).issue("other")}
 	for name, own := range others {
@@ -161,7 +166,7 @@ func TestClientCertificates(t *testing.T) {
 			config := authority.client(own)
 			config.MaxVersion = tls.VersionTLS12 // in which the client hears of it during the handshake
 			if err := tls.Client(dial(t, listener).Conn, config).Handshake(); err == nil {
-				t.Error("the handshake succeeds")
+				t.Error("the handshake: got no error, want one")
 			}
 		})
 	}
@@ -179,23 +184,19 @@ func TestReload(t *testing.T) {
 	first := shown()
 	authority.issue("server") // in the same files
 	if got := shown(); got != first {
-		t.Error("another certificate is shown before it is read")
+		t.Error("got another certificate before it is read, want the first")
 	}
-	if err := certificates.Reload(); err != nil {
-		t.Fatal(err)
-	}
+	check(t, certificates.Reload())
 	second := shown()
 	if second == first {
-		t.Error("the same certificate is shown after it was read")
+		t.Error("got the same certificate after it was read, want another")
 	}
-	if err := os.WriteFile(files.Key, []byte("no key"), 0o600); err != nil {
-		t.Fatal(err)
-	}
+	check(t, os.WriteFile(files.Key, []byte("no key"), 0o600))
 	if err := certificates.Reload(); err == nil || !strings.Contains(err.Error(), files.Key) {
-		t.Errorf("a key that is none gives %v", err)
+		t.Errorf("a key that is none: got %v, want an error that names the file", err)
 	}
 	if got := shown(); got != second {
-		t.Error("another certificate is shown after the broken key")
+		t.Error("got another certificate after the broken key, want the second")
 	}
 }
 
@@ -213,8 +214,97 @@ func TestCertificatesThatCantBeUsed(t *testing.T) {
 		"no authority":               {Certificate: files.Certificate, Key: files.Key, ClientCA: none},
 		"an authority that is none":  {Certificate: files.Certificate, Key: files.Key, ClientCA: files.Key},
 	} {
-		if _, err := LoadCertificates(files); err == nil {
-			t.Errorf("%s: no error", name)
-		}
+		t.Run(name, func(t *testing.T) {
+			if _, err := LoadCertificates(files); err == nil {
+				t.Error("got no error, want one")
+			}
+		})
 	}
+}
+
+// An authority signs certificates in a folder of the test.
+type authority struct {
+	t           *testing.T
+	folder      string
+	certificate *x509.Certificate
+	key         *ecdsa.PrivateKey
+}
+
+func newAuthority(t *testing.T) *authority {
+	t.Helper()
+	a := &authority{t: t, folder: t.TempDir()}
+	template := &x509.Certificate{
+		SerialNumber: big.NewInt(1), Subject: pkix.Name{CommonName: "authority"}, NotAfter: time.Now().Add(time.Hour),
+		IsCA: true, BasicConstraintsValid: true, KeyUsage: x509.KeyUsageCertSign,
+	}
+	a.key = a.newKey()
+	a.certificate = a.sign("authority.pem", template, template, a.key)
+	return a
+}
+
+func (a *authority) newKey() *ecdsa.PrivateKey {
+	a.t.Helper()
+	key, err := ecdsa.GenerateKey(elliptic.P256(), rand.Reader)
+	if err != nil {
+		a.t.Fatal(err)
+	}
+	return key
+}
+
+func (a *authority) sign(file string, template, parent *x509.Certificate, of *ecdsa.PrivateKey) *x509.Certificate {
+	a.t.Helper()
+	der, err := x509.CreateCertificate(rand.Reader, template, parent, &of.PublicKey, a.key)
+	if err != nil {
+		a.t.Fatal(err)
+	}
+	a.write(file, "CERTIFICATE", der)
+	certificate, err := x509.ParseCertificate(der)
+	if err != nil {
+		a.t.Fatal(err)
+	}
+	return certificate
+}
+
+func (a *authority) write(file, kind string, der []byte) {
+	a.t.Helper()
+	text := pem.EncodeToMemory(&pem.Block{Type: kind, Bytes: der})
+	if err := os.WriteFile(a.path(file), text, 0o600); err != nil {
+		a.t.Fatal(err)
+	}
+}
+
+func (a *authority) path(file string) string { return filepath.Join(a.folder, file) }
+
+// issue writes a certificate for 127.0.0.1 with this name and its key, and returns their files.
+func (a *authority) issue(name string) CertificateFiles {
+	a.t.Helper()
+	key := a.newKey()
+	a.sign(name+".pem", &x509.Certificate{
+		SerialNumber: big.NewInt(2), Subject: pkix.Name{CommonName: name}, NotAfter: time.Now().Add(time.Minute),
+		IPAddresses: []net.IP{net.IPv4(127, 0, 0, 1)},
+		ExtKeyUsage: []x509.ExtKeyUsage{x509.ExtKeyUsageServerAuth, x509.ExtKeyUsageClientAuth},
+	}, a.certificate, key)
+	der, err := x509.MarshalECPrivateKey(key)
+	if err != nil {
+		a.t.Fatal(err)
+	}
+	a.write(name+".key", "EC PRIVATE KEY", der)
+	return CertificateFiles{Certificate: a.path(name + ".pem"), Key: a.path(name + ".key")}
+}
+
+// client returns what a client needs that trusts this authority, and shows the certificate of these files if there are.
+func (a *authority) client(files CertificateFiles) *tls.Config {
+	a.t.Helper()
+	roots := x509.NewCertPool()
+	roots.AddCert(a.certificate)
+	config := &tls.Config{RootCAs: roots, ServerName: "127.0.0.1"}
+	if files.Certificate == "" {
+		return config
+	}
+	pair, err := tls.LoadX509KeyPair(files.Certificate, files.Key)
+	if err != nil {
+		a.t.Fatal(err)
+	}
+	config.Certificates = []tls.Certificate{pair}
+	return config
 }

@@ -1,3 +1,8 @@
+// Package journalfile writes a journal: what a process has changed, sent and answered, as lines of JSON that can be
+// audited later (docs/journal.md). A line is written before anybody else can see what it reports, with one call of
+// write. So a process that is killed loses no line. After a power cut the latest lines may be missing.
+//
+// The packages that wrap the stores, backends and clients of a program are broker/journal and platform/journal.
 package journalfile
 
 import (
@@ -9,9 +14,12 @@ import (
 	"fmt"
 	"io"
 	"os"
+	"path/filepath"
 	"strconv"
+	"strings"
 	"sync"
 	"sync/atomic"
+	"syscall"
 	"time"
 )
 
@@ -28,7 +36,7 @@ type Options struct {
 	Most int64
 	// Started are the members of the line started, which is the first of each file: an object of JSON, or nil for none.
 	Started any
-	// Failed is told why lines are lost: once, until a line can be written again.
+	// Failed gets why lines are lost: once, until a line can be written again.
 	Failed func(error)
 }
 
@@ -74,11 +82,11 @@ type Writer struct {
 type job struct {
 	event string
 	rest  []byte
-	done  chan done // has room for one
+	done  chan outcome // has room for one
 }
 
-// done is what has become of a line.
-type done struct {
+// outcome is what has become of a line.
+type outcome struct {
 	at  int64
 	err error
 }
@@ -133,13 +141,13 @@ func (w *Writer) run() {
 	}
 }
 
-// put writes a line, and what comes before it.
-func (w *Writer) put(it *job) done {
+// put writes a line, and what precedes it.
+func (w *Writer) put(it *job) outcome {
 	if err := w.prepare(); err != nil {
-		return done{err: err}
+		return outcome{err: err}
 	}
 	at := w.next()
-	return done{at, w.append(at, it.event, it.rest)}
+	return outcome{at, w.append(at, it.event, it.rest)}
 }
 
 // next is the time of the next line.
@@ -181,14 +189,14 @@ func endOf(file *os.File) (size int64, isTorn bool, err error) {
 }
 
 // Write writes a line, and returns its time. members is an object of JSON with what the event has besides. A line that
-// wasn't written after a second counts as lost, although it may be written later. Until it is, further lines are lost at
-// once.
+// wasn't written after a second counts as lost, although it may be written later. Until it is, further lines are lost
+// at once.
 func (w *Writer) Write(event string, members any) int64 {
 	rest, err := json.Marshal(members)
 	if err != nil {
 		return w.lose(err)
 	}
-	it := w.write(&job{event, rest, make(chan done, 1)})
+	it := w.write(&job{event, rest, make(chan outcome, 1)})
 	if it.err != nil {
 		return w.lose(it.err)
 	}
@@ -201,7 +209,7 @@ func (w *Writer) Write(event string, members any) int64 {
 // Lose counts a line that can't be made, as one that can't be written.
 func (w *Writer) Lose(err error) { w.lose(err) }
 
-// lose counts a line that was lost, tells why if that is new, and returns the time.
+// lose counts a line that was lost, reports why if that is new, and returns the time.
 func (w *Writer) lose(err error) int64 {
 	at, isNew := w.count()
 	if isNew {
@@ -225,7 +233,7 @@ func (w *Writer) count() (at int64, isNew bool) {
 // write has a line written.
 //
 // Errors: errSlow; errClosed; those of the file.
-func (w *Writer) write(it *job) done {
+func (w *Writer) write(it *job) outcome {
 	timer := time.NewTimer(w.patience)
 	defer timer.Stop()
 	err := w.hand(it, timer.C)
@@ -240,7 +248,7 @@ func (w *Writer) write(it *job) done {
 	if errors.Is(err, errSlow) {
 		w.isStuck.Store(true)
 	}
-	return done{err: err}
+	return outcome{err: err}
 }
 
 // hand gives a line to the goroutine that writes. If that hangs already, nobody waits for it.
@@ -263,8 +271,8 @@ func (w *Writer) hand(it *job, late <-chan time.Time) error {
 	}
 }
 
-// prepare writes what comes before a line: the line started if it is the first of its file, and how many lines are
-// missing. If the next file can't be opened, the journal goes on in the one that is full.
+// prepare writes what precedes a line: the line started if it is the first of its file, and how many lines are missing.
+// If the next file can't be opened, the journal goes on in the one that is full.
 func (w *Writer) prepare() error {
 	if w.size >= w.options.Most && w.openNext() == nil {
 		w.isBegun = false
@@ -337,8 +345,8 @@ func (w *Writer) Receive(value string) {
 	w.clock.receive(value)
 }
 
-// Lost returns how many lines were lost so far.
-func (w *Writer) Lost() uint64 {
+// LostLines returns how many lines were lost so far.
+func (w *Writer) LostLines() uint64 {
 	w.mutex.Lock()
 	defer w.mutex.Unlock()
 	return w.lost
@@ -373,4 +381,176 @@ func Digest(object []byte) string {
 	}
 	sum := sha256.Sum256(object)
 	return hex.EncodeToString(sum[:8])
+}
+
+// ErrTaken reports that another process writes to the file.
+var ErrTaken = errors.New("another process writes this journal. Give each process a file of its own, or name a folder")
+
+// files are the files of a journal, one after another. Only the owner can read them.
+type files interface {
+	// next opens the file in which the journal goes on, for appending.
+	next() (*os.File, error)
+	close()
+}
+
+// filesAt are the files of a journal at a path: in a folder, or a file with those that follow it. A path that ends with
+// a slash is that of a folder, which is created.
+//
+// Errors: those of opening; ErrTaken; the path is neither a folder nor a regular file.
+func filesAt(path, side, process string, now time.Time) (files, error) {
+	if strings.HasSuffix(path, "/") {
+		if err := os.MkdirAll(path, 0o700); err != nil {
+			return nil, err
+		}
+	}
+	about, err := os.Stat(path)
+	switch {
+	case err == nil && about.IsDir():
+		begun := now.UTC().Format("20060102T150405.000000Z")
+		return &folder{prefix: filepath.Join(path, side+"-"+begun+"-"+process+"-")}, nil
+	case err == nil && !about.Mode().IsRegular():
+		return nil, fmt.Errorf("%s is neither a folder nor a regular file", path)
+	case err != nil && !errors.Is(err, os.ErrNotExist):
+		return nil, err
+	}
+	return chainAt(path)
+}
+
+// A folder has files of many processes, each with a name of its own.
+type folder struct {
+	prefix string
+	count  int
+}
+
+func (f *folder) next() (*os.File, error) {
+	name := fmt.Sprintf("%s%06d.jsonl", f.prefix, f.count+1)
+	file, err := os.OpenFile(name, os.O_WRONLY|os.O_APPEND|os.O_CREATE|os.O_EXCL, 0o600)
+	if err == nil {
+		f.count++
+	}
+	return file, err
+}
+
+func (*folder) close() {}
+
+// A chain is a file, and those that follow it: FILE, FILE.1, FILE.2 and so on. One process writes to it at a time,
+// which has the lock of the first.
+type chain struct {
+	path  string
+	lock  *os.File
+	count int // the number of the latest file
+	isNew bool
+}
+
+// chainAt locks the chain of a file. The journal goes on in the latest one.
+func chainAt(path string) (*chain, error) {
+	lock, err := openOwn(path, os.O_WRONLY)
+	if err != nil {
+		return nil, err
+	}
+	err = syscall.Flock(int(lock.Fd()), syscall.LOCK_EX|syscall.LOCK_NB)
+	if errors.Is(err, syscall.EWOULDBLOCK) {
+		err = fmt.Errorf("%s: %w", path, ErrTaken)
+	}
+	c := &chain{path: path, lock: lock, isNew: true}
+	if err == nil {
+		c.count, err = latestOf(path)
+	}
+	if err != nil {
+		_ = lock.Close()
+		return nil, err
+	}
+	return c, nil
+}
+
+// openOwn opens a file of a chain, or creates it, so that only its owner can read it. A symbolic link isn't followed.
+func openOwn(path string, flags int) (*os.File, error) {
+	file, err := os.OpenFile(path, flags|os.O_CREATE|syscall.O_NOFOLLOW, 0o600)
+	if errors.Is(err, syscall.ELOOP) {
+		return nil, fmt.Errorf("%s is a symbolic link, which isn't followed: name the file itself", path)
+	}
+	if err != nil {
+		return nil, err
+	}
+	about, err := file.Stat()
+	if err == nil && !about.Mode().IsRegular() {
+		err = fmt.Errorf("%s isn't a regular file", path)
+	}
+	if err == nil && about.Mode().Perm()&0o077 != 0 { // a journal has what only the program should know
+		err = file.Chmod(0o600)
+	}
+	if err != nil {
+		_ = file.Close()
+		return nil, fmt.Errorf("only the owner should read the journal: %w", err)
+	}
+	return file, nil
+}
+
+// latestOf is the greatest number of a file that follows another one, or 0.
+func latestOf(path string) (latest int, err error) {
+	entries, err := os.ReadDir(filepath.Dir(path))
+	if err != nil {
+		return 0, err
+	}
+	prefix := filepath.Base(path) + "."
+	for _, entry := range entries {
+		text := strings.TrimPrefix(entry.Name(), prefix)
+		number, err := strconv.Atoi(text)
+		if err == nil && strings.HasPrefix(entry.Name(), prefix) && strconv.Itoa(number) == text && number > latest {
+			latest = number
+		}
+	}
+	return latest, nil
+}
+
+func (c *chain) next() (*os.File, error) {
+	number := c.count
+	if !c.isNew {
+		number++
+	}
+	name := c.path
+	if number > 0 {
+		name += "." + strconv.Itoa(number)
+	}
+	file, err := openOwn(name, os.O_RDWR|os.O_APPEND)
+	if err == nil {
+		c.count, c.isNew = number, false
+	}
+	return file, err
+}
+
+func (c *chain) close() { _ = c.lock.Close() }
+
+// Header is the header in which two programs tell each other the times of their journals.
+const Header = "X-Osb-Journal-Time"
+
+// mostAhead is how far a time that was received may be ahead of this machine's clock.
+const mostAhead = 24 * time.Hour
+
+// A clock has the time of a journal, in microseconds since 1970: that of the machine, but later than each time before,
+// and than each that was received. So what caused a line has an earlier time (a hybrid logical clock).
+type clock struct {
+	now  func() time.Time
+	last int64
+}
+
+// next is the next time.
+func (c *clock) next() int64 {
+	c.last++
+	if now := c.now().UnixMicro(); now > c.last {
+		c.last = now
+	}
+	return c.last
+}
+
+// receive takes a time in that another process has sent. Anything but a number in digits, and a time that is too far
+// ahead, is ignored.
+func (c *clock) receive(text string) {
+	received, err := strconv.ParseUint(text, 10, 63)
+	if err != nil || int64(received) > c.now().Add(mostAhead).UnixMicro() {
+		return
+	}
+	if int64(received) > c.last {
+		c.last = int64(received)
+	}
 }

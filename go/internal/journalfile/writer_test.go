@@ -10,6 +10,7 @@ import (
 	"path/filepath"
 	"reflect"
 	"sort"
+	"strconv"
 	"strings"
 	"sync"
 	"syscall"
@@ -35,16 +36,14 @@ type member struct {
 	Text   string `json:"text,omitempty"`
 }
 
-// opened opens a journal at a path whose files have so many bytes. The test fails if a line is lost.
-func opened(t *testing.T, path string, most int64) *Writer {
+// openJournal opens a journal at a path whose files have so many bytes. The test fails if a line is lost.
+func openJournal(t *testing.T, path string, most int64) *Writer {
 	t.Helper()
 	w, err := Open(Options{
 		Path: path, Side: "broker", Most: most, Started: map[string]string{"version": "one"},
 		Failed: func(err error) { t.Error(err) },
 	})
-	if err != nil {
-		t.Fatal(err)
-	}
+	check(t, err)
 	return w
 }
 
@@ -52,16 +51,14 @@ func opened(t *testing.T, path string, most int64) *Writer {
 func linesOf(t *testing.T, path string) (lines []line) {
 	t.Helper()
 	text, err := os.ReadFile(path)
-	if err != nil {
-		t.Fatal(err)
-	}
-	for _, it := range strings.SplitAfter(string(text), "\n") {
+	check(t, err)
+	for _, text := range strings.SplitAfter(string(text), "\n") {
 		var read line
-		if it == "" {
+		if text == "" {
 			continue
 		}
-		if err := json.Unmarshal([]byte(it), &read); err != nil || !strings.HasSuffix(it, "}\n") {
-			t.Fatalf("%s: %q: %v", path, it, err)
+		if err := json.Unmarshal([]byte(text), &read); err != nil || !strings.HasSuffix(text, "}\n") {
+			t.Fatalf("%s: got %q and the error %v, want a whole line of JSON", path, text, err)
 		}
 		lines = append(lines, read)
 	}
@@ -70,14 +67,14 @@ func linesOf(t *testing.T, path string) (lines []line) {
 
 // eventsOf are the events of lines, those that the tests write with their numbers.
 func eventsOf(lines []line) (events []string) {
-	for _, it := range lines {
-		switch it.Event {
+	for _, line := range lines {
+		switch line.Event {
 		case "made":
-			events = append(events, fmt.Sprint(it.Number))
+			events = append(events, fmt.Sprint(line.Number))
 		case "lost":
-			events = append(events, fmt.Sprint("lost ", it.Count))
+			events = append(events, fmt.Sprint("lost ", line.Count))
 		default:
-			events = append(events, it.Event)
+			events = append(events, line.Event)
 		}
 	}
 	return events
@@ -86,7 +83,7 @@ func eventsOf(lines []line) (events []string) {
 func wantEvents(t *testing.T, path, want string) {
 	t.Helper()
 	if got := strings.Join(eventsOf(linesOf(t, path)), ", "); got != want {
-		t.Errorf("%s: %s; want %s", path, got, want)
+		t.Errorf("%s: got %s, want %s", path, got, want)
 	}
 }
 
@@ -94,11 +91,9 @@ func wantEvents(t *testing.T, path, want string) {
 func filesIn(t *testing.T, folder string) (paths []string) {
 	t.Helper()
 	entries, err := os.ReadDir(folder)
-	if err != nil {
-		t.Fatal(err)
-	}
-	for _, it := range entries {
-		paths = append(paths, filepath.Join(folder, it.Name()))
+	check(t, err)
+	for _, entry := range entries {
+		paths = append(paths, filepath.Join(folder, entry.Name()))
 	}
 	return paths
 }
@@ -106,7 +101,7 @@ func filesIn(t *testing.T, folder string) (paths []string) {
 func TestLines(t *testing.T) {
 	path := filepath.Join(t.TempDir(), "journal")
 	before := time.Now().UnixMicro()
-	w := opened(t, path, 1<<20)
+	w := openJournal(t, path, 1<<20)
 	var times []int64
 	for n := 1; n <= 3; n++ {
 		times = append(times, w.Write("made", member{n, "a\nb\u2028\"\x00"}))
@@ -116,29 +111,29 @@ func TestLines(t *testing.T) {
 	w.Close()
 	wantEvents(t, path, "started, 1, 2, 3, stopped")
 	lines := linesOf(t, path)
-	for at, it := range lines {
-		if it.Side != "broker" || len(it.Process) != 16 || it.Process != lines[0].Process {
-			t.Errorf("%+v", it)
+	for at, line := range lines {
+		if line.Side != "broker" || len(line.Process) != 16 || line.Process != lines[0].Process {
+			t.Errorf("got %+v, want the side broker and one process", line)
 		}
-		if at > 0 && it.Time <= lines[at-1].Time || it.Time < before || it.Time > time.Now().Add(time.Second).UnixMicro() {
-			t.Errorf("%+v after %+v", it, lines[at-1])
+		if at > 0 && line.Time <= lines[at-1].Time || line.Time < before || line.Time > time.Now().Add(time.Second).UnixMicro() {
+			t.Errorf("got %+v after %+v, want a later time", line, lines[at-1])
 		}
-		if it.Event == "made" && (it.Time != times[at-1] || it.Text != "a\nb\u2028\"\x00") {
-			t.Errorf("%+v", it)
+		if line.Event == "made" && (line.Time != times[at-1] || line.Text != "a\nb\u2028\"\x00") {
+			t.Errorf("got %+v, want the time and the text that were written", line)
 		}
 	}
 	if lines[0].Version != "one" {
-		t.Errorf("%+v", lines[0])
+		t.Errorf("got %+v, want the version one", lines[0])
 	}
 	if about, err := os.Stat(path); err != nil || about.Mode() != 0o600 {
-		t.Errorf("%v, %v", about.Mode(), err)
+		t.Errorf("got the mode %v and the error %v, want 0600", about.Mode(), err)
 	}
 }
 
 // Many goroutines write at once: no line is lost or torn, and the times of each file ascend.
 func TestManyWriters(t *testing.T) {
 	folder := t.TempDir()
-	w := opened(t, folder, 20_000)
+	w := openJournal(t, folder, 20_000)
 	var all sync.WaitGroup
 	for n := 0; n < 8; n++ {
 		n := n
@@ -154,17 +149,17 @@ func TestManyWriters(t *testing.T) {
 	w.Close()
 	last, seen := int64(0), map[int]bool{}
 	for _, path := range filesIn(t, folder) {
-		for _, it := range linesOf(t, path) {
-			if it.Time <= last {
-				t.Fatalf("%s: %d after %d", path, it.Time, last)
+		for _, line := range linesOf(t, path) {
+			if line.Time <= last {
+				t.Fatalf("%s: got the time %d, want one after %d", path, line.Time, last)
 			}
-			if last = it.Time; it.Event == "made" {
-				seen[it.Number] = true
+			if last = line.Time; line.Event == "made" {
+				seen[line.Number] = true
 			}
 		}
 	}
 	if len(seen) != 2000 {
-		t.Errorf("%d of 2000 lines", len(seen))
+		t.Errorf("got %d lines, want 2000", len(seen))
 	}
 }
 
@@ -172,7 +167,7 @@ func TestManyWriters(t *testing.T) {
 func TestFolder(t *testing.T) {
 	folder := filepath.Join(t.TempDir(), "made", "here") + "/"
 	for _, name := range []string{"first", "second"} {
-		w := opened(t, folder, 1000)
+		w := openJournal(t, folder, 1000)
 		for n := 1; n <= 30; n++ {
 			w.Write("made", member{n, name})
 		}
@@ -183,31 +178,32 @@ func TestFolder(t *testing.T) {
 	for _, path := range filesIn(t, folder) {
 		about, err := os.Stat(path)
 		if err != nil || about.Size() > 1200 || about.Mode() != 0o600 {
-			t.Errorf("%s: %v, %v, %v", path, about.Size(), about.Mode(), err)
+			t.Errorf("%s: got %v bytes, the mode %v and the error %v, want at most 1200 and 0600",
+				path, about.Size(), about.Mode(), err)
 		}
 		lines := linesOf(t, path)
 		if process := lines[0].Process; lines[0].Event != "started" || !strings.Contains(path, "/broker-") ||
 			!strings.Contains(path, fmt.Sprintf("-%s-%06d.jsonl", process, files[process]+1)) {
-			t.Errorf("%s: %+v", path, lines[0])
+			t.Errorf("%s: got %+v, want the next number of its process", path, lines[0])
 		}
 		files[lines[0].Process]++
-		for _, it := range lines {
-			if it.Event == "made" {
-				numbers[it.Text] = append(numbers[it.Text], it.Number)
+		for _, line := range lines {
+			if line.Event == "made" {
+				numbers[line.Text] = append(numbers[line.Text], line.Number)
 			}
 		}
 	}
 	if len(files) != 2 {
-		t.Errorf("%v", files)
+		t.Errorf("got %v, want two files", files)
 	}
 	for name, got := range numbers {
 		if len(got) != 30 || !sort.IntsAreSorted(got) {
-			t.Errorf("%s: %v", name, got)
+			t.Errorf("%s: got %v, want 30 numbers in order", name, got)
 		}
 	}
 	for process, count := range files {
 		if count < 3 {
-			t.Errorf("%s has %d files", process, count)
+			t.Errorf("%s: got %d files, want at least 3", process, count)
 		}
 	}
 }
@@ -217,11 +213,9 @@ func TestFile(t *testing.T) {
 	folder := t.TempDir()
 	path := filepath.Join(folder, "journal")
 	for _, other := range []string{"journal.x", "journal.07", "other.9", "journal.-1"} {
-		if err := os.WriteFile(filepath.Join(folder, other), nil, 0o600); err != nil {
-			t.Fatal(err)
-		}
+		check(t, os.WriteFile(filepath.Join(folder, other), nil, 0o600))
 	}
-	w := opened(t, path, 250)
+	w := openJournal(t, path, 250)
 	for n := 1; n <= 5; n++ {
 		w.Write("made", member{n, ""})
 	}
@@ -229,7 +223,7 @@ func TestFile(t *testing.T) {
 	wantEvents(t, path, "started, 1, 2")
 	wantEvents(t, path+".1", "started, 3, 4")
 	wantEvents(t, path+".2", "started, 5, stopped")
-	w = opened(t, path, 450)
+	w = openJournal(t, path, 450)
 	w.Write("made", member{6, ""})
 	w.Write("made", member{7, ""})
 	w.Close()
@@ -242,87 +236,75 @@ func TestOnlyTheOwnerReads(t *testing.T) {
 	folder := t.TempDir()
 	path, elsewhere := filepath.Join(folder, "journal"), filepath.Join(folder, "elsewhere")
 	for _, file := range []string{path, path + ".1", elsewhere} {
-		if err := os.WriteFile(file, nil, 0o644); err != nil {
-			t.Fatal(err)
-		}
+		check(t, os.WriteFile(file, nil, 0o644))
 	}
-	w := opened(t, path, 250)
+	w := openJournal(t, path, 250)
 	for n := 1; n <= 5; n++ {
 		w.Write("made", member{n, ""})
 	}
 	w.Close()
 	for _, file := range []string{path, path + ".1", path + ".2"} {
 		if about, err := os.Stat(file); err != nil || about.Mode() != 0o600 {
-			t.Errorf("%s has mode %v, %v; want 0600", file, about.Mode(), err)
+			t.Errorf("%s: got the mode %v, %v, want 0600", file, about.Mode(), err)
 		}
 	}
 	for _, link := range []string{filepath.Join(folder, "link"), path + ".9"} {
-		if err := os.Symlink(elsewhere, link); err != nil {
-			t.Fatal(err)
-		}
+		check(t, os.Symlink(elsewhere, link))
 		of := strings.TrimSuffix(link, ".9")
 		if w, err := Open(Options{Path: of, Side: "broker", Most: 200}); err == nil {
 			w.Close()
-			t.Errorf("%s is a journal", link)
+			t.Errorf("%s: got a journal, want an error", link)
 		} else if !strings.Contains(err.Error(), "symbolic link") {
-			t.Errorf("%s: %v", link, err)
+			t.Errorf("%s: got the error %v, want one that names the symbolic link", link, err)
 		}
 	}
 	if about, err := os.Stat(elsewhere); err != nil || about.Mode() != 0o644 || about.Size() != 0 {
-		t.Errorf("the file behind the links has changed: %v, %v", about, err)
+		t.Errorf("the file behind the links: got %v, %v, want it unchanged", about, err)
 	}
 }
 
 // One process writes to a file at a time, also while the journal is in a later one.
 func TestTaken(t *testing.T) {
 	path := filepath.Join(t.TempDir(), "journal")
-	first := opened(t, path, 200)
+	first := openJournal(t, path, 200)
 	for n := 1; n <= 5; n++ {
 		first.Write("made", member{n, ""})
 	}
 	_, err := Open(Options{Path: path, Side: "broker", Most: 200})
 	if !errors.Is(err, ErrTaken) || !strings.Contains(err.Error(), path) {
-		t.Errorf("%v", err)
+		t.Errorf("got the error %v, want ErrTaken with the path", err)
 	}
 	first.Close()
-	opened(t, path, 200).Close()
+	openJournal(t, path, 200).Close()
 }
 
 // What can't be a journal is an error, and stays as it is.
 func TestWrongPlaces(t *testing.T) {
 	folder := t.TempDir()
 	pipe, file := filepath.Join(folder, "pipe"), filepath.Join(folder, "file")
-	if err := syscall.Mkfifo(pipe, 0o600); err != nil {
-		t.Fatal(err)
-	}
-	if err := os.WriteFile(file, nil, 0o600); err != nil {
-		t.Fatal(err)
-	}
+	check(t, syscall.Mkfifo(pipe, 0o600))
+	check(t, os.WriteFile(file, nil, 0o600))
 	for _, path := range []string{pipe, "/dev/null", filepath.Join(folder, "no", "folder"), file + "/", file + "/x", ""} {
 		if w, err := Open(Options{Path: path, Side: "broker", Most: 200}); err == nil {
 			w.Close()
-			t.Errorf("%q is a journal", path)
+			t.Errorf("%q: got a journal, want an error", path)
 		}
 	}
 	if found := filesIn(t, folder); !reflect.DeepEqual(found, []string{file, pipe}) {
-		t.Errorf("%v", found)
+		t.Errorf("got the files %v, want the file and the pipe alone", found)
 	}
 }
 
 // A line that a power cut has torn stays a line of its own.
 func TestTorn(t *testing.T) {
 	path := filepath.Join(t.TempDir(), "journal")
-	if err := os.WriteFile(path, []byte(`{"time":12`), 0o600); err != nil {
-		t.Fatal(err)
-	}
-	opened(t, path, 1000).Close()
+	check(t, os.WriteFile(path, []byte(`{"time":12`), 0o600))
+	openJournal(t, path, 1000).Close()
 	text, err := os.ReadFile(path)
-	if err != nil {
-		t.Fatal(err)
-	}
+	check(t, err)
 	lines := strings.Split(string(text), "\n")
 	if len(lines) != 4 || lines[0] != `{"time":12` || !json.Valid([]byte(lines[1])) || lines[3] != "" {
-		t.Errorf("%q", lines)
+		t.Errorf("got the lines %q, want a torn one and two whole ones", lines)
 	}
 }
 
@@ -330,39 +312,31 @@ func TestTorn(t *testing.T) {
 func longest(t *testing.T, bytes uint64) {
 	t.Helper()
 	var limit syscall.Rlimit
-	if err := syscall.Getrlimit(syscall.RLIMIT_FSIZE, &limit); err != nil {
-		t.Fatal(err)
-	}
+	check(t, syscall.Getrlimit(syscall.RLIMIT_FSIZE, &limit))
 	if bytes > limit.Max {
 		bytes = limit.Max
 	}
 	limit.Cur = bytes
-	if err := syscall.Setrlimit(syscall.RLIMIT_FSIZE, &limit); err != nil {
-		t.Fatal(err)
-	}
+	check(t, syscall.Setrlimit(syscall.RLIMIT_FSIZE, &limit))
 }
 
-// On a full disk, lines are lost and counted. That is told once, and the journal says how many are missing.
+// On a full disk, lines are lost and counted. That is reported once, and the journal says how many are missing.
 func TestFull(t *testing.T) {
 	signal.Ignore(syscall.SIGXFSZ)
 	path := filepath.Join(t.TempDir(), "journal")
 	told := []error{}
 	w, err := Open(Options{Path: path, Side: "broker", Most: 1 << 20, Failed: func(err error) { told = append(told, err) }})
-	if err != nil {
-		t.Fatal(err)
-	}
+	check(t, err)
 	w.Write("made", member{1, ""})
 	about, err := os.Stat(path)
-	if err != nil {
-		t.Fatal(err)
-	}
+	check(t, err)
 	longest(t, uint64(about.Size())+20) // in the middle of the next line
 	t.Cleanup(func() { longest(t, 1<<62) })
 	for n := 2; n <= 4; n++ {
 		w.Write("made", member{n, ""})
 	}
-	if len(told) != 1 || !errors.Is(told[0], syscall.EFBIG) || w.Lost() != 3 {
-		t.Errorf("%v; %d lost", told, w.Lost())
+	if len(told) != 1 || !errors.Is(told[0], syscall.EFBIG) || w.LostLines() != 3 {
+		t.Errorf("got %v and %d lost, want one that the file is too large, and 3", told, w.LostLines())
 	}
 	longest(t, 1<<62)
 	w.Write("made", member{5, ""})
@@ -373,12 +347,12 @@ func TestFull(t *testing.T) {
 	w.Write("made", member{7, ""})
 	w.Close()
 	wantEvents(t, path, "started, 1, lost 3, 5, lost 1, 7, stopped")
-	if len(told) != 2 || w.Lost() != 4 {
-		t.Errorf("%v; %d lost", told, w.Lost())
+	if len(told) != 2 || w.LostLines() != 4 {
+		t.Errorf("got %v and %d lost, want 2 and 4", told, w.LostLines())
 	}
 }
 
-// A full disk at the start: the line started comes later, before all others.
+// A full disk at the start: the line started is written later, before all others.
 func TestFullAtFirst(t *testing.T) {
 	signal.Ignore(syscall.SIGXFSZ)
 	path := filepath.Join(t.TempDir(), "journal")
@@ -386,16 +360,14 @@ func TestFullAtFirst(t *testing.T) {
 	t.Cleanup(func() { longest(t, 1<<62) })
 	told := 0
 	w, err := Open(Options{Path: path, Side: "broker", Most: 1 << 20, Failed: func(error) { told++ }})
-	if err != nil {
-		t.Fatal(err)
-	}
+	check(t, err)
 	w.Write("made", member{1, ""})
 	longest(t, 1<<62)
 	w.Write("made", member{2, ""})
 	w.Close()
 	wantEvents(t, path, "started, lost 1, 2, stopped")
 	if told != 1 {
-		t.Errorf("it was told %d times", told)
+		t.Errorf("got %d reports, want 1", told)
 	}
 }
 
@@ -403,16 +375,12 @@ func TestFullAtFirst(t *testing.T) {
 func TestNoNextFile(t *testing.T) {
 	folder := t.TempDir()
 	path := filepath.Join(folder, "journal")
-	w := opened(t, path, 250)
-	if err := os.Mkdir(path+".1", 0o700); err != nil {
-		t.Fatal(err)
-	}
+	w := openJournal(t, path, 250)
+	check(t, os.Mkdir(path+".1", 0o700))
 	for n := 1; n <= 3; n++ {
 		w.Write("made", member{n, ""})
 	}
-	if err := os.Remove(path + ".1"); err != nil {
-		t.Fatal(err)
-	}
+	check(t, os.Remove(path+".1"))
 	w.Write("made", member{4, ""})
 	w.Close()
 	wantEvents(t, path, "started, 1, 2, 3")
@@ -424,25 +392,23 @@ func TestNoJSON(t *testing.T) {
 	path := filepath.Join(t.TempDir(), "journal")
 	told := 0
 	w, err := Open(Options{Path: path, Side: "broker", Most: 1 << 20, Failed: func(error) { told++ }})
-	if err != nil {
-		t.Fatal(err)
-	}
+	check(t, err)
 	w.Write("made", func() {})
 	w.Lose(errors.New("no text"))
 	w.Close()
 	wantEvents(t, path, "started, lost 2, stopped")
-	if told != 1 || w.Lost() != 2 {
-		t.Errorf("told %d times, %d lost", told, w.Lost())
+	if told != 1 || w.LostLines() != 2 {
+		t.Errorf("got %d reports and %d lost, want 1 and 2", told, w.LostLines())
 	}
 }
 
 func TestDigest(t *testing.T) {
 	// the first 8 bytes of SHA-256 of "abc" (FIPS 180-2, appendix B.1)
 	if got := Digest([]byte("abc")); got != "ba7816bf8f01cfea" {
-		t.Error(got)
+		t.Errorf("got %q, want \"ba7816bf8f01cfea\"", got)
 	}
 	if got := Digest(nil); got != "" {
-		t.Errorf("of nothing: %q", got)
+		t.Errorf("of nothing: got %q, want none", got)
 	}
 }
 
@@ -453,9 +419,7 @@ func TestDiskHangs(t *testing.T) {
 	w, err := Open(Options{Path: path, Side: "broker", Most: 1 << 30, Failed: func(err error) {
 		failures = append(failures, err.Error())
 	}})
-	if err != nil {
-		t.Fatal(err)
-	}
+	check(t, err)
 	disk, read := full(t)
 	w.patience, w.file = 50*time.Millisecond, disk
 	begun := time.Now()
@@ -463,17 +427,17 @@ func TestDiskHangs(t *testing.T) {
 		w.Write("made", member{n, ""})
 	}
 	if took := time.Since(begun); took < w.patience || took > 60*w.patience { // each of them would wait
-		t.Errorf("100 lines took %v", took)
+		t.Errorf("100 lines: got %v, want one wait for all of them", took)
 	}
-	if w.Lost() != 100 || len(failures) != 1 || !strings.Contains(failures[0], "the disk doesn't answer") {
-		t.Errorf("%d lines are lost: %q", w.Lost(), failures)
+	if w.LostLines() != 100 || len(failures) != 1 || !strings.Contains(failures[0], "the disk doesn't answer") {
+		t.Errorf("got %d lines lost and %q, want 100 and one report", w.LostLines(), failures)
 	}
 	w.patience = 10 * time.Second
 	rest := make(chan string, 1)
 	go func() { rest <- read() }()
 	for end := time.Now().Add(time.Minute); ; time.Sleep(time.Millisecond) { // until a line isn't lost
-		lost := w.Lost()
-		if w.Write("made", member{101, ""}); w.Lost() == lost || time.Now().After(end) {
+		lost := w.LostLines()
+		if w.Write("made", member{101, ""}); w.LostLines() == lost || time.Now().After(end) {
 			break
 		}
 	}
@@ -483,22 +447,20 @@ func TestDiskHangs(t *testing.T) {
 	events := strings.Split(strings.TrimLeft(text, "x"), "\n")
 	if !strings.Contains(events[0], `"number":1}`) || !strings.Contains(text, `"event":"lost"`) ||
 		!strings.Contains(text, `"number":101}`) || !strings.Contains(text, `"event":"stopped"`) {
-		t.Errorf("%q", events)
+		t.Errorf("got the events %q, want the last number and stopped", events)
 	}
 }
 
 // A journal is closed although its disk hangs.
 func TestCloseAtADiskThatHangs(t *testing.T) {
 	w, err := Open(Options{Path: filepath.Join(t.TempDir(), "journal"), Side: "broker", Most: 1 << 30, Failed: func(error) {}})
-	if err != nil {
-		t.Fatal(err)
-	}
+	check(t, err)
 	disk, read := full(t)
 	w.patience, w.file = 50*time.Millisecond, disk
 	begun := time.Now()
 	w.Close()
 	if took := time.Since(begun); took > time.Minute { // the disk hangs for good
-		t.Errorf("it took %v", took)
+		t.Errorf("got an end after %v, want one within a minute", took)
 	}
 	go read()
 	<-w.ended
@@ -508,23 +470,86 @@ func TestCloseAtADiskThatHangs(t *testing.T) {
 func full(t *testing.T) (file *os.File, read func() string) {
 	t.Helper()
 	reader, writer, err := os.Pipe()
-	if err != nil {
-		t.Fatal(err)
-	}
-	if err := writer.SetWriteDeadline(time.Now().Add(100 * time.Millisecond)); err != nil {
-		t.Fatal(err)
-	}
+	check(t, err)
+	check(t, writer.SetWriteDeadline(time.Now().Add(100*time.Millisecond)))
 	for block := []byte(strings.Repeat("x", 4096)); ; {
 		if _, err := writer.Write(block); errors.Is(err, os.ErrDeadlineExceeded) {
 			break
 		}
 	}
-	if err := writer.SetWriteDeadline(time.Time{}); err != nil {
-		t.Fatal(err)
-	}
+	check(t, writer.SetWriteDeadline(time.Time{}))
 	return writer, func() string {
 		text, _ := io.ReadAll(reader)
 		_ = reader.Close()
 		return string(text)
+	}
+}
+
+// The time is that of the machine. While the machine's clock stands or is set back, each time is one more than the
+// last.
+func TestClock(t *testing.T) {
+	now := time.UnixMicro(1000)
+	c := clock{now: func() time.Time { return now }}
+	for _, test := range []struct{ now, want int64 }{
+		{1000, 1000}, {1000, 1001}, {900, 1002}, {1002, 1003}, {1010, 1010}, {1011, 1011},
+	} {
+		now = time.UnixMicro(test.now)
+		if got := c.next(); got != test.want {
+			t.Errorf("at %d: got %d, want %d", test.now, got, test.want)
+		}
+	}
+}
+
+// A time that was received is before all that follow, unless it is no time, or is more than a day ahead.
+func TestReceive(t *testing.T) {
+	const day = 24 * 60 * 60 * 1_000_000
+	for text, want := range map[string]int64{
+		"500": 1001, "1000": 1001, "7000": 7001, "07000": 7001,
+		strconv.Itoa(1000 + day):     1001 + day,
+		strconv.Itoa(1000 + day + 1): 1001,
+		"":                           1001, "+7000": 1001, "-7000": 1001, "7000 ": 1001, "7e3": 1001, "0x1fff": 1001, "7_000": 1001,
+		"9223372036854775807": 1001, "9223372036854775808": 1001, "99999999999999999999": 1001,
+	} {
+		t.Run(text, func(t *testing.T) {
+			c := clock{now: func() time.Time { return time.UnixMicro(1000) }}
+			c.next()
+			c.receive(text)
+			if got := c.next(); got != want {
+				t.Errorf("got %d, want %d", got, want)
+			}
+		})
+	}
+}
+
+// Lines have later times than what was received before, and what is sent is later than the lines before.
+func TestTimesCross(t *testing.T) {
+	path := filepath.Join(t.TempDir(), "journal")
+	w := openJournal(t, path, 1<<20)
+	ahead := time.Now().Add(time.Hour).UnixMicro()
+	w.Receive(strconv.FormatInt(ahead, 10))
+	at := w.Write("made", member{1, ""})
+	given, err := strconv.ParseInt(w.Time(), 10, 64)
+	if err != nil || at <= ahead || given <= at || given > ahead+10 {
+		t.Errorf("got %d, and then %d, after %d (%v), want each later", at, given, ahead, err)
+	}
+	w.Close()
+}
+
+// What a line takes, with the call of write.
+func BenchmarkWrite(b *testing.B) {
+	w, err := Open(Options{Path: filepath.Join(b.TempDir(), "journal"), Side: "broker", Most: 64 << 20})
+	check(b, err)
+	line := member{Number: 1, Text: "00000000-0000-0000-0000-0000000000a0 00000000-0000-0000-0000-0000000000a0"}
+	b.ResetTimer()
+	for n := 0; n < b.N; n++ {
+		w.Write("made", line)
+	}
+}
+
+// check ends the test at an error.
+func check(t testing.TB, err error) {
+	t.Helper()
+	if err != nil {
+		t.Fatal(err)
 	}
 }

@@ -2,16 +2,16 @@ package logs
 
 import (
 	"bytes"
+	"context"
 	"encoding/json"
 	"errors"
-	"reflect"
+	"fmt"
+	"io"
 	"regexp"
 	"strings"
+	"sync"
 	"testing"
 	"time"
-
-	"pippinterm/broker"
-	"pippinterm/osb"
 )
 
 var aTime = regexp.MustCompile(`"time":"\d{4}-\d\d-\d\dT\d\d:\d\d:\d\d\.\d{3}Z"`)
@@ -23,7 +23,7 @@ func waitUntil(t *testing.T, isSo func() bool) {
 	t.Helper()
 	for until := time.Now().Add(limit); !isSo(); time.Sleep(time.Millisecond) {
 		if time.Now().After(until) {
-			t.Fatal("it didn't happen in time")
+			t.Fatal("got nothing in the time for it, want it")
 		}
 	}
 }
@@ -39,14 +39,14 @@ func TestEventsOfALogger(t *testing.T) {
 {"time":"T","level":"error","event":"store_failed","error":"no space"}
 `
 	if lines := withoutTimes(got.String()); lines != want {
-		t.Errorf("%s\nwant\n%s", lines, want)
+		t.Errorf("got\n%s\nwant\n%s", lines, want)
 	}
 }
 
 func TestTimesAreInUTC(t *testing.T) {
 	at := time.Date(2024, 7, 1, 1, 2, 3, 4_999_999, time.FixedZone("", 7200))
 	if got, want := timeOf(at), "2024-06-30T23:02:03.004Z"; got != want {
-		t.Errorf("%s, want %s", got, want)
+		t.Errorf("got %s, want %s", got, want)
 	}
 }
 
@@ -59,95 +59,245 @@ func TestLinesAreASCIIAndHaveNoControlCharacters(t *testing.T) {
 		line := got.Bytes()
 		for _, b := range line[:len(line)-1] {
 			if b < ' ' || b > '~' {
-				t.Errorf("%q: byte %#x in %q", text, b, line)
+				t.Errorf("%q: got the byte %#x in %q, want ASCII", text, b, line)
 			}
 		}
 		var read struct{ Target string }
 		if err := json.Unmarshal(line, &read); err != nil {
-			t.Fatalf("%q: %v", text, err)
+			t.Fatalf("%q: got the error %v, want none", text, err)
 		}
 		if want := strings.ToValidUTF8(text, "\ufffd"); read.Target != want && text != "\xff\xfe" {
-			t.Errorf("%q is read as %q", text, read.Target)
+			t.Errorf("%q: got %q, want it without what isn't UTF-8", text, read.Target)
 		}
 	}
 }
 
-const (
-	one = "00000000-0000-0000-0000-000000000001"
-	two = "00000000-0000-0000-0000-000000000002"
-)
+const limit = 10 * time.Second // of what has to happen soon
 
-func TestObserverLogsARequest(t *testing.T) {
-	instance, binding := osb.MustParseID(one), osb.MustParseID(two)
-	whole := broker.Exchange{
-		RequestID: "an-id", Key: broker.BindingKey(instance, binding), IsNamed: true, Route: "bind", Method: "PUT",
-		Target: "/v2/service_instances/1/service_bindings/2", Status: 201, Reason: "why",
-		Duration: 12345 * time.Microsecond, User: "platform", Address: "192.0.2.1", Traceparent: "00-1-2-01",
-		VcapRequest: "3", Identity: "cloudfoundry",
+func contextOf(t *testing.T) context.Context {
+	t.Helper()
+	ctx, cancel := context.WithTimeout(context.Background(), limit)
+	t.Cleanup(cancel)
+	return ctx
+}
+
+func closeQueue(t *testing.T, queue *Queue) {
+	t.Helper()
+	if err := queue.Close(contextOf(t)); err != nil {
+		t.Fatal(err)
 	}
+}
+
+func write(t *testing.T, to io.Writer, line string) {
+	t.Helper()
+	if count, err := to.Write([]byte(line)); count != len(line) || err != nil {
+		t.Fatalf("Write: got %d and %v, want all %d bytes", count, err, len(line))
+	}
+}
+
+// A gate is a writer that waits in each Write until the test lets it go on.
+type gate struct {
+	entered chan struct{} // has a value for each Write that began
+	pass    chan error    // what each Write returns
+	got     bytes.Buffer
+}
+
+func newGate() *gate {
+	return &gate{entered: make(chan struct{}, 100), pass: make(chan error, 100)}
+}
+
+func (g *gate) Write(p []byte) (int, error) {
+	g.entered <- struct{}{}
+	if err := <-g.pass; err != nil {
+		return 0, err
+	}
+	return g.got.Write(p)
+}
+
+func (g *gate) let(errs ...error) {
+	for _, err := range errs {
+		g.pass <- err
+	}
+}
+
+func TestLinesAreWrittenInOrder(t *testing.T) {
+	var got bytes.Buffer
+	queue := NewQueue(&got)
+	var want strings.Builder
+	for number := 0; number < 1000; number++ {
+		line := fmt.Sprintf("%d\n", number)
+		want.WriteString(line)
+		write(t, queue, line)
+	}
+	closeQueue(t, queue)
+	if got.String() != want.String() || queue.DroppedLines() != 0 {
+		t.Errorf("got %d bytes written and %[3]d lines dropped, want %[2]d and none", got.Len(), want.Len(),
+			queue.DroppedLines())
+	}
+}
+
+func TestASlowReaderHoldsNobodyUp(t *testing.T) {
 	for name, test := range map[string]struct {
-		exchange broker.Exchange
-		want     string
+		line string
+		fit  int
 	}{
-		"all members": {whole, `{"time":"T","level":"info","event":"request","request":"an-id",` +
-			`"instance":"` + one + `","binding":"` + two + `",` +
-			`"route":"bind","method":"PUT","target":"/v2/service_instances/1/service_bindings/2","status":201,` +
-			`"reason":"why","milliseconds":12.3,"user":"platform","address":"192.0.2.1","traceparent":"00-1-2-01",` +
-			`"vcap_request_id":"3","originating_identity":"cloudfoundry"}`},
-		"an instance": {broker.Exchange{Key: broker.InstanceKey(instance), IsNamed: true, Route: "poll", Status: 200},
-			`{"time":"T","level":"info","event":"request","instance":"` + one + `",` +
-				`"route":"poll","status":200,"milliseconds":0}`},
-		"nothing is named": {broker.Exchange{Route: "other", Status: 408, Address: "::1"},
-			`{"time":"T","level":"info","event":"request","route":"other","status":408,"milliseconds":0,` +
-				`"address":"::1"}`},
+		"many lines": {"x\n", mostLines},
+		"long lines": {strings.Repeat("x", 1<<16-1) + "\n", mostBytes >> 16},
 	} {
-		var got bytes.Buffer
-		Observer(New(&got)).Answered(test.exchange)
-		if line := withoutTimes(got.String()); line != test.want+"\n" {
-			t.Errorf("%s:\n%swant\n%s", name, line, test.want)
+		t.Run(name, func(t *testing.T) {
+			to := newGate()
+			queue := NewQueue(to)
+			write(t, queue, test.line)
+			<-to.entered // the first line is being written, and doesn't end
+			const over = 7
+			for number := 1; number < test.fit+over; number++ {
+				write(t, queue, test.line)
+			}
+			if queue.DroppedLines() != over {
+				t.Errorf("got %d lines dropped, want %d", queue.DroppedLines(), over)
+			}
+			to.let(nil, nil, nil, nil)
+			closeQueue(t, queue)
+			report := `"level":"warning","event":"log_lines_dropped","lines":7}` + "\n"
+			lines := to.got.String()
+			if strings.Count(lines, test.line) < test.fit || !strings.HasSuffix(lines, report) {
+				t.Errorf("got %d lines written, at the end %q, want all that fit and the report", strings.Count(lines, "\n"),
+					lines[len(lines)-100:])
+			}
+		})
+	}
+}
+
+func TestTheReportStandsWhereLinesAreMissing(t *testing.T) {
+	to := newGate()
+	queue := NewQueue(to)
+	write(t, queue, "first\n")
+	<-to.entered
+	for number := 0; number < mostLines; number++ {
+		write(t, queue, "x\n")
+	}
+	to.let(nil)
+	<-to.entered // the lines that waited are being written
+	write(t, queue, "last\n")
+	to.let(nil, nil, nil)
+	closeQueue(t, queue)
+	lines := strings.SplitAfter(to.got.String(), "\n")
+	if len(lines) != mostLines+3 {
+		t.Fatalf("got %d lines, want %d", len(lines), mostLines+3)
+	}
+	if !strings.Contains(lines[mostLines], `"lines":1}`) || lines[mostLines+1] != "last\n" {
+		t.Errorf("the end: got %q, want the report of one line, and the last", lines[mostLines-1:])
+	}
+}
+
+func TestALineThatIsTooLongIsDropped(t *testing.T) {
+	var got bytes.Buffer
+	queue := NewQueue(&got)
+	write(t, queue, strings.Repeat("x", mostBytes)+"\n")
+	write(t, queue, "short\n")
+	closeQueue(t, queue)
+	if queue.DroppedLines() != 1 || strings.Contains(got.String(), "xx") || !strings.Contains(got.String(), "short\n") ||
+		!strings.Contains(got.String(), `"lines":1}`) {
+		t.Errorf("got %d lines dropped and %.200q written, want the long one dropped", queue.DroppedLines(), got.String())
+	}
+}
+
+func TestLinesThatCantBeWrittenAreCounted(t *testing.T) {
+	to := newGate()
+	queue := NewQueue(to)
+	full := errors.New("no space left on device")
+	write(t, queue, "lost\n")
+	<-to.entered
+	write(t, queue, "lost too\n")
+	write(t, queue, "lost too\n")
+	to.let(full)
+	<-to.entered // the next batch
+	to.let(full)
+	<-to.entered // a report
+	to.let(full)
+	write(t, queue, "there\n")
+	<-to.entered
+	to.let(nil, nil, nil)
+	closeQueue(t, queue)
+	want := "there\n" + `{"time":"T","level":"warning","event":"log_lines_dropped","lines":3}` + "\n"
+	if got := withoutTimes(to.got.String()); got != want || queue.DroppedLines() != 3 {
+		t.Errorf("written: got %q, want %q; %d dropped", got, want, queue.DroppedLines())
+	}
+}
+
+// A tearer writes so many bytes of the first batch alone.
+type tearer struct {
+	first int
+	got   bytes.Buffer
+}
+
+func (t *tearer) Write(p []byte) (int, error) {
+	if t.first == 0 {
+		return t.got.Write(p)
+	}
+	count, _ := t.got.Write(p[:t.first])
+	t.first = 0
+	return count, io.ErrShortWrite
+}
+
+func TestATornLineStaysALineOfItsOwn(t *testing.T) {
+	for first, want := range map[int]string{
+		3: "fir\n" + `{"time":"T","level":"warning","event":"log_lines_dropped","lines":1}` + "\nsecond\n",
+		6: "first\nsecond\n",
+	} {
+		to := &tearer{first: first}
+		queue := NewQueue(to)
+		write(t, queue, "first\n")
+		waitUntil(t, func() bool {
+			queue.mutex.Lock()
+			defer queue.mutex.Unlock()
+			return queue.writing.lines == 0 && queue.lines == 0
+		})
+		write(t, queue, "second\n")
+		closeQueue(t, queue)
+		if got := withoutTimes(to.got.String()); got != want {
+			t.Errorf("torn after %d bytes: got %q, want %q", first, got, want)
 		}
 	}
 }
 
-func TestEachFieldOfAnExchangeIsLogged(t *testing.T) {
-	var got bytes.Buffer
-	var exchange broker.Exchange
-	fields := reflect.ValueOf(&exchange).Elem()
-	var texts []string
-	for number := 0; number < fields.NumField(); number++ {
-		if field := fields.Field(number); field.Kind() == reflect.String {
-			texts = append(texts, "text-"+fields.Type().Field(number).Name)
-			field.SetString(texts[len(texts)-1])
-		}
+func TestCloseWaitsForTheRest(t *testing.T) {
+	to := newGate()
+	queue := NewQueue(to)
+	write(t, queue, "a line\n")
+	<-to.entered
+	ctx, cancel := context.WithCancel(context.Background())
+	cancel()
+	if err := queue.Close(ctx); !errors.Is(err, context.Canceled) {
+		t.Errorf("Close: got %v while a line is being written, want it cancelled", err)
 	}
-	Observer(New(&got)).Answered(exchange)
-	for _, text := range texts {
-		if !strings.Contains(got.String(), `"`+text+`"`) {
-			t.Errorf("%s isn't logged", text)
-		}
+	write(t, queue, "after Close\n")
+	to.let(nil, nil)
+	closeQueue(t, queue)
+	if got := to.got.String(); !strings.HasPrefix(got, "a line\n") || strings.Contains(got, "after Close") {
+		t.Errorf("written: got %q, want the first line only", got)
+	}
+	if queue.DroppedLines() != 1 {
+		t.Errorf("got %d lines dropped, want that after Close", queue.DroppedLines())
 	}
 }
 
-func TestObserverLogsOtherEvents(t *testing.T) {
+func TestManyWriters(t *testing.T) {
 	var got bytes.Buffer
-	observer := Observer(New(&got))
-	key := broker.InstanceKey(osb.MustParseID(one))
-	why := errors.New("why")
-	observer.Failed(broker.Failure{Event: "store_failed", RequestID: "an-id", Key: key, IsNamed: true, Err: why})
-	observer.Failed(broker.Failure{Event: "sweep_failed"})
-	observer.Failed(broker.Failure{Event: "backend_rejected", Err: why, IsRejection: true})
-	observer.CallFailed("look")
-	observer.Committed(3)
-	observer.Finished(key, true)
-	observer.Finished(key, false)
-	want := strings.ReplaceAll(`
-{"time":"T","level":"error","event":"store_failed","request":"an-id","instance":"ONE","error":"why"}
-{"time":"T","level":"error","event":"sweep_failed"}
-{"time":"T","level":"info","event":"backend_rejected","error":"why"}
-{"time":"T","level":"info","event":"operation_ended","instance":"ONE","succeeded":true}
-{"time":"T","level":"info","event":"operation_ended","instance":"ONE","succeeded":false}
-`, "ONE", one)
-	if lines := "\n" + withoutTimes(got.String()); lines != want {
-		t.Errorf("%s\nwant\n%s", lines, want)
+	queue := NewQueue(&got)
+	var all sync.WaitGroup
+	for writer := 0; writer < 8; writer++ {
+		all.Add(1)
+		go func() {
+			defer all.Done()
+			for number := 0; number < 200; number++ {
+				write(t, queue, "a line\n")
+			}
+		}()
+	}
+	all.Wait()
+	closeQueue(t, queue)
+	if got.String() != strings.Repeat("a line\n", 1600) {
+		t.Errorf("got %d bytes written of 1600 lines, want all", got.Len())
 	}
 }

@@ -1,16 +1,27 @@
 package main
 
 import (
+	"bufio"
 	"context"
+	"crypto/rand"
+	"encoding/hex"
+	"encoding/json"
+	"errors"
 	"fmt"
 	"io"
+	"io/fs"
+	"net"
 	"os"
+	"os/exec"
 	"path/filepath"
 	"sort"
 	"strconv"
 	"strings"
 	"sync"
+	"syscall"
 	"time"
+
+	"pippinterm/internal/child"
 )
 
 const (
@@ -37,9 +48,9 @@ func (h *hunt) run(ctx context.Context) error {
 	}
 	reaching := h.reaching()
 	var left []mutant
-	for _, it := range h.mutants {
-		if h.ledger.verdict(it.ID).Ending == "" {
-			left = append(left, it)
+	for _, mutant := range h.mutants {
+		if h.ledger.verdict(mutant.ID).Ending == "" {
+			left = append(left, mutant)
 		}
 	}
 	done := len(h.mutants) - len(left)
@@ -62,14 +73,14 @@ func (h *hunt) run(ctx context.Context) error {
 // trace runs each test without a mutant.
 func (h *hunt) trace(ctx context.Context) error {
 	var runs []run
-	for _, it := range h.inOrder() {
-		names, err := it.tests(ctx)
+	for _, binary := range inOrder(h.binaries) {
+		names, err := binary.tests(ctx)
 		if err != nil {
 			return err
 		}
 		for _, name := range names {
-			if !h.ledger.isTraced(it.pkg.path, name) {
-				runs = append(runs, run{binary: it, test: name, most: longestTest})
+			if !h.ledger.isTraced(binary.pkg.path, name) {
+				runs = append(runs, run{binary: binary, test: name, most: longestTest})
 			}
 		}
 	}
@@ -79,44 +90,41 @@ func (h *hunt) trace(ctx context.Context) error {
 		if err != nil {
 			return err
 		}
-		if found.Ending == failed || found.Ending == hung {
-			h.mutex.Lock()
-			fmt.Fprintf(h.out, "left out: %s %s: it %s without a mutant\n", found.Package, found.Test, found.Ending)
-			h.mutex.Unlock()
+		if found.Ending != passed {
+			h.print("left out: %s %s: it %s without a mutant\n", found.Package, found.Test, found.Ending)
 		}
 		return h.ledger.add(line{Traced: &found})
 	})
 }
 
 // inOrder returns the binaries by their names.
-func (h *hunt) inOrder() (found []binary) {
-	for _, it := range h.binaries {
-		found = append(found, it)
+func inOrder(binaries map[string]binary) (found []binary) {
+	for _, binary := range binaries {
+		found = append(found, binary)
 	}
 	sort.Slice(found, func(i, j int) bool { return found[i].path < found[j].path })
 	return found
 }
 
 // trace runs a test, and returns what it reaches.
-func trace(ctx context.Context, w *worker, r run) (found traced, err error) {
+func trace(ctx context.Context, w *worker, r run) (found tracedTest, err error) {
 	folder, err := os.MkdirTemp("", "mutants-")
 	if err != nil {
 		return found, err
 	}
 	defer os.RemoveAll(folder)
-	r.reached = filepath.Join(folder, "reached")
+	if r.reached, err = forAll(folder, "reached"); err != nil {
+		return found, err
+	}
 	o, err := w.do(ctx, r)
 	if err != nil {
 		return found, err
 	}
-	found = traced{Package: r.binary.pkg.path, Test: r.test, Ending: o.ending, Took: o.took}
+	found = tracedTest{Package: r.binary.pkg.path, Test: r.test, Ending: o.ending, Took: o.took}
 	text, err := os.ReadFile(r.reached)
-	if os.IsNotExist(err) {
-		return found, nil
-	}
 	isKnown := make(map[int]bool) // the processes of a test write beside each other
-	for _, it := range strings.Fields(string(text)) {
-		id, err := strconv.Atoi(it)
+	for _, word := range strings.Fields(string(text)) {
+		id, err := strconv.Atoi(word)
 		if err != nil {
 			return found, err
 		}
@@ -127,13 +135,25 @@ func trace(ctx context.Context, w *worker, r run) (found traced, err error) {
 	return found, err
 }
 
-// reaching returns the tests that reach each mutant of their own package, the shortest first.
-func (h *hunt) reaching() map[int][]traced {
-	of := make(map[int]string)
-	for _, it := range h.mutants {
-		of[it.ID] = it.Package
+// forAll creates a file in a folder that any user can write, since some tests are another user for a while.
+func forAll(folder, name string) (path string, err error) {
+	path = filepath.Join(folder, name)
+	if err = os.WriteFile(path, nil, 0o666); err == nil {
+		err = os.Chmod(path, 0o666)
 	}
-	found := make(map[int][]traced)
+	if err == nil {
+		err = os.Chmod(folder, 0o755)
+	}
+	return path, err
+}
+
+// reaching returns the tests that reach each mutant of their own package, the shortest first.
+func (h *hunt) reaching() map[int][]tracedTest {
+	of := make(map[int]string)
+	for _, mutant := range h.mutants {
+		of[mutant.ID] = mutant.Package
+	}
+	found := make(map[int][]tracedTest)
 	for _, test := range h.ledger.traced {
 		if test.Ending != passed {
 			continue
@@ -152,31 +172,57 @@ func (h *hunt) reaching() map[int][]traced {
 	return found
 }
 
-// judge runs the tests that reach a mutant, until one notices it. A failure counts if it comes once more.
-func (h *hunt) judge(ctx context.Context, w *worker, m mutant, tests []traced) (verdict, error) {
+// judge runs the tests that reach a mutant, until one notices it.
+func (h *hunt) judge(ctx context.Context, w *worker, m mutant, tests []tracedTest) (verdict, error) {
 	if len(tests) == 0 {
 		return verdict{Mutant: m.ID, Ending: unreached}, nil
 	}
-	for _, it := range tests {
+	for _, test := range tests {
 		r := run{
-			binary: h.binaries[m.Package], test: it.Test, mutant: m.ID,
-			most: shortest + slower*it.Took,
+			binary: h.binaries[m.Package], test: test.Test, mutant: m.ID,
+			most: shortest + slower*test.Took,
 		}
-		o, err := w.do(ctx, r)
-		if err == nil && o.ending == failed {
-			o, err = w.do(ctx, r)
-		}
+		ending, err := h.notice(ctx, w, r)
 		if err != nil {
 			return verdict{}, err
 		}
-		switch o.ending {
+		switch ending {
 		case failed:
-			return verdict{Mutant: m.ID, Ending: killed, By: it.Test}, nil
+			return verdict{Mutant: m.ID, Ending: killed, By: test.Test}, nil
 		case hung:
-			return verdict{Mutant: m.ID, Ending: string(hung), By: it.Test}, nil
+			return verdict{Mutant: m.ID, Ending: string(hung), By: test.Test}, nil
 		}
 	}
 	return verdict{Mutant: m.ID, Ending: survived}, nil
+}
+
+// notice returns how a test ends with a mutant. A failure counts if it happens twice, and if the test passes without
+// the mutant then: what another mutant has left at the server is no failure of this one.
+func (h *hunt) notice(ctx context.Context, w *worker, r run) (ending, error) {
+	without := r
+	without.mutant = 0
+	for tries := 0; tries < 2; tries++ {
+		for i := 0; i < 2; i++ {
+			if o, err := w.do(ctx, r); err != nil || o.ending != failed {
+				return o.ending, err
+			}
+		}
+		if o, err := w.do(ctx, without); err != nil || o.ending == passed {
+			return failed, err
+		}
+		if err := w.close(); err != nil { // the next try has a new server
+			return "", err
+		}
+	}
+	h.print("not counted: %s %s: it also fails without the mutant\n", r.binary.pkg.path, r.test)
+	return passed, nil
+}
+
+// print prints a line. The workers print at the same time.
+func (h *hunt) print(format string, these ...any) {
+	h.mutex.Lock()
+	defer h.mutex.Unlock()
+	fmt.Fprintf(h.out, format, these...)
 }
 
 // parallel calls do for each of so many jobs, with so many workers. It ends with the first error.
@@ -226,3 +272,347 @@ func work(ctx context.Context, next <-chan int, do func(ctx context.Context, w *
 	}
 	return nil
 }
+
+// How a test ended.
+type ending string
+
+const (
+	passed  ending = "passed"
+	skipped ending = "skipped"
+	failed  ending = "failed"
+	hung    ending = "hung" // it took too long
+)
+
+// A run is one test of a package, with a mutant that is on, or without one.
+type run struct {
+	binary  binary
+	test    string // its name, or that of a test in it: TestStore/one
+	mutant  int
+	reached string // the file to which those are added that it reaches
+	most    time.Duration
+}
+
+// An outcome is how a run ended, how long it took, and what it printed.
+type outcome struct {
+	ending  ending
+	took    time.Duration
+	printed string
+}
+
+// A worker runs one test at a time. It has a PostgreSQL server of its own once one of them needs one.
+type worker struct {
+	server *server
+}
+
+// close ends what the worker has started. Its next test that needs a server starts a new one.
+func (w *worker) close() error {
+	if w.server == nil {
+		return nil
+	}
+	server := w.server
+	w.server = nil
+	return server.close()
+}
+
+// do runs a test. What the test has started ends with it.
+func (w *worker) do(ctx context.Context, r run) (o outcome, err error) {
+	temporary, err := os.MkdirTemp("", "mutants-")
+	if err != nil {
+		return o, err
+	}
+	defer os.RemoveAll(temporary)
+	if err := os.Chmod(temporary, 0o755); err != nil { // some tests are another user for a while
+		return o, err
+	}
+	process, err := w.process(ctx, r, temporary)
+	if err != nil {
+		return o, err
+	}
+	printed, err := os.Create(filepath.Join(temporary, "printed"))
+	if err != nil {
+		return o, err
+	}
+	defer printed.Close()
+	process.Stdout, process.Stderr = printed, printed
+	begun := time.Now()
+	ended, err := child.Start(process, syscall.SIGKILL)
+	if err != nil {
+		return o, err
+	}
+	defer func() { _ = syscall.Kill(-process.Process.Pid, syscall.SIGKILL) }() // what it has left
+	timer := time.NewTimer(r.most)
+	defer timer.Stop()
+	o.ending = hung
+	select {
+	case err := <-ended:
+		o.ending = failed
+		if err == nil {
+			o.ending = passed
+		}
+	case <-timer.C:
+		_ = process.Process.Kill()
+		<-ended
+	case <-ctx.Done():
+		_ = process.Process.Kill()
+		<-ended
+		return o, ctx.Err()
+	}
+	o.took = time.Since(begun)
+	text, err := os.ReadFile(printed.Name())
+	o.printed = string(text)
+	if o.ending == passed && !strings.Contains(o.printed, "--- PASS: ") {
+		o.ending = skipped // or there is no such test
+	}
+	return o, err
+}
+
+// process returns the process of a run, with its environment.
+func (w *worker) process(ctx context.Context, r run, temporary string) (*exec.Cmd, error) {
+	process := exec.Command(r.binary.path, "-test.run", pattern(r.test), "-test.v", "-test.paniconexit0",
+		"-test.timeout=0", "-test.count=1")
+	process.Dir = r.binary.pkg.dir
+	process.Env = append(os.Environ(), "TMPDIR="+temporary)
+	if r.mutant != 0 {
+		process.Env = append(process.Env, switchVariable+"="+strconv.Itoa(r.mutant))
+	}
+	if r.reached != "" {
+		process.Env = append(process.Env, reachVariable+"="+r.reached)
+	}
+	if r.binary.pkg.usesPostgres {
+		if w.server == nil {
+			server, err := startServer(ctx)
+			if err != nil {
+				return nil, fmt.Errorf("%s needs PostgreSQL: %w", r.binary.pkg.path, err)
+			}
+			w.server = server
+		}
+		process.Env = append(process.Env, w.server.environment()...)
+	}
+	return process, nil
+}
+
+// pattern returns the regular expression of a test, and of a test in it: each part is one name.
+func pattern(test string) string {
+	parts := strings.Split(test, "/")
+	for i, part := range parts {
+		parts[i] = "^" + part + "$"
+	}
+	return strings.Join(parts, "/")
+}
+
+// errNoPostgres reports that the programs of PostgreSQL aren't installed.
+var errNoPostgres = errors.New("pg_virtualenv isn't installed. Run: make packages")
+
+// serve is what pg_virtualenv runs beside the server. It ends with its standard input.
+const serve = `psql -qc "CREATE ROLE osb SUPERUSER LOGIN PASSWORD '$OSB_TEST_PASSWORD'"
+psql -qc "CREATE DATABASE osb OWNER osb"
+echo ready
+cat >/dev/null`
+
+// A server is a PostgreSQL server for the tests of one worker, as conftest.py starts it.
+type server struct {
+	port     int
+	password string
+	process  *exec.Cmd
+	input    io.Closer
+}
+
+// startServer returns once the server answers. Another process may take its port first, and on a busy machine
+// pg_virtualenv waits for too short a time, so it is tried again.
+func startServer(ctx context.Context) (s *server, err error) {
+	if _, err := exec.LookPath("pg_virtualenv"); err != nil {
+		return nil, errNoPostgres
+	}
+	for tries := 0; tries < 3; tries++ {
+		if s, err = tryServer(); err == nil || ctx.Err() != nil {
+			return s, err
+		}
+	}
+	return nil, err
+}
+
+// tryServer tries it once.
+func tryServer() (*server, error) {
+	secret := make([]byte, 16)
+	if _, err := rand.Read(secret); err != nil {
+		return nil, err
+	}
+	s := &server{password: hex.EncodeToString(secret)}
+	var err error
+	if s.port, err = freePort(); err != nil {
+		return nil, err
+	}
+	words := []string{"-t", "-c", "--locale=C --encoding=UTF8"}
+	for _, name := range []string{
+		fmt.Sprintf("port=%d", s.port), "max_connections=300", "max_locks_per_transaction=10",
+		"max_prepared_transactions=10",
+	} {
+		words = append(words, "-o", name)
+	}
+	s.process = exec.Command("pg_virtualenv", append(words, "sh", "-ec", serve)...)
+	s.process.Env = append(os.Environ(), "OSB_TEST_PASSWORD="+s.password)
+	s.process.SysProcAttr = &syscall.SysProcAttr{Setpgid: true} // if it is interrupted, it leaves the server behind
+	if s.input, err = s.process.StdinPipe(); err != nil {
+		return nil, err
+	}
+	return s, s.start()
+}
+
+// start starts the server, and waits until it is ready.
+func (s *server) start() error {
+	printed, err := s.process.StdoutPipe()
+	if err != nil {
+		return err
+	}
+	if err := s.process.Start(); err != nil {
+		return err
+	}
+	var read strings.Builder
+	buffer := make([]byte, 1024)
+	for !strings.Contains(read.String(), "ready\n") {
+		count, err := printed.Read(buffer)
+		read.Write(buffer[:count])
+		if err != nil {
+			return fmt.Errorf("the server doesn't start: %w\n%s", err, read.String())
+		}
+	}
+	go func() { _, _ = io.Copy(io.Discard, printed) }() // until the server ends
+	return nil
+}
+
+// freePort returns a port below those that the system gives to connections.
+func freePort() (int, error) {
+	for tries := 0; tries < 1000; tries++ {
+		var random [2]byte
+		if _, err := rand.Read(random[:]); err != nil {
+			return 0, err
+		}
+		port := 12000 + (int(random[0])<<8|int(random[1]))%8000
+		listener, err := net.Listen("tcp", fmt.Sprintf("127.0.0.1:%d", port))
+		if err == nil {
+			return port, listener.Close()
+		}
+	}
+	return 0, errors.New("no port is free for PostgreSQL")
+}
+
+// environment returns what the tests take the server from.
+func (s *server) environment() []string {
+	return []string{
+		fmt.Sprintf("OSB_TEST_POSTGRESQL=postgresql://osb@127.0.0.1:%d/osb", s.port), "PGPASSWORD=" + s.password,
+	}
+}
+
+// close ends the server, and deletes its files.
+func (s *server) close() error {
+	if err := s.input.Close(); err != nil {
+		return err
+	}
+	const most = time.Minute
+	timer := time.AfterFunc(most, func() { _ = s.process.Process.Kill() })
+	defer timer.Stop()
+	return s.process.Wait()
+}
+
+// A tracedTest is a test without a mutant, with those mutants that it reaches.
+type tracedTest struct {
+	Package, Test string
+	Ending        ending
+	Took          time.Duration
+	Reaches       []int
+}
+
+// A verdict is what became of a mutant.
+type verdict struct {
+	Mutant int
+	Ending string // killed, hung, survived, or unreached
+	By     string // the test that noticed it
+}
+
+const (
+	killed    = "killed"
+	survived  = "survived"
+	unreached = "unreached"
+)
+
+// A line is one line of the file of a ledger: one of the two.
+type line struct {
+	Traced  *tracedTest `json:",omitempty"`
+	Verdict *verdict    `json:",omitempty"`
+}
+
+// A ledger is a file with what a run has found out, so that a run that was interrupted goes on. Any number of
+// goroutines use it.
+type ledger struct {
+	mutex    sync.Mutex
+	file     *os.File
+	traced   map[string]tracedTest // by package and test
+	verdicts map[int]verdict       // by mutant
+}
+
+// openLedger reads a file, or creates it.
+func openLedger(path string) (*ledger, error) {
+	l := &ledger{traced: make(map[string]tracedTest), verdicts: make(map[int]verdict)}
+	if err := l.read(path); err != nil && !errors.Is(err, fs.ErrNotExist) {
+		return nil, err
+	}
+	var err error
+	l.file, err = os.OpenFile(path, os.O_WRONLY|os.O_CREATE|os.O_APPEND, 0o666)
+	return l, err
+}
+
+func (l *ledger) read(path string) error {
+	file, err := os.Open(path)
+	if err != nil {
+		return err
+	}
+	defer file.Close()
+	for lines := bufio.NewReader(file); ; {
+		text, err := lines.ReadBytes('\n')
+		if err != nil { // a line that was interrupted has no end
+			return nil
+		}
+		var it line
+		if json.Unmarshal(text, &it) == nil {
+			l.note(it)
+		}
+	}
+}
+
+func (l *ledger) note(it line) {
+	if it.Traced != nil {
+		l.traced[it.Traced.Package+" "+it.Traced.Test] = *it.Traced
+	}
+	if it.Verdict != nil {
+		l.verdicts[it.Verdict.Mutant] = *it.Verdict
+	}
+}
+
+// add writes a line.
+func (l *ledger) add(it line) error {
+	text, err := json.Marshal(it)
+	if err != nil {
+		return err
+	}
+	l.mutex.Lock()
+	defer l.mutex.Unlock()
+	l.note(it)
+	_, err = l.file.Write(append(text, '\n'))
+	return err
+}
+
+func (l *ledger) isTraced(p, test string) bool {
+	l.mutex.Lock()
+	defer l.mutex.Unlock()
+	_, is := l.traced[p+" "+test]
+	return is
+}
+
+// verdict returns what became of a mutant, or nothing.
+func (l *ledger) verdict(id int) verdict {
+	l.mutex.Lock()
+	defer l.mutex.Unlock()
+	return l.verdicts[id]
+}
+
+func (l *ledger) close() error { return l.file.Close() }

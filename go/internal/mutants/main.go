@@ -1,3 +1,13 @@
+// Program mutants changes the Go code in one place at a time, and looks whether a test notices:
+//
+//	mutants draw -seed N -count M [PACKAGE ..]
+//	mutants check EDIT ..
+//
+// draw draws mutants of the packages at random, such as a negated condition or a dropped statement, and prints those
+// that no test of their own package notices. check reads mutants from files, each with the tests that must notice it.
+//
+// All mutants of a run are in one build of each package: a function has its own body, and one for each of its mutants.
+// The variable OSB_MUTANT switches one on. The sources stay as they are: `go build -overlay` reads the others.
 package main
 
 import (
@@ -17,14 +27,13 @@ import (
 	"syscall"
 )
 
-// The packages whose mutants are drawn if none are named: what has the order of writes, and what that stands on.
+// The packages whose mutants are drawn if none are named: what has the order of writes, and what that stands on. They
+// are below the current folder, because a pattern that begins with pippinterm doesn't match through a symbolic link.
 var ordinary = []string{
-	"pippinterm/broker", "pippinterm/broker/backend/...", "pippinterm/broker/journal", "pippinterm/broker/postgres",
-	"pippinterm/broker/sqlite", "pippinterm/cmd/osb-broker/metrics", "pippinterm/internal/ciphers",
-	"pippinterm/internal/cli/...", "pippinterm/internal/filelock", "pippinterm/internal/httpserver/...",
-	"pippinterm/internal/journalfile", "pippinterm/internal/latest", "pippinterm/internal/logs", "pippinterm/internal/pg/...",
-	"pippinterm/internal/secrets", "pippinterm/internal/sqlitefile", "pippinterm/platform", "pippinterm/platform/client",
-	"pippinterm/platform/journal", "pippinterm/platform/postgres", "pippinterm/platform/sqlite", "pippinterm/platform/vault",
+	"./broker/backend/...", "./broker", "./internal/filelock", "./broker/journal", "./broker/postgres/...", "./broker/sqlite",
+	"./platform", "./platform/client", "./platform/journal", "./platform/postgres", "./platform/sqlite",
+	"./platform/vault", "./internal/ciphers", "./internal/cli/...", "./internal/httpserver/...", "./internal/journalfile",
+	"./internal/latest", "./internal/logs", "./internal/pg", "./internal/secrets", "./internal/sqlitefile",
 }
 
 const usage = `usage:
@@ -118,9 +127,10 @@ func (d *drawing) run(ctx context.Context, patterns []string) error {
 		return err
 	}
 	fmt.Fprintf(d.out, "%d mutants are drawn with the seed %d, and built at once\n", len(mutants), d.seed)
+	packages = with(packages, mutants) // the tests of another package decide nothing
 	place := filepath.Join(d.folder, digest(packages, mutants))
 	built := filepath.Join(place, "built")
-	binaries, err := build(ctx, built, tags, packages, mutants)
+	binaries, err := build(ctx, built, tags, d.many, packages, mutants)
 	if err != nil {
 		return err
 	}
@@ -148,9 +158,9 @@ func digest(packages []*pkg, mutants []mutant) string {
 			panic(err) // of the pattern
 		}
 		sort.Strings(files)
-		for _, it := range files {
-			text, _ := os.ReadFile(it) // a file that is away has another digest
-			fmt.Fprintf(sum, "%s %d\n%s", it, len(text), text)
+		for _, file := range files {
+			text, _ := os.ReadFile(file) // a file that is away has another digest
+			fmt.Fprintf(sum, "%s %d\n%s", file, len(text), text)
 		}
 	}
 	_ = json.NewEncoder(sum).Encode(mutants)
@@ -161,21 +171,21 @@ func digest(packages []*pkg, mutants []mutant) string {
 func report(out io.Writer, kept *ledger, packages []*pkg, mutants []mutant) error {
 	texts := make(map[string][]byte)
 	for _, p := range packages {
-		for _, it := range p.sources {
-			texts[it.path] = it.text
+		for _, source := range p.sources {
+			texts[source.path] = source.text
 		}
 	}
 	counts := make(map[string]int)
-	for _, it := range mutants {
-		ending := kept.verdict(it.ID).Ending
+	for _, mutant := range mutants {
+		ending := kept.verdict(mutant.ID).Ending
 		counts[ending]++
 		if ending == survived || ending == unreached {
-			fmt.Fprintf(out, "\n%s: %s\n%s", ending, it, it.diff(texts[it.File]))
+			fmt.Fprintf(out, "\n%s: %s\n%s", ending, mutant, mutant.diff(texts[mutant.File]))
 		}
 	}
 	words := []string{fmt.Sprintf("%d mutants", len(mutants))}
-	for _, it := range []string{killed, string(hung), survived, unreached} {
-		words = append(words, fmt.Sprintf("%d %s", counts[it], it))
+	for _, state := range []string{killed, string(hung), survived, unreached} {
+		words = append(words, fmt.Sprintf("%d %s", counts[state], state))
 	}
 	_, err := fmt.Fprintf(out, "\n%s\n", strings.Join(words, ", "))
 	return err

@@ -3,9 +3,11 @@ package main
 import (
 	"bytes"
 	"context"
+	"io"
 	"os"
 	"path/filepath"
 	"strings"
+	"syscall"
 	"testing"
 )
 
@@ -21,8 +23,8 @@ func loadToy(t *testing.T) *pkg {
 	return packages[0]
 }
 
-// changed returns the line of a mutant with its change, without the blanks before it.
-func changed(p *pkg, m mutant) string {
+// changeLine returns the line of a mutant with its change, without the blanks before it.
+func changeLine(p *pkg, m mutant) string {
 	_, after, _ := strings.Cut(m.diff(p.sources[0].text), "    + ")
 	lines := strings.Split(strings.TrimSpace(after), "\n")
 	for i := range lines {
@@ -31,11 +33,39 @@ func changed(p *pkg, m mutant) string {
 	return strings.Join(lines, " ")
 }
 
+// TestPatterns: each pattern matches a package, through the symbolic link that scripts/go makes.
+func TestPatterns(t *testing.T) {
+	here := os.Getenv("PWD") // its path through the link, from which go list knows the packages' names
+	top := filepath.Dir(filepath.Dir(here))
+	t.Setenv("PWD", top)
+	if err := os.Chdir(top); err != nil { // where make mutants runs
+		t.Fatal(err)
+	}
+	defer func() { _ = os.Chdir(here) }()
+	packages, err := load(context.Background(), tags, ordinary...)
+	if err != nil {
+		t.Fatal(err)
+	}
+	isLoaded := make(map[string]bool)
+	for _, pkg := range packages {
+		isLoaded[pkg.path] = true
+	}
+	for _, want := range []string{"broker/backend/postgres", "broker", "internal/pg", "platform/vault", "internal/httpserver"} {
+		if !isLoaded["pippinterm/"+want] {
+			t.Errorf("got %d packages without %s, want it", len(packages), want)
+		}
+	}
+	none := "pippinterm/internal/cli/..."
+	if _, err := load(context.Background(), tags, toy, none); err == nil || !strings.Contains(err.Error(), none) {
+		t.Errorf("got %v, want that no package matches %s", err, none)
+	}
+}
+
 func TestKinds(t *testing.T) {
 	p := loadToy(t)
 	found := make(map[string]bool)
-	for _, it := range find(p) {
-		found[it.Function+": "+it.Kind+": "+changed(p, it)] = true
+	for _, mutant := range find(p) {
+		found[mutant.Function+": "+mutant.Kind+": "+changeLine(p, mutant)] = true
 	}
 	for _, want := range []string{
 		"Odd: condition negated: if !(number%2 == 0) {",
@@ -48,7 +78,7 @@ func TestKinds(t *testing.T) {
 		"Wait: duration times 1000: wait := (1000 * (time.Second))",
 		"Wait: constant changed: if isFirst && wait > 1 {",
 		"Sum: statement dropped: ",
-		"Sum: statements swapped: last = it sum += last",
+		"Sum: statements swapped: last = number sum += last",
 		"Sum: another variable: if last >= limit {",
 		"Sum: constant changed: last := 1",
 		"Name: case dropped: ",
@@ -58,7 +88,12 @@ func TestKinds(t *testing.T) {
 		"IsSmall: constant changed: func IsSmall(number int) bool { return number < 10 == false }",
 	} {
 		if !found[want] {
-			t.Errorf("got no mutant %q", want)
+			t.Errorf("got no mutant %q, want it", want)
+		}
+	}
+	for change := range found {
+		if strings.HasPrefix(change, "Stop: ") {
+			t.Errorf("got %q, want no mutant of a crash point", change)
 		}
 	}
 }
@@ -76,8 +111,8 @@ func TestDraw(t *testing.T) {
 			t.Errorf("got %v, %v, want each to compile", bad, err)
 		}
 		var text strings.Builder
-		for _, it := range drawn {
-			text.WriteString(it.String() + it.diff(p.sources[0].text))
+		for _, mutant := range drawn {
+			text.WriteString(mutant.String() + mutant.diff(p.sources[0].text))
 		}
 		texts = append(texts, text.String())
 	}
@@ -90,10 +125,10 @@ func TestDraw(t *testing.T) {
 func TestMutantsThatDoNotCompile(t *testing.T) {
 	p := loadToy(t)
 	var mutants []mutant
-	for _, it := range find(p) {
-		if it.Function == "Odd" && it.Kind == dropped || it.Kind == negated {
-			it.ID = len(mutants) + 1
-			mutants = append(mutants, it)
+	for _, mutant := range find(p) {
+		if mutant.Function == "Odd" && mutant.Kind == dropped || mutant.Kind == negated {
+			mutant.ID = len(mutants) + 1
+			mutants = append(mutants, mutant)
 		}
 	}
 	good, bad, err := compiling(p, mutants)
@@ -101,7 +136,7 @@ func TestMutantsThatDoNotCompile(t *testing.T) {
 		t.Errorf("got %v, %v, want one of %d that doesn't compile", bad, err, len(mutants))
 	}
 	for id := range bad {
-		if got := changed(p, mutants[id-1]); got != "" {
+		if got := changeLine(p, mutants[id-1]); got != "" {
 			t.Errorf("got %q, want the one without its last return", got)
 		}
 	}
@@ -114,6 +149,9 @@ func TestDrawing(t *testing.T) {
 	words := []string{"draw", "-folder", folder, "-count", "1000", "-workers", "4", toy}
 	if err := command(context.Background(), words, &out); err != nil {
 		t.Fatal(err)
+	}
+	if want := "\nleft out: " + toy + " TestSkips: it skipped without a mutant\n"; !strings.Contains(out.String(), want) {
+		t.Errorf("got %s, want %q", out.String(), want)
 	}
 	_, survivors, _ := strings.Cut(out.String(), "\n\n")
 	for _, want := range []string{
@@ -144,13 +182,13 @@ func TestHang(t *testing.T) {
 	t.Setenv("TOY_HANGS", "1")
 	p := loadToy(t)
 	var mutants []mutant
-	for _, it := range find(p) {
-		if it.Function == "Name" && it.New == `"x"` {
-			it.ID = 1
-			mutants = append(mutants, it)
+	for _, mutant := range find(p) {
+		if mutant.Function == "Name" && mutant.New == `"x"` {
+			mutant.ID = 1
+			mutants = append(mutants, mutant)
 		}
 	}
-	binaries, err := build(context.Background(), t.TempDir(), tags, []*pkg{p}, mutants)
+	binaries, err := build(context.Background(), t.TempDir(), tags, 1, []*pkg{p}, mutants)
 	if err != nil {
 		t.Fatal(err)
 	}
@@ -158,6 +196,73 @@ func TestHang(t *testing.T) {
 	o, err := w.do(context.Background(), run{binary: binaries[p.path], test: "TestHangs", mutant: 1, most: 1})
 	if err != nil || o.ending != hung {
 		t.Errorf("got %v, %v, want it to hang", o.ending, err)
+	}
+}
+
+// TestTraceOfAnotherUser: what a test reaches is noted, also while it is another user.
+func TestTraceOfAnotherUser(t *testing.T) {
+	p := loadToy(t)
+	drawn, err := draw([]*pkg{p}, 1, 20)
+	if err != nil {
+		t.Fatal(err)
+	}
+	binaries, err := build(context.Background(), t.TempDir(), tags, 1, []*pkg{p}, drawn)
+	if err != nil {
+		t.Fatal(err)
+	}
+	r := run{binary: binaries[p.path], test: "TestAsNobody", most: longestTest}
+	found, err := trace(context.Background(), &worker{}, r)
+	if err != nil || found.Ending != passed || len(found.Reaches) == 0 {
+		t.Errorf("got %+v, %v, want that it reaches some", found, err)
+	}
+}
+
+// TestInterruptedServer: pg_virtualenv ends the server itself, also after an interruption.
+func TestInterruptedServer(t *testing.T) {
+	folder := t.TempDir()
+	ended := filepath.Join(folder, "ended")
+	program := "#!/bin/sh\necho ready\ncat\ntouch " + ended + "\n"
+	if err := os.WriteFile(filepath.Join(folder, "pg_virtualenv"), []byte(program), 0o777); err != nil {
+		t.Fatal(err)
+	}
+	t.Setenv("PATH", folder+":"+os.Getenv("PATH"))
+	ctx, cancel := context.WithCancel(context.Background())
+	s, err := startServer(ctx)
+	if err != nil {
+		t.Fatal(err)
+	}
+	if group, err := syscall.Getpgid(s.process.Process.Pid); err != nil || group == syscall.Getpgrp() {
+		t.Errorf("got the process group %d, %v, want one that a terminal doesn't interrupt", group, err)
+	}
+	cancel()
+	if err := s.close(); err != nil {
+		t.Error(err)
+	}
+	if _, err := os.Stat(ended); err != nil {
+		t.Errorf("got %v, want that it has ended by itself", err)
+	}
+}
+
+// TestFailsWithoutTheMutant: a test that fails without a mutant, too, doesn't count.
+func TestFailsWithoutTheMutant(t *testing.T) {
+	p := loadToy(t)
+	drawn, err := draw([]*pkg{p}, 1, 1)
+	if err != nil {
+		t.Fatal(err)
+	}
+	binaries, err := build(context.Background(), t.TempDir(), tags, 1, []*pkg{p}, drawn)
+	if err != nil {
+		t.Fatal(err)
+	}
+	for fails, want := range map[string]string{"": survived, "always": survived, "with a mutant": killed} {
+		t.Run("fails "+fails, func(t *testing.T) {
+			t.Setenv("TOY_FAILS", fails)
+			h := &hunt{out: io.Discard, binaries: binaries}
+			v, err := h.judge(context.Background(), &worker{}, drawn[0], []tracedTest{{Package: p.path, Test: "TestFails"}})
+			if err != nil || v.Ending != want {
+				t.Errorf("%q: got %q, %v, want %q", fails, v.Ending, err, want)
+			}
+		})
 	}
 }
 
@@ -174,8 +279,8 @@ func write(t *testing.T, lines ...string) string {
 func TestEdits(t *testing.T) {
 	head := []string{"# The sum has the last one, too.", "file: internal/mutants/testdata/toy/toy.go", "function: Sum"}
 	test, others := "test: internal/mutants/testdata/toy TestSum", "test: internal/mutants/testdata/toy TestName"
-	swap := []string{"old: sum += last", "\t\tlast = it", "new: last = it", "\t\tsum += last"}
-	for name, it := range map[string]struct {
+	swap := []string{"old: sum += last", "\t\tlast = number", "new: last = number", "\t\tsum += last"}
+	for name, test := range map[string]struct {
 		lines []string
 		want  string // in the error, or in what is printed
 	}{
@@ -194,13 +299,13 @@ func TestEdits(t *testing.T) {
 	} {
 		t.Run(name, func(t *testing.T) {
 			var out bytes.Buffer
-			err := command(context.Background(), []string{"check", "-folder", t.TempDir(), write(t, it.lines...)}, &out)
+			err := command(context.Background(), []string{"check", "-folder", t.TempDir(), write(t, test.lines...)}, &out)
 			got := out.String()
 			if err != nil {
 				got += err.Error()
 			}
-			if !strings.Contains(got, it.want) || (err == nil) != (name == "noticed") {
-				t.Errorf("got %q, want %q", got, it.want)
+			if !strings.Contains(got, test.want) || (err == nil) != (name == "noticed") {
+				t.Errorf("got %q, want %q", got, test.want)
 			}
 		})
 	}

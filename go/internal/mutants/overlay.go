@@ -2,17 +2,22 @@ package main
 
 import (
 	"bytes"
+	"context"
 	"encoding/json"
 	"errors"
 	"fmt"
 	"go/ast"
+	"go/importer"
 	"go/parser"
 	"go/token"
 	"go/types"
+	"io"
 	"os"
+	"os/exec"
 	"path/filepath"
 	"sort"
 	"strconv"
+	"strings"
 )
 
 // support is a further file of each package that has mutants.
@@ -79,8 +84,8 @@ func rewrite(p *pkg, file *source, mutants []mutant) *rewritten {
 		}
 		r.text = append(r.text, file.text[done:begin]...)
 		r.add("\nswitch mutantOn {\n")
-		for _, it := range these {
-			r.body(p, file, f, it)
+		for _, mutant := range these {
+			r.body(p, file, f, mutant)
 		}
 		r.add("}\n")
 		r.original(p, file, f, these)
@@ -116,8 +121,8 @@ func (r *rewritten) body(p *pkg, file *source, f *ast.FuncDecl, m mutant) {
 // original adds the function's own body, which says which mutants are reached.
 func (r *rewritten) original(p *pkg, file *source, f *ast.FuncDecl, these []mutant) {
 	at := make(map[int]string) // what is inserted, by where
-	for _, it := range these {
-		at[statement(p, f.Body, it.Start)] += "mutantAt(" + strconv.Itoa(it.ID) + "); "
+	for _, mutant := range these {
+		at[statement(p, f.Body, mutant.Start)] += "mutantAt(" + strconv.Itoa(mutant.ID) + "); "
 	}
 	places := make([]int, 0, len(at))
 	for place := range at {
@@ -137,9 +142,9 @@ func (r *rewritten) original(p *pkg, file *source, f *ast.FuncDecl, these []muta
 func statement(p *pkg, body *ast.BlockStmt, offset int) int {
 	found := p.offset(body.Lbrace) + 1
 	look := func(list []ast.Stmt) {
-		for _, it := range list {
-			if p.offset(it.Pos()) <= offset && offset < p.offset(it.End()) {
-				found = p.offset(it.Pos())
+		for _, stmt := range list {
+			if p.offset(stmt.Pos()) <= offset && offset < p.offset(stmt.End()) {
+				found = p.offset(stmt.Pos())
 			}
 		}
 	}
@@ -173,9 +178,9 @@ func isOfCases(block *ast.BlockStmt) bool {
 
 // within returns those mutants that are between two offsets.
 func within(mutants []mutant, begin, end int) (found []mutant) {
-	for _, it := range mutants {
-		if begin <= it.Start && it.End <= end {
-			found = append(found, it)
+	for _, mutant := range mutants {
+		if begin <= mutant.Start && mutant.End <= end {
+			found = append(found, mutant)
 		}
 	}
 	return found
@@ -183,9 +188,9 @@ func within(mutants []mutant, begin, end int) (found []mutant) {
 
 // of returns the mutants of a file.
 func of(file *source, mutants []mutant) (found []mutant) {
-	for _, it := range mutants {
-		if it.File == file.path {
-			found = append(found, it)
+	for _, mutant := range mutants {
+		if mutant.File == file.path {
+			found = append(found, mutant)
 		}
 	}
 	return found
@@ -229,9 +234,9 @@ func compiling(p *pkg, mutants []mutant) (good []mutant, bad map[int]error, err 
 		}
 		bad[id] = reported
 	})
-	for _, it := range mutants {
-		if bad[it.ID] == nil {
-			good = append(good, it)
+	for _, mutant := range mutants {
+		if bad[mutant.ID] == nil {
+			good = append(good, mutant)
 		}
 	}
 	return good, bad, failed
@@ -284,4 +289,208 @@ func overlay(folder string, packages []*pkg, mutants []mutant) (string, error) {
 	}
 	name := filepath.Join(folder, "overlay.json")
 	return name, os.WriteFile(name, text.Bytes(), 0o666)
+}
+
+// A listing is what `go list -json` prints of a package.
+type listing struct {
+	ImportPath, Dir, Export    string
+	GoFiles, CgoFiles, Imports []string
+	TestGoFiles, XTestGoFiles  []string
+	TestImports, XTestImports  []string
+	Match                      []string // the patterns that it matches
+	DepOnly, Standard          bool
+}
+
+// A source is a file of a package.
+type source struct {
+	path string
+	text []byte
+	tree *ast.File
+}
+
+// A pkg is a package whose types are checked.
+type pkg struct {
+	path, dir    string
+	hasTests     bool
+	usesPostgres bool
+	sources      []*source
+	set          *token.FileSet
+	info         *types.Info
+	importer     types.Importer
+}
+
+// load returns the packages of these patterns that can be changed: those that use no cgo, and that aren't helpers of
+// tests. The tags are those of the build.
+func load(ctx context.Context, tags string, patterns ...string) ([]*pkg, error) {
+	all, err := list(ctx, tags, patterns...)
+	if err != nil {
+		return nil, err
+	}
+	exports, isMatched := make(map[string]string), make(map[string]bool)
+	for _, pkg := range all {
+		exports[pkg.ImportPath] = pkg.Export
+		for _, pattern := range pkg.Match {
+			isMatched[pattern] = true
+		}
+	}
+	for _, pattern := range patterns {
+		if !isMatched[pattern] {
+			return nil, fmt.Errorf("no package matches %s: patterns are relative to go/, such as ./internal/httpserver", pattern)
+		}
+	}
+	var found []*pkg
+	for _, listed := range all {
+		if listed.DepOnly || listed.Standard || len(listed.CgoFiles) > 0 || contains(listed.Imports, "testing") {
+			continue
+		}
+		p := &pkg{path: listed.ImportPath, dir: listed.Dir, hasTests: len(listed.TestGoFiles)+len(listed.XTestGoFiles) > 0}
+		p.usesPostgres = contains(append(listed.TestImports, listed.XTestImports...), "pippinterm/internal/pg/pgtest")
+		if err := p.read(listed.GoFiles, exports); err != nil {
+			return nil, err
+		}
+		found = append(found, p)
+	}
+	return found, nil
+}
+
+// list runs `go list`, which compiles what the packages import.
+func list(ctx context.Context, tags string, patterns ...string) (found []listing, err error) {
+	line := append([]string{"list", "-json", "-export", "-deps", "-tags", tags}, patterns...)
+	line = append(line, supportImports...)
+	printed, err := output(exec.CommandContext(ctx, "go", line...))
+	if err != nil {
+		return nil, err
+	}
+	for decoder := json.NewDecoder(bytes.NewReader(printed)); ; {
+		var one listing
+		if err := decoder.Decode(&one); errors.Is(err, io.EOF) {
+			return found, nil
+		} else if err != nil {
+			return nil, fmt.Errorf("what go list prints can't be read: %w", err)
+		}
+		found = append(found, one)
+	}
+}
+
+// output runs a command, and returns what it prints. Its error has what the command reports.
+func output(command *exec.Cmd) ([]byte, error) {
+	var reported bytes.Buffer
+	command.Stderr = &reported
+	printed, err := command.Output()
+	if err != nil {
+		err = fmt.Errorf("%s: %w\n%s", strings.Join(command.Args[:2], " "), err, reported.String())
+	}
+	return printed, err
+}
+
+// read parses the files of the package, and checks their types over the compiled packages that they import.
+func (p *pkg) read(files []string, exports map[string]string) error {
+	p.set = token.NewFileSet()
+	p.importer = importer.ForCompiler(p.set, "gc", func(path string) (io.ReadCloser, error) {
+		return os.Open(exports[path])
+	})
+	for _, name := range files {
+		path := filepath.Join(p.dir, name)
+		text, err := os.ReadFile(path)
+		if err != nil {
+			return err
+		}
+		tree, err := parser.ParseFile(p.set, path, text, parser.SkipObjectResolution)
+		if err != nil {
+			return err
+		}
+		p.sources = append(p.sources, &source{path: path, text: text, tree: tree})
+	}
+	p.info = &types.Info{
+		Types: make(map[ast.Expr]types.TypeAndValue), Uses: make(map[*ast.Ident]types.Object),
+		Scopes: make(map[ast.Node]*types.Scope),
+	}
+	return p.check(p.set, p.trees(), p.info, nil)
+}
+
+// check checks the types of files that are instead of the package's. report gets each error; without one, the first is
+// returned.
+func (p *pkg) check(set *token.FileSet, files []*ast.File, info *types.Info, report func(error)) error {
+	config := types.Config{Importer: p.importer, Error: report}
+	_, err := config.Check(p.path, set, files, info)
+	if report != nil {
+		return nil
+	}
+	return err
+}
+
+func (p *pkg) trees() []*ast.File {
+	var trees []*ast.File
+	for _, source := range p.sources {
+		trees = append(trees, source.tree)
+	}
+	return trees
+}
+
+// offset returns where a position is in the text of its file.
+func (p *pkg) offset(at token.Pos) int { return p.set.Position(at).Offset }
+
+// text returns what the file has between two positions.
+func (p *pkg) text(file *source, from, to token.Pos) string {
+	return string(file.text[p.offset(from):p.offset(to)])
+}
+
+func contains(these []string, one string) bool {
+	for _, element := range these {
+		if element == one {
+			return true
+		}
+	}
+	return false
+}
+
+// A binary has the tests of a package, over all packages with their mutants.
+type binary struct {
+	pkg  *pkg
+	path string
+}
+
+// build compiles the tests of the packages with these mutants into a folder, and links so many at a time.
+func build(
+	ctx context.Context, folder, tags string, many int, packages []*pkg, mutants []mutant,
+) (map[string]binary, error) {
+	if err := os.MkdirAll(folder, 0o777); err != nil {
+		return nil, err
+	}
+	over, err := overlay(folder, packages, mutants)
+	if err != nil {
+		return nil, err
+	}
+	found := make(map[string]binary)
+	how := []string{"-trimpath", "-overlay", over, "-tags", tags}
+	compile := append([]string{"list", "-export", "-test"}, how...) // all at once; then each is only linked
+	for _, p := range packages {
+		if p.hasTests {
+			found[p.path] = binary{pkg: p, path: filepath.Join(folder, strings.ReplaceAll(p.path, "/", ".")+".test")}
+			compile = append(compile, p.path)
+		}
+	}
+	if _, err := output(exec.CommandContext(ctx, "go", compile...)); err != nil {
+		return nil, fmt.Errorf("the mutants: %w", err)
+	}
+	link := append([]string{"test", "-c", "-vet=off", "-ldflags=-w"}, how...)
+	these := inOrder(found)
+	return found, parallel(ctx, many, len(these), func(ctx context.Context, _ *worker, i int) error {
+		words := append(link[:len(link):len(link)], "-o", these[i].path, these[i].pkg.path)
+		_, err := output(exec.CommandContext(ctx, "go", words...))
+		return err
+	})
+}
+
+// tests returns the names of the tests of a package, and of its examples with an output.
+func (b binary) tests(ctx context.Context) (names []string, err error) {
+	listing := exec.CommandContext(ctx, b.path, "-test.list", "^(Test|Example)")
+	listing.Dir = b.pkg.dir
+	printed, err := output(listing)
+	for _, word := range strings.Fields(string(printed)) {
+		if strings.HasPrefix(word, "Test") || strings.HasPrefix(word, "Example") {
+			names = append(names, word)
+		}
+	}
+	return names, err
 }

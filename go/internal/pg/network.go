@@ -2,6 +2,9 @@ package pg
 
 import (
 	"context"
+	"database/sql/driver"
+	"errors"
+	"fmt"
 	"net"
 	"os"
 	"strings"
@@ -34,11 +37,11 @@ func (d dialer) DialContext(ctx context.Context, network, address string) (net.C
 	if err != nil {
 		return nil, err
 	}
-	made := &limited{Conn: conn, limit: d.limit}
+	made := &limitedConn{Conn: conn, limit: d.limit}
 	if until, ok := ctx.Value(untilKey{}).(time.Time); ok {
 		made.last = until
 	}
-	if dialed, ok := ctx.Value(dialedKey{}).(**limited); ok {
+	if dialed, ok := ctx.Value(dialedKey{}).(**limitedConn); ok {
 		*dialed = made
 	}
 	return made, nil
@@ -71,9 +74,9 @@ func control(network, _ string, raw syscall.RawConn) (err error) {
 	return either(failed, err)
 }
 
-// A limited connection waits for each answer at most this long. So no wait for a silent server or network lasts
+// A limitedConn waits for each answer at most this long. So no wait for a silent server or network lasts
 // forever, not even that for a COMMIT, which is never cancelled. An idle connection has no limit.
-type limited struct {
+type limitedConn struct {
 	net.Conn
 	limit     time.Duration
 	last      time.Time // of the first deadline, or zero: lib/pq sets one for connecting, which a context can't shorten
@@ -82,7 +85,7 @@ type limited struct {
 
 // until reads until the time of a context of Within, and with the limit again once the function that it returns is
 // called.
-func (l *limited) until(ctx context.Context) (end func()) {
+func (l *limitedConn) until(ctx context.Context) (end func()) {
 	until, ok := ctx.Value(untilKey{}).(time.Time)
 	if !ok {
 		return func() {}
@@ -92,7 +95,7 @@ func (l *limited) until(ctx context.Context) (end func()) {
 }
 
 // SetDeadline sets a deadline in place of the limit, or with the zero time the limit again.
-func (l *limited) SetDeadline(until time.Time) error {
+func (l *limitedConn) SetDeadline(until time.Time) error {
 	if !l.last.IsZero() && until.After(l.last) {
 		until = l.last
 	}
@@ -106,11 +109,124 @@ func (l *limited) SetDeadline(until time.Time) error {
 }
 
 // Read reads within the limit.
-func (l *limited) Read(buffer []byte) (int, error) {
+func (l *limitedConn) Read(buffer []byte) (int, error) {
 	if atomic.LoadInt32(&l.isBounded) == 0 {
 		if err := l.Conn.SetReadDeadline(time.Now().Add(l.limit)); err != nil {
 			return 0, err
 		}
 	}
 	return l.Conn.Read(buffer)
+}
+
+// Answer is how long the server is waited for where it has nothing to wait for itself: it opens a connection, begins a
+// transaction, or reads a row. (The limit is this project's choice.)
+const Answer = 10 * time.Second
+
+// late is how long a connection is read beyond its time, so that a server that lives can confirm the cancellation.
+const late = time.Second
+
+type untilKey struct{}
+
+// Within returns a context that ends after a time, as context.WithTimeout does. A connection of Open to a server that
+// is silent doesn't outlast it either: lib/pq alone goes on reading after the end of the context.
+func Within(ctx context.Context, limit time.Duration) (context.Context, context.CancelFunc) {
+	ctx, cancel := context.WithTimeout(ctx, limit)
+	until, _ := ctx.Deadline()
+	return context.WithValue(ctx, untilKey{}, until), cancel
+}
+
+// endlessUntil returns a context that never ends, for a statement on which the server is waited for until a time.
+func endlessUntil(until time.Time) context.Context {
+	return context.WithValue(context.Background(), untilKey{}, until)
+}
+
+// ErrNoAnswer reports that the time of Within was over.
+var ErrNoAnswer = errors.New("the server hasn't answered in time")
+
+// AsNoAnswer returns err, as ErrNoAnswer too if the time of Within was over, and not that of the caller's context.
+func AsNoAnswer(ctx context.Context, err error) error {
+	var network net.Error
+	isOver := errors.Is(err, context.DeadlineExceeded) || errors.As(err, &network) && network.Timeout()
+	if ctx.Err() != nil || !isOver || errors.Is(err, ErrNoAnswer) {
+		return err
+	}
+	return fmt.Errorf("%w: %v", ErrNoAnswer, err)
+}
+
+// pqConn is what a connection of lib/pq can do.
+type pqConn interface {
+	driver.Conn
+	driver.ConnBeginTx
+	driver.ConnPrepareContext
+	driver.QueryerContext
+	driver.ExecerContext
+	driver.Pinger
+}
+
+// A connection is one of lib/pq that satisfies Within.
+type connection struct {
+	pqConn
+	network *limitedConn
+}
+
+// BeginTx begins a transaction. The context's time is that of the BEGIN alone.
+func (c *connection) BeginTx(ctx context.Context, options driver.TxOptions) (driver.Tx, error) {
+	defer c.network.until(ctx)()
+	return c.pqConn.BeginTx(ctx, options)
+}
+
+// PrepareContext prepares a statement.
+func (c *connection) PrepareContext(ctx context.Context, query string) (driver.Stmt, error) {
+	defer c.network.until(ctx)()
+	made, err := c.pqConn.PrepareContext(ctx, query)
+	if known, ok := made.(pqStatement); ok && err == nil {
+		return &statement{known, c.network}, nil
+	}
+	return made, err
+}
+
+// QueryContext runs a query.
+func (c *connection) QueryContext(ctx context.Context, query string, values []driver.NamedValue) (driver.Rows, error) {
+	defer c.network.until(ctx)()
+	return keep(c.pqConn.QueryContext(ctx, query, values))
+}
+
+// ExecContext runs a statement.
+func (c *connection) ExecContext(ctx context.Context, query string, values []driver.NamedValue) (driver.Result, error) {
+	defer c.network.until(ctx)()
+	return c.pqConn.ExecContext(ctx, query, values)
+}
+
+// pqStatement is what a prepared statement of lib/pq can do.
+type pqStatement interface {
+	driver.Stmt
+	driver.StmtQueryContext
+	driver.StmtExecContext
+}
+
+// A statement is a prepared statement of lib/pq that satisfies Within. A cancellation of lib/pq would have to open
+// another connection first, and the statement would wait for that: the time of Within ends the statement without it.
+type statement struct {
+	pqStatement
+	network *limitedConn
+}
+
+// QueryContext runs a query.
+func (s *statement) QueryContext(ctx context.Context, values []driver.NamedValue) (driver.Rows, error) {
+	defer s.network.until(ctx)()
+	return keep(s.pqStatement.QueryContext(bare(ctx), values))
+}
+
+// ExecContext runs a statement.
+func (s *statement) ExecContext(ctx context.Context, values []driver.NamedValue) (driver.Result, error) {
+	defer s.network.until(ctx)()
+	return s.pqStatement.ExecContext(bare(ctx), values)
+}
+
+// bare is a context that isn't cancelled, if it is one of Within.
+func bare(ctx context.Context) context.Context {
+	if until, ok := ctx.Value(untilKey{}).(time.Time); ok {
+		return endlessUntil(until)
+	}
+	return ctx
 }

@@ -4,23 +4,47 @@ import (
 	"context"
 	"errors"
 	"net"
+	"net/url"
 	"os"
 	"testing"
 	"time"
 )
 
+// Connections to this machine are without TLS unless the URL or the environment says else. For all others the driver's
+// default counts, which is to need it.
+func TestTLSByDefault(t *testing.T) {
+	t.Setenv("PGHOST", "")
+	for _, test := range []struct{ address, environment, want string }{
+		{"postgresql://localhost/brokers", "", "disable"},
+		{"postgresql://127.0.0.1/brokers", "", "disable"},
+		{"postgresql://[::1]/brokers", "", "disable"},
+		{"postgresql:///brokers?host=/run/postgresql", "", "disable"},
+		{"postgresql://localhost/brokers?sslmode=verify-full", "", "verify-full"},
+		{"postgresql://localhost/brokers", "verify-full", ""},
+		{"postgresql://db/brokers", "", ""},
+		{"postgresql://10.1.2.3/brokers", "", ""},
+	} {
+		t.Run(test.address+" "+test.environment, func(t *testing.T) {
+			t.Setenv("PGSSLMODE", test.environment)
+			full, err := withSettings(test.address, Options{})
+			check(t, err)
+			parsed, err := url.Parse(full)
+			check(t, err)
+			if got := parsed.Query().Get("sslmode"); got != test.want {
+				t.Errorf("%s, PGSSLMODE=%q: got sslmode %q, want %q", test.address, test.environment, got, test.want)
+			}
+		})
+	}
+}
+
 // silence is a connection to a server that says nothing.
 func silence(t *testing.T, limit time.Duration) net.Conn {
 	t.Helper()
 	listener, err := net.Listen("tcp", "127.0.0.1:0")
-	if err != nil {
-		t.Fatal(err)
-	}
+	check(t, err)
 	t.Cleanup(func() { _ = listener.Close() })
 	conn, err := dialer{limit: limit}.DialContext(context.Background(), "tcp", listener.Addr().String())
-	if err != nil {
-		t.Fatal(err)
-	}
+	check(t, err)
 	closing := time.AfterFunc(10*time.Second, func() { _ = conn.Close() })
 	t.Cleanup(func() {
 		closing.Stop()
@@ -32,27 +56,29 @@ func silence(t *testing.T, limit time.Duration) net.Conn {
 func TestAServerThatIsSilent(t *testing.T) {
 	conn := silence(t, 20*time.Millisecond)
 	if _, err := conn.Read(make([]byte, 1)); !errors.Is(err, os.ErrDeadlineExceeded) {
-		t.Errorf("Read: %v", err)
+		t.Errorf("Read: got %v, want %v", err, os.ErrDeadlineExceeded)
 	}
 }
 
 // While somebody else has set a deadline, as for connecting, that one counts, and the limit again afterwards.
 func TestADeadline(t *testing.T) {
 	conn := silence(t, time.Hour)
-	if err := conn.SetDeadline(time.Now()); err != nil {
-		t.Fatal(err)
-	}
+	check(t, conn.SetDeadline(time.Now()))
 	if _, err := conn.Read(make([]byte, 1)); !errors.Is(err, os.ErrDeadlineExceeded) {
-		t.Errorf("Read: %v", err)
+		t.Errorf("Read: got %v, want %v", err, os.ErrDeadlineExceeded)
 	}
 	short := silence(t, time.Millisecond)
-	if err := short.SetDeadline(time.Now().Add(time.Hour)); err != nil {
-		t.Fatal(err)
-	}
-	if err := short.SetDeadline(time.Time{}); err != nil {
-		t.Fatal(err)
-	}
+	check(t, short.SetDeadline(time.Now().Add(time.Hour)))
+	check(t, short.SetDeadline(time.Time{}))
 	if _, err := short.Read(make([]byte, 1)); !errors.Is(err, os.ErrDeadlineExceeded) {
-		t.Errorf("Read without a deadline: %v", err)
+		t.Errorf("Read without a deadline: got %v, want %v", err, os.ErrDeadlineExceeded)
+	}
+}
+
+// check ends the test at an error.
+func check(t testing.TB, err error) {
+	t.Helper()
+	if err != nil {
+		t.Fatal(err)
 	}
 }

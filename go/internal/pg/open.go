@@ -1,4 +1,4 @@
-// Package pg has what a broker's store and its backend need of a PostgreSQL server: connections whose commits are
+// Package pg has what both stores and the broker's backend need of a PostgreSQL server: connections whose commits are
 // durable and on which nothing waits forever, and transactions that report a commit only if there was one.
 package pg
 
@@ -8,6 +8,7 @@ import (
 	"database/sql/driver"
 	"errors"
 	"fmt"
+	"net"
 	"net/url"
 	"os"
 	"regexp"
@@ -23,14 +24,17 @@ import (
 type Options struct {
 	// Most is how many connections are open at once, at least 1.
 	Most int
-	// Lock is how long a statement waits for a lock, and Statement how long it runs, both from 1 ms on. Idle is how long
-	// a transaction may be idle.
+	// Lock is how long a statement waits for a lock, and Statement how long it runs, both from 1 ms on. Idle is how
+	// long a transaction may be idle.
 	Lock, Statement, Idle time.Duration
 	// Database, User and Password take the place of those of the URL, unless they are empty.
 	Database, User, Password string
-	// Settings are further settings of the sessions, such as search_path, which may be empty. They win over those of the
-	// database, of the role and of the URL.
+	// Settings are further settings of the sessions, such as search_path, which may be empty. They win over those of
+	// the database, of the role and of the URL.
 	Settings map[string]string
+	// Check is called with each connection that was opened, or is nil. If it returns an error, opening the connection
+	// fails with it.
+	Check func(context.Context, driver.QueryerContext) error
 }
 
 // patience is how long the server's answer may take beyond the limits that the server has itself.
@@ -56,7 +60,7 @@ func Open(address string, options Options) (*sql.DB, error) {
 		return nil, err
 	}
 	made.Dialer(newDialer(options.Statement + patience))
-	db := sql.OpenDB(connector{made})
+	db := sql.OpenDB(connector{made, options.Check})
 	db.SetMaxOpenConns(options.Most)
 	db.SetMaxIdleConns(options.Most)
 	return db, nil
@@ -82,7 +86,7 @@ func withSettings(address string, options Options) (string, error) {
 			asked.Set(name, value)
 		}
 	}
-	for name, value := range fixed(options) {
+	for name, value := range fixedSettings(options) {
 		asked.Set(name, value)
 	}
 	if len(options.Settings) > 0 {
@@ -95,8 +99,8 @@ func withSettings(address string, options Options) (string, error) {
 	return parsed.String(), nil
 }
 
-// fixed are the settings of all sessions.
-func fixed(options Options) map[string]string {
+// fixedSettings are the settings of all sessions.
+func fixedSettings(options Options) map[string]string {
 	return map[string]string{
 		"lock_timeout":                        milliseconds(options.Lock),
 		"statement_timeout":                   milliseconds(options.Statement),
@@ -143,8 +147,8 @@ const goodbye = 2 * time.Second
 
 // Close closes connections that nobody uses any more, and returns the error of the last one that has failed. Each
 // connection asks the server to close its prepared statements, one connection after another. That a connection or its
-// session has ended before is no error. If the server doesn't answer, Close returns 2 seconds later without an error, and
-// the connections are closed once their limits are over.
+// session has ended before is no error. If the server doesn't answer, Close returns 2 seconds later without an error,
+// and the connections are closed once their limits are over.
 func Close(db *sql.DB) error {
 	closed := make(chan error, 1)
 	go func() { closed <- db.Close() }()
@@ -186,11 +190,14 @@ func newConnector(address string) (made *pq.Connector, err error) {
 }
 
 // A connector opens connections whose synchronous_commit is known.
-type connector struct{ *pq.Connector }
+type connector struct {
+	*pq.Connector
+	check func(context.Context, driver.QueryerContext) error // or nil
+}
 
 // Connect opens a connection.
 func (c connector) Connect(ctx context.Context) (driver.Conn, error) {
-	var network *limited
+	var network *limitedConn
 	made, err := c.Connector.Connect(context.WithValue(ctx, dialedKey{}, &network))
 	if err != nil {
 		return nil, err
@@ -203,9 +210,13 @@ func (c connector) Connect(ctx context.Context) (driver.Conn, error) {
 	conn := &connection{known, network}
 	within, cancel := Within(ctx, Answer)
 	defer cancel()
-	if err := keepDurable(within, conn); err != nil {
+	err = keepDurable(within, conn)
+	if err == nil && c.check != nil {
+		err = c.check(within, conn)
+	}
+	if err != nil {
 		_ = conn.Close()
-		return nil, Unanswered(ctx, err)
+		return nil, AsNoAnswer(ctx, err)
 	}
 	return conn, nil
 }
@@ -236,4 +247,108 @@ func text(column driver.Value) string {
 		return string(bytes)
 	}
 	return fmt.Sprint(column)
+}
+
+// ErrBadAddress reports that a text isn't the URL of a PostgreSQL server. The error doesn't quote the text, since a
+// password may stand in it.
+var ErrBadAddress = errors.New(
+	"the URL of the PostgreSQL server can't be read. Write it as postgresql://user@host:port/database")
+
+// IsAddress returns whether a text is the URL of a PostgreSQL server, and not the path of a file.
+func IsAddress(text string) bool {
+	return strings.HasPrefix(text, "postgresql://") || strings.HasPrefix(text, "postgres://")
+}
+
+// HasPassword returns whether a password stands in a URL. On a command line everybody who lists processes can read it.
+//
+// Errors: ErrBadAddress.
+func HasPassword(address string) (bool, error) {
+	parsed, err := parse(address)
+	if err != nil {
+		return false, err
+	}
+	_, hasPassword := parsed.User.Password()
+	return hasPassword || parsed.Query().Has("password"), nil
+}
+
+// HostAndPort returns where the server of a URL listens, as Open finds it: from the URL, or from the environment
+// variables PGHOST and PGPORT, or localhost and 5432. A host that begins with a slash is the folder of a socket.
+//
+// Errors: ErrBadAddress.
+func HostAndPort(address string) (host, port string, err error) {
+	parsed, err := parse(address)
+	if err != nil {
+		return "", "", err
+	}
+	asked := parsed.Query()
+	host = first(asked.Get("host"), parsed.Hostname(), os.Getenv("PGHOST"), "localhost")
+	port = first(asked.Get("port"), parsed.Port(), os.Getenv("PGPORT"), "5432")
+	return host, port, nil
+}
+
+func parse(address string) (*url.URL, error) {
+	if !IsAddress(address) {
+		return nil, ErrBadAddress
+	}
+	parsed, err := url.Parse(address)
+	if err != nil {
+		return nil, ErrBadAddress
+	}
+	return parsed, nil
+}
+
+func first(texts ...string) string {
+	for _, text := range texts {
+		if text != "" {
+			return text
+		}
+	}
+	return ""
+}
+
+// isLocal is whether a host is this machine, to which no connection needs TLS.
+func isLocal(host string) bool {
+	ip := net.ParseIP(host)
+	return host == "localhost" || strings.HasPrefix(host, "/") || ip != nil && ip.IsLoopback()
+}
+
+// Variables of libpq that lib/pq doesn't know. It panics if one of them is set.
+var (
+	// These say where libpq finds files that lib/pq doesn't read, or how it logs in by Kerberos, which lib/pq doesn't
+	// do here. So sessions are the same without them. pg_virtualenv sets the first.
+	needless = []string{"PGSYSCONFDIR", "PGSERVICEFILE", "PGLOCALEDIR", "PGREALM", "PGKRBSRVNAME", "PGGSSLIB"}
+	// These say which server libpq connects to, or how it checks the server. A session that ignores them could be one
+	// with another server.
+	needed = map[string]string{
+		"PGHOSTADDR":    "Put the address into the URL",
+		"PGSERVICE":     "Put the server and the database of the service into the URL",
+		"PGREQUIRESSL":  "Set PGSSLMODE=require",
+		"PGSSLCRL":      "A list of revoked certificates isn't read",
+		"PGREQUIREPEER": "Connect with TLS, and set sslmode=verify-full in the URL",
+	}
+)
+
+// useEnvironment removes from the environment of this process what lib/pq would panic at, and no session needs.
+//
+// Errors: if a variable is set that lib/pq doesn't know, and that sessions need.
+func useEnvironment() error {
+	for _, name := range needless {
+		if _, isSet := os.LookupEnv(name); isSet {
+			if err := os.Unsetenv(name); err != nil {
+				return err
+			}
+		}
+	}
+	for name, remedy := range needed {
+		value, isSet := os.LookupEnv(name)
+		if value != "" {
+			return fmt.Errorf("the variable %s can't be used. %s, and unset %s", name, remedy, name)
+		}
+		if isSet { // an empty one says nothing
+			if err := os.Unsetenv(name); err != nil {
+				return err
+			}
+		}
+	}
+	return nil
 }

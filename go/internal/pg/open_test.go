@@ -2,6 +2,7 @@ package pg_test
 
 import (
 	"context"
+	"database/sql/driver"
 	"errors"
 	"fmt"
 	"os"
@@ -21,12 +22,12 @@ func TestSynchronousCommit(t *testing.T) {
 		err := db.QueryRow("SELECT setting, source FROM pg_settings WHERE name = 'synchronous_commit'").
 			Scan(&setting, &source)
 		if err != nil || setting != value || source != "session" { // of the session: no reload changes it
-			t.Errorf("%s: %s of the %s, %v", value, setting, source, err)
+			t.Errorf("%s: got %s of the %s, %v, want it of the session", value, setting, source, err)
 		}
 	}
 	err := pgtest.DB(t, pgtest.With(t, url, "synchronous_commit", "off")).Ping()
 	if !errors.Is(err, pg.ErrNotDurable) || !strings.Contains(err.Error(), "SET synchronous_commit = on") {
-		t.Errorf("off: %v", err)
+		t.Errorf("off: got %v, want %v and what to set", err, pg.ErrNotDurable)
 	}
 }
 
@@ -35,18 +36,41 @@ func TestSettings(t *testing.T) {
 		Most: 1, Lock: 1500 * time.Millisecond, Statement: 3 * time.Second, Idle: time.Minute,
 		Settings: map[string]string{"search_path": "pg_catalog", "default_transaction_read_only": "off"},
 	})
-	if err != nil {
-		t.Fatal(err)
-	}
+	check(t, err)
 	defer db.Close()
 	for name, want := range map[string]string{
 		"lock_timeout": "1500ms", "statement_timeout": "3s", "idle_in_transaction_session_timeout": "1min",
 		"search_path": "pg_catalog", "application_name": "osb", "tcp_keepalives_idle": "30",
 		"tcp_user_timeout": "60000",
 	} {
-		var got string
-		if err := db.QueryRow("SHOW " + name).Scan(&got); err != nil || got != want {
-			t.Errorf("%s: %s, %v, want %s", name, got, err, want)
+		t.Run(name, func(t *testing.T) {
+			var got string
+			if err := db.QueryRow("SHOW " + name).Scan(&got); err != nil || got != want {
+				t.Errorf("got %s, %v, want %s", got, err, want)
+			}
+		})
+	}
+}
+
+// A connection that the check rejects isn't used.
+func TestCheck(t *testing.T) {
+	rejected := errors.New("not this one")
+	var asked int
+	db, err := pg.Open(pgtest.URL(t), pg.Options{
+		Most: 1, Lock: time.Second, Statement: 3 * time.Second, Idle: time.Minute,
+		Check: func(ctx context.Context, c driver.QueryerContext) error {
+			asked++
+			if asked == 1 {
+				return rejected
+			}
+			return nil
+		},
+	})
+	check(t, err)
+	defer db.Close()
+	for try, want := range []error{rejected, nil} {
+		if got := db.Ping(); !errors.Is(got, want) {
+			t.Errorf("connection %d: got %v, want %v", try+1, got, want)
 		}
 	}
 }
@@ -70,16 +94,16 @@ func TestSettingsThatAreEmptyOrHaveSpaces(t *testing.T) {
 		Most: 1, Lock: time.Second, Statement: time.Second, Idle: time.Minute, Database: "osb_session_settings",
 		Settings: want,
 	})
-	if err != nil {
-		t.Fatal(err)
-	}
+	check(t, err)
 	defer db.Close()
 	want["geqo"], want["client_min_messages"] = "off", "warning"
 	for name, want := range want {
-		var got string
-		if err := db.QueryRow("SHOW " + name).Scan(&got); err != nil || got != want {
-			t.Errorf("%s: %q, %v, want %q", name, got, err, want)
-		}
+		t.Run(name, func(t *testing.T) {
+			var got string
+			if err := db.QueryRow("SHOW " + name).Scan(&got); err != nil || got != want {
+				t.Errorf("got %q, %v, want %q", got, err, want)
+			}
+		})
 	}
 }
 
@@ -88,13 +112,9 @@ func TestCloseAfterTheSessionHasEnded(t *testing.T) {
 	url := pgtest.URL(t)
 	for statements := 0; statements < 4; statements++ {
 		db, err := pg.Open(url, pg.Options{Most: 1, Lock: time.Second, Statement: 5 * time.Second})
-		if err != nil {
-			t.Fatal(err)
-		}
+		check(t, err)
 		var number int
-		if err := db.QueryRow("SELECT pg_backend_pid()").Scan(&number); err != nil {
-			t.Fatal(err)
-		}
+		check(t, db.QueryRow("SELECT pg_backend_pid()").Scan(&number))
 		for n := 0; n < statements; n++ {
 			if _, err := db.Prepare(fmt.Sprint("SELECT ", n)); err != nil {
 				t.Fatal(err)
@@ -102,7 +122,7 @@ func TestCloseAfterTheSessionHasEnded(t *testing.T) {
 		}
 		pgtest.Exec(t, pgtest.DB(t, url), fmt.Sprintf("SELECT pg_terminate_backend(%d, 10000)", number))
 		if err := pg.Close(db); err != nil {
-			t.Errorf("with %d prepared statements: %v", statements, err)
+			t.Errorf("with %d prepared statements: got %v, want no error", statements, err)
 		}
 	}
 }
@@ -119,14 +139,12 @@ func TestAnotherUser(t *testing.T) {
 		Most: 1, Lock: time.Second, Statement: time.Second, Idle: time.Minute,
 		Database: "osb_session_user", User: "osb_session_user", Password: "of its own",
 	})
-	if err != nil {
-		t.Fatal(err)
-	}
+	check(t, err)
 	defer db.Close()
 	var user, database string
 	err = db.QueryRowContext(context.Background(), "SELECT current_user, current_database()").Scan(&user, &database)
 	if err != nil || user != "osb_session_user" || database != user {
-		t.Errorf("%s in %s, %v", user, database, err)
+		t.Errorf("got %s in %s, %v, want osb_session_user in its own", user, database, err)
 	}
 }
 
@@ -134,24 +152,20 @@ func TestLost(t *testing.T) {
 	url := pgtest.URL(t)
 	db := pgtest.DB(t, url)
 	conn, err := db.Conn(context.Background())
-	if err != nil {
-		t.Fatal(err)
-	}
+	check(t, err)
 	defer conn.Close()
 	var pid int
-	if err := conn.QueryRowContext(context.Background(), "SELECT pg_backend_pid()").Scan(&pid); err != nil {
-		t.Fatal(err)
-	}
+	check(t, conn.QueryRowContext(context.Background(), "SELECT pg_backend_pid()").Scan(&pid))
 	if _, err := db.Exec("SELECT pg_terminate_backend($1, 5000)", pid); err != nil {
 		t.Fatal(err)
 	}
 	_, err = conn.ExecContext(context.Background(), "SELECT 1")
 	if !pg.IsLost(err) {
-		t.Errorf("a session that has ended: %v", err)
+		t.Errorf("a session that has ended: got %v, want a lost one", err)
 	}
 	_, err = db.Exec("SELECT 1 / 0")
 	if pg.IsLost(err) || !pg.IsCode(err, "01000", "22012") || pg.IsCode(err, "01000") {
-		t.Errorf("a division by zero: %v", err)
+		t.Errorf("a division by zero: got %v, want 22012 and no lost session", err)
 	}
 }
 
@@ -171,30 +185,103 @@ func TestVariablesThatTheDriverRejects(t *testing.T) {
 	} {
 		t.Setenv(name, "/nowhere")
 		if err := open(); err != nil {
-			t.Errorf("%s: %v", name, err)
+			t.Errorf("%s: got the error %v, want none", name, err)
 		}
 	}
 	for _, name := range []string{"PGHOSTADDR", "PGSERVICE", "PGREQUIRESSL", "PGSSLCRL", "PGREQUIREPEER"} {
 		t.Setenv(name, "")
 		if err := open(); err != nil {
-			t.Errorf("an empty %s: %v", name, err)
+			t.Errorf("an empty %s: got %v, want no error", name, err)
 		}
 		t.Setenv(name, "1")
 		err := open()
 		if _, isLasting := pg.Remedy(err); !isLasting || !strings.Contains(err.Error(), "unset "+name) {
-			t.Errorf("%s: %v, lasting: %v", name, err, isLasting)
+			t.Errorf("%s: got %v, lasting %v, want a lasting one that says what to unset", name, err, isLasting)
 		}
-		if err := os.Unsetenv(name); err != nil {
-			t.Fatal(err)
-		}
+		check(t, os.Unsetenv(name))
 	}
 	for name, value := range map[string]string{"PGCLIENTENCODING": "LATIN1", "PGDATESTYLE": "German"} {
-		t.Setenv(name, value)
-		if _, isLasting := pg.Remedy(open()); !isLasting {
-			t.Errorf("%s=%s isn't an error that lasts", name, value)
+		t.Run(name, func(t *testing.T) {
+			t.Setenv(name, value)
+			if _, isLasting := pg.Remedy(open()); !isLasting {
+				t.Errorf("%s=%s: got an error that passes, want one that lasts", name, value)
+			}
+			check(t, os.Unsetenv(name))
+		})
+	}
+}
+
+func TestAddresses(t *testing.T) {
+	t.Setenv("PGHOST", "")
+	t.Setenv("PGPORT", "")
+	for _, test := range []struct {
+		address     string
+		hasPassword bool
+		host, port  string
+	}{
+		{"postgresql://broker@db/brokers", false, "db", "5432"},
+		{"postgres://broker:x@db:6000/brokers", true, "db", "6000"},
+		{"postgresql://broker@db/brokers?password=x", true, "db", "5432"},
+		{"postgresql://broker@[::1]:7000/brokers", false, "::1", "7000"},
+		{"postgresql:///brokers?host=/run/postgresql&port=6000", false, "/run/postgresql", "6000"},
+		{"postgresql:///brokers", false, "localhost", "5432"},
+	} {
+		t.Run(test.address, func(t *testing.T) {
+			hasPassword, err := pg.HasPassword(test.address)
+			if err != nil || hasPassword != test.hasPassword {
+				t.Errorf("HasPassword(%s): got %t, %v, want %t", test.address, hasPassword, err, test.hasPassword)
+			}
+			host, port, err := pg.HostAndPort(test.address)
+			if err != nil || host != test.host || port != test.port {
+				t.Errorf("HostAndPort(%s): got %s, %s, %v, want %s, %s", test.address, host, port, err, test.host, test.port)
+			}
+		})
+	}
+}
+
+func TestHostAndPortOfTheEnvironment(t *testing.T) {
+	t.Setenv("PGHOST", "elsewhere")
+	t.Setenv("PGPORT", "6543")
+	for address, want := range map[string][2]string{
+		"postgresql:///brokers":           {"elsewhere", "6543"},
+		"postgresql://db:5000/brokers":    {"db", "5000"},
+		"postgresql://db/brokers?port=77": {"db", "77"},
+	} {
+		t.Run(address, func(t *testing.T) {
+			host, port, err := pg.HostAndPort(address)
+			if err != nil || host != want[0] || port != want[1] {
+				t.Errorf("got the host %s, the port %s and the error %v, want %v", host, port, err, want)
+			}
+		})
+	}
+}
+
+// The password of a URL that can't be read doesn't get into the error.
+func TestBadAddresses(t *testing.T) {
+	for _, address := range []string{
+		"", "/srv/store.sqlite", "postgresql://u:secret@db:port/x", "postgresql://u:sec%ret@db",
+	} {
+		_, err := pg.Open(address, pg.Options{Most: 1})
+		if !errors.Is(err, pg.ErrBadAddress) || err.Error() != pg.ErrBadAddress.Error() {
+			t.Errorf("Open(%s): got %v, want %v alone", address, err, pg.ErrBadAddress)
 		}
-		if err := os.Unsetenv(name); err != nil {
-			t.Fatal(err)
+		if _, err := pg.HasPassword(address); !errors.Is(err, pg.ErrBadAddress) {
+			t.Errorf("HasPassword(%s): got %v, want %v", address, err, pg.ErrBadAddress)
 		}
+	}
+}
+
+func TestAnEnvironmentThatIsNotSupported(t *testing.T) {
+	t.Setenv("PGSERVICE", "x")
+	if _, err := pg.Open("postgresql://db/x", pg.Options{Most: 1}); err == nil {
+		t.Error("PGSERVICE: got no error, want one")
+	}
+}
+
+// check ends the test at an error.
+func check(t testing.TB, err error) {
+	t.Helper()
+	if err != nil {
+		t.Fatal(err)
 	}
 }

@@ -5,8 +5,11 @@ package secrets
 import (
 	"errors"
 	"fmt"
+	"io"
 	"os"
+	"sort"
 	"strings"
+	"syscall"
 	"unicode"
 	"unicode/utf8"
 )
@@ -81,4 +84,107 @@ func check(text string) error {
 		return errors.New("it has a control character")
 	}
 	return nil
+}
+
+// longest is how many bytes a file may have.
+const longest = 64 << 10
+
+// read returns the lines of a file, each of which passes check, and a warning if its mode is too wide.
+func read(name string) (lines []string, warning string, err error) {
+	text, warning, err := contents(name)
+	if err != nil {
+		return nil, "", err
+	}
+	lines = strings.Split(strings.TrimSuffix(text, "\n"), "\n")
+	for number, line := range lines {
+		if err := check(line); err != nil {
+			return nil, "", fmt.Errorf("line %d of %s: %w", number+1, name, err)
+		}
+	}
+	return lines, warning, nil
+}
+
+// contents returns the text of a regular file. Nothing else is opened for long: a pipe that nobody writes to would be
+// waited for forever.
+func contents(name string) (text, warning string, err error) {
+	file, err := os.OpenFile(name, os.O_RDONLY|syscall.O_NONBLOCK, 0)
+	if err != nil {
+		return "", "", err
+	}
+	defer file.Close()
+	about, err := file.Stat()
+	if err != nil {
+		return "", "", err
+	}
+	mode := about.Mode()
+	if !mode.IsRegular() {
+		return "", "", fmt.Errorf("%s isn't a regular file", name)
+	}
+	if mode.Perm()&^0o600 != 0 {
+		warning = fmt.Sprintf("%s has the mode %04o. Run: chmod 600 %s", name, mode.Perm(), name)
+	}
+	bytes, err := io.ReadAll(io.LimitReader(file, longest+1))
+	if err != nil {
+		return "", "", err
+	}
+	if len(bytes) > longest {
+		return "", "", fmt.Errorf("%s is longer than %d bytes", name, longest)
+	}
+	return string(bytes), warning, nil
+}
+
+// Users returns the users in a file, each with one or two passwords that are valid. Each line is user:password; the
+// first colon separates them. Two lines of one user are its two passwords. The last line feed is dropped. Users and
+// passwords are UTF-8 without control characters (RFC 7617, section 2; the file is this project's choice).
+//
+// The warning is for the log. It is empty, unless the mode of the file is beyond 0600.
+//
+// Errors: the file can't be read or is longer than 64 KiB; a line isn't user:password, isn't UTF-8, or has a control
+// character; a user has more than two lines, or the same line twice.
+func Users(file string) (users map[string][]string, warning string, err error) {
+	lines, warning, err := read(file)
+	if err != nil {
+		return nil, "", err
+	}
+	users = make(map[string][]string)
+	for number, line := range lines {
+		if err := add(users, line); err != nil {
+			return nil, "", fmt.Errorf("line %d of %s: %w", number+1, file, err)
+		}
+	}
+	return users, warning, nil
+}
+
+func add(users map[string][]string, line string) error {
+	user, password, _ := strings.Cut(line, ":")
+	if user == "" || password == "" {
+		return errors.New("it isn't user:password")
+	}
+	for _, other := range users[user] {
+		if other == password {
+			return errors.New("an earlier line has the same user and password")
+		}
+	}
+	if len(users[user]) == most {
+		return errors.New("a third password of one user: want one, or two while it is changed")
+	}
+	users[user] = append(users[user], password)
+	return nil
+}
+
+// ShortestPassword is how many bytes a password has that can't be guessed: 16 random characters have about 95 bits.
+const ShortestPassword = 16
+
+// Short returns the users of which a password has fewer than ShortestPassword bytes, in the order of their names.
+func Short(passwords map[string][]string) (users []string) {
+	for user, all := range passwords {
+		for _, secret := range all {
+			if len(secret) < ShortestPassword {
+				users = append(users, user)
+				break
+			}
+		}
+	}
+	sort.Strings(users)
+	return users
 }

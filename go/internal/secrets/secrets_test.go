@@ -1,11 +1,14 @@
 package secrets
 
 import (
+	"fmt"
 	"os"
 	"path/filepath"
 	"reflect"
 	"strings"
+	"syscall"
 	"testing"
+	"time"
 )
 
 const variable = "OSB_TEST_PASSWORD"
@@ -31,14 +34,17 @@ func TestPasswordsOfAFile(t *testing.T) {
 		"sesame\r\n": nil, "ses\x00ame": nil, "ses\tame": nil, "sesame\xff": nil,
 		strings.Repeat("s", longest+1): nil,
 	} {
-		t.Setenv(variable, "of the environment")
-		got, warning, err := Passwords(variable, fileWith(t, text, 0o600))
-		if !reflect.DeepEqual(got, want) || (err == nil) != (want != nil) || warning != "" {
-			t.Errorf("%.20q: %.20q, warning %q, error %v; want %q", text, got, warning, err, want)
-		}
-		if err != nil && (strings.Contains(err.Error(), "ses") || strings.Contains(err.Error(), "one\n")) {
-			t.Errorf("%.20q: the error has the secret: %v", text, err)
-		}
+		file := fileWith(t, text, 0o600) // whose name doesn't have the text
+		t.Run(fmt.Sprintf("%.20q", text), func(t *testing.T) {
+			t.Setenv(variable, "of the environment")
+			got, warning, err := Passwords(variable, file)
+			if !reflect.DeepEqual(got, want) || (err == nil) != (want != nil) || warning != "" {
+				t.Errorf("got %.20q, warning %q, error %v, want %q", got, warning, err, want)
+			}
+			if err != nil && (strings.Contains(err.Error(), "ses") || strings.Contains(err.Error(), "one\n")) {
+				t.Errorf("got %v, want no secret in it", err)
+			}
+		})
 	}
 }
 
@@ -46,14 +52,16 @@ func TestPasswordsOfTheEnvironment(t *testing.T) {
 	for value, want := range map[string][]string{
 		"sesame": {"sesame"}, "": nil, "sesame\nother": nil, "sesame\xff": nil,
 	} {
-		t.Setenv(variable, value)
-		got, warning, err := Passwords(variable, "")
-		if !reflect.DeepEqual(got, want) || (err == nil) != (want != nil) || warning != "" {
-			t.Errorf("%q: %q, warning %q, error %v; want %q", value, got, warning, err, want)
-		}
-		if err != nil && (strings.Contains(err.Error(), "sesame") || !strings.Contains(err.Error(), variable)) {
-			t.Errorf("%q: the error is %v", value, err)
-		}
+		t.Run(fmt.Sprintf("%.20q", value), func(t *testing.T) {
+			t.Setenv(variable, value)
+			got, warning, err := Passwords(variable, "")
+			if !reflect.DeepEqual(got, want) || (err == nil) != (want != nil) || warning != "" {
+				t.Errorf("got %q, warning %q, error %v, want %q", got, warning, err, want)
+			}
+			if err != nil && (strings.Contains(err.Error(), "sesame") || !strings.Contains(err.Error(), variable)) {
+				t.Errorf("got %v, want the variable and no secret in it", err)
+			}
+		})
 	}
 }
 
@@ -64,7 +72,7 @@ func TestTheEnvironmentKeepsNoPassword(t *testing.T) {
 			t.Fatal(err)
 		}
 		if _, isSet := os.LookupEnv(variable); isSet {
-			t.Errorf("file %q: the variable is still set", file)
+			t.Errorf("file %q: got the variable still set, want it unset", file)
 		}
 	}
 }
@@ -72,19 +80,19 @@ func TestTheEnvironmentKeepsNoPassword(t *testing.T) {
 func TestPasswordsOfNoFile(t *testing.T) {
 	name := filepath.Join(t.TempDir(), "none")
 	if _, _, err := Passwords(variable, name); !os.IsNotExist(err) || !strings.Contains(err.Error(), name) {
-		t.Errorf("the error is %v", err)
+		t.Errorf("got %v, want an error that names the file", err)
 	}
 	if _, _, err := Passwords(variable, t.TempDir()); err == nil {
-		t.Error("a folder is taken for a file")
+		t.Error("a folder: got no error, want one")
 	}
 }
 
 func TestSecretIsOneLine(t *testing.T) {
 	if got, _, err := Secret(variable, fileWith(t, "a key\n", 0o600)); got != "a key" || err != nil {
-		t.Errorf("%q, %v", got, err)
+		t.Errorf("got %q and the error %v, want a key", got, err)
 	}
 	if got, _, err := Secret(variable, fileWith(t, "a key\nanother\n", 0o600)); err == nil {
-		t.Errorf("two lines give %q", got)
+		t.Errorf("two lines: got %q, want an error", got)
 	}
 }
 
@@ -103,10 +111,10 @@ func TestWarningOfTheMode(t *testing.T) {
 		}
 		for _, warning := range []string{first, second} {
 			if (warning != "") != isWarned || isWarned && !strings.Contains(warning, name) {
-				t.Errorf("mode %o: the warning is %q", mode, warning)
+				t.Errorf("mode %o: got the warning %q, want one %v", mode, warning, isWarned)
 			}
 			if strings.Contains(warning, "sesame") {
-				t.Errorf("mode %o: the warning has the secret", mode)
+				t.Errorf("mode %o: got the secret in the warning, want none", mode)
 			}
 		}
 	}
@@ -129,13 +137,16 @@ func TestUsers(t *testing.T) {
 		"cf:ses\x01ame\n":                    nil,
 		"cf:sesame\r\n":                      nil,
 	} {
-		got, _, err := Users(fileWith(t, text, 0o600))
-		if !reflect.DeepEqual(got, want) || (err == nil) != (want != nil) {
-			t.Errorf("%q: %v, %v; want %v", text, got, err, want)
-		}
-		if err != nil && strings.Contains(err.Error(), "ses") {
-			t.Errorf("%q: the error has the secret: %v", text, err)
-		}
+		file := fileWith(t, text, 0o600) // whose name doesn't have the text
+		t.Run(fmt.Sprintf("%.20q", text), func(t *testing.T) {
+			got, _, err := Users(file)
+			if !reflect.DeepEqual(got, want) || (err == nil) != (want != nil) {
+				t.Errorf("got %v, %v, want %v", got, err, want)
+			}
+			if err != nil && strings.Contains(err.Error(), "ses") {
+				t.Errorf("got %v, want no secret in it", err)
+			}
+		})
 	}
 }
 
@@ -145,5 +156,34 @@ func TestShort(t *testing.T) {
 	})
 	if want := []string{"an old one", "both", "one"}; !reflect.DeepEqual(got, want) {
 		t.Errorf("got %q, want %q", got, want)
+	}
+}
+
+// What isn't a regular file is rejected at once, also a pipe that nobody writes to.
+func TestFilesThatAreNotRegular(t *testing.T) {
+	folder := t.TempDir()
+	pipe := filepath.Join(folder, "pipe")
+	if err := syscall.Mkfifo(pipe, 0o600); err != nil {
+		t.Fatal(err)
+	}
+	link := filepath.Join(folder, "link")
+	if err := os.Symlink(pipe, link); err != nil {
+		t.Fatal(err)
+	}
+	for _, name := range []string{pipe, link, folder, os.DevNull} {
+		name := name
+		done := make(chan error, 1)
+		go func() {
+			_, _, err := Passwords(variable, name)
+			done <- err
+		}()
+		select {
+		case err := <-done:
+			if err == nil || !strings.HasSuffix(err.Error(), name+" isn't a regular file") {
+				t.Errorf("%s: got the error %v, want one that says that it isn't a regular file", name, err)
+			}
+		case <-time.After(10 * time.Second):
+			t.Fatalf("%s: got no end of reading in 10 seconds, want an error", name)
+		}
 	}
 }

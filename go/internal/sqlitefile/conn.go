@@ -62,7 +62,7 @@ type sqliteStmt interface {
 // connect opens a connection whose commits are on disk when they return.
 func connect(ctx context.Context, by driver.Driver, path string) (*Conn, error) {
 	var made driver.Conn
-	name := (&url.URL{Scheme: "file", Opaque: escaped(path)}).String() + "?_mutex=no&_busy_timeout=0"
+	name := (&url.URL{Scheme: "file", Opaque: escapePath(path)}).String() + "?_mutex=no&_busy_timeout=0"
 	err := Patiently(ctx, func() (err error) { // the driver begins with a statement of its own
 		made, err = by.Open(name)
 		return err
@@ -81,7 +81,7 @@ func connect(ctx context.Context, by driver.Driver, path string) (*Conn, error) 
 // Look opens a file that exists for reading only, calls with the connection, and closes it. What a killed process has
 // left stays as it is for the next one that opens the file.
 func Look(ctx context.Context, path string, call func(*Conn) error) error {
-	name := (&url.URL{Scheme: "file", Opaque: escaped(path)}).String() + "?mode=ro&_mutex=no&_busy_timeout=0"
+	name := (&url.URL{Scheme: "file", Opaque: escapePath(path)}).String() + "?mode=ro&_mutex=no&_busy_timeout=0"
 	return Patiently(ctx, func() error {
 		made, err := (&sqlite3.SQLiteDriver{}).Open(name)
 		if err != nil {
@@ -93,8 +93,8 @@ func Look(ctx context.Context, path string, call func(*Conn) error) error {
 	})
 }
 
-// escaped is a path as it stands in a URI of SQLite.
-func escaped(path string) string { return (&url.URL{Path: path}).EscapedPath() }
+// escapePath is a path as it stands in a URI of SQLite.
+func escapePath(path string) string { return (&url.URL{Path: path}).EscapedPath() }
 
 func (c *Conn) set(ctx context.Context) error {
 	for _, statement := range []string{
@@ -121,8 +121,8 @@ func (c *Conn) set(ctx context.Context) error {
 // close closes the statements and the connection. With an open statement SQLite would keep the files open, and would
 // leave in the log what was written last.
 func (c *Conn) close() error {
-	for _, it := range c.prepared {
-		_ = it.driver.Close()
+	for _, statement := range c.prepared {
+		_ = statement.driver.Close()
 	}
 	return c.sqlite.Close()
 }

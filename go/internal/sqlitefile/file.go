@@ -1,7 +1,8 @@
 // Package sqlitefile has a file of SQLite that many goroutines use at once, and any number of processes of one machine.
 //
 // A read waits for nobody. All jobs that wait to be written are written by one goroutine in one transaction: one commit
-// puts them on disk, and no caller is told before it has returned. A job that fails is left out of the transaction.
+// puts them on disk, and no caller gets its result before it has returned. A job that fails is left out of the
+// transaction.
 //
 // The driver is used without database/sql: statements are prepared once for each connection, and a read is one query.
 package sqlitefile
@@ -42,7 +43,7 @@ type Options[C any] struct {
 	Migrate func(ctx context.Context, conn *Conn, path string) error
 	// Prepare returns what is used with a connection. It is called once for each, after Migrate.
 	Prepare func(ctx context.Context, conn *Conn) (C, error)
-	// Committed is told how many jobs each transaction had, before their callers are. It may be nil.
+	// Committed gets how many jobs each transaction had, before their callers get their results. It may be nil.
 	Committed func(jobs int)
 }
 
@@ -52,7 +53,7 @@ type File[C any] struct {
 	options Options[C]
 	readers chan side[C]
 	writer  side[C]
-	asked   chan *job[C]
+	queue   chan *job[C]
 	once    sync.Once
 	open    context.Context // ends with Close
 	shut    context.CancelFunc
@@ -112,11 +113,11 @@ func Open[C any](ctx context.Context, path string, options Options[C]) (*File[C]
 	f := &File[C]{
 		options: options,
 		readers: make(chan side[C], options.Readers),
-		asked:   make(chan *job[C], options.Together),
+		queue:   make(chan *job[C], options.Together),
 		ended:   make(chan struct{}),
 	}
 	var err error
-	if f.path, err = created(path); err == nil {
+	if f.path, err = createFile(path); err == nil {
 		err = f.connect(ctx, f.path)
 	}
 	if err != nil {
@@ -138,7 +139,7 @@ func (f *File[C]) connect(ctx context.Context, path string) (err error) {
 		err = f.writer.conn.Exec(fmt.Sprintf("PRAGMA cache_size = -%d", f.options.Cache))
 	}
 	if err == nil {
-		err = synced(path + "-wal")
+		err = syncLog(path + "-wal")
 	}
 	if err == nil {
 		err = f.openReaders(ctx, path)
@@ -192,9 +193,9 @@ func (f *File[C]) closeReaders(count int) (err error) {
 	return err
 }
 
-// created creates a file for its owner alone, if there is none, and returns its path without symbolic links, as SQLite
-// uses it. A file that exists must not be opened here: closing it would end SQLite's locks of this process.
-func created(path string) (string, error) {
+// createFile creates a file for its owner alone, if there is none, and returns its path without symbolic links, as
+// SQLite uses it. A file that exists must not be opened here: closing it would end SQLite's locks of this process.
+func createFile(path string) (string, error) {
 	file, err := os.OpenFile(path, os.O_RDWR|os.O_CREATE|os.O_EXCL, 0o600)
 	if err == nil {
 		err = file.Close()
@@ -209,8 +210,8 @@ func created(path string) (string, error) {
 	return filepath.EvalSymlinks(absolute)
 }
 
-// synced has on disk what a killed process had written to the log. No other file of the database may be opened so.
-func synced(log string) error {
+// syncLog writes to disk what a killed process wrote to the log. No other file of the database may be opened so.
+func syncLog(log string) error {
 	file, err := os.Open(log)
 	if errors.Is(err, os.ErrNotExist) {
 		return nil
@@ -223,7 +224,7 @@ func synced(log string) error {
 }
 
 // Waiting returns how many jobs wait for the next transaction.
-func (f *File[C]) Waiting() int { return len(f.asked) }
+func (f *File[C]) Waiting() int { return len(f.queue) }
 
 // Close closes the file, once all jobs and reads that have begun have ended. Later calls fail with ErrClosed. To call
 // Close again does nothing.
@@ -275,7 +276,7 @@ func (f *File[C]) Write(ctx context.Context, do func(C) error) error {
 	default:
 	}
 	select {
-	case f.asked <- it:
+	case f.queue <- it:
 	case <-ctx.Done():
 		return ctx.Err()
 	case <-f.open.Done():
@@ -293,7 +294,7 @@ func (f *File[C]) Write(ctx context.Context, do func(C) error) error {
 			return ErrClosed
 		}
 	}
-	<-it.done // it has begun: the caller is told what came of it
+	<-it.done // it has begun: the caller gets its result
 	return it.err
 }
 
@@ -303,22 +304,22 @@ func (f *File[C]) write() {
 	batch := make([]*job[C], 0, f.options.Together)
 	for {
 		select {
-		case it := <-f.asked:
+		case it := <-f.queue:
 			batch = append(batch[:0], it)
 		case <-f.open.Done():
 			return
 		}
-		f.commit(f.gathered(batch))
+		f.commit(f.gather(batch))
 	}
 }
 
-// gathered adds all jobs that wait to a batch, as far as there is room. Before, it lets the goroutines run that can: those
-// that are about to ask for a job are in the batch then. If none can run, that takes no time.
-func (f *File[C]) gathered(batch []*job[C]) []*job[C] {
+// gather adds all jobs that wait to a batch, as far as there is room. Before, it lets the goroutines run that can:
+// those that are about to ask for a job are in the batch then. If none can run, that takes no time.
+func (f *File[C]) gather(batch []*job[C]) []*job[C] {
 	runtime.Gosched()
 	for len(batch) < f.options.Together {
 		select {
-		case it := <-f.asked:
+		case it := <-f.queue:
 			batch = append(batch, it)
 		default:
 			return batch
@@ -327,7 +328,7 @@ func (f *File[C]) gathered(batch []*job[C]) []*job[C] {
 	return batch
 }
 
-// commit writes jobs in one transaction, and tells their callers what came of it. If the transaction itself fails, none
+// commit writes jobs in one transaction, and passes the result to their callers. If the transaction itself fails, none
 // is written.
 func (f *File[C]) commit(batch []*job[C]) {
 	conn := f.writer.conn
@@ -336,16 +337,16 @@ func (f *File[C]) commit(batch []*job[C]) {
 		err = ErrClosed
 	}
 	jobs := batch[:0]
-	for _, it := range batch {
-		if !it.begin() {
+	for _, job := range batch {
+		if !job.begin() {
 			continue // nobody waits for it
 		}
-		jobs = append(jobs, it)
-		if it.err = it.ctx.Err(); it.err == nil && err == nil {
-			it.err = f.try(it)
+		jobs = append(jobs, job)
+		if job.err = job.ctx.Err(); job.err == nil && err == nil {
+			job.err = f.try(job)
 		}
-		if errors.Is(it.err, ErrBroken) {
-			err = it.err
+		if errors.Is(job.err, ErrBroken) {
+			err = job.err
 		}
 	}
 	if err == nil {
@@ -359,11 +360,11 @@ func (f *File[C]) commit(batch []*job[C]) {
 	if f.options.Committed != nil && err == nil {
 		f.options.Committed(len(jobs))
 	}
-	for _, it := range jobs {
+	for _, job := range jobs {
 		if err != nil {
-			it.err = fmt.Errorf("sqlite: %w", err)
+			job.err = fmt.Errorf("sqlite: %w", err)
 		}
-		close(it.done)
+		close(job.done)
 	}
 }
 

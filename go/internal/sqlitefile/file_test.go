@@ -1,19 +1,24 @@
 package sqlitefile
 
 import (
+	"bytes"
 	"context"
 	"database/sql/driver"
 	"errors"
 	"fmt"
+	"io/fs"
 	"os"
 	"path/filepath"
 	"strings"
 	"sync"
 	"sync/atomic"
+	"syscall"
 	"testing"
 	"time"
 
 	"github.com/mattn/go-sqlite3"
+
+	"pippinterm/internal/storefaults"
 )
 
 var background = context.Background()
@@ -52,9 +57,7 @@ func options() Options[*notes] {
 func open(t *testing.T, path string, options Options[*notes]) *File[*notes] {
 	t.Helper()
 	file, err := Open(background, path, options)
-	if err != nil {
-		t.Fatal(err)
-	}
+	check(t, err)
 	t.Cleanup(func() {
 		if err := file.Close(); err != nil {
 			t.Error(err)
@@ -66,8 +69,8 @@ func open(t *testing.T, path string, options Options[*notes]) *File[*notes] {
 // note writes texts in one job.
 func note(texts ...string) func(*notes) error {
 	return func(n *notes) error {
-		for _, it := range texts {
-			if rows, err := n.put.Run(it); err != nil || rows != 1 {
+		for _, text := range texts {
+			if rows, err := n.put.Run(text); err != nil || rows != 1 {
 				return fmt.Errorf("%d rows: %w", rows, err)
 			}
 		}
@@ -90,8 +93,8 @@ func wantNotes(t *testing.T, file *File[*notes], want ...string) {
 	}
 }
 
-// held is a job that keeps the writer until release is closed.
-func held(t *testing.T, file *File[*notes]) (release chan struct{}, all *sync.WaitGroup) {
+// holdWriter adds a job that keeps the writer until release is closed.
+func holdWriter(t *testing.T, file *File[*notes]) (release chan struct{}, all *sync.WaitGroup) {
 	t.Helper()
 	entered, release, all := make(chan struct{}), make(chan struct{}), &sync.WaitGroup{}
 	all.Add(1)
@@ -115,7 +118,7 @@ func eventually(t *testing.T, what string, is func() bool) {
 	t.Helper()
 	for until := time.Now().Add(deadline); !is(); time.Sleep(time.Millisecond) {
 		if time.Now().After(until) {
-			t.Fatal(what)
+			t.Fatalf("got no end in time, want it: %s", what)
 		}
 	}
 }
@@ -145,14 +148,14 @@ func TestOneJobFails(t *testing.T) {
 	})
 	wantNotes(t, file, "d1", "d2")
 	if commits.Load() != 2 || jobs.Load() != 5 {
-		t.Errorf("%d commits of %d jobs", commits.Load(), jobs.Load())
+		t.Errorf("got %d commits of %d jobs, want 2 of 5", commits.Load(), jobs.Load())
 	}
 }
 
 // writeTogether writes jobs in one transaction. Each is named by a part of its error, and "" must succeed.
 func writeTogether(t *testing.T, file *File[*notes], jobs map[string]func(*notes) error) {
 	t.Helper()
-	release, all := held(t, file)
+	release, all := holdWriter(t, file)
 	for want, job := range jobs {
 		want, job := want, job
 		all.Add(1)
@@ -160,7 +163,7 @@ func writeTogether(t *testing.T, file *File[*notes], jobs map[string]func(*notes
 			defer all.Done()
 			err := file.Write(background, job)
 			if (err == nil) != (want == "") || err != nil && !strings.Contains(err.Error(), want) {
-				t.Errorf("%q: %v", want, err)
+				t.Errorf("want the error %q, got %v", want, err)
 			}
 		}()
 	}
@@ -205,7 +208,7 @@ func TestUndoing(t *testing.T) {
 // If the transaction itself is broken off, or a job can't be undone, no job of it is reported as written. The next one
 // is written.
 func TestTransactionFails(t *testing.T) {
-	for name, it := range map[string]struct {
+	for name, test := range map[string]struct {
 		breaking     string
 		oneStatement bool
 	}{
@@ -213,7 +216,7 @@ func TestTransactionFails(t *testing.T) {
 		"ROLLBACK, one statement": {"ROLLBACK", true},
 		"RELEASE":                 {"RELEASE job", false}, // so that the job can't be undone
 	} {
-		it := it
+		it := test
 		t.Run(name, func(t *testing.T) {
 			with := options()
 			with.OneStatement = it.oneStatement
@@ -232,20 +235,22 @@ func TestTransactionFails(t *testing.T) {
 func TestTransactionThatFails(t *testing.T) {
 	file := open(t, filepath.Join(t.TempDir(), "file"), options())
 	for name, fails := range map[string]func(){"error": func() {}, "panic": func() { panic("a bug") }} {
-		err := file.Read(background, func(n *notes) error {
-			err := n.Transaction(background, func() error {
-				err := note("lost")(n)
-				fails()
-				return first(err, errWrong)
+		t.Run(name, func(t *testing.T) {
+			err := file.Read(background, func(n *notes) error {
+				err := n.Transaction(background, func() error {
+					err := note("lost")(n)
+					fails()
+					return first(err, errWrong)
+				})
+				if n.InTransaction() {
+					t.Error("got an open transaction, want none")
+				}
+				return err
 			})
-			if n.InTransaction() {
-				t.Errorf("%s: the transaction is open", name)
+			if err == nil {
+				t.Error("got nil, want an error")
 			}
-			return err
 		})
-		if err == nil {
-			t.Errorf("%s: got nil, want an error", name)
-		}
 	}
 	wantNotes(t, file)
 	if err := file.Write(background, note("next")); err != nil {
@@ -259,9 +264,7 @@ func TestOneStatement(t *testing.T) {
 	with := options()
 	with.OneStatement = true
 	file := open(t, filepath.Join(t.TempDir(), "file"), with)
-	if err := file.Write(background, note("a")); err != nil {
-		t.Fatal(err)
-	}
+	check(t, file.Write(background, note("a")))
 	writeTogether(t, file, map[string]func(*notes) error{
 		"wrong":             func(*notes) error { return errWrong },
 		"a bug":             func(*notes) error { panic("a bug") },
@@ -275,7 +278,7 @@ func TestOneStatement(t *testing.T) {
 // breakOff writes three jobs in a transaction, of which the second one breaks it off by a statement.
 func breakOff(t *testing.T, file *File[*notes], by string) {
 	t.Helper()
-	release, all := held(t, file)
+	release, all := holdWriter(t, file)
 	errs := make([]error, 3)
 	for n, job := range []func(*notes) error{
 		note("before"), func(n *notes) error { return first(note("breaking")(n), n.Exec(by), errWrong) }, note("after"),
@@ -286,13 +289,13 @@ func breakOff(t *testing.T, file *File[*notes], by string) {
 			defer all.Done()
 			errs[n] = file.Write(background, job)
 		}()
-		eventually(t, "the job isn't waiting", func() bool { return len(file.asked) == n+1 })
+		eventually(t, "the job isn't waiting", func() bool { return len(file.queue) == n+1 })
 	}
 	close(release)
 	all.Wait()
 	for n, err := range errs {
 		if err == nil {
-			t.Errorf("job %d was reported as written", n)
+			t.Errorf("job %d: got no error, want one", n)
 		}
 	}
 }
@@ -304,37 +307,40 @@ func TestReportsAfterCommit(t *testing.T) {
 	want := []string{}
 	for n := 0; n < 20; n++ {
 		want = append(want, fmt.Sprintf("%02d", n))
-		if err := file.Write(background, note(want[n])); err != nil {
-			t.Fatal(err)
-		}
+		check(t, file.Write(background, note(want[n])))
 		wantNotes(t, other, want...)
 	}
 }
 
-// A caller who goes before its job has begun gets its context's error at once, and the job isn't done.
+// A caller who goes before its job has begun gets its context's error at once, and the job isn't done. The job may wait
+// among others, or for room among them.
 func TestCancelled(t *testing.T) {
-	file := open(t, filepath.Join(t.TempDir(), "file"), options())
+	one := options()
+	one.Together = 1
+	file := open(t, filepath.Join(t.TempDir(), "file"), one)
 	gone, cancel := context.WithCancel(background)
 	cancel()
 	if err := file.Write(gone, note("gone")); !errors.Is(err, context.Canceled) {
-		t.Errorf("Write: %v", err)
+		t.Errorf("Write: got %v, want %v", err, context.Canceled)
 	}
 	if err := file.Read(gone, func(*notes) error { return errWrong }); !errors.Is(err, context.Canceled) {
-		t.Errorf("Read: %v", err)
+		t.Errorf("Read: got %v, want %v", err, context.Canceled)
 	}
-	release, all := held(t, file)
-	going, cancel := context.WithCancel(background)
-	failed := make(chan error, 1)
-	go func() { failed <- file.Write(going, note("going")) }()
-	eventually(t, "the job isn't waiting", func() bool { return len(file.asked) == 1 })
-	cancel()
-	select {
-	case err := <-failed:
-		if !errors.Is(err, context.Canceled) {
-			t.Errorf("Write: %v", err)
+	release, all := holdWriter(t, file)
+	for n := 0; n < 2; n++ {
+		going, cancel := context.WithCancel(background)
+		failed := make(chan error, 1)
+		go func() { failed <- file.Write(going, note("going")) }()
+		eventually(t, "no job is waiting", func() bool { return len(file.queue) == 1 })
+		time.AfterFunc(soon, cancel)
+		select {
+		case err := <-failed:
+			if !errors.Is(err, context.Canceled) {
+				t.Errorf("Write: got %v, want %v", err, context.Canceled)
+			}
+		case <-time.After(deadline):
+			t.Error("Write: got no end before a job that hasn't begun, want one")
 		}
-	case <-time.After(deadline):
-		t.Error("Write waits for a job that hasn't begun")
 	}
 	close(release)
 	all.Wait()
@@ -346,14 +352,19 @@ func TestCancelled(t *testing.T) {
 
 // Close ends a job that has begun, and no other. It doesn't wait for another process.
 func TestClose(t *testing.T) {
-	path := filepath.Join(t.TempDir(), "file")
-	file, other := open(t, path, options()), open(t, path, options())
-	release, all := held(t, other) // as another process
-	failed := make(chan error, 1)
-	go func() { failed <- file.Write(background, note("late")) }()
+	path, one := filepath.Join(t.TempDir(), "file"), options()
+	one.Together = 1
+	file, other := open(t, path, one), open(t, path, options())
+	release, all := holdWriter(t, other) // as another process
+	const late = 20                      // a job that has begun, one that waits, and others that wait for room
+	failed := make(chan error, late)
+	for n := 0; n < late; n++ {
+		go func() { failed <- file.Write(background, note("late")) }()
+	}
+	eventually(t, "no job is waiting", func() bool { return len(file.queue) == 1 })
 	select {
 	case err := <-failed:
-		t.Errorf("it was written beside another: %v", err)
+		t.Errorf("beside another: got %v, want it to wait", err)
 		failed <- err
 	case <-time.After(soon):
 	}
@@ -365,10 +376,17 @@ func TestClose(t *testing.T) {
 			t.Error(err)
 		}
 	case <-time.After(deadline):
-		t.Error("Close waits for another process")
+		t.Error("Close: got no end beside another process, want one")
 	}
-	if err := <-failed; !errors.Is(err, ErrClosed) {
-		t.Errorf("Write: %v", err)
+	for n := 0; n < late; n++ {
+		select {
+		case err := <-failed:
+			if !errors.Is(err, ErrClosed) {
+				t.Errorf("Write: got %v, want %v", err, ErrClosed)
+			}
+		case <-time.After(deadline):
+			t.Error("Write: got no end at a closed file, want one")
+		}
 	}
 	close(release)
 	all.Wait()
@@ -377,22 +395,62 @@ func TestClose(t *testing.T) {
 		"Read":  file.Read(background, func(*notes) error { return nil }),
 	} {
 		if !errors.Is(err, ErrClosed) {
-			t.Errorf("%s after Close: %v", name, err)
+			t.Errorf("%s after Close: got %v, want %v", name, err, ErrClosed)
 		}
 	}
 	if err := file.Close(); err != nil {
-		t.Errorf("to close again: %v", err)
+		t.Errorf("Close again: got %v, want no error", err)
 	}
 	wantNotes(t, other)
+}
+
+// A slow context has Write look at the end of its job late: its second Done waits until late is closed.
+type slow struct {
+	context.Context
+	calls atomic.Int64
+	late  chan struct{}
+}
+
+func (s *slow) Done() <-chan struct{} {
+	if s.calls.Add(1) == 2 {
+		<-s.late
+	}
+	return nil
+}
+
+// A job that is written is reported as written, although the file is closed before its caller looks. Go draws which of
+// the two a caller sees first, so there are many callers.
+func TestCloseAfterWriting(t *testing.T) {
+	file, late := open(t, filepath.Join(t.TempDir(), "file"), options()), make(chan struct{})
+	const many = 40
+	var written atomic.Int64
+	failed := make(chan error, many)
+	for n := 0; n < many; n++ {
+		n := n
+		go func() {
+			failed <- file.Write(&slow{Context: background, late: late}, func(to *notes) error {
+				written.Add(1)
+				return note(fmt.Sprint(n))(to)
+			})
+		}()
+	}
+	eventually(t, "not all jobs are written", func() bool { return written.Load() == many })
+	if err := file.Close(); err != nil {
+		t.Error(err)
+	}
+	close(late)
+	for n := 0; n < many; n++ {
+		if err := <-failed; err != nil {
+			t.Errorf("got %v, want nil", err)
+		}
+	}
 }
 
 // Close closes the files, and leaves nothing in the log: one file has everything.
 func TestCloseLeavesOneFile(t *testing.T) {
 	folder := t.TempDir()
 	file, err := Open(background, filepath.Join(folder, "file"), options())
-	if err != nil {
-		t.Fatal(err)
-	}
+	check(t, err)
 	if err := file.Write(background, note("x")); err != nil {
 		t.Error(err)
 	}
@@ -402,7 +460,7 @@ func TestCloseLeavesOneFile(t *testing.T) {
 	}
 	left, err := os.ReadDir(folder)
 	if err != nil || len(left) != 1 || left[0].Name() != "file" {
-		t.Errorf("%v, %v", left, err)
+		t.Errorf("got the files %v and the error %v, want file alone", left, err)
 	}
 }
 
@@ -412,11 +470,11 @@ func TestPaths(t *testing.T) {
 		folder := t.TempDir()
 		file := open(t, filepath.Join(folder, name), options())
 		if err := file.Write(background, note("x")); err != nil {
-			t.Errorf("%q: %v", name, err)
+			t.Errorf("%q: got the error %v, want none", name, err)
 		}
 		info, err := os.Stat(filepath.Join(folder, name))
 		if err != nil || info.Size() == 0 || info.Mode().Perm() != 0o600 {
-			t.Errorf("%q: %v, %v", name, info, err)
+			t.Errorf("%q: got %v and the error %v, want content and mode 0600", name, info, err)
 		}
 	}
 }
@@ -426,12 +484,10 @@ func TestSymbolicLink(t *testing.T) {
 	folder, other := t.TempDir(), t.TempDir()
 	file, link := filepath.Join(folder, "file"), filepath.Join(other, "link")
 	first := open(t, file, options())
-	if err := os.Symlink(file, link); err != nil {
-		t.Fatal(err)
-	}
+	check(t, os.Symlink(file, link))
 	second := open(t, link, options())
 	if first.Path() != second.Path() {
-		t.Errorf("the paths are %s and %s", first.Path(), second.Path())
+		t.Errorf("the paths: got %s and %s, want one", first.Path(), second.Path())
 	}
 	if err := second.Write(background, note("x")); err != nil {
 		t.Error(err)
@@ -452,9 +508,11 @@ func TestOpenFails(t *testing.T) {
 		folder: options(), filepath.Join(folder, "none", "file"): options(),
 		filepath.Join(folder, "rejecting"): rejecting, filepath.Join(folder, "unprepared"): unprepared,
 	} {
-		if _, err := Open(background, path, with); err == nil || !strings.Contains(err.Error(), path) {
-			t.Errorf("%s: %v", path, err)
-		}
+		t.Run(path, func(t *testing.T) {
+			if _, err := Open(background, path, with); err == nil || !strings.Contains(err.Error(), path) {
+				t.Errorf("want an error that names %s, got %v", path, err)
+			}
+		})
 	}
 }
 
@@ -470,28 +528,26 @@ func TestPatiently(t *testing.T) {
 		}
 	}
 	if err := Patiently(background, busy(5)); err != errWrong || calls != 5 {
-		t.Errorf("%v after %d calls", err, calls)
+		t.Errorf("got %v after %d calls, want %v after 5", err, calls, errWrong)
 	}
 	ending, cancel := context.WithTimeout(background, 10*time.Millisecond)
 	defer cancel()
 	calls = 0
 	if err := Patiently(ending, busy(1e9)); !errors.Is(err, context.DeadlineExceeded) || calls < 2 {
-		t.Errorf("%v after %d calls", err, calls)
+		t.Errorf("got %v after %d calls, want %v after at least 2", err, calls, context.DeadlineExceeded)
 	}
 }
 
 // Queries of a snapshot read the same state, whatever is written meanwhile.
 func TestSnapshot(t *testing.T) {
 	file := open(t, filepath.Join(t.TempDir(), "file"), options())
-	if err := file.Write(background, note("a")); err != nil {
-		t.Fatal(err)
-	}
+	check(t, file.Write(background, note("a")))
 	err := file.Read(background, func(n *notes) error {
 		return n.Snapshot(func() error {
 			for turn := 0; turn < 2; turn++ {
 				row, err := n.get.One()
 				if err != nil || len(row) != 1 || row[0] != "a" {
-					t.Errorf("turn %d: %v, %v", turn, row, err)
+					t.Errorf("turn %d: got %v, %v, want a", turn, row, err)
 				}
 				if err := file.Write(background, note(fmt.Sprint("0 in turn ", turn))); err != nil {
 					t.Error(err)
@@ -512,12 +568,12 @@ func TestUnknownCommit(t *testing.T) {
 	migrate := with.Migrate
 	with.Migrate = func(ctx context.Context, conn *Conn, path string) error {
 		err := migrate(ctx, conn, path)
-		for _, it := range []string{
+		for _, text := range []string{
 			"PRAGMA foreign_keys = ON",
 			"CREATE TABLE of (note TEXT REFERENCES notes (text) DEFERRABLE INITIALLY DEFERRED)",
 		} {
 			if err == nil {
-				err = conn.Exec(it)
+				err = conn.Exec(text)
 			}
 		}
 		return err
@@ -525,15 +581,15 @@ func TestUnknownCommit(t *testing.T) {
 	file := open(t, filepath.Join(t.TempDir(), "file"), with)
 	errOwn := errors.New("its own")
 	if err := file.Write(background, func(*notes) error { return errOwn }); err != errOwn {
-		t.Errorf("of a job: %v", err)
+		t.Errorf("a job: got %v, want %v", err, errOwn)
 	}
 	err := file.Write(background, func(n *notes) error { return n.Exec("INSERT INTO of VALUES ('missing')") })
 	var failed sqlite3.Error
 	if !errors.Is(err, ErrUnknownCommit) || !errors.As(err, &failed) || failed.Code != sqlite3.ErrConstraint {
-		t.Errorf("of a commit: %v", err)
+		t.Errorf("of a commit: got %v, want %v of a constraint", err, ErrUnknownCommit)
 	}
 	if err := file.Write(background, func(n *notes) error { return n.Exec("INSERT INTO notes VALUES ('next')") }); err != nil {
-		t.Errorf("after it: %v", err)
+		t.Errorf("the next job: got %v, want no error", err)
 	}
 }
 
@@ -554,5 +610,193 @@ func TestCommitsAreSynced(t *testing.T) {
 	}
 	if err := file.Read(background, look); err != nil {
 		t.Error(err)
+	}
+}
+
+// openWith opens a new file, and executes statements before it is used.
+func openWith(t *testing.T, path, statements string) error {
+	t.Helper()
+	file, err := Open(context.Background(), path, Options[struct{}]{
+		Readers: 1, Together: 1,
+		Migrate: func(_ context.Context, conn *Conn, _ string) error { return conn.Exec(statements) },
+		Prepare: func(context.Context, *Conn) (struct{}, error) { return struct{}{}, nil },
+	})
+	if err == nil {
+		_ = file.Close()
+	}
+	return err
+}
+
+// These errors are SQLite's own: a file that can't grow is full, and a text isn't a database.
+func TestWhatMayPass(t *testing.T) {
+	folder := t.TempDir()
+	full := openWith(t, filepath.Join(folder, "full"), "PRAGMA max_page_count = 1; CREATE TABLE one (a)")
+	if full == nil || !MayPass(full) {
+		t.Errorf("of a file that can't grow: got %v, want an error that may pass", full)
+	}
+	text := filepath.Join(folder, "text")
+	check(t, os.WriteFile(text, bytes.Repeat([]byte("a text\n"), 1000), 0o600))
+	if err := openWith(t, text, "CREATE TABLE one (a)"); err == nil || MayPass(err) {
+		t.Errorf("of a text: got %v, want an error that lasts", err)
+	}
+}
+
+func TestErrorsThatMayPass(t *testing.T) {
+	for _, test := range []struct {
+		err  error
+		want bool
+	}{
+		{ErrBusy, true},
+		{&fs.PathError{Op: "open", Path: "f", Err: syscall.ENOSPC}, true},
+		{&fs.PathError{Op: "open", Path: "f", Err: syscall.EDQUOT}, true},
+		{sqlite3.Error{Code: sqlite3.ErrIoErr, SystemErrno: syscall.ENOSPC}, true},
+		{sqlite3.Error{Code: sqlite3.ErrIoErr, SystemErrno: syscall.EIO}, false},
+		{sqlite3.Error{Code: sqlite3.ErrNotADB}, false},
+		{fs.ErrPermission, false},
+		{errors.New("another"), false},
+		{nil, false},
+	} {
+		t.Run(fmt.Sprint(test.err), func(t *testing.T) {
+			err := test.err
+			if err != nil {
+				err = fmt.Errorf("sqlite: %w", err)
+			}
+			if got := MayPass(err); got != test.want {
+				t.Errorf("MayPass of %v: got %v, want %v", err, got, test.want)
+			}
+		})
+	}
+}
+
+// faultyCalls are calls of which each statement fails once. Those that write write the text a.
+var faultyCalls = []struct {
+	name   string
+	writes bool
+	call   func(file *File[*notes]) error
+}{
+	{"Write", true, func(file *File[*notes]) error { return file.Write(background, note("a")) }},
+	{"Transaction", true, func(file *File[*notes]) error {
+		return file.Read(background, func(n *notes) error {
+			return n.Transaction(background, func() error { return note("a")(n) })
+		})
+	}},
+	{"Read", false, func(file *File[*notes]) error {
+		return file.Read(background, func(n *notes) error { return n.get.Each(nil, ignore) })
+	}},
+	{"Each of a Conn", false, func(file *File[*notes]) error {
+		return file.Read(background, func(n *notes) error { return n.Each("SELECT text FROM notes", nil, ignore) })
+	}},
+	{"Snapshot", false, func(file *File[*notes]) error {
+		return file.Read(background, func(n *notes) error {
+			return n.Snapshot(func() error { return n.get.Each(nil, ignore) })
+		})
+	}},
+}
+
+func ignore([]driver.Value) error { return nil }
+
+// Each statement of a call fails once. The call returns the error, writes nothing, and succeeds the next time.
+func TestStatementsThatFail(t *testing.T) {
+	for _, call := range faultyCalls {
+		t.Run(call.name, func(t *testing.T) {
+			for _, isOne := range []bool{false, true} {
+				by, with := &storefaults.Driver{}, options()
+				with.Driver, with.OneStatement = by, isOne
+				file := open(t, filepath.Join(t.TempDir(), "file"), with)
+				for n := 1; ; n++ {
+					by.Fail(n, storefaults.Refused)
+					err := call.call(file)
+					failed := by.FailedStatement()
+					if failed == "" {
+						if err != nil || n == 1 {
+							t.Errorf("got %d statements, and %v, want nil", n-1, err)
+						}
+						break
+					}
+					by.Fail(0, storefaults.Refused)
+					if !errors.Is(err, storefaults.ErrFault) && !errors.Is(err, ErrBroken) {
+						t.Errorf("%s, %q has failed: got %v, want %v", call.name, failed, err, storefaults.ErrFault)
+					}
+					wantNotes(t, file)
+				}
+				by.Fail(0, storefaults.Refused)
+				if call.writes {
+					wantNotes(t, file, "a")
+				}
+			}
+		})
+	}
+}
+
+// If a job fails, and what would undo it fails too, nothing of the transaction is written.
+func TestJobsThatAreNotUndone(t *testing.T) {
+	by, with := &storefaults.Driver{}, options()
+	with.Driver = by
+	file := open(t, filepath.Join(t.TempDir(), "file"), with)
+	for n := 1; ; n++ {
+		by.Fail(n, storefaults.Refused)
+		err := file.Write(background, func(n *notes) error { return first(note("a")(n), errWrong) })
+		failed := by.FailedStatement()
+		by.Fail(0, storefaults.Refused)
+		if err == nil {
+			t.Errorf("%q has failed: got nil, want an error", failed)
+		}
+		wantNotes(t, file)
+		if failed == "" {
+			return
+		}
+	}
+}
+
+// Each statement of Open fails once: the error is returned, and the file can be opened later.
+func TestOpeningThatFails(t *testing.T) {
+	path := filepath.Join(t.TempDir(), "file")
+	for n := 1; ; n++ {
+		by, with := &storefaults.Driver{}, options()
+		with.Driver, with.Cache = by, 100
+		by.Fail(n, storefaults.Refused)
+		file, err := Open(background, path, with)
+		failed := by.FailedStatement()
+		by.Fail(0, storefaults.Refused)
+		if failed != "" && !errors.Is(err, storefaults.ErrFault) || failed == "" && err != nil {
+			t.Errorf("%q has failed: got %v, want an error exactly then", failed, err)
+		}
+		if err == nil {
+			wantNotes(t, file)
+			if err := file.Close(); err != nil {
+				t.Error(err)
+			}
+		}
+		if failed == "" {
+			return
+		}
+	}
+}
+
+// Look reads a file that exists, and changes nothing.
+func TestLook(t *testing.T) {
+	path := filepath.Join(t.TempDir(), "file")
+	if err := Look(background, path, func(*Conn) error { return nil }); err == nil {
+		t.Error("a file that doesn't exist: got nil, want an error")
+	}
+	file := open(t, path, options())
+	check(t, file.Write(background, note("a")))
+	count := 0
+	err := Look(background, path, func(conn *Conn) error {
+		if err := conn.Exec("DELETE FROM notes"); err == nil {
+			t.Error("a DELETE: got nil, want an error")
+		}
+		return conn.Each("SELECT text FROM notes", nil, func([]driver.Value) error { count++; return nil })
+	})
+	if err != nil || count != 1 {
+		t.Errorf("got %d texts, %v, want 1", count, err)
+	}
+}
+
+// check ends the test at an error.
+func check(t testing.TB, err error) {
+	t.Helper()
+	if err != nil {
+		t.Fatal(err)
 	}
 }

@@ -1,7 +1,6 @@
 package api
 
 import (
-	"encoding/json"
 	"errors"
 	"net/http"
 	"net/url"
@@ -12,80 +11,28 @@ import (
 	"pippinterm/platform"
 )
 
-// A seller is a broker as it is answered: without its password, and without the path of a file with it.
-type seller struct {
-	Name string `json:"name"`
-	URL  string `json:"url"`
-	User string `json:"user"`
-	// Password says where the password is: store, file, or none.
-	Password    string          `json:"password"`
-	Settings    settings        `json:"settings"`
-	Store       string          `json:"store,omitempty"`
-	CatalogueAt *time.Time      `json:"catalogue_at,omitempty"`
-	Catalogue   json.RawMessage `json:"catalogue,omitempty"` // only of one broker
-	Reason      *said           `json:"reason,omitempty"`
-}
-
-// Settings in seconds.
-type settings struct {
-	Hold        *float64 `json:"hold_seconds,omitempty"`
-	FirstPace   *float64 `json:"first_pace_seconds,omitempty"`
-	LongestPace *float64 `json:"longest_pace_seconds,omitempty"`
-	LongestPoll *float64 `json:"longest_poll_seconds,omitempty"`
-}
-
-type newSeller struct {
+type newBroker struct {
 	URL      string   `json:"url"`
 	User     string   `json:"user"`
 	Password string   `json:"password"`
-	Settings settings `json:"settings"`
+	Settings Settings `json:"settings"`
 }
 
-type sellers struct {
-	Items []seller `json:"items"`
+// brokerList is how all brokers are answered.
+type brokerList struct {
+	Items []Broker `json:"items"`
 }
 
-// seller is a broker as it is answered.
-func (a *asked) seller(broker platform.Broker) seller {
-	s := sellerOf(broker)
-	if s.Reason != nil && s.Reason.Status == 0 && !a.ShowsCauses {
-		s.Reason.Lost = "no answer came: 'osb-platform broker list' and the log of a worker say why"
-	}
-	return s
-}
-
-func sellerOf(broker platform.Broker) seller {
-	s := seller{
-		Name: broker.Name, URL: broker.URL, User: broker.User, Password: "none",
-		Settings: settings{
-			secondsOf(broker.Settings.Hold), secondsOf(broker.Settings.FirstPace),
-			secondsOf(broker.Settings.LongestPace), secondsOf(broker.Settings.LongestPoll),
-		},
-		Store: broker.Store, CatalogueAt: timeOf(broker.CatalogueAt), Reason: saidOf(broker.Reason),
-	}
-	switch {
-	case broker.PasswordFile != "":
-		s.Password = "file"
-	case broker.Password != nil:
-		s.Password = "store"
-	}
-	return s
-}
-
-func (a *asked) listBrokers() (answer, error) {
-	all, err := a.store.Brokers(a.Context())
+func (a *request) listBrokers() (answer, error) {
+	found, err := a.reader.Brokers(a.Context())
 	if err != nil {
 		return answer{}, err
 	}
-	found := sellers{Items: []seller{}}
-	for _, it := range all {
-		found.Items = append(found.Items, a.seller(it))
-	}
-	return answer{status: http.StatusOK, body: found}, nil
+	return answer{status: http.StatusOK, body: brokerList{found}}, nil
 }
 
 // broker is the broker that the path names, or nil.
-func (a *asked) broker() (*platform.Broker, error) {
+func (a *request) broker() (*platform.Broker, error) {
 	all, err := a.store.Brokers(a.Context())
 	if err != nil {
 		return nil, err
@@ -98,7 +45,7 @@ func (a *asked) broker() (*platform.Broker, error) {
 	return nil, nil
 }
 
-func (a *asked) showBroker() (answer, error) {
+func (a *request) showBroker() (answer, error) {
 	broker, err := a.broker()
 	if err != nil {
 		return answer{}, err
@@ -106,15 +53,15 @@ func (a *asked) showBroker() (answer, error) {
 	if broker == nil {
 		return answer{}, newProblem(http.StatusNotFound, "not_found", "there is no broker of this name")
 	}
-	shown := a.seller(*broker)
+	shown := brokerOf(*broker, false)
 	shown.Catalogue = broker.Catalogue
 	return answer{status: http.StatusOK, body: shown}, nil
 }
 
 // putBroker adds a broker, or changes one. Who changes where the password is sent has to know it: otherwise a token
 // that may write could have it sent to a server of its own.
-func (a *asked) putBroker() (answer, error) {
-	var given newSeller
+func (a *request) putBroker() (answer, error) {
+	var given newBroker
 	if err := a.body(&given); err != nil {
 		return answer{}, err
 	}
@@ -163,7 +110,7 @@ func (a *asked) putBroker() (answer, error) {
 	case after == nil:
 		return answer{}, errors.New("the broker was dropped just after it was written")
 	}
-	answered := answer{status: status, body: a.seller(*after)}
+	answered := answer{status: status, body: brokerOf(*after, false)}
 	if status == http.StatusCreated {
 		answered.location = brokers + "/" + url.PathEscape(name)
 	}
@@ -171,7 +118,7 @@ func (a *asked) putBroker() (answer, error) {
 }
 
 // checkHost returns a problem unless a broker may be at a URL.
-func (a *asked) checkHost(url string) error {
+func (a *request) checkHost(url string) error {
 	if a.BrokerHosts.Allows(url) {
 		return nil
 	}
@@ -179,7 +126,7 @@ func (a *asked) checkHost(url string) error {
 		"option --broker-hosts, which doesn't name it")
 }
 
-func (a *asked) change(s newSeller, broker *platform.Broker, wanted platform.Settings) error {
+func (a *request) change(s newBroker, broker *platform.Broker, wanted platform.Settings) error {
 	if strings.TrimRight(s.URL, "/") != broker.URL {
 		if s.Password == "" {
 			return newProblem(http.StatusBadRequest, "password_needed",
@@ -199,7 +146,7 @@ func (a *asked) change(s newSeller, broker *platform.Broker, wanted platform.Set
 // brokerName is how the name of a broker looks. PostgreSQL rejects a text that isn't UTF-8, or has a NUL.
 var brokerName = regexp.MustCompile(`^[a-z0-9-]{1,63}$`)
 
-func (a *asked) dropBroker() (answer, error) {
+func (a *request) dropBroker() (answer, error) {
 	if !brokerName.MatchString(a.values["name"]) {
 		return answer{}, newProblem(http.StatusNotFound, "not_found", "there is no broker of this name")
 	}
@@ -212,9 +159,9 @@ func (a *asked) dropBroker() (answer, error) {
 // mostSettingSeconds is more than any setting may be.
 const mostSettingSeconds = 1e9
 
-func (s settings) read() (platform.Settings, error) {
+func (s Settings) read() (platform.Settings, error) {
 	var read platform.Settings
-	for _, it := range []struct {
+	for _, test := range []struct {
 		name  string
 		given *float64
 		to    **time.Duration
@@ -223,56 +170,22 @@ func (s settings) read() (platform.Settings, error) {
 		{"longest_pace_seconds", s.LongestPace, &read.LongestPace},
 		{"longest_poll_seconds", s.LongestPoll, &read.LongestPoll},
 	} {
-		if it.given == nil {
+		if test.given == nil {
 			continue
 		}
-		if *it.given < 0 || *it.given > mostSettingSeconds {
-			return read, newProblem(http.StatusBadRequest, "invalid", it.name+" is between 0 and a year")
+		if *test.given < 0 || *test.given > mostSettingSeconds {
+			return read, newProblem(http.StatusBadRequest, "invalid", test.name+" is between 0 and a year")
 		}
-		duration := time.Duration(*it.given * float64(time.Second)).Round(time.Millisecond)
-		*it.to = &duration
+		duration := time.Duration(*test.given * float64(time.Second)).Round(time.Millisecond)
+		*test.to = &duration
 	}
 	return read, nil
 }
 
-func secondsOf(duration *time.Duration) *float64 {
-	if duration == nil {
-		return nil
-	}
-	seconds := duration.Seconds()
-	return &seconds
-}
-
-// A count as it is answered.
-type count struct {
-	Broker string         `json:"broker"`
-	Kind   string         `json:"kind"` // instance or binding
-	State  platform.State `json:"state"`
-	Count  int            `json:"count"`
-	Oldest time.Time      `json:"oldest"`
-}
-
-type counted struct {
-	Counts []count   `json:"counts"`
-	Now    time.Time `json:"now"` // the store's
-}
-
-func (a *asked) counts() (answer, error) {
-	counts, err := a.store.Counts(a.Context())
+func (a *request) counts() (answer, error) {
+	found, err := a.reader.Counts(a.Context())
 	if err != nil {
 		return answer{}, err
-	}
-	_, now, err := a.store.NextDue(a.Context(), nil)
-	if err != nil {
-		return answer{}, err
-	}
-	found := counted{Counts: []count{}, Now: utc(now)}
-	for _, it := range counts {
-		kind := "instance"
-		if it.IsBinding {
-			kind = "binding"
-		}
-		found.Counts = append(found.Counts, count{it.Broker, kind, it.State, it.Count, utc(it.Oldest)})
 	}
 	return answer{status: http.StatusOK, body: found}, nil
 }

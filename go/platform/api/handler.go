@@ -1,3 +1,13 @@
+// Package api offers the calls of platform.Orders, and what a platform.Store has, over HTTP with JSON, so that a portal
+// needs no shell. The routes, the members of each body and the codes of the errors are in openapi.json, which
+// GET /v1/openapi.json answers with. A Reader reads what the API answers to GET, for the handler and for the page of the
+// program.
+//
+// Who asks gives a bearer token (RFC 6750), and the permissions of the token say what it may do (ReadTokens). Passwords
+// of brokers can be given, and are never answered. The credentials of a binding need a permission of their own.
+//
+// The names of the routes, the members and the codes are this project's choice. They don't change within /v1: members
+// and codes may be added.
 package api
 
 import (
@@ -7,9 +17,13 @@ import (
 	"encoding/json"
 	"errors"
 	"fmt"
+	"io"
+	"mime"
 	"net"
 	"net/http"
 	"net/url"
+	"reflect"
+	"sort"
 	"strconv"
 	"strings"
 	"time"
@@ -47,9 +61,6 @@ type Options struct {
 	// BrokerHosts are those at which a broker may be that is added, or that gets another URL. By default they are all: a
 	// token that may write can have this program connect to any address then.
 	BrokerHosts Hosts
-	// ShowsCauses is whether a broker's reason says why there was no connection. Else whoever adds a broker would see
-	// which ports are open on the network of this program.
-	ShowsCauses bool
 	// Observe is called once for each request, when its answer is known. It returns at once. It may be nil.
 	Observe func(Exchange)
 }
@@ -71,6 +82,7 @@ type handler struct {
 	Options
 	orders *platform.Orders
 	store  platform.Store
+	reader Reader         // over the store
 	slots  chan struct{}  // has a value for each request that is carried out
 	bodies *budget.Budget // bytes of bodies in memory
 	parsed *budget.Budget // bytes of those whose requests are carried out
@@ -113,7 +125,8 @@ func NewHandler(orders *platform.Orders, store platform.Store, options Options) 
 	}
 	options.Tokens = append([]Token(nil), options.Tokens...)
 	return &handler{
-		Options: options, orders: orders, store: store, slots: make(chan struct{}, options.AtOnce),
+		Options: options, orders: orders, store: store, reader: NewReader(store, false),
+		slots:  make(chan struct{}, options.AtOnce),
 		bodies: budget.New(bodiesAtOnce(int(options.ParsedAtOnce))), parsed: budget.New(int(options.ParsedAtOnce)),
 	}, nil
 }
@@ -126,8 +139,8 @@ func bodiesAtOnce(parsed int) int {
 	return 16 << 20
 }
 
-// asked is a request on its way to its answer.
-type asked struct {
+// request is a request on its way to its answer.
+type request struct {
 	*http.Request
 	*handler
 	query  url.Values
@@ -192,7 +205,7 @@ func (h *handler) answer(w http.ResponseWriter, r *http.Request, exchange *Excha
 	case found == nil:
 		return answer{}, newProblem(http.StatusNotFound, "no_route", "there is no such path: see /v1/openapi.json")
 	}
-	a := &asked{Request: r, handler: h, values: values, token: exchange.Token}
+	a := &request{Request: r, handler: h, values: values, token: exchange.Token}
 	if err := a.readQuery(found.query); err != nil {
 		return answer{}, err
 	}
@@ -214,13 +227,13 @@ func (h *handler) answer(w http.ResponseWriter, r *http.Request, exchange *Excha
 var errBusy = newProblem(http.StatusServiceUnavailable, "busy", "too many ask at once: nothing was done")
 
 // left is for how long the request may still wait.
-func (a *asked) left() time.Duration {
+func (a *request) left() time.Duration {
 	deadline, _ := a.Context().Deadline() // ServeHTTP has set one
 	return time.Until(deadline)
 }
 
 // carryOut calls, once it is the turn of the request.
-func (a *asked) carryOut(found *route) (answer, error) {
+func (a *request) carryOut(found *route) (answer, error) {
 	if !a.parsed.Take(a.token, len(a.text), a.left()) {
 		return answer{}, errBusy
 	}
@@ -232,7 +245,7 @@ func (a *asked) carryOut(found *route) (answer, error) {
 	case a.slots <- struct{}{}:
 		defer func() { <-a.slots }()
 		given, err := found.call(a)
-		return given, a.named(err)
+		return given, a.withID(err)
 	case <-a.Context().Done():
 		return answer{}, errBusy
 	}
@@ -242,21 +255,21 @@ func (a *asked) carryOut(found *route) (answer, error) {
 const largeBody = 32 << 10
 
 // readQuery reads the query, whose names must be of these.
-func (a *asked) readQuery(names []string) error {
+func (a *request) readQuery(names []string) error {
 	query, err := url.ParseQuery(a.URL.RawQuery)
 	if err != nil {
-		return malformed("the query can't be read")
+		return malformedError("the query can't be read")
 	}
 	known := map[string]bool{}
-	for _, it := range names {
-		known[it] = true
+	for _, name := range names {
+		known[name] = true
 	}
 	for name, values := range query {
 		if !known[name] {
-			return malformed("the query has a name that is unknown here: " + strconv.Quote(cut(name, 64)))
+			return malformedError("the query has a name that is unknown here: " + strconv.Quote(cut(name, 64)))
 		}
 		if len(values) > 1 && name != "state" {
-			return malformed("the query has " + name + " twice")
+			return malformedError("the query has " + name + " twice")
 		}
 	}
 	a.query = query
@@ -344,4 +357,336 @@ func cut(text string, most int) string {
 		return text[:most]
 	}
 	return text
+}
+
+// A route is a method at the paths of a pattern, whose segments in braces stand for any text.
+type route struct {
+	method, pattern string
+	needs           Permission // 0 for none: then no token is asked for
+	query           []string   // the names that the query may have
+	hasBody         bool
+	call            func(*request) (answer, error)
+}
+
+const (
+	instances = "/v1/instances"
+	bindings  = instances + "/{id}/bindings"
+	brokers   = "/v1/brokers"
+
+	allBindings = "/v1/bindings"
+	records     = "/v1/records"
+)
+
+// listing are the names that the query of a list may have: some of its own, and those of every list.
+func listing(own ...string) []string {
+	return append(own, "order", "latest", "unreadable", "life", "limit", "after", "before", "last")
+}
+
+var routes = []route{
+	{"GET", instances, Read, listing("state", "broker", "prefix", "first"), false, (*request).listInstances},
+	{"POST", instances, Write, nil, true, (*request).create},
+	{"GET", instances + "/{id}", Read, nil, false, (*request).show},
+	{"DELETE", instances + "/{id}", Write, []string{"bindings"}, false, (*request).remove},
+	{"POST", instances + "/{id}/retry", Write, nil, false, (*request).retry},
+	{"POST", instances + "/{id}/abandon", Write, nil, true, (*request).abandon},
+	{"GET", allBindings, Read, listing("state", "broker", "prefix"), false, (*request).listAllBindings},
+	{"GET", bindings, Read, listing("state", "first"), false, (*request).listBindings},
+	{"POST", bindings, Write, nil, true, (*request).bind},
+	{"GET", bindings + "/{bid}", Read, nil, false, (*request).show},
+	{"DELETE", bindings + "/{bid}", Write, nil, false, (*request).remove},
+	{"POST", bindings + "/{bid}/retry", Write, nil, false, (*request).retry},
+	{"POST", bindings + "/{bid}/abandon", Write, nil, true, (*request).abandon},
+	{"GET", bindings + "/{bid}/credentials", Credentials, nil, false, (*request).credentials},
+	{"GET", brokers, Read, nil, false, (*request).listBrokers},
+	{"GET", brokers + "/{name}", Read, nil, false, (*request).showBroker},
+	{"PUT", brokers + "/{name}", Write, nil, true, (*request).putBroker},
+	{"DELETE", brokers + "/{name}", Write, nil, false, (*request).dropBroker},
+	{"GET", records, Read, listing("state", "broker", "prefix"), false, (*request).listRecords},
+	{"GET", "/v1/in-flight", Read, []string{"life", "limit"}, false, (*request).listInFlight},
+	{"GET", "/v1/counts", Read, nil, false, (*request).counts},
+	{"GET", "/v1/openapi.json", 0, nil, false, func(*request) (answer, error) {
+		return answer{status: http.StatusOK, body: json.RawMessage(document)}, nil
+	}},
+}
+
+// routeOf is the route of a request, with the values of its pattern; or nil, with the methods that the path has.
+// HEAD is asked for as GET is.
+func routeOf(method, path string) (found *route, values map[string]string, allowed []string) {
+	for at := range routes {
+		it := &routes[at]
+		matched, isIt := match(it.pattern, path)
+		if !isIt {
+			continue
+		}
+		if it.method == method || it.method == http.MethodGet && method == http.MethodHead {
+			return it, matched, nil
+		}
+		allowed = append(allowed, it.method)
+		if it.method == http.MethodGet {
+			allowed = append(allowed, http.MethodHead)
+		}
+	}
+	sort.Strings(allowed)
+	return nil, nil, allowed
+}
+
+// match compares a path, as it was sent, with a pattern. No value is empty.
+func match(pattern, path string) (values map[string]string, isIt bool) {
+	wanted, given := strings.Split(pattern, "/"), strings.Split(path, "/")
+	if len(wanted) != len(given) {
+		return nil, false
+	}
+	values = map[string]string{}
+	for at, part := range wanted {
+		text, err := url.PathUnescape(given[at])
+		switch {
+		case err != nil:
+			return nil, false
+		case strings.HasPrefix(part, "{") && text != "":
+			values[part[1:len(part)-1]] = text
+		case part != text:
+			return nil, false
+		}
+	}
+	return values, true
+}
+
+// key is the key that the path names. A text that is no id names nothing.
+func (a *request) key() (platform.Key, error) { return keyOf(a.values["id"], a.values["bid"]) }
+
+// withID is an error with the id of the path, if that names nothing.
+func (a *request) withID(err error) error {
+	var fault *platform.Fault
+	isUnknown := errors.Is(err, platform.ErrUnknown) || errors.As(err, &fault) && fault.Kind == platform.NotFound
+	id, isOfOne := a.values["id"]
+	if !isUnknown || !isOfOne {
+		return err
+	}
+	detail := "the instance " + strconv.Quote(cut(id, longestID)) + " is unknown"
+	if binding, isBinding := a.values["bid"]; isBinding {
+		detail = "the binding " + strconv.Quote(cut(id+"/"+binding, 2*longestID)) + " is unknown"
+	}
+	return newProblem(http.StatusNotFound, "not_found", detail)
+}
+
+// longestID is how long an id may be, in bytes.
+const longestID = 255
+
+// A problem is an error as it is answered (RFC 7807). Its code doesn't change, and its detail is for a person.
+type problem struct {
+	Type   string `json:"type"`
+	Title  string `json:"title"`
+	Status int    `json:"status"`
+	Code   string `json:"code"`
+	Detail string `json:"detail,omitempty"`
+
+	cause error // for the observer alone
+}
+
+func (p *problem) Error() string { return p.Code + ": " + p.Detail }
+
+func (p *problem) Unwrap() error { return p.cause }
+
+// Is returns whether the problem is ErrMalformed.
+func (p *problem) Is(target error) bool { return target == ErrMalformed && p.Code == "malformed" }
+
+func newProblem(status int, code, detail string) *problem {
+	return &problem{Type: "about:blank", Title: http.StatusText(status), Status: status, Code: code, Detail: detail}
+}
+
+var faultStatus = map[platform.FaultKind]struct {
+	status int
+	code   string
+}{
+	platform.Invalid:  {http.StatusBadRequest, "invalid"},
+	platform.NotFound: {http.StatusNotFound, "not_found"},
+	platform.Conflict: {http.StatusConflict, "conflict"},
+}
+
+// problemOf is how an error is answered. What is no fault of the client shows nothing of its cause.
+func problemOf(err error) *problem {
+	var known *problem
+	var fault *platform.Fault
+	switch {
+	case errors.As(err, &known):
+		return known
+	case errors.As(err, &fault):
+		of := faultStatus[fault.Kind]
+		return newProblem(of.status, of.code, fault.Text)
+	case errors.Is(err, platform.ErrUnknown):
+		return newProblem(http.StatusNotFound, "not_found", "there is no such instance or binding")
+	case errors.Is(err, platform.ErrAway), errors.Is(err, context.DeadlineExceeded), errors.Is(err, context.Canceled):
+		away := newProblem(http.StatusServiceUnavailable, "store_away",
+			"the store can't be reached: whether a change was written isn't known")
+		away.cause = err
+		return away
+	}
+	internal := newProblem(http.StatusInternalServerError, "internal", "the log of the program has the reason")
+	internal.cause = err
+	return internal
+}
+
+// malformedError is a query or a body that can't be read.
+func malformedError(detail string) error {
+	return newProblem(http.StatusBadRequest, "malformed", detail)
+}
+
+// deepest is how many arrays and objects of a body may lie within each other.
+const deepest = 64
+
+// checkBody returns an error unless a request may have the body that it announces: only the route decides. That of GET
+// doesn't count.
+func (a *request) checkBody(found *route) error {
+	switch {
+	case found.method == http.MethodGet:
+		return nil
+	case !found.hasBody && a.ContentLength != 0:
+		return malformedError("this request has no body")
+	case !found.hasBody:
+		return nil
+	}
+	if kind, _, err := mime.ParseMediaType(a.Header.Get("Content-Type")); err != nil || kind != "application/json" {
+		return newProblem(http.StatusUnsupportedMediaType, "unsupported_media_type", "a body is application/json")
+	}
+	return nil
+}
+
+// sizeOf is how many bytes the body takes, or 0 if it isn't read.
+func (a *request) sizeOf(found *route) int {
+	switch {
+	case !found.hasBody || found.method == http.MethodGet:
+		return 0
+	case a.ContentLength < 0 || a.ContentLength > a.LongestBody:
+		return int(a.LongestBody)
+	}
+	return int(a.ContentLength)
+}
+
+// readBody reads the body of a request whose route has one.
+func (a *request) readBody(w http.ResponseWriter, found *route) error {
+	if !found.hasBody || found.method == http.MethodGet {
+		return nil
+	}
+	var text bytes.Buffer
+	if a.ContentLength > 0 {
+		text.Grow(a.sizeOf(found) + bytes.MinRead) // with which it doesn't grow again
+	}
+	_, err := text.ReadFrom(http.MaxBytesReader(w, a.Body, a.LongestBody))
+	a.text = text.Bytes()
+	var tooLong *http.MaxBytesError
+	switch {
+	case errors.As(err, &tooLong):
+		detail := fmt.Sprintf("a body has at most %d bytes", a.LongestBody)
+		return newProblem(http.StatusRequestEntityTooLarge, "body_too_large", detail)
+	case err != nil:
+		return malformedError("the body didn't arrive whole")
+	}
+	return nil
+}
+
+// body reads the body of a request into a struct. It must be an object of JSON in UTF-8, with members that the struct
+// names, in these letters, each once and none null. In the values that are handed on to a broker, too, no name stands
+// twice in an object.
+func (a *request) body(to any) error {
+	if err := strict(a.text, to); err != nil {
+		return malformedError(err.Error())
+	}
+	return nil
+}
+
+// strict reads an object of JSON into a struct.
+func strict(text []byte, to any) error {
+	if !utf8.Valid(text) {
+		return errors.New("the body isn't UTF-8")
+	}
+	decoder := json.NewDecoder(bytes.NewReader(text))
+	decoder.UseNumber()
+	if err := unique(decoder, deepest); err != nil {
+		return err
+	}
+	if _, err := decoder.Token(); err != io.EOF {
+		return errors.New("something follows the body's object")
+	}
+	if err := checkMembers(text, to); err != nil {
+		return err
+	}
+	var mistyped *json.UnmarshalTypeError
+	err := json.Unmarshal(text, to)
+	if errors.As(err, &mistyped) {
+		return fmt.Errorf("the member %s has a value of a wrong type", mistyped.Field)
+	}
+	return err
+}
+
+// unique reads one value, in which no object has a name twice.
+func unique(decoder *json.Decoder, deep int) error {
+	token, err := decoder.Token()
+	if err != nil {
+		return errors.New("the body isn't JSON")
+	}
+	delim, isOpening := token.(json.Delim)
+	if !isOpening {
+		return nil
+	}
+	if deep == 0 {
+		return fmt.Errorf("more than %d arrays and objects lie within each other", deepest)
+	}
+	names := map[string]bool{}
+	for decoder.More() {
+		if delim == '{' {
+			if err := nextName(decoder, names); err != nil {
+				return err
+			}
+		}
+		if err := unique(decoder, deep-1); err != nil {
+			return err
+		}
+	}
+	if _, err := decoder.Token(); err != nil {
+		return errors.New("the body isn't JSON")
+	}
+	return nil
+}
+
+// nextName reads the name of a member, which none of these names is.
+func nextName(decoder *json.Decoder, names map[string]bool) error {
+	token, err := decoder.Token()
+	name, isText := token.(string)
+	switch {
+	case err != nil || !isText:
+		return errors.New("the body isn't JSON")
+	case names[name]:
+		return fmt.Errorf("the member %.64q stands twice in an object", name)
+	}
+	names[name] = true
+	return nil
+}
+
+// checkMembers is an error unless a text is an object whose members are the fields of a struct, and not null. encoding/json
+// takes other letters for the same, and null for no member.
+func checkMembers(text []byte, to any) error {
+	var members map[string]json.RawMessage
+	if err := json.Unmarshal(text, &members); err != nil || members == nil {
+		return errors.New("the body isn't an object of JSON")
+	}
+	fields, of := map[string]reflect.Type{}, reflect.TypeOf(to).Elem()
+	for at := 0; at < of.NumField(); at++ {
+		name, _, _ := strings.Cut(of.Field(at).Tag.Get("json"), ",")
+		fields[name] = of.Field(at).Type
+	}
+	for name, value := range members {
+		kind, isKnown := fields[name]
+		if !isKnown {
+			return fmt.Errorf("the member %.64q is unknown", name)
+		}
+		if string(value) == "null" {
+			return fmt.Errorf("the member %s is null: leave it out", name)
+		}
+		if kind.Kind() == reflect.Struct {
+			if err := checkMembers(value, reflect.New(kind).Interface()); err != nil {
+				return fmt.Errorf("the member %s: %w", name, err)
+			}
+		}
+	}
+	return nil
 }

@@ -34,29 +34,16 @@ type reasonGiven struct {
 	Because string `json:"because"`
 }
 
-// show answers with a row, its whole life, and the time of the store.
-func (a *asked) show() (answer, error) {
-	key, err := a.key()
+// show answers with a record, its whole life, and the time of the store.
+func (a *request) show() (answer, error) {
+	shown, err := a.reader.Show(a.Context(), a.values["id"], a.values["bid"])
 	if err != nil {
 		return answer{}, err
 	}
-	e, err := a.store.Read(a.Context(), key)
-	if err != nil {
-		return answer{}, err
-	}
-	shown, err := a.withLife(e, 0)
-	if err != nil {
-		return answer{}, err
-	}
-	_, now, err := a.store.NextDue(a.Context(), nil)
-	if err != nil {
-		return answer{}, err
-	}
-	shown.Now = timeOf(now)
 	return answer{status: http.StatusOK, body: shown}, nil
 }
 
-func (a *asked) create() (answer, error) {
+func (a *request) create() (answer, error) {
 	var given newInstance
 	if err := a.body(&given); err != nil {
 		return answer{}, err
@@ -73,10 +60,10 @@ func (a *asked) create() (answer, error) {
 	if err != nil {
 		return answer{}, err
 	}
-	return created(e), nil
+	return creation(e), nil
 }
 
-func (a *asked) bind() (answer, error) {
+func (a *request) bind() (answer, error) {
 	if _, err := a.key(); err != nil {
 		return answer{}, err
 	}
@@ -95,7 +82,7 @@ func (a *asked) bind() (answer, error) {
 	if err != nil {
 		return answer{}, err
 	}
-	return created(e), nil
+	return creation(e), nil
 }
 
 // chosenID is the id that an order names, or empty for a new GUID. An id that is given and empty is an error: a variable
@@ -105,21 +92,21 @@ func chosenID(given *string) (string, error) {
 	case given == nil:
 		return "", nil
 	case *given == "":
-		return "", malformed("the member id is empty: leave it out for a new GUID")
+		return "", malformedError("the member id is empty: leave it out for a new GUID")
 	}
 	return *given, nil
 }
 
-// created answers with a new row, and where it is.
-func created(e platform.Entry) answer {
+// creation answers with a new row, and where it is.
+func creation(e platform.Entry) answer {
 	at := instances + "/" + url.PathEscape(e.Names.Instance)
 	if e.Key.IsBinding {
 		at += "/bindings/" + url.PathEscape(e.Names.Binding)
 	}
-	return answer{status: http.StatusCreated, body: rowOf(e), location: at}
+	return answer{status: http.StatusCreated, body: recordOf(e), location: at}
 }
 
-func (a *asked) remove() (answer, error) {
+func (a *request) remove() (answer, error) {
 	key, err := a.key()
 	if err != nil {
 		return answer{}, err
@@ -132,20 +119,20 @@ func (a *asked) remove() (answer, error) {
 	if err != nil {
 		return answer{}, err
 	}
-	return answer{status: http.StatusAccepted, body: rowOf(e)}, nil
+	return answer{status: http.StatusAccepted, body: recordOf(e)}, nil
 }
 
 // flag is a value of the query that is true or false, and false if it isn't given.
-func (a *asked) flag(name string) (bool, error) {
+func (a *request) flag(name string) (bool, error) {
 	values, isGiven := a.query[name]
 	if isGiven && values[0] != "true" && values[0] != "false" {
-		return false, malformed(name + " is true or false")
+		return false, malformedError(name + " is true or false")
 	}
 	return isGiven && values[0] == "true", nil
 }
 
 // removeLast removes the last try of the order of a row. If that is gone, a further one may have been ordered just now.
-func (a *asked) removeLast(key platform.Key, withBindings bool) (platform.Entry, error) {
+func (a *request) removeLast(key platform.Key, withBindings bool) (platform.Entry, error) {
 	for {
 		last, err := a.lastTry(key)
 		if err != nil {
@@ -162,21 +149,21 @@ func (a *asked) removeLast(key platform.Key, withBindings bool) (platform.Entry,
 }
 
 // lastTry is the key of the last try of the order of a row.
-func (a *asked) lastTry(key platform.Key) (platform.Key, error) {
+func (a *request) lastTry(key platform.Key) (platform.Key, error) {
 	e, err := a.store.Read(a.Context(), key)
 	if err != nil || e.Tries <= 1 {
 		return key, err
 	}
 	tries, err := a.store.List(a.Context(), e.Chain())
-	for _, it := range tries {
-		if it.Try > e.Try {
-			e = it
+	for _, try := range tries {
+		if try.Try > e.Try {
+			e = try
 		}
 	}
 	return e.Key, err
 }
 
-func (a *asked) retry() (answer, error) {
+func (a *request) retry() (answer, error) {
 	key, err := a.key()
 	if err != nil {
 		return answer{}, err
@@ -185,10 +172,10 @@ func (a *asked) retry() (answer, error) {
 	if err != nil {
 		return answer{}, err
 	}
-	return answer{status: http.StatusAccepted, body: rowOf(e)}, nil
+	return answer{status: http.StatusAccepted, body: recordOf(e)}, nil
 }
 
-func (a *asked) abandon() (answer, error) {
+func (a *request) abandon() (answer, error) {
 	key, err := a.key()
 	if err != nil {
 		return answer{}, err
@@ -201,11 +188,11 @@ func (a *asked) abandon() (answer, error) {
 	if err != nil {
 		return answer{}, err
 	}
-	return answer{status: http.StatusOK, body: rowOf(e)}, nil
+	return answer{status: http.StatusOK, body: recordOf(e)}, nil
 }
 
 // credentials answers with what the broker has given, sealed until now. Every answer of the API has no-store.
-func (a *asked) credentials() (answer, error) {
+func (a *request) credentials() (answer, error) {
 	key, err := a.key()
 	if err != nil {
 		return answer{}, err

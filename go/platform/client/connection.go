@@ -3,10 +3,22 @@ package client
 import (
 	"bufio"
 	"context"
+	"crypto/tls"
+	"crypto/x509"
+	"errors"
+	"fmt"
 	"net"
 	"net/http"
+	"net/url"
+	"os"
+	"strings"
+	"sync"
+	"sync/atomic"
 	"syscall"
 	"time"
+
+	"pippinterm/internal/ciphers"
+	"pippinterm/platform"
 )
 
 const (
@@ -15,19 +27,19 @@ const (
 	// around is how many bytes an answer may have besides its body: its head, and what separates the pieces of the
 	// body.
 	around = 1 << 20
-	// interim is how many answers of the class 1xx may come before the answer.
+	// interim is how many answers of the class 1xx may precede the answer.
 	interim = 5
 )
 
-// timed is the connection at the bottom, to which everything is written and from which everything is read. Once its
-// time is over, nothing is written to it, and nothing that comes counts.
-type timed struct {
+// timedConn is the connection at the bottom, to which everything is written and from which everything is read. Once its
+// time is over, nothing is written to it, and nothing that arrives counts.
+type timedConn struct {
 	net.Conn
 	now   func() time.Time
 	until time.Time
 }
 
-func (t *timed) Write(text []byte) (written int, err error) {
+func (t *timedConn) Write(text []byte) (written int, err error) {
 	for written < len(text) {
 		next := text[written:]
 		if len(next) > piece {
@@ -45,7 +57,7 @@ func (t *timed) Write(text []byte) (written int, err error) {
 	return written, nil
 }
 
-func (t *timed) Read(into []byte) (int, error) {
+func (t *timedConn) Read(into []byte) (int, error) {
 	count, err := t.Conn.Read(into)
 	if !t.now().Before(t.until) {
 		return 0, ErrTimeOver
@@ -85,7 +97,7 @@ func (m *meter) Read(into []byte) (int, error) {
 
 // A connection leads to a broker. One goroutine uses it at a time.
 type connection struct {
-	bottom *timed
+	bottom *timedConn
 	top    *meter
 	reader *bufio.Reader
 	isKept bool // whether it has carried a request before
@@ -95,7 +107,7 @@ type connection struct {
 }
 
 // newConnection is a connection to a broker, over one at the bottom that TLS may have been added to.
-func newConnection(bottom *timed, top net.Conn) *connection {
+func newConnection(bottom *timedConn, top net.Conn) *connection {
 	metered := &meter{Conn: top}
 	return &connection{bottom: bottom, top: metered, reader: bufio.NewReader(metered)}
 }
@@ -105,8 +117,8 @@ func (c *connection) begin(until time.Time, most int) {
 	c.bottom.until, c.top.left, c.top.isWritten, c.top.failed = until, most, false, nil
 }
 
-// watched calls use, and ends all that it waits for on the connection once the context is done.
-func watched(ctx context.Context, conn net.Conn, use func() error) error {
+// watch calls use, and ends all that it waits for on the connection once the context is done.
+func watch(ctx context.Context, conn net.Conn, use func() error) error {
 	done, ended := make(chan struct{}), make(chan struct{})
 	go func() {
 		defer close(ended)
@@ -125,16 +137,16 @@ func watched(ctx context.Context, conn net.Conn, use func() error) error {
 // exchange writes a request, and reads its answer whole. The body has no more bytes than most.
 //
 // Errors: those of the connection; ErrTimeOver, ErrTooLong, ErrCut, ErrGarbled.
-func (c *connection) exchange(request *http.Request, most int) (got received, err error) {
+func (c *connection) exchange(request *http.Request, most int) (got wholeAnswer, err error) {
 	if err := c.write(request); err != nil {
-		return received{}, err
+		return wholeAnswer{}, err
 	}
 	response, err := c.answer(request)
 	if err != nil {
-		return received{}, err
+		return wholeAnswer{}, err
 	}
 	// the body isn't closed: that would read the rest of it, and it holds nothing
-	got = received{status: response.StatusCode, header: response.Header}
+	got = wholeAnswer{status: response.StatusCode, header: response.Header}
 	if got.status < http.StatusOK { // after a 101 the body would be the connection, which doesn't end
 		return got, nil
 	}
@@ -174,7 +186,7 @@ func (c *connection) answer(request *http.Request) (*http.Response, error) {
 	}
 }
 
-// isQuiet returns whether nothing has come since the last answer, not even the end of the connection.
+// isQuiet returns whether nothing has arrived since the last answer, not even the end of the connection.
 func (c *connection) isQuiet() bool {
 	system, ok := c.bottom.Conn.(syscall.Conn)
 	if !ok {
@@ -195,3 +207,285 @@ func (c *connection) isQuiet() bool {
 }
 
 func (c *connection) close() { _ = c.top.Close() } // what it has read is whole, or lost already
+
+// connect opens a connection to a broker. What is written on the way is written before the time is over.
+func (c *Client) connect(ctx context.Context, b *broker, until time.Time) (*connection, error) {
+	proxy, err := c.proxy(b)
+	if err != nil {
+		return nil, err
+	}
+	dialed := b.dialed
+	if proxy != nil {
+		dialed = proxy.Host
+	}
+	raw, err := c.dial(ctx, "tcp", dialed)
+	if err != nil {
+		return nil, err
+	}
+	bottom := &timedConn{Conn: raw, now: c.now, until: until}
+	top, err := c.wrap(ctx, bottom, b, proxy)
+	if err != nil {
+		raw.Close()
+		return nil, err
+	}
+	return newConnection(bottom, top), nil
+}
+
+// wrap adds the tunnel and TLS, as far as they are wanted.
+func (c *Client) wrap(ctx context.Context, bottom *timedConn, b *broker, proxy *url.URL) (top net.Conn, err error) {
+	top = bottom
+	if proxy != nil {
+		if proxy.Scheme == "https" {
+			if top, err = c.secure(ctx, top, proxy.Hostname()); err != nil {
+				return nil, err
+			}
+		}
+		if err := watch(ctx, bottom.Conn, func() error { return tunnel(top, b.dialed, proxy.User) }); err != nil {
+			return nil, fmt.Errorf("the tunnel through the proxy: %w", err)
+		}
+	}
+	if b.isTLS {
+		return c.secure(ctx, top, b.host)
+	}
+	return top, nil
+}
+
+func (c *Client) secure(ctx context.Context, conn net.Conn, host string) (net.Conn, error) {
+	secured := tls.Client(conn, c.trust.of(host))
+	if err := secured.HandshakeContext(ctx); err != nil {
+		return nil, fmt.Errorf("TLS with %s: %w", host, err)
+	}
+	return secured, nil
+}
+
+// proxy returns the host and port of the proxy for a broker, or nil for none.
+func (c *Client) proxy(b *broker) (*url.URL, error) {
+	if c.options.Proxy == nil || !b.isTLS {
+		return nil, nil
+	}
+	target, err := url.Parse(b.origin)
+	if err != nil {
+		return nil, err
+	}
+	proxy, err := c.options.Proxy(&http.Request{URL: target})
+	if err != nil || proxy == nil {
+		return nil, err
+	}
+	port := map[string]string{"http": "80", "https": "443"}[proxy.Scheme]
+	if port == "" || proxy.Hostname() == "" {
+		return nil, errors.New("the proxy must be named by http:// or https:// and a host")
+	}
+	if given := proxy.Port(); given != "" {
+		port = given
+	}
+	return &url.URL{Scheme: proxy.Scheme, User: proxy.User, Host: net.JoinHostPort(proxy.Hostname(), port)}, nil
+}
+
+// tunnel asks a proxy for a connection to an address.
+func tunnel(conn net.Conn, to string, user *url.Userinfo) error {
+	request := &http.Request{Method: http.MethodConnect, URL: &url.URL{Opaque: to}, Host: to, Header: http.Header{}}
+	if user != nil {
+		password, _ := user.Password()
+		request.SetBasicAuth(user.Username(), password)
+		request.Header["Proxy-Authorization"] = request.Header["Authorization"]
+		request.Header.Del("Authorization")
+	}
+	if err := request.Write(conn); err != nil {
+		return err
+	}
+	reader := bufio.NewReader(&meter{Conn: conn, left: around})
+	response, err := http.ReadResponse(reader, request)
+	if err != nil {
+		return readError(err)
+	}
+	if response.StatusCode != http.StatusOK || reader.Buffered() > 0 {
+		return fmt.Errorf("the proxy answers %d", response.StatusCode)
+	}
+	return nil
+}
+
+// place names a broker. If its URL changes, it is another one.
+type place struct{ name, url string }
+
+// A broker is what is known of one while the program runs: its address, and its connections.
+type broker struct {
+	address
+	// returns is whether the latest answer had the identity of its request. Only then is a connection kept.
+	returns atomic.Bool
+	used    chan struct{} // has an element for each connection that carries a request
+	longest time.Duration // for which a connection waits for a request
+
+	mutex    sync.Mutex
+	idle     []*connection // those that wait, the latest last
+	isClosed bool
+}
+
+func newBroker(at address, connections int, longest time.Duration) *broker {
+	return &broker{address: at, used: make(chan struct{}, connections), longest: longest}
+}
+
+// enter waits for a connection that is free.
+//
+// Errors: that of the context.
+func (b *broker) enter(ctx context.Context) error {
+	if ctx.Err() != nil {
+		return ctx.Err()
+	}
+	select {
+	case b.used <- struct{}{}:
+		return nil
+	case <-ctx.Done():
+		return ctx.Err()
+	}
+}
+
+func (b *broker) leave() { <-b.used }
+
+// take returns a connection that waits for a request, and can still be used, or nil.
+func (b *broker) take(now time.Time) *connection {
+	for {
+		last := b.latest()
+		if last == nil {
+			return nil
+		}
+		// the timer may not have fired yet: while the machine is suspended, it stands still
+		if last.expiry.Stop() && now.Sub(last.idleSince) < b.longest && last.isQuiet() {
+			return last
+		}
+		last.close()
+	}
+}
+
+func (b *broker) latest() *connection {
+	b.mutex.Lock()
+	defer b.mutex.Unlock()
+	count := len(b.idle)
+	if count == 0 {
+		return nil
+	}
+	last := b.idle[count-1]
+	b.idle = b.idle[:count-1]
+	return last
+}
+
+// keep has a connection wait for the next request, or closes it.
+func (b *broker) keep(it *connection, now time.Time) {
+	b.mutex.Lock()
+	defer b.mutex.Unlock()
+	if b.isClosed {
+		it.close()
+		return
+	}
+	it.isKept, it.idleSince = true, now
+	it.expiry = time.AfterFunc(b.longest, func() { b.expire(it) })
+	b.idle = append(b.idle, it)
+}
+
+// expire closes a connection that has waited for too long, unless it was taken meanwhile.
+func (b *broker) expire(it *connection) {
+	b.mutex.Lock()
+	isIdle := false
+	for at, other := range b.idle {
+		if other == it {
+			b.idle = append(b.idle[:at], b.idle[at+1:]...)
+			isIdle = true
+			break
+		}
+	}
+	b.mutex.Unlock()
+	if isIdle {
+		it.close()
+	}
+}
+
+// close closes the connections that wait for a request. No other one is kept from then on.
+func (b *broker) close() {
+	b.mutex.Lock()
+	defer b.mutex.Unlock()
+	b.isClosed = true
+	for _, conn := range b.idle {
+		conn.expiry.Stop()
+		conn.close()
+	}
+	b.idle = nil
+}
+
+// An address is where a broker is, by its URL.
+type address struct {
+	isTLS  bool
+	origin string // the scheme, the host and the port, as in the URL
+	host   string // the host alone
+	dialed string // host:port
+	prefix string // what the path of the URL is, without a slash at its end
+}
+
+// addressOf is the address of a URL.
+//
+// Errors: those of platform.CheckURL.
+func addressOf(text string, allowHTTP bool) (address, error) {
+	if err := platform.CheckURL(text, allowHTTP); err != nil {
+		return address{}, err
+	}
+	read, err := url.Parse(text)
+	if err != nil {
+		return address{}, err
+	}
+	made := address{isTLS: read.Scheme == "https", origin: read.Scheme + "://" + read.Host, host: read.Hostname()}
+	port := read.Port()
+	switch {
+	case port == "" && made.isTLS:
+		port = "443"
+	case port == "":
+		port = "80"
+	}
+	made.dialed, made.prefix = net.JoinHostPort(made.host, port), strings.TrimSuffix(read.EscapedPath(), "/")
+	return made, nil
+}
+
+// Files are the names of files in PEM.
+type Files struct {
+	Authorities string // the authorities of brokers' certificates, in place of the system's; or empty for the system's
+	Certificate string // the platform's own certificate, followed by those of intermediate authorities; or empty
+	Key         string // the private key of that certificate
+}
+
+// trust is the configuration of TLS. It can be read again while it is used.
+type trust struct{ current atomic.Pointer[tls.Config] }
+
+func (t *trust) load(files Files) error {
+	config := &tls.Config{
+		MinVersion:         tls.VersionTLS12,
+		CipherSuites:       ciphers.Suites(),
+		NextProtos:         []string{"http/1.1"}, // a server may answer HTTP/2 otherwise
+		ClientSessionCache: tls.NewLRUClientSessionCache(0),
+	}
+	if files.Authorities != "" {
+		text, err := os.ReadFile(files.Authorities)
+		if err != nil {
+			return fmt.Errorf("the authorities of brokers' certificates: %w", err)
+		}
+		config.RootCAs = x509.NewCertPool()
+		if !config.RootCAs.AppendCertsFromPEM(text) {
+			return fmt.Errorf("%s has no certificate in PEM", files.Authorities)
+		}
+	}
+	if (files.Certificate == "") != (files.Key == "") {
+		return errors.New("the platform's certificate and its key are named together, or neither is")
+	}
+	if files.Certificate != "" {
+		pair, err := tls.LoadX509KeyPair(files.Certificate, files.Key)
+		if err != nil {
+			return fmt.Errorf("the certificate %s with the key %s: %w", files.Certificate, files.Key, err)
+		}
+		config.Certificates = []tls.Certificate{pair}
+	}
+	t.current.Store(config)
+	return nil
+}
+
+// of returns the configuration for a server.
+func (t *trust) of(host string) *tls.Config {
+	config := t.current.Load().Clone()
+	config.ServerName = host
+	return config
+}

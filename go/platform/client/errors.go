@@ -16,9 +16,9 @@ var (
 	ErrTimeOver = errors.New("the time of the exchange is over")
 	// ErrTooLong reports an answer that is longer than is read.
 	ErrTooLong = errors.New("the answer is too long")
-	// ErrCut reports a connection that ended before an answer had come whole.
+	// ErrCut reports a connection that ended before an answer had arrived whole.
 	ErrCut = errors.New("the connection ended before an answer had come whole")
-	// ErrGarbled reports that what came can't be read as HTTP.
+	// ErrGarbled reports that what arrived can't be read as HTTP.
 	ErrGarbled = errors.New("the answer can't be read as HTTP")
 	// ErrOtherRequest reports an answer that isn't surely the one to the request that was sent.
 	ErrOtherRequest = errors.New("the answer isn't surely the one to this request")

@@ -25,7 +25,7 @@ type Passwords struct {
 }
 
 // settled is for how long a file mustn't have changed before it is read for the last time: a file may be changed twice
-// within what its time of change tells apart.
+// within what its time of change can distinguish.
 const settled = 2 * time.Second
 
 // A passwordFile is a file as it was when it was read last.
@@ -106,8 +106,8 @@ func (p *Passwords) ofFile(name string) (string, error) {
 
 // isKey is whether a file has a key.
 func (p *Passwords) isKey(about os.FileInfo) bool {
-	for _, it := range p.keys {
-		if key, err := os.Stat(it); err == nil && os.SameFile(key, about) {
+	for _, fingerprint := range p.keys {
+		if key, err := os.Stat(fingerprint); err == nil && os.SameFile(key, about) {
 			return true
 		}
 	}

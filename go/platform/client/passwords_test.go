@@ -16,16 +16,14 @@ import (
 // A sealed password is opened under the name, the URL and the user of its broker, and under no others.
 func TestSealedPassword(t *testing.T) {
 	safe, err := vault.New([]byte(strings.Repeat("k", vault.ShortestKey)))
-	if err != nil {
-		t.Fatal(err)
-	}
+	check(t, err)
 	broker := platform.Broker{Name: "postgres", URL: "https://one.example", User: "platform", PasswordFile: "nowhere"}
 	if broker.Password, err = safe.Seal([]byte(secret), platform.PasswordContext(broker)); err != nil {
 		t.Fatal(err)
 	}
 	passwords := NewPasswords(safe, nil)
 	if got, err := passwords.Of(broker); got != secret || err != nil {
-		t.Errorf("%q, %v", got, err)
+		t.Errorf("got %q, %v, want %q", got, err, secret)
 	}
 	for what, change := range map[string]func(*platform.Broker){
 		"another name": func(b *platform.Broker) { b.Name = "another" },
@@ -40,61 +38,55 @@ func TestSealedPassword(t *testing.T) {
 			}
 		},
 	} {
-		it := broker
-		change(&it)
-		got, err := passwords.Of(it)
-		if err == nil || got != "" || !strings.Contains(err.Error(), "broker set "+it.Name+" --store-password") {
-			t.Errorf("%s: got %q, %v, want an error that says what to do", what, got, err)
-		}
+		t.Run(what, func(t *testing.T) {
+			it := broker
+			change(&it)
+			got, err := passwords.Of(it)
+			if err == nil || got != "" || !strings.Contains(err.Error(), "broker set "+it.Name+" --store-password") {
+				t.Errorf("got %q, %v, want an error that says what to do", got, err)
+			}
+		})
 	}
 	if got, err := NewPasswords(nil, nil).Of(broker); err == nil || got != "" {
-		t.Errorf("%q", got)
+		t.Errorf("got %q, %v, want an error and no password", got, err)
 	}
 	if got, err := passwords.Of(platform.Broker{Name: "postgres"}); err == nil || got != "" {
-		t.Errorf("%q", got)
+		t.Errorf("got %q, %v, want an error and no password", got, err)
 	}
 }
 
 // What platform.Orders seals is opened here.
 func TestPasswordOfOrders(t *testing.T) {
 	safe, err := vault.New([]byte(strings.Repeat("k", vault.ShortestKey)))
-	if err != nil {
-		t.Fatal(err)
-	}
+	check(t, err)
 	ctx := context.Background()
 	store, err := sqlite.Open(ctx, filepath.Join(t.TempDir(), "store"))
-	if err != nil {
-		t.Fatal(err)
-	}
+	check(t, err)
 	defer store.Close()
 	orders := platform.NewOrders(store, safe)
 	shop := platform.Broker{Name: "shop", URL: "https://shop.example", User: "platform"}
-	if err := orders.AddBroker(ctx, shop, []byte(secret)); err != nil {
-		t.Fatal(err)
-	}
+	check(t, orders.AddBroker(ctx, shop, []byte(secret)))
 	for _, want := range []string{secret, "another"} {
 		brokers, err := store.Brokers(ctx)
 		if err != nil || len(brokers) != 1 {
-			t.Fatalf("%v, %v", brokers, err)
+			t.Fatalf("got %v, %v, want one broker", brokers, err)
 		}
 		if got, err := NewPasswords(safe, nil).Of(brokers[0]); got != want || err != nil {
-			t.Errorf("%q, %v", got, err)
+			t.Errorf("got %q, %v, want %q", got, err, want)
 		}
 		nothing := func(*platform.Broker) error { return nil }
-		if err := orders.SetBroker(ctx, "shop", nothing, []byte("another")); err != nil {
-			t.Fatal(err)
-		}
+		check(t, orders.SetBroker(ctx, "shop", nothing, []byte("another")))
 	}
 }
 
-// A file is read again when it changes, however soon. If it can't be read any more, what it had counts.
+// A file is read again when it changes, however soon. If it can't be read any more, its last password counts.
 func TestPasswordFile(t *testing.T) {
 	name := filepath.Join(t.TempDir(), "password")
 	var warnings []string
 	passwords := NewPasswords(nil, func(it string) { warnings = append(warnings, it) })
 	broker := platform.Broker{Name: "postgres", User: "platform", PasswordFile: name}
 	if got, err := passwords.Of(broker); !os.IsNotExist(err) || got != "" {
-		t.Errorf("%q, %v", got, err)
+		t.Errorf("got %q, %v, want the error of a file that doesn't exist", got, err)
 	}
 	put := func(text string) func() error {
 		return func() error { return os.WriteFile(name, []byte(text), 0o600) }
@@ -125,19 +117,17 @@ func TestPasswordFile(t *testing.T) {
 		}, 4},
 		{"still readable by all", "four", func() error { return nil }, 4},
 	} {
-		if err := step.do(); err != nil {
-			t.Fatal(err)
-		}
+		check(t, step.do())
 		if got, err := passwords.Of(broker); got != step.wanted || err != nil {
-			t.Errorf("%s: %q, %v; want %q", step.what, got, err, step.wanted)
+			t.Errorf("%s: got %q, %v, want %q", step.what, got, err, step.wanted)
 		}
 		if len(warnings) != step.warnings {
-			t.Errorf("%s: %q", step.what, warnings)
+			t.Errorf("%s: got the warnings %q, want %d", step.what, warnings, step.warnings)
 		}
 	}
-	for _, it := range warnings {
-		if strings.Contains(it, "four") || strings.Contains(it, "three") {
-			t.Errorf("a warning has a password: %s", it)
+	for _, warning := range warnings {
+		if strings.Contains(warning, "four") || strings.Contains(warning, "three") {
+			t.Errorf("the warning: got %s, want no password in it", warning)
 		}
 	}
 }
@@ -148,12 +138,8 @@ func TestSettledPasswordFile(t *testing.T) {
 	passwords := NewPasswords(nil, nil)
 	put := func(text string, changed time.Time) {
 		t.Helper()
-		if err := os.WriteFile(name, []byte(text), 0o600); err != nil {
-			t.Fatal(err)
-		}
-		if err := os.Chtimes(name, changed, changed); err != nil {
-			t.Fatal(err)
-		}
+		check(t, os.WriteFile(name, []byte(text), 0o600))
+		check(t, os.Chtimes(name, changed, changed))
 	}
 	hour, soon := time.Now().Add(-time.Hour), time.Now().Add(time.Minute)
 	for _, row := range []struct {
@@ -162,16 +148,16 @@ func TestSettledPasswordFile(t *testing.T) {
 		wanted  string
 	}{
 		{"one", hour, "one"},
-		{"two", hour, "one"}, // nothing of the file tells that it has changed, so it wasn't read
+		{"two", hour, "one"}, // nothing of the file shows that it has changed, so it wasn't read
 		{"two", hour.Add(time.Nanosecond), "two"},
-		{"three", hour.Add(time.Nanosecond), "three"}, // its length tells
+		{"three", hour.Add(time.Nanosecond), "three"}, // its length shows it
 		{"four", soon, "four"},
-		{"five", soon, "five"}, // it may have changed since, within what the time of change tells apart
+		{"five", soon, "five"}, // it may have changed since, within what the time of change can distinguish
 	} {
 		put(row.text, row.changed)
 		got, err := passwords.Of(platform.Broker{Name: "postgres", PasswordFile: name})
 		if got != row.wanted || err != nil {
-			t.Errorf("%s: %q, %v", row.text, got, err)
+			t.Errorf("%s: got %q, %v, want %q", row.text, got, err, row.wanted)
 		}
 	}
 }
@@ -179,12 +165,8 @@ func TestSettledPasswordFile(t *testing.T) {
 // The file with the key is no password, under whatever name.
 func TestKeyIsNoPassword(t *testing.T) {
 	key, link := filepath.Join(t.TempDir(), "key"), filepath.Join(t.TempDir(), "link")
-	if err := os.WriteFile(key, []byte(strings.Repeat("k", vault.ShortestKey)), 0o600); err != nil {
-		t.Fatal(err)
-	}
-	if err := os.Link(key, link); err != nil {
-		t.Fatal(err)
-	}
+	check(t, os.WriteFile(key, []byte(strings.Repeat("k", vault.ShortestKey)), 0o600))
+	check(t, os.Link(key, link))
 	passwords := NewPasswords(nil, nil, filepath.Join(t.TempDir(), "nowhere"), key)
 	for _, file := range []string{key, link, filepath.Join(filepath.Dir(key), ".", "key")} {
 		got, err := passwords.Of(platform.Broker{Name: "b", PasswordFile: file})

@@ -1,24 +1,28 @@
 package journal
 
 import (
+	"bytes"
 	"context"
 	"encoding/json"
 	"errors"
 	"os"
+	"path/filepath"
 	"strconv"
 	"strings"
+	"sync"
 	"testing"
 	"time"
 
 	"pippinterm/internal/journalfile"
 	"pippinterm/osb"
 	"pippinterm/platform"
+	"pippinterm/platform/sqlite"
 )
 
 func want(t *testing.T, what, got, want string) {
 	t.Helper()
 	if got != want {
-		t.Errorf("%s:\n%s\nwant\n%s", what, got, want)
+		t.Errorf("%s: got\n%s\nwant\n%s", what, got, want)
 	}
 }
 
@@ -52,38 +56,38 @@ func TestMembers(t *testing.T) {
 	key := s.create("my first")
 	s.run()
 	text, request := "", ""
-	for at, it := range s.lines() {
+	for at, line := range s.lines() {
 		switch {
 		case at == 0:
-			if it.Event != "started" || it.Version != "1.2" || it.Worker != "one" {
-				t.Errorf("%+v", it)
+			if line.Event != "started" || line.Version != "1.2" || line.Worker != "one" {
+				t.Errorf("got %+v, want the start of the worker one, version 1.2", line)
 			}
 			continue
-		case it.Instance != key.Instance.String() || it.InstanceID != "my first" || it.Binding != "" || it.Broker != "shop":
-			t.Errorf("%+v", it)
+		case line.Instance != key.Instance.String() || line.InstanceID != "my first" || line.Binding != "" || line.Broker != "shop":
+			t.Errorf("got %+v, want a line of the instance my first at shop", line)
 		}
-		isMade := it.Service == service && it.Plan == plan
-		switch it.Event {
+		isMade := line.Service == service && line.Plan == plan
+		switch line.Event {
 		case "changed":
-			isTake := it.Cause == "take"
-			if it.Before != text || !isMade || isTake != (it.Attempt == 1) || it.Change < 1 {
-				t.Errorf("after %q: %+v", text, it)
+			isTake := line.Cause == "take"
+			if line.Before != text || !isMade || isTake != (line.Attempt == 1) || line.Change < 1 {
+				t.Errorf("after %q: got %+v, want the change of that text", text, line)
 			}
-			text = it.After
+			text = line.After
 		case "sent":
-			if request = it.Request; request == "" || it.Attempt != 1 || !it.Accepts || !isMade {
-				t.Errorf("%+v", it)
+			if request = line.Request; request == "" || line.Attempt != 1 || !line.Accepts || !isMade {
+				t.Errorf("got %+v, want attempt 1 of a request that accepts asynchronous work", line)
 			}
 		case "answered":
-			if it.Request != request || it.Status != 200 || it.Kind != "provision" {
-				t.Errorf("%+v", it)
+			if line.Request != request || line.Status != 200 || line.Kind != "provision" {
+				t.Errorf("got %+v, want 200 to the Provision %s", line, request)
 			}
 		}
 	}
 	var record osb.Record
 	check(t, record.UnmarshalJSON([]byte(text)))
 	if entry, err := s.store.Read(background, key); err != nil || entry.Record != record {
-		t.Errorf("%v is recorded, and the journal has %v: %v", entry.Record, record, err)
+		t.Errorf("the journal: got %[2]v (%[3]v), want %[1]v, as recorded", entry.Record, record, err)
 	}
 }
 
@@ -98,13 +102,13 @@ func TestBinding(t *testing.T) {
 	s.run()
 	digest := journalfile.Digest([]byte(`{"credentials":{"password":"` + credential + `"}}`))
 	found := ""
-	for _, it := range s.lines()[from:] {
-		if it.Binding != bound.Key.Binding.String() {
-			t.Errorf("%+v", it)
+	for _, line := range s.lines()[from:] {
+		if line.Binding != bound.Key.Binding.String() {
+			t.Errorf("got %+v, want a line of the binding %s", line, bound.Key.Binding)
 		}
-		if it.Credentials != "" {
-			found += it.Event + " "
-			want(t, it.Event, it.Credentials, digest)
+		if line.Credentials != "" {
+			found += line.Event + " "
+			want(t, line.Event, line.Credentials, digest)
 		}
 	}
 	want(t, "with a digest", found, "answered changed ")
@@ -135,9 +139,9 @@ func TestFetch(t *testing.T) {
 	want(t, "bind", s.events(from), "order ordered; claim wanted; sent provision; answered empty; take polling; "+
 		"claim polling; sent poll; answered succeeded; sent fetch; answered ; take ready")
 	attempts := ""
-	for _, it := range s.lines()[from:] {
-		if it.Event == "sent" {
-			attempts += strconv.FormatUint(it.Attempt, 10) + " "
+	for _, line := range s.lines()[from:] {
+		if line.Event == "sent" {
+			attempts += strconv.FormatUint(line.Attempt, 10) + " "
 		}
 	}
 	want(t, "attempts", attempts, "1 2 0 ")
@@ -151,21 +155,21 @@ func TestOrder(t *testing.T) {
 		commits++
 		text, err := change.Entry.Record.MarshalJSON()
 		if last := s.last(); err != nil || last.Event != "changed" || last.After != string(text) {
-			t.Errorf("before a commit of %s: %+v", text, last)
+			t.Errorf("before a commit of %s: got %+v, want it changed", text, last)
 		}
 	}
 	s.seller.answers = func(out platform.Outgoing) platform.Incoming {
 		requests++
 		last := s.last()
 		if last.Event != "sent" || last.Request != out.RequestID || strconv.FormatInt(last.Time, 10) != out.JournalTime {
-			t.Errorf("%s leaves at %s after %+v", out.RequestID, out.JournalTime, last)
+			t.Errorf("%s at %s: got the line %+v, want it sent", out.RequestID, out.JournalTime, last)
 		}
 		return sells(out)
 	}
 	s.create("one")
 	s.run()
 	if commits != 2 || requests != 1 {
-		t.Errorf("%d commits, %d requests", commits, requests)
+		t.Errorf("got %d commits and %d requests, want 2 and 1", commits, requests)
 	}
 }
 
@@ -186,7 +190,7 @@ func TestUndone(t *testing.T) {
 		want(t, fails.Error(), s.events(1), strings.Replace(created, "take ready", "take ready; "+undo+"; take ready", 1))
 		lines := s.lines()
 		if undone := lines[6]; undone.Change != lines[5].Change || undone.Instance != key.Instance.String() {
-			t.Errorf("%+v", undone)
+			t.Errorf("got %+v, want change %d of %s", undone, lines[5].Change, key.Instance)
 		}
 	}
 }
@@ -201,16 +205,16 @@ func TestUndoneRow(t *testing.T) {
 	s.run()
 	lines := s.lines()[from:]
 	undone := 0
-	for _, it := range lines {
-		if it.Event == "undone" {
+	for _, line := range lines {
+		if line.Event == "undone" {
 			undone++
-			if it.Change != lines[0].Change || it.Instance != lines[0].Instance {
-				t.Errorf("%+v; want that of %+v", it, lines[0])
+			if line.Change != lines[0].Change || line.Instance != lines[0].Instance {
+				t.Errorf("got %+v, want that of %+v", line, lines[0])
 			}
 		}
 	}
 	if undone != 1 {
-		t.Errorf("%d undone: %s", undone, s.events(from))
+		t.Errorf("got %d undone, want 1: %s", undone, s.events(from))
 	}
 }
 
@@ -220,13 +224,13 @@ type failing struct {
 	err error
 }
 
-func (f failing) Claim(_ context.Context, _ []string, _ int, step platform.Step) ([]platform.Claimed, error) {
-	for _, it := range []string{"00000000-0000-0000-0000-000000000001", "00000000-0000-0000-0000-000000000002"} {
-		id, err := osb.ParseID(it)
+func (f failing) Claim(_ context.Context, _ []string, _ int, step platform.Step) ([]platform.ClaimedRow, error) {
+	for _, text := range []string{"00000000-0000-0000-0000-000000000001", "00000000-0000-0000-0000-000000000002"} {
+		id, err := osb.ParseID(text)
 		if err != nil {
 			return nil, err
 		}
-		if _, err := step(time.Now(), platform.Held{Entry: platform.Entry{
+		if _, err := step(time.Now(), platform.Snapshot{Entry: platform.Entry{
 			Order: platform.Order{Key: platform.InstanceKey(id)},
 		}}); err != nil {
 			return nil, err
@@ -238,20 +242,20 @@ func (f failing) Claim(_ context.Context, _ []string, _ int, step platform.Step)
 func TestUndoneClaim(t *testing.T) {
 	for fails, want := range map[error]string{errFull: "undone; undone", errDoubt: "undone doubtful; undone doubtful"} {
 		s := newSite(t)
-		w, err := journalfile.Open(journalfile.Options{Path: s.path + ".own", Side: "platform", Most: 1 << 20})
+		w, err := Open(Options{Path: s.path + ".own", Most: 1 << 20})
 		check(t, err)
 		to := New(w, nil, func(err error) bool { return errors.Is(err, errDoubt) })
 		_, err = to.EngineStore(failing{s.store, fails}).Claim(background, nil, 2,
-			func(_ time.Time, held platform.Held) (*platform.Change, error) {
-				held.State = platform.Withdrawn
-				return &platform.Change{Entry: held.Entry}, nil
+			func(_ time.Time, snapshot platform.Snapshot) (*platform.Change, error) {
+				snapshot.State = platform.Withdrawn
+				return &platform.Change{Entry: snapshot.Entry}, nil
 			})
 		if !errors.Is(err, fails) {
 			t.Error(err)
 		}
 		s.path += ".own"
 		if got := s.events(1); got != "claim withdrawn; claim withdrawn; "+want {
-			t.Errorf("%v: %s", fails, got)
+			t.Errorf("%v: got %s, want two claims and then %s", fails, got, want)
 		}
 	}
 }
@@ -260,23 +264,23 @@ func TestUndoneClaim(t *testing.T) {
 func TestNoText(t *testing.T) {
 	s := newSite(t)
 	path, failed := s.path+".own", 0
-	w, err := journalfile.Open(journalfile.Options{
-		Path: path, Side: "platform", Most: 1 << 20, Failed: func(error) { failed++ },
+	w, err := Open(Options{
+		Path: path, Most: 1 << 20, Failed: func(error) { failed++ },
 	})
 	check(t, err)
 	key := s.create("one")
 	to := New(w, nil, func(error) bool { return false })
 	err = to.EngineStore(s.store).Change(background, key,
-		func(_ time.Time, held platform.Held) (*platform.Change, error) {
-			held.Entry.IsSent = true
-			return &platform.Change{Entry: held.Entry}, nil
+		func(_ time.Time, snapshot platform.Snapshot) (*platform.Change, error) {
+			snapshot.Entry.IsSent = true
+			return &platform.Change{Entry: snapshot.Entry}, nil
 		})
 	if !errors.Is(err, osb.ErrBadRecord) { // that of the store
 		t.Error(err)
 	}
 	s.path = path
-	if failed != 1 || w.Lost() != 1 {
-		t.Errorf("failed %d times, %d lines lost: %s", failed, w.Lost(), s.events(0))
+	if failed != 1 || w.LostLines() != 1 {
+		t.Errorf("got %d failures and %d lines lost, want 1 and 1: %s", failed, w.LostLines(), s.events(0))
 	}
 }
 
@@ -296,7 +300,7 @@ func TestUsed(t *testing.T) {
 	s.create("one")
 	_, err := s.orders.Create(background, platform.NewInstance{Service: service, Plan: plan, ID: "one"})
 	if err == nil {
-		t.Fatal("the id is used")
+		t.Fatal("the id that is used: got no error, want one")
 	}
 	want(t, "twice", s.events(1), "order ordered; order ordered; undone")
 	from := len(s.lines())
@@ -310,7 +314,7 @@ func TestOrderThatIsNotAllowed(t *testing.T) {
 	s := newSite(t)
 	err := s.to.OrdersStore(s.store.Store).Insert(background, platform.Entry{
 		Order: platform.Order{Key: keyOf("one"), Broker: "shop", Body: json.RawMessage("{}")},
-	}, func(platform.Held) error { return errFull })
+	}, func(platform.Snapshot) error { return errFull })
 	if !errors.Is(err, errFull) {
 		t.Errorf("got %v, want %v", err, errFull)
 	}
@@ -326,7 +330,7 @@ func TestStepThatWritesNothing(t *testing.T) {
 	key := s.create("one")
 	from := len(s.lines())
 	err := s.to.EngineStore(s.store.Store).Change(background, key,
-		func(time.Time, platform.Held) (*platform.Change, error) { return nil, nil })
+		func(time.Time, platform.Snapshot) (*platform.Change, error) { return nil, nil })
 	if err != nil {
 		t.Errorf("got %v, want nil", err)
 	}
@@ -356,12 +360,12 @@ func TestNextTry(t *testing.T) {
 		"claim cleaning; sent deprovision; answered empty; take gone; order ordered"
 	for late := time.Now().Add(10 * time.Second); !strings.HasPrefix(s.events(1), first); s.run() {
 		if time.Now().After(late) {
-			t.Fatal(s.events(1))
+			t.Fatalf("got %s, want %s first", s.events(1), first)
 		}
 	}
 	instance := made.Key.Instance.String()
 	if gone, next := s.lines()[9], s.lines()[10]; gone.Instance != instance || next.Instance == instance {
-		t.Errorf("%+v, and then %+v", gone, next)
+		t.Errorf("got %+v and then %+v, want the second of another instance", gone, next)
 	}
 }
 
@@ -381,7 +385,7 @@ func TestRetry(t *testing.T) {
 	check(t, err)
 	want(t, "retry", s.events(from), "command cleaning")
 	if it := s.last(); it.Attempt != 0 || it.Before == it.After {
-		t.Errorf("%+v", it)
+		t.Errorf("got %+v, want no attempt, and a record that has changed", it)
 	}
 }
 
@@ -396,9 +400,9 @@ func TestTimes(t *testing.T) {
 	}
 	s.create("one")
 	s.run()
-	for _, it := range s.lines() {
-		if it.Event == "answered" && (it.Time <= ahead || it.Time > ahead+1e6) {
-			t.Errorf("%+v after %d", it, ahead)
+	for _, line := range s.lines() {
+		if line.Event == "answered" && (line.Time <= ahead || line.Time > ahead+1e6) {
+			t.Errorf("got %+v after %d, want a time right after it", line, ahead)
 		}
 	}
 }
@@ -418,11 +422,11 @@ func TestNoSecrets(t *testing.T) {
 	check(t, err)
 	for _, secret := range []string{password, parameter, credential} {
 		if strings.Contains(string(text), secret) {
-			t.Errorf("the journal has %s", secret)
+			t.Errorf("the journal: got %s in it, want no secret", secret)
 		}
 	}
 	if !strings.Contains(string(text), bound.Key.Binding.String()) {
-		t.Errorf("%s", text)
+		t.Errorf("got %s, want lines of the binding %s", text, bound.Key.Binding)
 	}
 }
 
@@ -432,4 +436,244 @@ func keyOf(text string) platform.Key {
 		panic(err)
 	}
 	return platform.InstanceKey(id)
+}
+
+// What must not stand in a journal.
+const (
+	password   = "password-at-the-broker"
+	parameter  = "value-of-a-parameter"
+	credential = "secret-of-a-binding"
+)
+
+const (
+	service = "00000000-0000-0000-0000-0000000000a0"
+	plan    = "00000000-0000-0000-0000-0000000000b1"
+	sold    = `{"x-osb-tombstones": true, "services": [{"id": "` + service + `", "name": "s", "description": "d", "bindable": true,
+	"bindings_retrievable": true, "plans": [{"id": "` + plan + `", "name": "p", "description": "d"}]}]}`
+)
+
+var (
+	background = context.Background()
+	errFull    = errors.New("the disk is full")
+	errDoubt   = errors.New("nobody knows")
+)
+
+// check ends the test at an error.
+func check(t testing.TB, err error) {
+	t.Helper()
+	if err != nil {
+		t.Fatal(err)
+	}
+}
+
+// A faulty store is below the journal. It gets each transaction, and can fail it.
+type faulty struct {
+	platform.Store
+	mutex   sync.Mutex
+	stepped func(change *platform.Change) // is called after a step, before the commit
+	fails   error                         // of the next commit, though its step was called
+	tries   int                           // how often the next step is called, if it is more than once
+}
+
+func (f *faulty) commit() error {
+	f.mutex.Lock()
+	defer f.mutex.Unlock()
+	err := f.fails
+	f.fails = nil
+	return err
+}
+
+// over is a step that fails if the commit does: nothing is written then.
+func (f *faulty) over(step platform.Step) platform.Step {
+	return func(now time.Time, snapshot platform.Snapshot) (*platform.Change, error) {
+		change, err := step(now, snapshot)
+		f.mutex.Lock()
+		tries := f.tries
+		f.tries = 0
+		f.mutex.Unlock()
+		for try := 1; try < tries; try++ {
+			change, err = step(now, snapshot)
+		}
+		if err == nil && change != nil && f.stepped != nil {
+			f.stepped(change)
+		}
+		if err == nil && change != nil {
+			err = f.commit()
+		}
+		return change, err
+	}
+}
+
+func (f *faulty) Insert(ctx context.Context, entry platform.Entry, check func(platform.Snapshot) error) error {
+	return f.Store.Insert(ctx, entry, func(snapshot platform.Snapshot) error {
+		err := check(snapshot)
+		for ; err == nil && f.tries > 1; f.tries-- {
+			err = check(snapshot)
+		}
+		return err
+	})
+}
+
+func (f *faulty) Change(ctx context.Context, key platform.Key, step platform.Step) error {
+	return f.Store.Change(ctx, key, f.over(step))
+}
+
+func (f *faulty) Claim(
+	ctx context.Context, brokers []string, most int, step platform.Step,
+) ([]platform.ClaimedRow, error) {
+	return f.Store.Claim(ctx, brokers, most, f.over(step))
+}
+
+// A vault seals with no key.
+type plainVault struct{}
+
+func (plainVault) Seal(plain []byte, of string) ([]byte, error) {
+	return append([]byte(of+" "), plain...), nil
+}
+
+func (plainVault) Open(sealed []byte, of string) ([]byte, error) {
+	if !bytes.HasPrefix(sealed, []byte(of+" ")) {
+		return nil, errors.New("another context")
+	}
+	return sealed[len(of)+1:], nil
+}
+
+func (plainVault) Fingerprint() string { return "plain" }
+
+// A broker in memory.
+type seller struct {
+	answers func(out platform.Outgoing) platform.Incoming
+}
+
+func (s *seller) Exchange(_ context.Context, out platform.Outgoing) platform.Incoming {
+	return s.answers(out)
+}
+
+func (*seller) Catalogue(context.Context, platform.Broker) (json.RawMessage, int, error) {
+	return json.RawMessage(sold), 200, nil
+}
+
+func (*seller) Clock() time.Time { return time.Now() }
+
+// sells answers that all is done at once.
+func sells(out platform.Outgoing) platform.Incoming {
+	in := platform.Incoming{Status: 200, Answer: osb.Answer{Status: 200, Body: osb.BodyEmpty}}
+	if out.Entry.Key.IsBinding && out.Request.Kind == osb.KindProvision || out.IsFetch {
+		in.Binding = json.RawMessage(`{"credentials":{"password":"` + credential + `"}}`)
+	}
+	if out.Request.Kind == osb.KindPoll {
+		in.Answer.Body = osb.BodySucceeded
+	}
+	return in
+}
+
+// A line is one of a journal.
+type line struct {
+	Time                                int64
+	Event, Instance, Binding            string
+	InstanceID                          string `json:"instance_id"`
+	Change                              int64
+	Broker, Cause, Before, After, State string
+	Attempt                             uint64
+	Service, Plan, Credentials          string
+	Doubtful, Accepts                   bool
+	Request, Kind, Body, Lost           string
+	Status, Count                       int
+	Version, Worker                     string
+}
+
+// A site is a platform whose journal is read.
+type site struct {
+	t      *testing.T
+	path   string
+	store  *faulty
+	seller *seller
+	engine *platform.Engine
+	orders *platform.Orders
+	to     *Journal
+}
+
+func newSite(t *testing.T) *site {
+	t.Helper()
+	folder := t.TempDir()
+	s := &site{t: t, path: filepath.Join(folder, "journal"), seller: &seller{answers: sells}}
+	store, err := sqlite.Open(background, filepath.Join(folder, "store"))
+	check(t, err)
+	t.Cleanup(func() { check(t, store.Close()) })
+	s.store = &faulty{Store: store}
+	writer, err := Open(Options{
+		Path: s.path, Most: 1 << 20, Started: StartMembers("1.2", "one"),
+		Failed: func(err error) { t.Error(err) },
+	})
+	check(t, err)
+	to := New(writer, plainVault{}, func(err error) bool { return errors.Is(err, errDoubt) })
+	s.to = to
+	s.orders = platform.NewOrders(to.OrdersStore(s.store), plainVault{})
+	s.engine = platform.NewEngine(to.EngineStore(s.store), to.Client(s.seller), plainVault{}, platform.Options{
+		Worker: "one", FirstPace: time.Millisecond, LongestPace: time.Millisecond,
+	}, platform.Silent{})
+	check(t, s.orders.AddBroker(background, platform.Broker{
+		Name: "shop", URL: "http://127.0.0.1:1", User: "platform",
+	}, []byte(password)))
+	check(t, s.engine.RunOnce(background))
+	return s
+}
+
+// create orders an instance.
+func (s *site) create(id string) platform.Key {
+	s.t.Helper()
+	made, err := s.orders.Create(background, platform.NewInstance{
+		Service: service, Plan: plan, ID: id, Parameters: json.RawMessage(`{"password":"` + parameter + `"}`),
+	})
+	check(s.t, err)
+	return made.Key
+}
+
+// run runs the engine until nothing is due.
+func (s *site) run() {
+	s.t.Helper()
+	check(s.t, s.engine.RunOnce(background))
+}
+
+func (s *site) lines() (lines []line) {
+	s.t.Helper()
+	text, err := os.ReadFile(s.path)
+	check(s.t, err)
+	for _, whole := range strings.Split(strings.TrimSuffix(string(text), "\n"), "\n") {
+		var read line
+		if err := json.Unmarshal([]byte(whole), &read); err != nil {
+			s.t.Fatalf("the line %q: got %v, want no error", whole, err)
+		}
+		lines = append(lines, read)
+	}
+	return lines
+}
+
+func (s *site) last() line {
+	s.t.Helper()
+	all := s.lines()
+	return all[len(all)-1]
+}
+
+// events are the events of the lines from one on, with what distinguishes them.
+func (s *site) events(from int) string {
+	s.t.Helper()
+	var texts []string
+	for _, line := range s.lines()[from:] {
+		text := line.Event
+		switch {
+		case line.Event == "changed":
+			text = line.Cause + " " + line.State
+		case line.Event == "sent":
+			text += " " + line.Kind
+		case line.Event == "answered" && line.Lost != "":
+			text = "lost"
+		case line.Event == "answered":
+			text += " " + line.Body
+		case line.Doubtful:
+			text += " doubtful"
+		}
+		texts = append(texts, text)
+	}
+	return strings.Join(texts, "; ")
 }

@@ -1,3 +1,13 @@
+// Package page shows to a browser what the API of osb-platform answers about instances, bindings and brokers: how many
+// are in each state, what waits for a person, what is in flight and at which worker, and the life of each as a line of
+// its states with their times. It only reads, needs no JavaScript, and loads nothing from elsewhere. Its own script
+// keeps the focus and the place as it refreshes the page.
+//
+// The page reads through api.Reader alone, as the handler of the API does. It reaches no store, and imports no other
+// package of the platform. So it shows nothing that the API doesn't answer.
+//
+// What an order was sent with may be secret, and isn't shown: parameters, context, the originating identity. Neither
+// are passwords and credentials.
 package page
 
 import (
@@ -12,11 +22,12 @@ import (
 	"net"
 	"net/http"
 	"net/netip"
+	"net/url"
 	"strconv"
 	"strings"
 	"time"
 
-	"pippinterm/platform/api/apiclient"
+	"pippinterm/platform/api"
 )
 
 //go:embed page.html
@@ -30,8 +41,8 @@ var script string
 
 // A Limiter limits how often an address may fail to log in, as pippinterm/internal/httpserver/limiter does.
 type Limiter interface {
-	// Failed counts a login from this address that failed, and returns how long its answer has to wait, or 0.
-	Failed(address string) time.Duration
+	// FailedLogin counts a login from this address that failed, and returns how long its answer has to wait, or 0.
+	FailedLogin(address string) time.Duration
 }
 
 // Options are the parts and the limits of a page. (The limits are this project's choice.)
@@ -49,18 +60,18 @@ type Options struct {
 	Stopping context.Context
 	// LongCleaning is for how long a deletion may go on before it waits for a person. It is an hour by default.
 	LongCleaning time.Duration
-	// AtOnce is how many requests ask the API at once, each for one thing after another. It is 16 by default. Further
+	// AtOnce is how many requests read at once, each one thing after another. It is 16 by default. Further
 	// ones wait.
 	AtOnce int
-	// Timeout is how long a request may wait for its turn, and for the API. It is 10 seconds by default.
+	// Timeout is how long a request may wait for its turn, and for the store. It is 10 seconds by default.
 	Timeout time.Duration
-	// Failed is called if the API couldn't be read. It returns at once. It may be nil.
+	// Failed is called if the store couldn't be read. It returns at once. It may be nil.
 	Failed func(error)
 }
 
 type handler struct {
 	Options
-	reader
+	maker
 	shown      *template.Template
 	policy     string
 	passwords  [][sha256.Size]byte
@@ -68,17 +79,17 @@ type handler struct {
 	head, foot template.HTML // the style and the script, in their elements
 }
 
-// NewHandler makes the page over an API, which it only reads. The server that calls it has to bound how long a client
+// NewHandler makes the page over a reader. The server that calls it has to bound how long a client
 // may take to send a request and to accept an answer (pippinterm/internal/httpserver does).
 //
 // The page answers GET and HEAD at /, /instance/ID and /instance/ID/binding/ID. It answers only to a Host that is the
 // address of the connection, Options.Host or one of Options.Hosts, or on this machine localhost, so that no site reads
 // it whose name leads to the address. Every other request is rejected with a page that shows nothing of the store.
 //
-// Errors: the API is nil, or a limit is negative.
-func NewHandler(api API, options Options) (http.Handler, error) {
-	if api == nil {
-		return nil, errors.New("page: a page needs an API")
+// Errors: the reader is nil, or a limit is negative.
+func NewHandler(reader api.Reader, options Options) (http.Handler, error) {
+	if reader == nil {
+		return nil, errors.New("page: a page needs a Reader")
 	}
 	if options.LongCleaning < 0 || options.AtOnce < 0 || options.Timeout < 0 {
 		return nil, errors.New("page: no limit is negative")
@@ -103,7 +114,7 @@ func NewHandler(api API, options Options) (http.Handler, error) {
 		return nil, err
 	}
 	return &handler{
-		Options: options, reader: reader{api: api, longCleaning: options.LongCleaning}, shown: shown,
+		Options: options, maker: maker{reader: reader, longCleaning: options.LongCleaning}, shown: shown,
 		slots: make(chan struct{}, options.AtOnce), passwords: digests(options.Users),
 		// No script, no style and nothing else is loaded, but what stands in the page and has these hashes.
 		policy: "default-src 'none'; style-src '" + hash(style) + "'; script-src '" + hash(script) + "'; " +
@@ -149,13 +160,13 @@ func (h *handler) ServeHTTP(w http.ResponseWriter, r *http.Request) {
 func (h *handler) answer(w http.ResponseWriter, r *http.Request) (status int, text []byte) {
 	switch {
 	case !h.isNamed(r):
-		return h.rejected(http.StatusMisdirectedRequest, "This page answers only at the address at which it listens.")
+		return h.rejection(http.StatusMisdirectedRequest, "This page answers only at the address at which it listens.")
 	case !h.isUser(r):
 		w.Header().Set("WWW-Authenticate", `Basic realm="osb-platform", charset="UTF-8"`)
-		return h.rejected(http.StatusUnauthorized, "This page asks for a user and a password.")
+		return h.rejection(http.StatusUnauthorized, "This page asks for a user and a password.")
 	case r.Method != http.MethodGet && r.Method != http.MethodHead:
 		w.Header().Set("Allow", "GET, HEAD")
-		return h.rejected(http.StatusMethodNotAllowed, "This page only reads: it takes only GET and HEAD.")
+		return h.rejection(http.StatusMethodNotAllowed, "This page only reads: it takes only GET and HEAD.")
 	}
 	ctx, cancel := context.WithTimeout(r.Context(), h.Timeout)
 	defer cancel()
@@ -164,7 +175,7 @@ func (h *handler) answer(w http.ResponseWriter, r *http.Request) (status int, te
 		defer func() { <-h.slots }()
 	case <-ctx.Done():
 		w.Header().Set("Retry-After", "5")
-		return h.rejected(http.StatusServiceUnavailable, "Too many ask at once. Try again.")
+		return h.rejection(http.StatusServiceUnavailable, "Too many ask at once. Try again.")
 	}
 	return h.page(ctx, w, r)
 }
@@ -174,28 +185,28 @@ func (h *handler) page(ctx context.Context, w http.ResponseWriter, r *http.Reque
 	frame := frame{Style: h.head, Script: h.foot}
 	name, shown, err := h.read(ctx, r.URL, frame)
 	switch {
-	case errors.Is(err, errNoPage), errors.Is(err, apiclient.ErrUnknown):
-		return h.failed(http.StatusNotFound, "There is no such page, and no instance or binding of this id.")
+	case errors.Is(err, errNoPage), errors.Is(err, api.ErrUnknown):
+		return h.failure(http.StatusNotFound, "There is no such page, and no instance or binding of this id.")
 	case err != nil:
 		h.Failed(err)
 		w.Header().Set("Retry-After", "5")
-		return h.failed(http.StatusServiceUnavailable, "The store can't be read now. The program's log has more.")
+		return h.failure(http.StatusServiceUnavailable, "The store can't be read now. The program's log has more.")
 	}
 	var out bytes.Buffer
 	if err := h.shown.ExecuteTemplate(&out, name, shown); err != nil {
 		h.Failed(err)
-		return h.rejected(http.StatusInternalServerError, "The page can't be made. The program's log has more.")
+		return h.rejection(http.StatusInternalServerError, "The page can't be made. The program's log has more.")
 	}
 	return http.StatusOK, out.Bytes()
 }
 
-// rejected is a page that shows nothing of the store, of the program and of the request: nobody knows who has asked.
-func (h *handler) rejected(status int, sentence string) (int, []byte) {
+// rejection is a page that shows nothing of the store, of the program and of the request: nobody knows who has asked.
+func (h *handler) rejection(status int, sentence string) (int, []byte) {
 	return h.message("message", frame{Title: http.StatusText(status)}, status, sentence)
 }
 
-// failed is a page for a user of the page. It shows nothing of the store and of the request.
-func (h *handler) failed(status int, sentence string) (int, []byte) {
+// failure is a page for a user of the page. It shows nothing of the store and of the request.
+func (h *handler) failure(status int, sentence string) (int, []byte) {
 	whole := frame{Style: h.head, Script: h.foot, Title: http.StatusText(status)}
 	return h.message("failed", whole, status, sentence)
 }
@@ -212,8 +223,8 @@ func (h *handler) message(template string, f frame, status int, sentence string)
 // isNamed is whether a request names the page by an address at which it listens.
 func (h *handler) isNamed(r *http.Request) bool {
 	given := strings.ToLower(r.Host)
-	for _, it := range h.Hosts {
-		if it != "" && given == strings.ToLower(it) {
+	for _, host := range h.Hosts {
+		if host != "" && given == strings.ToLower(host) {
 			return true
 		}
 	}
@@ -238,11 +249,11 @@ func (h *handler) isAddress(r *http.Request, given string) bool {
 	if r.TLS != nil {
 		usual = ":443"
 	}
-	for _, it := range names {
-		if it == "" {
+	for _, name := range names {
+		if name == "" {
 			continue
 		}
-		whole := net.JoinHostPort(it, strconv.Itoa(int(address.Port())))
+		whole := net.JoinHostPort(name, strconv.Itoa(int(address.Port())))
 		if given == whole || given+usual == whole {
 			return true
 		}
@@ -253,8 +264,8 @@ func (h *handler) isAddress(r *http.Request, given string) bool {
 // digests are those of the users with their passwords.
 func digests(users map[string][]string) (all [][sha256.Size]byte) {
 	for user, passwords := range users {
-		for _, it := range passwords {
-			all = append(all, digestOf(user, it))
+		for _, password := range passwords {
+			all = append(all, digestOf(user, password))
 		}
 	}
 	return all
@@ -284,7 +295,7 @@ func (h *handler) isUser(r *http.Request) bool {
 		found |= subtle.ConstantTimeCompare(given[:], h.passwords[at][:])
 	}
 	if found == 0 && h.Limiter != nil {
-		h.wait(h.Limiter.Failed(address))
+		h.wait(h.Limiter.FailedLogin(address))
 	}
 	return found == 1
 }
@@ -298,4 +309,223 @@ func (h *handler) wait(turn time.Duration) {
 	case <-timer.C:
 	case <-h.Stopping.Done():
 	}
+}
+
+// errNoPage reports that a target names no page.
+var errNoPage = errors.New("there is no such page")
+
+const (
+	inFlight    = "in-flight" // in the place of a state: what has a request in flight
+	longestFind = 255         // bytes
+	// longestPlace is how many bytes a cursor of the API has at most. One of this program's has fewer than 300.
+	longestPlace = 1000
+)
+
+// states are all states, in the order in which they are shown.
+var states = []string{
+	api.Ordered, api.Withdrawn, api.Wanted, api.Polling, api.Ready, api.Cleaning,
+	api.CleaningPolling, api.Gone, api.Unsettled, api.Abandoned,
+}
+
+// orders say how a list is ordered. usualOrder stands for api.Newest: no target names it.
+const usualOrder api.Order = ""
+
+var orders = map[api.Order]string{
+	usualOrder: "newest in their state first", api.Oldest: "longest in their state first",
+	api.ByNumber: "by number",
+}
+
+// What the target of a list asks for.
+type target struct {
+	state    string    // one of states, or inFlight, or empty for all
+	find     string    // what numbers begin with, or a whole id; if it isn't empty, no state counts
+	bindings bool      // bindings, and not instances
+	order    api.Order // of orders; Newest is empty here
+	after    string    // the page that begins behind this place, which is a cursor of the API
+	before   string    // the page that ends before this place
+	isLast   bool      // the last page
+	skipped  int       // how many rows come before the place, as the page with the link says
+	isStill  bool      // whether the page stays as it is, and isn't refreshed of itself
+}
+
+// isFirst is whether the first page is asked for, with what waits and what is in flight.
+func (a target) isFirst() bool { return a == target{isStill: a.isStill, order: a.order} }
+
+// isPaged is whether the rows are listed by time, on pages.
+func (a target) isPaged() bool { return a.find == "" && a.state != inFlight }
+
+// first asks for the first page of the same list.
+func (a target) first() target {
+	a.after, a.before, a.isLast, a.skipped = "", "", false, 0
+	return a
+}
+
+// readAsked reads the query of a list. Errors: errNoPage.
+func readAsked(query url.Values) (target, error) {
+	a := target{isStill: query.Has("still")}
+	for name, values := range query {
+		if len(values) != 1 {
+			return a, errNoPage
+		}
+		if err := a.take(name, values[0]); err != nil {
+			return a, errNoPage
+		}
+	}
+	places := 0
+	for _, isSet := range []bool{a.after != "", a.before != "", a.isLast} {
+		if isSet {
+			places++
+		}
+	}
+	if places > 1 {
+		return a, errNoPage
+	}
+	return a, nil
+}
+
+func (a *target) take(name, value string) (err error) {
+	switch name {
+	case "still":
+	case "state":
+		a.state = value
+		if value != inFlight && !isState(value) {
+			return errNoPage
+		}
+	case "find":
+		a.find = strings.TrimSpace(value)
+		if len(a.find) > longestFind {
+			return errNoPage
+		}
+	case "kind":
+		a.bindings = value == "bindings"
+		if !a.bindings {
+			return errNoPage
+		}
+	case "order":
+		a.order = api.Order(value)
+		if orders[a.order] == "" || a.order == usualOrder {
+			return errNoPage
+		}
+	case "after":
+		a.after, err = placeOf(value)
+	case "before":
+		a.before, err = placeOf(value)
+	case "page":
+		a.isLast = value == "last"
+		if !a.isLast {
+			return errNoPage
+		}
+	case "from":
+		a.skipped, err = strconv.Atoi(value)
+		if a.skipped < 0 || a.skipped > 1<<40 {
+			return errNoPage
+		}
+	default:
+		return errNoPage
+	}
+	return err
+}
+
+func isState(text string) bool {
+	for _, state := range states {
+		if state == text {
+			return true
+		}
+	}
+	return false
+}
+
+// placeOf reads a place. Only the API knows what it says.
+func placeOf(text string) (string, error) {
+	if text == "" || len(text) > longestPlace {
+		return "", errNoPage
+	}
+	return text, nil
+}
+
+// target is the target that asks for this.
+func (a target) target() string {
+	query := url.Values{}
+	for name, value := range map[string]string{"state": a.state, "find": a.find} {
+		if value != "" {
+			query.Set(name, value)
+		}
+	}
+	if a.bindings {
+		query.Set("kind", "bindings")
+	}
+	if a.order != usualOrder {
+		query.Set("order", string(a.order))
+	}
+	for name, at := range map[string]string{"after": a.after, "before": a.before} {
+		if at != "" {
+			query.Set(name, at)
+			query.Set("from", strconv.Itoa(a.skipped))
+		}
+	}
+	if a.isLast {
+		query.Set("page", "last")
+	}
+	if a.isStill {
+		query.Set("still", "1")
+	}
+	if len(query) == 0 {
+		return "/"
+	}
+	return "/?" + query.Encode()
+}
+
+// targetOf is the target of a row's own page.
+func targetOf(r api.Record, isStill bool) string {
+	if r.IsBinding() {
+		return targetOfIDs(isStill, r.InstanceNumber, r.Number)
+	}
+	return targetOfIDs(isStill, r.Number)
+}
+
+// targetOfIDs is the target of the page of an instance, or of a binding of it.
+func targetOfIDs(isStill bool, ids ...string) string {
+	target := "/instance/" + url.PathEscape(ids[0])
+	if len(ids) > 1 {
+		target += "/binding/" + url.PathEscape(ids[1])
+	}
+	if isStill {
+		target += "?still=1"
+	}
+	return target
+}
+
+// idsOf reads the path of a row's own page. binding is empty for an instance. Errors: errNoPage.
+func idsOf(path string) (instance, binding string, err error) {
+	parts := strings.Split(path, "/")
+	if len(parts) != 3 && (len(parts) != 5 || parts[3] != "binding") || parts[1] != "instance" {
+		return "", "", errNoPage
+	}
+	var ids []string
+	for at := 2; at < len(parts); at += 2 {
+		text, err := url.PathUnescape(parts[at])
+		if err != nil || text == "" {
+			return "", "", errNoPage
+		}
+		ids = append(ids, text)
+	}
+	if len(ids) == 1 {
+		return ids[0], "", nil
+	}
+	return ids[0], ids[1], nil
+}
+
+// prefixOf is the beginning of a GUID with the hyphens where they belong.
+func prefixOf(text string) (prefix string, isPrefix bool) {
+	digits := strings.ToLower(strings.ReplaceAll(text, "-", ""))
+	if digits == "" || len(digits) > 32 || strings.Trim(digits, "0123456789abcdef") != "" {
+		return "", false
+	}
+	for at := range digits {
+		if at == 8 || at == 12 || at == 16 || at == 20 {
+			prefix += "-"
+		}
+		prefix += digits[at : at+1]
+	}
+	return prefix, true
 }

@@ -1,19 +1,37 @@
 package page
 
 import (
+	"context"
+	"encoding/json"
 	"fmt"
+	"go/parser"
+	"go/token"
 	"html"
+	"io/fs"
+	"net"
+	"net/http"
+	"net/http/httptest"
+	"net/netip"
+	"net/url"
+	"os"
+	"reflect"
+	"regexp"
+	"sort"
+	"strconv"
 	"strings"
 	"testing"
 	"time"
 
+	"pippinterm/internal/diff"
+	"pippinterm/osb"
 	"pippinterm/platform"
+	"pippinterm/platform/api"
 )
 
 func TestFirstPage(t *testing.T) {
 	text := got(t, pageOf(t, shelf(), Options{}), "/")
-	for _, it := range states {
-		has(t, text, `id="go-`+string(it)+`"><strong>1</strong> <span class="state `+string(it)+`">`+string(it))
+	for _, state := range states {
+		has(t, text, `id="go-`+string(state)+`"><strong>1</strong> <span class="state `+string(state)+`">`+string(state))
 	}
 	has(t, text, "<title>10 instances, 1 unsettled - osb-platform</title>",
 		`<strong>1</strong> <span class="state in-flight">`,
@@ -26,14 +44,14 @@ func TestFirstPage(t *testing.T) {
 		"2026-01-02 03:04:05</time> <span class=\"ago\">(1 day ago)",
 		"The broker shut rejects the user or the password")
 	if strings.Contains(waiting, "The broker shelf") {
-		t.Error("the broker shelf is said to reject its password")
+		t.Error("the broker shelf: got it to reject its password, want it not to")
 	}
 	has(t, part(t, text, "flights"), `id="flies-`+idOf(3).String()+`"`, "Provision",
 		"worker-1, lease ran out 1 min ago")
 	has(t, part(t, text, "brokers"), "https://shelf.example", "2026-01-02 03:04:05", "none yet",
 		"catalogue, status 401, who are you")
-	if got := listed(text); len(got) != 10 {
-		t.Errorf("it lists %v", got)
+	if got := rowsIn(text); len(got) != 10 {
+		t.Errorf("the list: got %v, want 10", got)
 	}
 }
 
@@ -60,19 +78,19 @@ func TestUnreadableRow(t *testing.T) {
 	const why = "its record can't be read: the record: <b>"
 	for _, target := range []string{"/", "/?state=ready", pageOn(store.rows[4].Key)} {
 		if text := html.UnescapeString(got(t, h, target)); strings.Count(text, why) != 1 {
-			t.Errorf("%s: %s", target, mainOf(text))
+			t.Errorf("%s: got %s, want %q once", target, mainOf(text), why)
 		}
 	}
-	if all := listed(got(t, h, "/")); len(all) != len(states) {
-		t.Errorf("it lists %v", all)
+	if all := rowsIn(got(t, h, "/")); len(all) != len(states) {
+		t.Errorf("the list: got %v, want %d", all, len(states))
 	}
 }
 
 // A row that can't be read needs attention if something is to be done for it.
 func TestUnreadableRowNeedsAttention(t *testing.T) {
 	store := shelf()
-	for at, it := range store.rows {
-		if it.State == platform.Unsettled || it.State == platform.Ordered || it.State == platform.Gone {
+	for at, row := range store.rows {
+		if row.State == platform.Unsettled || row.State == platform.Ordered || row.State == platform.Gone {
 			store.rows[at].Unreadable = "the record: <b>"
 		}
 	}
@@ -83,7 +101,7 @@ func TestUnreadableRowNeedsAttention(t *testing.T) {
 		"<code>osb-platform show ID</code>")
 	if strings.Count(waiting, "its record can't be read: the record: <b>") != 2 || !isFollowed ||
 		strings.Count(waiting, ` id="unreadable-`) != 2 {
-		t.Errorf("it is %s", waiting)
+		t.Errorf("got %s, want two that can't be read, with links", waiting)
 	}
 }
 
@@ -91,11 +109,11 @@ func TestEmptyStore(t *testing.T) {
 	text := got(t, pageOf(t, &fake{now: now}, Options{}), "/")
 	has(t, text, "Nothing needs attention.", "No request is in flight.", "There are no brokers yet.",
 		"There are no instances yet. To create one, run <code>osb-platform create</code>.", "0 instances")
-	for _, it := range states {
-		has(t, text, `<strong>0</strong> <span class="state `+string(it)+`">`+string(it)+`</span>`)
+	for _, state := range states {
+		has(t, text, `<strong>0</strong> <span class="state `+string(state)+`">`+string(state)+`</span>`)
 	}
 	if strings.Contains(text, "go-binding-") {
-		t.Error("there are links to bindings")
+		t.Error("got links to bindings, want none")
 	}
 }
 
@@ -104,7 +122,7 @@ func TestShortCleaning(t *testing.T) {
 	store := shelf()
 	text := part(t, got(t, pageOf(t, store, Options{LongCleaning: 25 * time.Hour}), "/"), "waiting")
 	if strings.Contains(text, "cleaning") {
-		t.Errorf("what is cleaned for a day waits: %s", text)
+		t.Errorf("the table of what waits: got %s, want nothing that is cleaned for a day", text)
 	}
 	has(t, text, "1 unsettled")
 }
@@ -121,11 +139,11 @@ func TestMuchWaits(t *testing.T) {
 		"All 1 cleaning-polling instance")
 	has(t, part(t, text, "flights"), "The first 5 of 8, by the end of their lease")
 	if got := linkOf(text, "more-unsettled"); got != "/?order=oldest&state=unsettled" {
-		t.Errorf("the link is %q", got)
+		t.Errorf("the link: got %q, want \"/?order=oldest&state=unsettled\"", got)
 	}
 	flights := got(t, pageOf(t, store, Options{}), linkOf(text, "more-in-flight"))
-	if got := listed(flights); len(got) != 8 {
-		t.Errorf("it lists %v", got)
+	if got := rowsIn(flights); len(got) != 8 {
+		t.Errorf("the list: got %v, want 8", got)
 	}
 }
 
@@ -145,7 +163,7 @@ func TestInstancePage(t *testing.T) {
 		"the last 3 requests", "that of its bindings first", "(in 1 min)", e.Key.String(), "1 of 3",
 		"4 states", "1 h</div>", "until now")
 	if strings.Contains(text, `href="https://dash`) {
-		t.Error("a link of the broker can be followed")
+		t.Error("got a link of the broker that can be followed, want text")
 	}
 	has(t, part(t, text, "bindings"), `id="b-`+e.Key.String()+"/"+idOf(0x51).String()+`"`, "1 binding")
 	bound := got(t, pageOf(t, store, Options{}), linkOf(text, "b-"+e.Key.String()+"/"+idOf(0x51).String()))
@@ -175,7 +193,7 @@ func TestChainOfTries(t *testing.T) {
 	}
 	alone := got(t, pageOf(t, shelf(), Options{}), pageOn(shelf().rows[4].Key))
 	if strings.Contains(alone, `id="tries"`) {
-		t.Error("an order without a further try has a chain")
+		t.Error("an order without a further try: got a chain, want none")
 	}
 }
 
@@ -203,7 +221,7 @@ func TestChainOfBindings(t *testing.T) {
 	}
 	for _, e := range []platform.Entry{alone, of} {
 		if text := got(t, h, pageOn(e.Key)); strings.Contains(text, `id="tries"`) {
-			t.Errorf("%v has a chain: %s", e.Key, mainOf(text))
+			t.Errorf("%v: got a chain, want none: %s", e.Key, mainOf(text))
 		}
 	}
 }
@@ -227,7 +245,7 @@ func TestWaitingTryOfBinding(t *testing.T) {
 func TestWaitingTry(t *testing.T) {
 	const until, why = "<span>waits until 2026-01-03 03:14:05</span>", "<dt>Why the try before failed</dt>" +
 		`<dd>provision, status 503, no room <span class="ago">(1 day ago)</span></dd>`
-	for name, it := range map[string]struct {
+	for name, test := range map[string]struct {
 		try  int
 		wait time.Duration
 		want int
@@ -235,19 +253,21 @@ func TestWaitingTry(t *testing.T) {
 		"a further try that waits": {2, 10 * time.Minute, 1}, "one that is due": {2, 0, 0},
 		"a first try": {1, 10 * time.Minute, 0},
 	} {
-		before := entryOf(platform.InstanceKey(idOf(1)), platform.Gone)
-		before.Passing = true
-		before.Failure = platform.Reason{At: began, Kind: "provision", Status: 503, Description: "no room"}
-		e := entryOf(platform.InstanceKey(idOf(2)), platform.Ordered)
-		e.Try, e.First, e.Due = it.try, idOf(1), now.Add(it.wait)
-		h := pageOf(t, &fake{now: now, rows: []platform.Entry{before, e}}, Options{})
-		for target, part := range map[string]string{
-			"/": until, "/?state=ordered": until, "/?find=00000002": until, pageOn(e.Key): why, pageOn(before.Key): until,
-		} {
-			if text := got(t, h, target); strings.Count(text, part) != it.want {
-				t.Errorf("%s: %s: it isn't %d times %q: %s", name, target, it.want, part, mainOf(text))
+		t.Run(name, func(t *testing.T) {
+			before := entryOf(platform.InstanceKey(idOf(1)), platform.Gone)
+			before.Passing = true
+			before.Failure = platform.Reason{At: began, Kind: "provision", Status: 503, Description: "no room"}
+			e := entryOf(platform.InstanceKey(idOf(2)), platform.Ordered)
+			e.Try, e.First, e.Due = test.try, idOf(1), now.Add(test.wait)
+			h := pageOf(t, &fake{now: now, rows: []platform.Entry{before, e}}, Options{})
+			for target, part := range map[string]string{
+				"/": until, "/?state=ordered": until, "/?find=00000002": until, pageOn(e.Key): why, pageOn(before.Key): until,
+			} {
+				if text := got(t, h, target); strings.Count(text, part) != test.want {
+					t.Errorf("%s: got another number, want %d times %q: %s", target, test.want, part, mainOf(text))
+				}
 			}
-		}
+		})
 	}
 }
 
@@ -258,7 +278,7 @@ func TestReasons(t *testing.T) {
 	full := platform.Reason{At: began, Kind: "provision", Status: 500, Description: "no room"}
 	good := platform.Reason{At: began, Kind: "poll", Status: 200, Description: "it goes well"}
 	cut := platform.Reason{At: began, Kind: "poll", Lost: "it was cut"}
-	for at, it := range []struct {
+	for at, test := range []struct {
 		state         platform.State
 		last, failure platform.Reason
 		want          string
@@ -273,17 +293,19 @@ func TestReasons(t *testing.T) {
 		{platform.Ready, good, platform.Reason{}, ""},
 		{platform.Abandoned, shut, full, "nobody wants it"},
 	} {
-		e := entryOf(platform.InstanceKey(idOf(at+1)), it.state)
-		e.Last, e.Failure, e.Because = it.last, it.failure, "nobody wants it"
-		h := pageOf(t, &fake{now: now, rows: []platform.Entry{e}}, Options{})
-		want := `<td role="cell" data-name="Now"><div><span>` + it.want + `</span></div></td>`
-		if it.want == "" {
-			want = `<td role="cell" data-name="Now" class="nothing"><div></div></td>`
-		}
-		has(t, part(t, got(t, h, "/?find=0"), "instances"), want)
-		if it.state == platform.Unsettled || it.state == platform.Cleaning {
-			has(t, part(t, got(t, h, "/"), "waiting"), `data-name="Reason"><div>`+it.want+`</div>`)
-		}
+		t.Run(string(test.state)+" "+test.want, func(t *testing.T) {
+			e := entryOf(platform.InstanceKey(idOf(at+1)), test.state)
+			e.Last, e.Failure, e.Because = test.last, test.failure, "nobody wants it"
+			h := pageOf(t, &fake{now: now, rows: []platform.Entry{e}}, Options{})
+			want := `<td role="cell" data-name="Now"><div><span>` + test.want + `</span></div></td>`
+			if test.want == "" {
+				want = `<td role="cell" data-name="Now" class="nothing"><div></div></td>`
+			}
+			has(t, part(t, got(t, h, "/?find=0"), "instances"), want)
+			if test.state == platform.Unsettled || test.state == platform.Cleaning {
+				has(t, part(t, got(t, h, "/"), "waiting"), `data-name="Reason"><div>`+test.want+`</div>`)
+			}
+		})
 	}
 }
 
@@ -313,6 +335,463 @@ func TestLongLife(t *testing.T) {
 	has(t, text, "<caption>1,011 states, of which the first 10 aren&#39;t shown</caption>",
 		`<th scope="row" role="rowheader">11</th>`, `<th scope="row" role="rowheader">1,011</th>`)
 	if strings.Contains(text, `<th scope="row" role="rowheader">10</th>`) {
-		t.Error("the tenth state is shown")
+		t.Error("got the tenth state, want nine")
+	}
+}
+
+var background = context.Background()
+
+// began is when everything in the tests began, and now is a day later.
+var (
+	began = time.Date(2026, 1, 2, 3, 4, 5, 0, time.UTC)
+	now   = began.Add(24 * time.Hour)
+)
+
+// check ends the test at an error.
+func check(t testing.TB, err error) {
+	t.Helper()
+	if err != nil {
+		t.Fatal(err)
+	}
+}
+
+func idOf(n int) osb.ID { return osb.MustParseID(fmt.Sprintf("%08x-0000-4000-8000-%012x", n, n)) }
+
+// A row of a state, as the orders of the tests are.
+func entryOf(key platform.Key, state platform.State) platform.Entry {
+	e := platform.Entry{
+		Order: platform.Order{
+			Key: key, Broker: "shelf", Service: idOf(0xa0), Plan: idOf(0xb1), IsOwnID: true,
+			Names: platform.Names{Instance: key.Instance.String(), Service: "a0", Plan: "b1"},
+			Body:  json.RawMessage(`{"parameters": {"hush": 1}}`), Identity: "cloud eyJodXNoIjoxfQ==",
+			OrderTexts: platform.OrderTexts{Organization: "org", Space: "space"}, Try: 1, Tries: 3, First: key.ID(),
+		},
+		State: state, Since: began,
+	}
+	if key.IsBinding {
+		e.Names.Binding = key.Binding.String()
+	}
+	return e
+}
+
+// flying has a request in flight.
+func flying(e platform.Entry) platform.Entry {
+	e.Record, _ = osb.Create(e.Key.Instance, e.Service, e.Plan, true)
+	e.IsSent, e.Lease = true, platform.Lease{Worker: "worker-1", Until: now.Add(-time.Minute)}
+	return e
+}
+
+// A shelf has a row of each kind that the page shows.
+func shelf() *fake {
+	f := &fake{now: now, lives: map[platform.Key][]platform.Stay{}}
+	for n, state := range states {
+		f.rows = append(f.rows, entryOf(platform.InstanceKey(idOf(n+1)), platform.State(state)))
+	}
+	f.rows[2] = flying(f.rows[2])
+	bound := entryOf(platform.BindingKey(f.rows[4].Key.Instance, idOf(0x51)), platform.Ready)
+	bound.Credentials = []byte("hush")
+	f.rows = append(f.rows, bound)
+	f.lives[f.rows[4].Key] = []platform.Stay{
+		{State: platform.Ordered, Since: began.Add(-48 * time.Hour)},
+		{State: platform.Wanted, Since: began.Add(-47 * time.Hour)},
+		{State: platform.Polling, Since: began.Add(-46 * time.Hour)},
+	}
+	f.brokers = []platform.Broker{
+		{Name: "shelf", URL: "https://shelf.example", User: "me", Password: []byte("hush"), CatalogueAt: began},
+		{
+			Name: "shut", URL: "https://shut.example", PasswordFile: "/run/hush",
+			Reason: platform.Reason{At: began, Kind: "catalogue", Status: 401, Description: "who are you"},
+		},
+	}
+	return f
+}
+
+// pageOf is the page over a store.
+func pageOf(t *testing.T, store platform.Store, options Options) http.Handler {
+	t.Helper()
+	h, err := NewHandler(api.NewReader(store, true), options)
+	check(t, err)
+	return h
+}
+
+// A request as a page at 127.0.0.1:8090 gets it.
+func request(method, target string) *http.Request { return requestAt("127.0.0.1:8090", method, target) }
+
+// requestAt is a request as a page at an address gets it, by that address.
+func requestAt(address, method, target string) *http.Request {
+	r := httptest.NewRequest(method, target, nil)
+	r.Host = address
+	local := net.TCPAddrFromAddrPort(netip.MustParseAddrPort(address))
+	return r.WithContext(context.WithValue(r.Context(), http.LocalAddrContextKey, local))
+}
+
+// pageOn is the target of a row's own page.
+func pageOn(key platform.Key) string {
+	if key.IsBinding {
+		return targetOfIDs(false, key.Instance.String(), key.Binding.String())
+	}
+	return targetOfIDs(false, key.Instance.String())
+}
+
+func answerTo(h http.Handler, r *http.Request) *httptest.ResponseRecorder {
+	recorder := httptest.NewRecorder()
+	h.ServeHTTP(recorder, r)
+	return recorder
+}
+
+// got is the text of a page.
+func got(t *testing.T, h http.Handler, target string) string {
+	t.Helper()
+	answered := answerTo(h, request("GET", target))
+	if answered.Code != http.StatusOK {
+		t.Fatalf("%s: got %d %s, want 200", target, answered.Code, answered.Body)
+	}
+	return answered.Body.String()
+}
+
+// has fails unless a page has all of these parts. Blanks and line feeds between words count as one blank.
+func has(t *testing.T, text string, parts ...string) {
+	t.Helper()
+	text = strings.Join(strings.Fields(text), " ")
+	for _, part := range parts {
+		if !strings.Contains(text, part) {
+			t.Errorf("got %[2]s, want %[1]q in it", part, mainOf(text))
+		}
+	}
+}
+
+// mainOf is a page without its style.
+func mainOf(text string) string {
+	_, after, _ := strings.Cut(text, "<body>")
+	return after
+}
+
+// part is the section of a page with this id.
+func part(t *testing.T, text, id string) string {
+	t.Helper()
+	_, after, isThere := strings.Cut(text, `<section id="`+id+`"`)
+	if !isThere {
+		t.Fatalf("got no section %s, want one", id)
+	}
+	inside, _, _ := strings.Cut(after, "</section>")
+	return inside
+}
+
+var links = regexp.MustCompile(`<a href="([^"]*)" id="([^"]*)"`)
+
+// linkOf is where the link of this id leads, or empty.
+func linkOf(text, id string) string {
+	for _, match := range links.FindAllStringSubmatch(text, -1) {
+		if match[2] == id {
+			return strings.ReplaceAll(match[1], "&amp;", "&")
+		}
+	}
+	return ""
+}
+
+// rowsIn are the ids of the links to the rows of the list.
+func rowsIn(text string) (found []string) {
+	for _, match := range links.FindAllStringSubmatch(text, -1) {
+		if strings.HasPrefix(match[2], "i-") {
+			found = append(found, match[2][2:])
+		}
+	}
+	return found
+}
+
+func TestAgo(t *testing.T) {
+	for length, want := range map[time.Duration]string{
+		-500 * time.Millisecond: "now", 0: "now", 990 * time.Millisecond: "now", time.Second: "1 s ago",
+		59 * time.Second: "59 s ago", time.Minute: "1 min ago", 3599 * time.Second: "59 min ago", time.Hour: "1 h ago",
+		24*time.Hour - time.Second: "23 h ago", 24 * time.Hour: "1 day ago", 48 * time.Hour: "2 days ago",
+		1041 * 24 * time.Hour: "1,041 days ago", -time.Second: "in 1 s", -90 * time.Second: "in 1 min",
+	} {
+		if got := ago(length); got != want {
+			t.Errorf("%v: got %q, want %q", length, got, want)
+		}
+	}
+}
+
+func TestLasting(t *testing.T) {
+	for length, want := range map[time.Duration]string{
+		0: "0 s", 59 * time.Second: "59 s", 61 * time.Second: "1 min 1 s", 3 * time.Hour: "3 h",
+		49 * time.Hour: "2 days 1 h", -time.Hour: "0 s", 24*time.Hour + time.Second: "1 day 1 s",
+	} {
+		if got := lasting(length); got != want {
+			t.Errorf("%v: got %q, want %q", length, got, want)
+		}
+	}
+}
+
+func TestThousands(t *testing.T) {
+	for number, want := range map[int]string{0: "0", 999: "999", 1000: "1,000", 1234567: "1,234,567"} {
+		if got := thousands(number); got != want {
+			t.Errorf("%d: got %q, want %q", number, got, want)
+		}
+	}
+}
+
+// What isn't shown, or would turn the text around it round, is escaped.
+func TestPlain(t *testing.T) {
+	for text, want := range map[string]string{
+		"a é 漢": "a é 漢", "\x1b[31m": `\u001b[31m`, "a\u202eb": `a\u202eb`, "a\nb\x00": `a\u000ab\u0000`,
+	} {
+		t.Run(text, func(t *testing.T) {
+			if got := plain(text); got != want {
+				t.Errorf("got %q, want %q", got, want)
+			}
+		})
+	}
+}
+
+func TestMarked(t *testing.T) {
+	want := []words{{Text: "Run "}, {"list", true}, {Text: ", or "}, {"show ID", true}}
+	diff.Check(t, parseWords("Run `list`, or `show ID`"), want, "the words")
+}
+
+// JSON is shown in one line, and texts in it stay as they are.
+func TestSpaced(t *testing.T) {
+	for value, want := range map[string]string{
+		`{}`: `{}`, `{"a":[1,2],"b":{}}`: `{"a": [1, 2], "b": {}}`, "{\n \"a\" :\t1 }": `{"a": 1}`,
+		`{"a:b , c":"d,\"e: \\","f":1}`: `{"a:b , c": "d,\"e: \\", "f": 1}`, "": "",
+	} {
+		t.Run(value, func(t *testing.T) {
+			if got := spaceJSON([]byte(value)); got != want {
+				t.Errorf("%s: got %s, want %s", value, got, want)
+			}
+		})
+	}
+}
+
+// The page imports of the platform only the API, whose Reader returns what the API answers. So the page shows nothing
+// that a portal couldn't show.
+func TestPageImportsOnlyTheAPI(t *testing.T) {
+	found := importsOf(t, ".")
+	if len(found) < 5 {
+		t.Errorf("got the imports %v, want more than 5", found)
+	}
+	for _, path := range found {
+		first, _, _ := strings.Cut(path, "/")
+		isStandard := first != "pippinterm" && !strings.Contains(first, ".") && !strings.HasPrefix(path, "database/")
+		if path != "pippinterm/platform/api" && !isStandard {
+			t.Errorf("got an import of %s, want only pippinterm/platform/api and the standard library", path)
+		}
+	}
+}
+
+// importsOf are the imports of the files of a folder, without its tests.
+func importsOf(t *testing.T, folder string) (found []string) {
+	t.Helper()
+	isSource := func(file fs.FileInfo) bool { return !strings.HasSuffix(file.Name(), "_test.go") }
+	packages, err := parser.ParseDir(token.NewFileSet(), folder, isSource, parser.ImportsOnly)
+	check(t, err)
+	known := map[string]bool{}
+	for _, parsed := range packages {
+		for _, file := range parsed.Files {
+			for _, imported := range file.Imports {
+				path, err := strconv.Unquote(imported.Path.Value)
+				check(t, err)
+				known[path] = true
+			}
+		}
+	}
+	for name := range known {
+		found = append(found, name)
+	}
+	sort.Strings(found)
+	return found
+}
+
+// A recorder is a Reader that knows some answers of the API. The tests of package api check them against the document.
+type recorder struct {
+	*testing.T
+	answers map[string]json.RawMessage
+	asked   []string // the targets, each of which is a path with a query
+}
+
+// read reads the answer to a GET. A target that isn't recorded has none.
+func (r *recorder) read(path string, query url.Values, to any) error {
+	target := path
+	if len(query) > 0 {
+		target += "?" + query.Encode()
+	}
+	r.asked = append(r.asked, target)
+	text, isKnown := r.answers[target]
+	if !isKnown {
+		r.Errorf("got the target %s, want one that is recorded", target)
+		return api.ErrUnknown
+	}
+	return json.Unmarshal(text, to)
+}
+
+func (r *recorder) Counts(context.Context) (found api.Counts, err error) {
+	err = r.read("/v1/counts", nil, &found)
+	return found, err
+}
+
+func (r *recorder) Brokers(context.Context) ([]api.Broker, error) {
+	var found struct{ Items []api.Broker }
+	err := r.read("/v1/brokers", nil, &found)
+	return found.Items, err
+}
+
+func (r *recorder) InFlight(_ context.Context, limit, life int) ([]api.Record, error) {
+	var found api.List
+	err := r.read("/v1/in-flight", values(map[string]any{"limit": limit, "life": life}), &found)
+	return found.Items, err
+}
+
+func (r *recorder) List(_ context.Context, query api.Query) (found api.List, err error) {
+	path := "/v1/" + string(query.Kind)
+	if query.Of != "" {
+		path = "/v1/instances/" + query.Of + "/bindings"
+	}
+	asked := values(map[string]any{
+		"broker": query.Broker, "prefix": query.Prefix, "first": query.First, "order": query.Order,
+		"after": query.After, "before": query.Before, "unreadable": query.Unreadable, "latest": query.Latest,
+		"last": query.Last, "life": query.Life, "limit": query.Limit,
+	})
+	if len(query.States) > 0 {
+		asked["state"] = query.States
+	}
+	err = r.read(path, asked, &found)
+	return found, err
+}
+
+func (r *recorder) Show(_ context.Context, instance, binding string) (found api.Record, err error) {
+	path := "/v1/instances/" + instance
+	if binding != "" {
+		path += "/bindings/" + binding
+	}
+	err = r.read(path, nil, &found)
+	return found, err
+}
+
+// values is a query with those of the members that aren't the zero value.
+func values(members map[string]any) url.Values {
+	found := url.Values{}
+	for name, value := range members {
+		if !reflect.ValueOf(value).IsZero() {
+			found.Set(name, fmt.Sprint(value))
+		}
+	}
+	return found
+}
+
+// recordedPage is the page over recorded answers of the API.
+func recordedPage(t *testing.T) (http.Handler, *recorder) {
+	t.Helper()
+	text, err := os.ReadFile("testdata/recorded.json")
+	check(t, err)
+	r := &recorder{T: t}
+	check(t, json.Unmarshal(text, &r.answers))
+	h, err := NewHandler(r, Options{Failed: func(err error) { t.Error(err) }})
+	check(t, err)
+	return h, r
+}
+
+// All that the page shows comes from the answers of the API.
+func TestOverRecordedAnswers(t *testing.T) {
+	h, answering := recordedPage(t)
+	const web, old, app = "00000001-0000-4000-8000-000000000001", "00000002-0000-4000-8000-000000000002",
+		"00000003-0000-4000-8000-000000000003"
+	text := got(t, h, "/")
+	has(t, text, "<title>2 instances, 1 unsettled - osb-platform</title>",
+		`As of <time datetime="2026-01-03T03:04:05Z">`, `id="go-ready"><strong>1</strong>`, `id="go-binding-unsettled"><strong>1</strong>`)
+	has(t, part(t, text, "waiting"), "<h3>1 unsettled</h3>", `href="/instance/`+web+`/binding/`+app+`"`, "of web-db",
+		"bind, no answer came in time", "<h3>Being deleted for over 1 h</h3>", "deprovision, status 503, come back",
+		"The broker local rejects the user or the password")
+	has(t, part(t, text, "flights"), `id="flies-`+old+`">old db</a>`, "Deprovision", "worker-1</div>")
+	has(t, part(t, text, "brokers"), "https://folder.example", "2026-01-01 00:00:00", "catalogue, status 401, who are you")
+	has(t, part(t, text, "instances"), "17 states before", "1 to 2 of 2", "removal is asked for",
+		`href="/?after=bmV4dA&amp;from=2" id="page-next"`)
+	one := got(t, h, "/instance/web-db")
+	has(t, one, "<h1>Instance <code>web-db</code></h1>", "2 requests", "https://folder.example/web-db", web,
+		`{&#34;labels&#34;: {&#34;team&#34;: &#34;web&#34;, &#34;tier&#34;: 1}}`,
+		"3 states", "4 min 4 s", "23 h 59 min until now", `id="b-`+web+"/"+app+`"`, "1 binding")
+	if found := rowsIn(got(t, h, "/?find=web-db")); len(found) != 1 || found[0] != web {
+		t.Errorf("the search: got %v, want %s", found, web)
+	}
+	for target := range answering.answers {
+		if !strings.Contains(strings.Join(answering.asked, "\n")+"\n", target+"\n") {
+			t.Errorf("got no question for %s, want one", target)
+		}
+	}
+	if len(answering.asked) != 8+2+3 {
+		t.Errorf("for three pages: got %d questions, want 13: %v", len(answering.asked), answering.asked)
+	}
+}
+
+// A counter is a Reader that counts its calls.
+type counter struct {
+	api.Reader
+	calls int
+}
+
+func (c *counter) Counts(ctx context.Context) (api.Counts, error) {
+	c.calls++
+	return c.Reader.Counts(ctx)
+}
+
+func (c *counter) Brokers(ctx context.Context) ([]api.Broker, error) {
+	c.calls++
+	return c.Reader.Brokers(ctx)
+}
+
+func (c *counter) InFlight(ctx context.Context, limit, life int) ([]api.Record, error) {
+	c.calls++
+	return c.Reader.InFlight(ctx, limit, life)
+}
+
+func (c *counter) List(ctx context.Context, query api.Query) (api.List, error) {
+	c.calls++
+	return c.Reader.List(ctx, query)
+}
+
+func (c *counter) Show(ctx context.Context, instance, binding string) (api.Record, error) {
+	c.calls++
+	return c.Reader.Show(ctx, instance, binding)
+}
+
+// A page reads as often as before if it has more rows.
+func TestReadsOfAPage(t *testing.T) {
+	for _, number := range []int{3, 121} {
+		reader := &counter{Reader: api.NewReader(many(number), true)}
+		h, err := NewHandler(reader, Options{})
+		check(t, err)
+		// The counts, what is in flight, what can't be read of those that are ordered and of those that are wanted, the
+		// brokers, and the list.
+		const ofFirst = 6
+		if got(t, h, "/"); reader.calls != ofFirst {
+			t.Errorf("got %d reads for the first page of %d rows, want %d", reader.calls, number, ofFirst)
+		}
+		// The counts, what is in flight, and the list.
+		if got(t, h, "/?state=ordered"); reader.calls != ofFirst+3 {
+			t.Errorf("got %d reads for a list of %d rows, want 3", reader.calls-ofFirst, number)
+		}
+	}
+}
+
+// A timeless Reader leaves out the store's time.
+type timeless struct{ api.Reader }
+
+func (timeless) Counts(context.Context) (api.Counts, error) { return api.Counts{}, nil }
+
+func (timeless) Show(context.Context, string, string) (api.Record, error) {
+	return api.Record{Number: "1"}, nil
+}
+
+// Without the store's time the page can't show how long something lasts, and no page is shown.
+func TestWithoutTime(t *testing.T) {
+	failures := 0
+	h, err := NewHandler(timeless{}, Options{Failed: func(error) { failures++ }})
+	check(t, err)
+	for _, target := range []string{"/", "/instance/a"} {
+		if response := answerTo(h, request("GET", target)); response.Code != 503 {
+			t.Errorf("%s: got the status %d, want 503", target, response.Code)
+		}
+	}
+	if failures != 2 {
+		t.Errorf("got %d failures, want 2", failures)
 	}
 }

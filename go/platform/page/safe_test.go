@@ -5,8 +5,11 @@ import (
 	"encoding/json"
 	"errors"
 	"fmt"
+	"io"
+	"net"
 	"net/http"
 	"net/http/httptest"
+	"path/filepath"
 	"regexp"
 	"strings"
 	"sync"
@@ -16,7 +19,8 @@ import (
 	"pippinterm/internal/httpserver"
 	"pippinterm/platform"
 	"pippinterm/platform/api"
-	"pippinterm/platform/api/apiclient"
+	"pippinterm/platform/client"
+	"pippinterm/platform/sqlite"
 )
 
 func targets() []string {
@@ -53,16 +57,16 @@ func TestEscaping(t *testing.T) {
 	find := "/?find=%22%3E%3Cscript%3Edocument.title%3C/script%3E"
 	for _, target := range append(targets(), find) {
 		text := got(t, h, target)
-		for _, it := range []string{"<script>document", "<b onload", "\x1b", "\u202e", "\x00"} {
-			if strings.Contains(text, it) {
-				t.Errorf("%s has %q", target, it)
+		for _, harm := range []string{"<script>document", "<b onload", "\x1b", "\u202e", "\x00"} {
+			if strings.Contains(text, harm) {
+				t.Errorf("%s: got %q in it, want it escaped", target, harm)
 			}
 		}
 		if strings.Count(text, "<script") != 1 || strings.Count(text, "<style") != 1 {
-			t.Errorf("%s has further scripts or styles", target)
+			t.Errorf("%s: got further scripts or styles, want one of each", target)
 		}
 		if strings.Contains(text, `href="javascript`) {
-			t.Errorf("%s has a link to a script", target)
+			t.Errorf("%s: got a link to a script, want none", target)
 		}
 	}
 }
@@ -71,7 +75,7 @@ func TestEscaping(t *testing.T) {
 func objectOf(t *testing.T, text string) []byte {
 	t.Helper()
 	object, err := json.Marshal(map[string]string{text: text})
-	must(t, err)
+	check(t, err)
 	return object
 }
 
@@ -80,9 +84,9 @@ func TestNoSecrets(t *testing.T) {
 	h := pageOf(t, shelf(), Options{})
 	for _, target := range targets() {
 		text := got(t, h, target)
-		for _, it := range []string{"hush", "parameters", "eyJ", "cloud"} {
-			if strings.Contains(text, it) {
-				t.Errorf("%s has %s", target, it)
+		for _, secret := range []string{"hush", "parameters", "eyJ", "cloud"} {
+			if strings.Contains(text, secret) {
+				t.Errorf("%s: got %s in it, want no secret", target, secret)
 			}
 		}
 	}
@@ -99,13 +103,13 @@ func TestHeaders(t *testing.T) {
 			"Cross-Origin-Resource-Policy": "same-origin", "Content-Length": fmt.Sprint(answered.Body.Len()),
 		} {
 			if got := answered.Header().Get(name); got != want {
-				t.Errorf("%s: %s is %q", target, name, got)
+				t.Errorf("%s: %s: got %q, want %q", target, name, got, want)
 			}
 		}
 		policy := answered.Header().Get("Content-Security-Policy")
 		has(t, policy, "default-src 'none'", "form-action 'self'", "base-uri 'none'", "frame-ancestors 'none'")
 		if strings.Contains(policy, "unsafe") {
-			t.Errorf("the policy is %s", policy)
+			t.Errorf("the policy: got %s, want no \"unsafe\" in it", policy)
 		}
 	}
 }
@@ -120,16 +124,16 @@ func TestPolicyHasTheHashes(t *testing.T) {
 	for _, target := range append(targets(), "/none") {
 		answered := answerTo(h, request("GET", target))
 		text, policy := answered.Body.String(), answered.Header().Get("Content-Security-Policy")
-		for _, it := range []string{"style", "script"} {
-			_, after, _ := strings.Cut(text, "<"+it+">")
-			inside, _, isEnded := strings.Cut(after, "</"+it+">")
-			if !isEnded || len(inside) < 100 || strings.Count(text, "<"+it) != 1 {
-				t.Fatalf("%s doesn't have one %s", target, it)
+		for _, element := range []string{"style", "script"} {
+			_, after, _ := strings.Cut(text, "<"+element+">")
+			inside, _, isEnded := strings.Cut(after, "</"+element+">")
+			if !isEnded || len(inside) < 100 || strings.Count(text, "<"+element) != 1 {
+				t.Fatalf("%s: got none or several %s, want one", target, element)
 			}
-			has(t, policy, it+"-src '"+hash(inside)+"';")
+			has(t, policy, element+"-src '"+hash(inside)+"';")
 		}
 		if found := inline.FindString(mainOf(text)); found != "" {
-			t.Errorf("%s has what the policy keeps away: %s", target, found)
+			t.Errorf("%s: got %s, want nothing that the policy keeps away", target, found)
 		}
 	}
 }
@@ -145,60 +149,66 @@ func TestHost(t *testing.T) {
 		"portal.example:8090": false, "localhost.:8090": false, "2130706433:8090": false, ":8090": false,
 		"page.example:8090@evil.example": false,
 	} {
-		for _, target := range []string{"/", "/?state=ready", "/none"} {
-			r := request("GET", target)
-			r.Host = host
-			answered := answerTo(h, r)
-			if isRejected := answered.Code == http.StatusMisdirectedRequest; isRejected == isTaken {
-				t.Errorf("%q: %d", host, answered.Code)
-			} else if isRejected {
-				tellsNothing(t, answered.Body.String(), rejectedTells...)
+		t.Run(host, func(t *testing.T) {
+			for _, target := range []string{"/", "/?state=ready", "/none"} {
+				r := request("GET", target)
+				r.Host = host
+				answered := answerTo(h, r)
+				if isRejected := answered.Code == http.StatusMisdirectedRequest; isRejected == isTaken {
+					t.Errorf("got %d, want 421: %t", answered.Code, !isTaken)
+				} else if isRejected {
+					tellsNothing(t, answered.Body.String(), rejectedTells...)
+				}
 			}
-		}
+		})
 	}
 	for local, hosts := range map[string]map[string]int{
 		"[::1]:8090":     {"[::1]:8090": 200, "localhost:8090": 200, "127.0.0.1:8090": 421, "::1:8090": 421},
 		"127.0.0.2:8090": {"127.0.0.2:8090": 200, "127.0.0.1:8090": 421}, // a page that listens at every address
 		"192.0.2.1:80":   {"192.0.2.1": 200, "192.0.2.1:80": 200, "localhost": 421, "192.0.2.1:8090": 421},
 	} {
-		for host, want := range hosts {
-			r := requestAt(local, "GET", "/")
-			r.Host = host
-			if answered := answerTo(pageOf(t, shelf(), Options{}), r); answered.Code != want {
-				t.Errorf("%q at %s: %d, want %d", host, local, answered.Code, want)
+		t.Run(local, func(t *testing.T) {
+			for host, want := range hosts {
+				r := requestAt(local, "GET", "/")
+				r.Host = host
+				if answered := answerTo(pageOf(t, shelf(), Options{}), r); answered.Code != want {
+					t.Errorf("%q at %s: got %d, want %d", host, local, answered.Code, want)
+				}
 			}
-		}
+		})
 	}
 	without := httptest.NewRequest("GET", "/", nil)
 	without.Host = "127.0.0.1:8090"
 	if answered := answerTo(h, without); answered.Code != http.StatusMisdirectedRequest {
-		t.Errorf("without an address: %d", answered.Code)
+		t.Errorf("without an address: got %d, want %d", answered.Code, http.StatusMisdirectedRequest)
 	}
 }
 
-// The server of the programs says at which address a connection has come.
+// The server of the programs says at which address it has accepted a connection.
 func TestHostOverHTTP(t *testing.T) {
 	ctx, cancel := context.WithCancel(background)
 	listener, err := httpserver.Listen(ctx, "127.0.0.1:0", httpserver.Options{})
-	must(t, err)
+	check(t, err)
 	site := httpserver.Site{Listener: listener, Handler: pageOf(t, shelf(), Options{})}
 	served := make(chan error, 1)
 	go func() { served <- httpserver.Server{Sites: []httpserver.Site{site}}.Serve(ctx) }()
 	client := &http.Client{Timeout: time.Minute}
 	for host, want := range map[string]int{"": 200, "evil.example": 421, "localhost": 421} {
-		r, err := http.NewRequestWithContext(ctx, "GET", listener.URL(), nil)
-		must(t, err)
-		r.Host = host
-		answered, err := client.Do(r)
-		must(t, err)
-		must(t, answered.Body.Close())
-		if answered.StatusCode != want {
-			t.Errorf("%q: %d, want %d", host, answered.StatusCode, want)
-		}
+		t.Run(host, func(t *testing.T) {
+			r, err := http.NewRequestWithContext(ctx, "GET", listener.URL(), nil)
+			check(t, err)
+			r.Host = host
+			answered, err := client.Do(r)
+			check(t, err)
+			check(t, answered.Body.Close())
+			if answered.StatusCode != want {
+				t.Errorf("got %d, want %d", answered.StatusCode, want)
+			}
+		})
 	}
 	client.CloseIdleConnections()
 	cancel()
-	must(t, <-served)
+	check(t, <-served)
 }
 
 func TestMethods(t *testing.T) {
@@ -206,52 +216,47 @@ func TestMethods(t *testing.T) {
 	for _, method := range []string{"POST", "PUT", "DELETE", "PATCH", "OPTIONS", "TRACE", "CONNECT", "GETS"} {
 		answered := answerTo(h, request(method, "/"))
 		if answered.Code != http.StatusMethodNotAllowed || answered.Header().Get("Allow") != "GET, HEAD" {
-			t.Errorf("%s: %d %v", method, answered.Code, answered.Header())
+			t.Errorf("%s: got %d %v, want 405 and Allow: GET, HEAD", method, answered.Code, answered.Header())
 		}
 	}
 	head := answerTo(h, request("HEAD", "/"))
 	if head.Code != 200 || head.Body.Len() != 0 || len(head.Header().Get("Content-Length")) < 4 {
-		t.Errorf("HEAD: %d %v", head.Code, head.Header())
+		t.Errorf("HEAD: got %d %v, want 200 with the length, and no body", head.Code, head.Header())
 	}
 }
 
-// What fails tells nothing of the store and of the request, and what is rejected nothing of the program either.
+// An error page shows nothing of the store and of the request, and a rejection nothing of the program either.
 func TestErrorsTellNothing(t *testing.T) {
 	store := shelf()
-	var failures, causes []error
-	client := clientOf(t, store, func(of api.Exchange) { causes = append(causes, of.Err) })
-	h, err := NewHandler(client, Options{Failed: func(err error) { failures = append(failures, err) }})
-	must(t, err)
+	var failures []error
+	h := pageOf(t, store, Options{Failed: func(err error) { failures = append(failures, err) }})
 	answers := []*httptest.ResponseRecorder{
 		answerTo(h, request("GET", "/secret-path")), answerTo(h, request("GET", "/instance/secret-path")),
 		answerTo(h, request("GET", "/?secret-path")),
 	}
 	if len(failures) != 0 {
-		t.Errorf("they are failures: %v", failures)
+		t.Errorf("the failures: got %v, want none", failures)
 	}
 	tellsNothing(t, answerTo(h, request("POST", "/")).Body.String(), rejectedTells...)
 	store.err = errors.New("postgres at secret-path")
 	for _, target := range targets() {
 		answered := answerTo(h, request("GET", target))
 		if answered.Code != http.StatusServiceUnavailable || answered.Header().Get("Retry-After") == "" {
-			t.Errorf("%s: %d", target, answered.Code)
+			t.Errorf("%s: got %d, want 503 with Retry-After", target, answered.Code)
 		}
-		if len(failures) == 0 || !errors.Is(failures[len(failures)-1], apiclient.ErrUnavailable) {
-			t.Errorf("%s: the failures are %v", target, failures)
-		}
-		if !errors.Is(causes[len(causes)-1], store.err) {
-			t.Errorf("%s: the API tells the log %v", target, causes)
+		if len(failures) == 0 || !errors.Is(failures[len(failures)-1], store.err) {
+			t.Errorf("%s: got the failures %v, want %v last", target, failures, store.err)
 		}
 		answers = append(answers, answered)
 	}
-	for _, it := range answers {
-		tellsNothing(t, it.Body.String(), inStore...)
-		tellsNothing(t, it.Body.String(), "secret-path", "postgres")
+	for _, answer := range answers {
+		tellsNothing(t, answer.Body.String(), inStore...)
+		tellsNothing(t, answer.Body.String(), "secret-path", "postgres")
 	}
 }
 
-// inStore is what a shelf has: the names and URLs of brokers, ids and states. rejectedTells is all that an answer tells
-// nobody who isn't a user of the page, or who has come by a foreign name.
+// inStore is what a shelf has: the names and URLs of brokers, ids and states. rejectedTells is all that an answer shows
+// nobody who isn't a user of the page, or who uses a foreign name.
 var (
 	inStore       = []string{"shelf", "shut", "example", idOf(5).String(), "state ready", "worker-1", "org"}
 	rejectedTells = append([]string{"osb-platform", "<style", "<script", "127.0.0.1", "8090", "secret-path"}, inStore...)
@@ -260,9 +265,9 @@ var (
 // tellsNothing fails if a page has any of these parts.
 func tellsNothing(t *testing.T, text string, parts ...string) {
 	t.Helper()
-	for _, it := range parts {
-		if strings.Contains(text, it) {
-			t.Errorf("it tells %s: %s", it, mainOf(text))
+	for _, part := range parts {
+		if strings.Contains(text, part) {
+			t.Errorf("got %s in it, want it hidden: %s", part, mainOf(text))
 		}
 	}
 }
@@ -271,44 +276,47 @@ func TestPasswords(t *testing.T) {
 	limiter := &counting{}
 	users := map[string][]string{"me": {"old", "new"}, "you": {"o:ther"}}
 	h := pageOf(t, shelf(), Options{Users: users, Limiter: limiter})
-	for _, it := range []struct {
+	for _, test := range []struct {
 		user, password string
 		isUser         bool
 	}{
 		{"me", "old", true}, {"me", "new", true}, {"you", "o:ther", true}, {"me", "o:ther", false}, {"me", "", false},
 		{"", "", false}, {"me", "ol", false}, {"me", "olds", false}, {"ME", "old", false}, {"me\x00old", "", false},
 	} {
-		r := request("GET", "/")
-		r.SetBasicAuth(it.user, it.password)
-		failed := limiter.failed
-		answered := answerTo(h, r)
-		if isUser := answered.Code == 200; isUser != it.isUser || (limiter.failed > failed) == it.isUser {
-			t.Errorf("%q %q: %d, %d failures", it.user, it.password, answered.Code, limiter.failed-failed)
-		}
-		if answered.Code == http.StatusUnauthorized {
-			tellsNothing(t, answered.Body.String(), rejectedTells...)
-		}
+		t.Run(test.user+" "+test.password, func(t *testing.T) {
+			r := request("GET", "/")
+			r.SetBasicAuth(test.user, test.password)
+			failed := limiter.failed
+			answered := answerTo(h, r)
+			if isUser := answered.Code == 200; isUser != test.isUser || (limiter.failed > failed) == test.isUser {
+				t.Errorf("%q %q: got %d and %d failures, want a user: %v", test.user, test.password, answered.Code,
+					limiter.failed-failed, test.isUser)
+			}
+			if answered.Code == http.StatusUnauthorized {
+				tellsNothing(t, answered.Body.String(), rejectedTells...)
+			}
+		})
 	}
 	r := request("GET", "/")
 	answered := answerTo(h, r)
 	if answered.Code != 401 || !strings.HasPrefix(answered.Header().Get("WWW-Authenticate"), "Basic ") {
-		t.Errorf("without a password: %d %v", answered.Code, answered.Header())
+		t.Errorf("without a password: got %d %v, want 401 with a challenge", answered.Code, answered.Header())
 	}
 	r.SetBasicAuth("me", "old")
 	r.Header.Add("Authorization", "Basic bm9ib2R5Og==")
 	if answered := answerTo(h, r); answered.Code != 401 {
-		t.Errorf("with two: %d", answered.Code)
+		t.Errorf("two passwords: got %d, want 401", answered.Code)
 	}
 	foreign := request("GET", "/")
 	foreign.Host = "evil.example"
 	if answered := answerTo(h, foreign); answered.Code != 421 {
-		t.Errorf("a foreign site is asked for a password: %d", answered.Code)
+		t.Errorf("a foreign site: got %d, want 421", answered.Code)
 	}
 }
 
 type counting struct{ failed int }
 
-func (c *counting) Failed(address string) time.Duration {
+func (c *counting) FailedLogin(address string) time.Duration {
 	if address == "192.0.2.1" { // that of httptest
 		c.failed++
 	}
@@ -318,7 +326,7 @@ func (c *counting) Failed(address string) time.Duration {
 // The connection of whoever has no password, or asks by a foreign name, is closed.
 func TestARejectedRequestKeepsNoConnection(t *testing.T) {
 	h := pageOf(t, shelf(), Options{Users: map[string][]string{"me": {"old"}}})
-	for name, it := range map[string]struct {
+	for name, test := range map[string]struct {
 		host, password, want string
 		status               int
 	}{
@@ -326,20 +334,22 @@ func TestARejectedRequestKeepsNoConnection(t *testing.T) {
 		"a wrong password": {"127.0.0.1:8090", "new", "close", 401},
 		"a foreign name":   {"evil.example", "old", "close", 421},
 	} {
-		r := request("GET", "/")
-		r.Host = it.host
-		r.SetBasicAuth("me", it.password)
-		answered := answerTo(h, r)
-		if got := answered.Header().Get("Connection"); answered.Code != it.status || got != it.want {
-			t.Errorf("%s: got %d, Connection %q, want %d, %q", name, answered.Code, got, it.status, it.want)
-		}
+		t.Run(name, func(t *testing.T) {
+			r := request("GET", "/")
+			r.Host = test.host
+			r.SetBasicAuth("me", test.password)
+			answered := answerTo(h, r)
+			if got := answered.Header().Get("Connection"); answered.Code != test.status || got != test.want {
+				t.Errorf("got %d, Connection %q, want %d, %q", answered.Code, got, test.status, test.want)
+			}
+		})
 	}
 }
 
 // An hour has each failed login wait for an hour.
 type hour struct{}
 
-func (hour) Failed(string) time.Duration { return time.Hour }
+func (hour) FailedLogin(string) time.Duration { return time.Hour }
 
 // The answer to a wrong password waits for its turn, until the program stops, and the right password doesn't wait.
 func TestFailedLoginsWait(t *testing.T) {
@@ -369,17 +379,17 @@ func TestFailedLoginsWait(t *testing.T) {
 			t.Errorf("got %d with a wrong password, want 401", got)
 		}
 	case <-time.After(time.Minute):
-		t.Error("got no answer in a minute after the stop")
+		t.Error("got no answer in a minute after the stop, want one")
 	}
 }
 
-// A stalled client is one that takes nothing of an answer until it is let go.
-type stalled struct {
+// A stallingWriter client is one that takes nothing of an answer until it is let go.
+type stallingWriter struct {
 	*httptest.ResponseRecorder
 	writing, letGo chan struct{}
 }
 
-func (s stalled) Write(text []byte) (int, error) {
+func (s stallingWriter) Write(text []byte) (int, error) {
 	close(s.writing)
 	<-s.letGo
 	return s.ResponseRecorder.Write(text)
@@ -391,7 +401,7 @@ func TestSlowReaders(t *testing.T) {
 	var all sync.WaitGroup
 	letGo := make(chan struct{})
 	for n := 0; n < 3; n++ {
-		slow := stalled{httptest.NewRecorder(), make(chan struct{}), letGo}
+		slow := stallingWriter{httptest.NewRecorder(), make(chan struct{}), letGo}
 		all.Add(1)
 		go func() {
 			defer all.Done()
@@ -420,24 +430,232 @@ func TestAtOnce(t *testing.T) {
 	<-reading
 	answered := answerTo(h, request("GET", "/"))
 	if answered.Code != 503 || !strings.Contains(answered.Body.String(), "Too many") {
-		t.Errorf("while one reads: %d %s", answered.Code, answered.Body)
+		t.Errorf("while one reads: got %d %s, want 503", answered.Code, answered.Body)
 	}
 	close(letGo)
 	if got := <-first; got != 503 {
-		t.Errorf("a reading that takes too long: %d", got)
+		t.Errorf("a reading that takes too long: got %d, want 503", got)
 	}
 }
 
 func TestNewHandler(t *testing.T) {
-	for name, it := range map[string]struct {
-		api     API
+	for name, test := range map[string]struct {
+		reader  api.Reader
 		options Options
 	}{
-		"no API": {nil, Options{}}, "cleaning": {&apiclient.Client{}, Options{LongCleaning: -1}},
-		"at once": {&apiclient.Client{}, Options{AtOnce: -1}}, "timeout": {&apiclient.Client{}, Options{Timeout: -1}},
+		"no Reader": {nil, Options{}}, "cleaning": {timeless{}, Options{LongCleaning: -1}},
+		"at once": {timeless{}, Options{AtOnce: -1}}, "timeout": {timeless{}, Options{Timeout: -1}},
 	} {
-		if _, err := NewHandler(it.api, it.options); err == nil {
-			t.Errorf("%s: it is taken", name)
+		t.Run(name, func(t *testing.T) {
+			if _, err := NewHandler(test.reader, test.options); err == nil {
+				t.Error("got no error, want one")
+			}
+		})
+	}
+}
+
+// long is 60 KB that a broker says. Nobody keeps or shows more of it than much.
+var (
+	long = strings.Repeat("long", 15_000)
+	much = long[:1100]
+)
+
+// A page shows a part of a long text, whoever has written it, and however it was written to the store.
+func TestLongTexts(t *testing.T) {
+	store := shelf()
+	for at := range store.rows {
+		e, operation := &store.rows[at], long
+		e.Operation, e.Because, e.Dashboard, e.Organization, e.Space = &operation, long, long, long, long
+		e.Last = platform.Reason{At: began, Kind: "poll", Status: 500, Error: long, Description: long, Lost: long}
+		e.Failure, e.Metadata, e.Names.Plan = e.Last, []byte(`{"a": "`+long+`"}`), long
+	}
+	store.brokers[0].Reason = platform.Reason{Kind: "catalogue", Status: 500, Description: long, Lost: long}
+	h := pageOf(t, store, Options{})
+	for _, target := range targets() {
+		text := mainOf(got(t, h, target))
+		if !strings.Contains(text, "longlong") {
+			t.Errorf("%s: got no text of the broker, want one", target)
+		}
+		if strings.Contains(text, much) || len(text) > 100_000 {
+			t.Errorf("%s: got %d bytes and one of the texts whole, want it cut", target, len(text))
 		}
 	}
+}
+
+// A logRecorder is an Observer that keeps what is logged of exchanges and failures.
+type logRecorder struct {
+	mutex sync.Mutex
+	texts []string
+}
+
+func (s *logRecorder) add(texts ...string) {
+	s.mutex.Lock()
+	defer s.mutex.Unlock()
+	s.texts = append(s.texts, texts...)
+}
+
+func (s *logRecorder) OnRequest(platform.Exchange) {}
+
+func (s *logRecorder) OnAnswer(of platform.Exchange) {
+	s.add(of.Error, of.Description)
+	if of.Lost != nil {
+		s.add(of.Lost.Error())
+	}
+}
+
+func (s *logRecorder) OnChange(platform.Key, platform.State, platform.State) {}
+
+func (s *logRecorder) OnFailure(of platform.Failure) { s.add(of.Err.Error()) }
+
+func (s *logRecorder) OnOrphan(platform.Key, int, bool) {}
+
+func (s *logRecorder) OnCatalogue(string) {}
+
+// answering is the URL of a broker that answers the request for its catalogue with these bytes, and each other request
+// with those.
+func answering(t *testing.T, catalogue, other string) string {
+	t.Helper()
+	listener, err := net.Listen("tcp", "127.0.0.1:0")
+	check(t, err)
+	var all sync.WaitGroup
+	all.Add(1)
+	go func() {
+		defer all.Done()
+		for {
+			conn, err := listener.Accept()
+			if err != nil {
+				return
+			}
+			all.Add(1)
+			go func() {
+				defer all.Done()
+				defer conn.Close()
+				head := make([]byte, 1<<16)
+				count, _ := conn.Read(head) // the whole request: it is short
+				said := other
+				if strings.Contains(string(head[:count]), " /v2/catalog ") {
+					said = catalogue
+				}
+				_, _ = io.WriteString(conn, said)
+			}()
+		}
+	}()
+	t.Cleanup(func() { check(t, listener.Close()); all.Wait() })
+	return "http://" + listener.Addr().String()
+}
+
+func answerOf(status int, body string) string {
+	return fmt.Sprintf("HTTP/1.1 %d x\r\nContent-Type: application/json\r\nContent-Length: %d\r\nConnection: close\r\n\r\n%s",
+		status, len(body), body)
+}
+
+// longAnswers are answers with long texts.
+func longAnswers() map[string]string {
+	return map[string]string{
+		"a status line":  "HTTP/1.1 200 " + long + "\r\nContent-Length: 0\r\n\r\n",
+		"no status line": long + "\r\n\r\n",
+		"a bad status":   "HTTP/1.1 " + long + "\r\n\r\n",
+		"a header":       "HTTP/1.1 500 x\r\n" + long + "\r\n\r\n",
+		"a description":  answerOf(500, `{"error": "`+long+`", "description": "`+long+`"}`),
+		"a rejection":    answerOf(400, `{"error": "`+long+`", "description": "`+long+`"}`),
+		"no JSON":        answerOf(500, long),
+	}
+}
+
+// engineOver makes an engine over a store with one broker, which has so long for an answer. It logs to the seen.
+func engineOver(t *testing.T, url string, exchange time.Duration) (*platform.Engine, *sqlite.Store, *logRecorder) {
+	t.Helper()
+	store := openStore(t, filepath.Join(t.TempDir(), "instances.sqlite"))
+	check(t, store.AddBroker(background, platform.Broker{Name: "shelf", URL: url}))
+	asking, err := client.New(client.Options{Password: func(platform.Broker) (string, error) { return "", nil }})
+	check(t, err)
+	t.Cleanup(asking.Close)
+	logged, options := &logRecorder{}, platform.Options{Worker: "one", AtOnce: 1, Exchange: exchange}
+	return platform.NewEngine(store, asking, nil, options, logged), store, logged
+}
+
+// areShort fails if one of the texts has much of what a broker has said.
+func areShort(t *testing.T, texts ...string) {
+	t.Helper()
+	for _, text := range texts {
+		if strings.Contains(text, much) {
+			t.Errorf("got %d bytes of the answer kept, want it cut", len(text))
+		}
+	}
+}
+
+// What a hostile broker says at length is cut before it reaches the log, the row and the page.
+func TestHostileBroker(t *testing.T) {
+	for name, answer := range longAnswers() {
+		t.Run(name, func(t *testing.T) { testHostileBroker(t, answer) })
+	}
+}
+
+func testHostileBroker(t *testing.T, answer string) {
+	engine, store, logged := engineOver(t, answering(t, answerOf(200, `{"services": []}`), answer), time.Minute)
+	e := entryOf(platform.InstanceKey(idOf(1)), platform.Ordered)
+	e.Names.Service, e.Names.Plan, e.Tries, e.Due = e.Service.String(), e.Plan.String(), 1, began
+	check(t, store.Insert(background, e, func(platform.Snapshot) error { return nil }))
+	check(t, engine.RunOnce(background))
+	row, err := store.Read(background, e.Key)
+	check(t, err)
+	if said := row.Last; said.Status == 0 && said.Lost == "" || strings.HasPrefix(said.Lost, client.ErrNotSent.Error()) {
+		t.Errorf("got %+v, want an answer or why there was none", said)
+	}
+	areShort(t, logged.texts...)
+	areShort(t, row.Last.Error, row.Last.Description, row.Last.Lost, row.Failure.Description)
+	areShort(t, mainOf(got(t, pageOf(t, store, Options{}), pageOn(e.Key))))
+}
+
+// So is what it says in the place of its catalogue.
+func TestHostileCatalogue(t *testing.T) {
+	for name, answer := range longAnswers() {
+		name, answer := name, answer
+		t.Run(name, func(t *testing.T) {
+			t.Parallel() // each asks again and again, for as long as an exchange may last
+			engine, store, logged := engineOver(t, answering(t, answer, ""), 2*time.Second)
+			err := engine.RunOnce(background)
+			if !errors.Is(err, platform.ErrUnreached) {
+				t.Fatalf("got %v, want that the broker isn't reached", err)
+			}
+			brokers, reading := store.Brokers(background)
+			check(t, reading)
+			said := brokers[0].Reason
+			if said.At.IsZero() {
+				t.Error("got nothing written, want the reason")
+			}
+			areShort(t, append(logged.texts, err.Error(), said.Error, said.Description, said.Lost)...)
+			areShort(t, part(t, got(t, pageOf(t, store, Options{}), "/"), "brokers"))
+		})
+	}
+}
+
+// Silent connections keep nobody from the page: they are closed soon.
+func TestSilentConnections(t *testing.T) {
+	const connections = 3
+	ctx, cancel := context.WithCancel(background)
+	listener, err := httpserver.Listen(ctx, "127.0.0.1:0", httpserver.Options{
+		Connections: connections, PerAddress: connections, Silent: 200 * time.Millisecond,
+	})
+	check(t, err)
+	site := httpserver.Site{Listener: listener, Handler: pageOf(t, shelf(), Options{})}
+	served := make(chan error, 1)
+	go func() { served <- httpserver.Server{Sites: []httpserver.Site{site}}.Serve(ctx) }()
+	for n := 0; n < 2*connections; n++ {
+		silent, err := net.Dial("tcp", listener.Addr().String())
+		check(t, err)
+		defer silent.Close()
+	}
+	client := &http.Client{Timeout: 30 * time.Second}
+	answered, err := client.Get(listener.URL())
+	if err != nil {
+		t.Fatalf("beside silent connections: got %v, want no error", err)
+	}
+	check(t, answered.Body.Close())
+	if answered.StatusCode != http.StatusOK {
+		t.Errorf("got %d, want %d", answered.StatusCode, http.StatusOK)
+	}
+	client.CloseIdleConnections()
+	cancel()
+	check(t, <-served)
 }

@@ -1,6 +1,8 @@
 package postgres_test
 
 import (
+	"context"
+	"encoding/json"
 	"fmt"
 	"os"
 	"strings"
@@ -29,12 +31,10 @@ const (
 //	scripts/go test -run xxx -bench Steps -benchtime 20000x ./platform/postgres
 func BenchmarkSteps(b *testing.B) {
 	for _, rows := range []int{stepped, 100 * stepped} {
-		url, stores := filled(b, rows), []platform.Store{}
+		url, stores := fill(b, rows), []platform.Store{}
 		for n := 0; n < workers; n++ {
 			store, err := postgres.Open(background, url, places+1)
-			if err != nil {
-				b.Fatal(err)
-			}
+			check(b, err)
 			defer store.Close()
 			stores = append(stores, store)
 		}
@@ -53,15 +53,13 @@ func BenchmarkTransactions(b *testing.B) {
 }
 
 func benchmark(b *testing.B, rows int, isChanged bool) {
-	url := filled(b, rows)
+	url := fill(b, rows)
 	left, begun := int64(b.N), time.Now()
 	b.ResetTimer()
 	var all sync.WaitGroup
 	for n := 0; n < workers; n++ {
 		store, err := postgres.Open(background, url, places+1)
-		if err != nil {
-			b.Fatal(err)
-		}
+		check(b, err)
 		defer store.Close()
 		all.Add(1)
 		go func(worker string) {
@@ -74,8 +72,8 @@ func benchmark(b *testing.B, rows int, isChanged bool) {
 	b.ReportMetric(float64(b.N)/time.Since(begun).Seconds(), "steps/s")
 }
 
-// filled is the URL of a store with so many rows that are polled. The first of them are due.
-func filled(b *testing.B, rows int) string {
+// fill is the URL of a store with so many rows that are polled. The first of them are due.
+func fill(b *testing.B, rows int) string {
 	b.Helper()
 	address := os.Getenv(pgtest.Variable)
 	if address == "" {
@@ -87,9 +85,7 @@ func filled(b *testing.B, rows int) string {
 		Settings: map[string]string{"search_path": schema},
 	}
 	db, err := pg.Open(address, options)
-	if err != nil {
-		b.Fatal(err)
-	}
+	check(b, err)
 	b.Cleanup(func() {
 		_, _ = db.Exec("DROP SCHEMA " + schema + " CASCADE")
 		_ = db.Close()
@@ -98,8 +94,8 @@ func filled(b *testing.B, rows int) string {
 	if strings.Contains(address, "?") {
 		url = address + "&search_path=" + schema
 	}
-	for _, it := range []string{"DROP SCHEMA IF EXISTS " + schema + " CASCADE", "CREATE SCHEMA " + schema} {
-		if _, err := db.Exec(it); err != nil {
+	for _, text := range []string{"DROP SCHEMA IF EXISTS " + schema + " CASCADE", "CREATE SCHEMA " + schema} {
+		if _, err := db.Exec(text); err != nil {
 			b.Fatal(err)
 		}
 	}
@@ -108,9 +104,7 @@ func filled(b *testing.B, rows int) string {
 	polled.State, polled.IsSent, polled.Record = platform.Polling, true, pollingRecord(b)
 	polled.PolledSince = time.Now()
 	addBroker(b, store)
-	if err := store.Insert(background, polled, accept); err != nil {
-		b.Fatal(err)
-	}
+	check(b, store.Insert(background, polled, accept))
 	_ = store.Close()
 	const copies = "INSERT INTO osb_instances SELECT (t).* FROM (SELECT json_populate_record(t, json_build_object(" +
 		"'id', c.id, 'first', c.id, 'due', CASE WHEN c.n < $2 THEN due END, " +
@@ -130,9 +124,7 @@ func pollingRecord(b *testing.B) osb.Record {
 	b.Helper()
 	wanted, sent := osb.Create(id(0), osb.MustParseID(theService), osb.MustParseID(thePlan), true)
 	record, err := wanted.Answer(sent.Attempt, osb.Answer{Status: 202, Body: osb.BodyEmpty})
-	if err != nil {
-		b.Fatal(err)
-	}
+	check(b, err)
 	return record
 }
 
@@ -158,7 +150,7 @@ func stepAll(b *testing.B, store platform.Store, worker string, left *int64, isC
 		for n := len(claimed); n < most; n++ {
 			free <- struct{}{}
 		}
-		for _, it := range claimed {
+		for _, row := range claimed {
 			running.Add(1)
 			go func(key platform.Key) {
 				defer running.Done()
@@ -167,15 +159,15 @@ func stepAll(b *testing.B, store platform.Store, worker string, left *int64, isC
 				}
 				atomic.AddInt64(left, -1)
 				free <- struct{}{}
-			}(it.Key)
+			}(row.Key)
 		}
 	}
 }
 
 // send records a Poll as in flight.
 func send(worker string, isChanged bool) platform.Step {
-	return func(now time.Time, held platform.Held) (*platform.Change, error) {
-		entry := held.Entry
+	return func(now time.Time, snapshot platform.Snapshot) (*platform.Change, error) {
+		entry := snapshot.Entry
 		record, _, err := entry.Record.Send(entry.Key.ID())
 		if err != nil {
 			return nil, err
@@ -190,8 +182,8 @@ func send(worker string, isChanged bool) platform.Step {
 
 // take takes the answer to a Poll. The row is due again at once.
 func take(isChanged bool) platform.Step {
-	return func(now time.Time, held platform.Held) (*platform.Change, error) {
-		entry := held.Entry
+	return func(now time.Time, snapshot platform.Snapshot) (*platform.Change, error) {
+		entry := snapshot.Entry
 		record, err := entry.Record.Timeout(entry.Record.Attempt())
 		if err != nil {
 			return nil, err
@@ -203,4 +195,64 @@ func take(isChanged bool) platform.Step {
 		}
 		return &platform.Change{Entry: entry}, nil
 	}
+}
+
+// A seller is a broker that answers at once: each request has created what was ordered.
+type seller struct{}
+
+func (seller) Exchange(_ context.Context, out platform.Outgoing) platform.Incoming {
+	return platform.Incoming{Answer: osb.Answer{Status: 201, Body: osb.BodyEmpty}, Status: 201}
+}
+
+func (seller) Catalogue(context.Context, platform.Broker) (json.RawMessage, int, error) {
+	return json.RawMessage(`{"services": [{"id": "` + theService + `", "name": "s", "description": "d", "bindable": true,
+		"plans": [{"id": "` + thePlan + `", "name": "p", "description": "d"}]}]}`), 200, nil
+}
+
+func (seller) Clock() time.Time { return time.Now() }
+
+// A quiet observer fails a test if something goes wrong.
+type quiet struct {
+	platform.Observer
+	t *testing.T
+}
+
+func (quiet) OnRequest(platform.Exchange)                           {}
+func (quiet) OnAnswer(platform.Exchange)                            {}
+func (quiet) OnChange(platform.Key, platform.State, platform.State) {}
+func (quiet) OnCatalogue(string)                                    {}
+func (q quiet) OnFailure(it platform.Failure)                       { q.t.Errorf("got the failure %+v, want none", it) }
+
+// What a step of an engine takes if none shares its claim with another: what many steps take more than few.
+func TestAStepOfAnEngine(t *testing.T) {
+	wire, url := newWire(t, schemaNamed(t, "osb_platform_step"))
+	store := open(t, url)
+	defer store.Close()
+	options := platform.Options{Worker: "one", AtOnce: 1}
+	took, next := map[int]answers{}, 0
+	const warm, few, many = 5, 10, 30
+	for _, rows := range []int{warm, few, many} { // at first the sessions are opened, and their statements prepared
+		for n := 0; n < rows; n++ {
+			insert(t, store, instance(next))
+			next++
+		}
+		wire.tally()
+		engine := platform.NewEngine(store, seller{}, nil, options, quiet{t: t})
+		check(t, engine.RunOnce(background))
+		took[rows] = wire.tally()
+	}
+	for n := 0; n < next; n++ {
+		if entry, err := store.Read(background, instance(n)); err != nil || entry.State != platform.Ready {
+			t.Errorf("%v: got %s, %v, want ready", instance(n), entry.State, err)
+		}
+	}
+	const steps = many - few
+	statements, transactions := took[many].statements-took[few].statements, took[many].transactions-took[few].transactions
+	if statements < 4*steps || statements > 8*steps {
+		t.Errorf("%d steps: got %d statements, want 4 to 8 each", steps, statements)
+	}
+	if transactions < steps || transactions > 3*steps {
+		t.Errorf("%d steps: got %d transactions, want 1 to 3 each", steps, transactions)
+	}
+	t.Logf("%d steps take %d statements in %d transactions", steps, statements, transactions)
 }

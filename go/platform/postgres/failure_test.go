@@ -3,13 +3,17 @@ package postgres_test
 import (
 	"context"
 	"errors"
+	"fmt"
+	"math/rand"
 	"strconv"
 	"strings"
+	"sync"
 	"testing"
 	"time"
 
 	"pippinterm/internal/pg"
 	"pippinterm/internal/pg/pgtest"
+	"pippinterm/osb"
 	"pippinterm/platform"
 	"pippinterm/platform/postgres"
 	"pippinterm/platform/storetest"
@@ -37,9 +41,9 @@ var transactions = map[string]func(platform.Store, context.Context, *int) error{
 	},
 }
 
-// Nothing is told as written that was rolled back, or of which nobody knows.
+// Nothing is reported as written that was rolled back, or of which nobody knows.
 func TestACommitThatFails(t *testing.T) {
-	for _, it := range []struct {
+	for _, test := range []struct {
 		name, statement string
 		isUnknown       bool
 	}{
@@ -47,20 +51,20 @@ func TestACommitThatFails(t *testing.T) {
 		{"warning", "RAISE WARNING 'no standby';", true},
 	} {
 		for of, call := range transactions {
-			t.Run(of+" with an "+it.name, func(t *testing.T) {
-				url := named(t, "osb_platform_commit_"+strings.ToLower(of)+it.name)
+			t.Run(of+" with an "+test.name, func(t *testing.T) {
+				url := schemaNamed(t, "osb_platform_commit_"+strings.ToLower(of)+test.name)
 				store := open(t, url)
 				defer store.Close()
 				insert(t, store, instance(1))
-				trigger(t, url, "DEFERRABLE INITIALLY DEFERRED", it.statement)
+				trigger(t, url, "DEFERRABLE INITIALLY DEFERRED", test.statement)
 				calls := 0
 				err := call(store, background, &calls)
-				if err == nil || errors.Is(err, pg.ErrUnknownCommit) != it.isUnknown || calls != 1 ||
-					errors.Is(err, platform.ErrAway) != it.isUnknown {
-					t.Errorf("after %d calls: %v", calls, err)
+				if err == nil || errors.Is(err, pg.ErrUnknownCommit) != test.isUnknown || calls != 1 ||
+					errors.Is(err, platform.ErrAway) != test.isUnknown {
+					t.Errorf("after %d calls: got %v, want one after 1", calls, err)
 				}
-				if got := counted(t, store, instance(1)); got != 0 && !it.isUnknown {
-					t.Error("it was written")
+				if got := countStays(t, store, instance(1)); got != 0 && !test.isUnknown {
+					t.Error("got it written, want it only if that is unknown")
 				}
 			})
 		}
@@ -70,7 +74,7 @@ func TestACommitThatFails(t *testing.T) {
 func TestACommitWhoseAnswerIsLost(t *testing.T) {
 	for of, call := range transactions {
 		t.Run(of, func(t *testing.T) {
-			direct := named(t, "osb_platform_lost_"+strings.ToLower(of))
+			direct := schemaNamed(t, "osb_platform_lost_"+strings.ToLower(of))
 			proxy, url := pgtest.NewProxy(t, direct)
 			store := open(t, url)
 			defer store.Close()
@@ -79,12 +83,13 @@ func TestACommitWhoseAnswerIsLost(t *testing.T) {
 			calls := 0
 			err := call(store, background, &calls)
 			if !errors.Is(err, pg.ErrUnknownCommit) || !errors.Is(err, platform.ErrAway) || calls != 1 {
-				t.Errorf("after %d calls: %v", calls, err) // once more could write it twice
+				t.Errorf("after %d calls: got %v, want %v after 1", calls, err,
+					pg.ErrUnknownCommit) // once more could write it twice
 			}
 			proxy.Cut("")
 			await(t, pgtest.DB(t, direct), "the server has got the COMMIT", "SELECT tries = 1 FROM osb_instances")
-			if err := call(store, background, &calls); err != nil || counted(t, store, instance(1)) != 2 {
-				t.Errorf("the next: %v", err)
+			if err := call(store, background, &calls); err != nil || countStays(t, store, instance(1)) != 2 {
+				t.Errorf("the next: got %v, want it written", err)
 			}
 		})
 	}
@@ -92,7 +97,7 @@ func TestACommitWhoseAnswerIsLost(t *testing.T) {
 
 // What another transaction has undone is tried again, but not for ever.
 func TestConflicts(t *testing.T) {
-	for _, it := range []struct {
+	for _, test := range []struct {
 		name, code   string
 		fails, calls int
 		isWritten    bool
@@ -103,21 +108,21 @@ func TestConflicts(t *testing.T) {
 		{"other", "22012", 1, 1, false},
 	} {
 		for of, call := range transactions {
-			t.Run(of+" "+it.name, func(t *testing.T) {
-				url := named(t, "osb_platform_conflict_"+strings.ToLower(of)+it.name)
+			t.Run(of+" "+test.name, func(t *testing.T) {
+				url := schemaNamed(t, "osb_platform_conflict_"+strings.ToLower(of)+test.name)
 				store := open(t, url)
 				defer store.Close()
 				insert(t, store, instance(1))
-				trigger(t, url, "", "IF nextval('tries') <= "+strconv.Itoa(it.fails)+
-					" THEN RAISE EXCEPTION USING ERRCODE = '"+it.code+"'; END IF;")
+				trigger(t, url, "", "IF nextval('tries') <= "+strconv.Itoa(test.fails)+
+					" THEN RAISE EXCEPTION USING ERRCODE = '"+test.code+"'; END IF;")
 				calls := 0
 				err := call(store, background, &calls)
-				if (err == nil) != it.isWritten || !it.isWritten && !pg.IsCode(err, it.code) ||
-					calls != it.calls || errors.Is(err, platform.ErrAway) {
-					t.Errorf("after %d calls: %v", calls, err)
+				if (err == nil) != test.isWritten || !test.isWritten && !pg.IsCode(err, test.code) ||
+					calls != test.calls || errors.Is(err, platform.ErrAway) {
+					t.Errorf("after %d calls: got %v, want %s after %d", calls, err, test.code, test.calls)
 				}
-				if got := counted(t, store, instance(1)); (got == 1) != it.isWritten {
-					t.Errorf("%d was written", got)
+				if got := countStays(t, store, instance(1)); (got == 1) != test.isWritten {
+					t.Errorf("got %d written, want it %t", got, test.isWritten)
 				}
 			})
 		}
@@ -127,7 +132,7 @@ func TestConflicts(t *testing.T) {
 // Sessions that the server has ended while they were idle fail nobody.
 func TestSessionsThatTheServerEnds(t *testing.T) {
 	const most, name = 4, "osb_platform_ends"
-	store := open(t, named(t, name))
+	store := open(t, schemaNamed(t, name))
 	defer store.Close()
 	insert(t, store, instance(1))
 	n := 1
@@ -139,7 +144,7 @@ func TestSessionsThatTheServerEnds(t *testing.T) {
 		terminate(t, name)
 		for n := 0; n < most; n++ {
 			if err := call(); err != nil {
-				t.Errorf("%s: %v", of, err)
+				t.Errorf("%s: got %v, want no error", of, err)
 			}
 		}
 	}
@@ -156,7 +161,7 @@ func openAll(t *testing.T, store platform.Store, most int) {
 			insert(t, store, key)
 		}
 		go func() {
-			done <- store.Change(background, key, func(time.Time, platform.Held) (*platform.Change, error) {
+			done <- store.Change(background, key, func(time.Time, platform.Snapshot) (*platform.Change, error) {
 				gate.Pass()
 				return nil, nil
 			})
@@ -178,29 +183,29 @@ func TestASessionThatIsKilledDuringAStep(t *testing.T) {
 	for of := range transactions {
 		t.Run(of, func(t *testing.T) {
 			name := "osb_platform_killed_" + strings.ToLower(of)
-			store := open(t, named(t, name))
+			store := open(t, schemaNamed(t, name))
 			defer store.Close()
 			insert(t, store, instance(1))
 			isKilled := false
-			step := func(_ time.Time, held platform.Held) (*platform.Change, error) {
+			step := func(_ time.Time, snapshot platform.Snapshot) (*platform.Change, error) {
 				if !isKilled {
 					isKilled = true
 					terminate(t, name)
 				}
-				held.Entry.Unchanged++
-				return &platform.Change{Entry: held.Entry}, nil
+				snapshot.Entry.Unchanged++
+				return &platform.Change{Entry: snapshot.Entry}, nil
 			}
 			err := store.Change(background, instance(1), step)
 			if of == "Claim" {
 				isKilled = false
 				_, err = store.Claim(background, []string{"one"}, 1, step)
 			}
-			if !errors.Is(err, platform.ErrAway) || counted(t, store, instance(1)) != 0 {
-				t.Errorf("%v", err)
+			if !errors.Is(err, platform.ErrAway) || countStays(t, store, instance(1)) != 0 {
+				t.Errorf("got %v, want ErrAway, and no change", err)
 			}
 			calls := 0
 			if err := transactions[of](store, background, &calls); err != nil {
-				t.Errorf("the next: %v", err)
+				t.Errorf("the next: got %v, want no error", err)
 			}
 		})
 	}
@@ -209,7 +214,7 @@ func TestASessionThatIsKilledDuringAStep(t *testing.T) {
 // A call that waits for a table ends with its context.
 func TestAContextThatEndsWhileReading(t *testing.T) {
 	const name = "osb_platform_reads"
-	url := named(t, name)
+	url := schemaNamed(t, name)
 	store, tx := open(t, url), begin(t, url)
 	defer store.Close()
 	run(t, tx, "LOCK TABLE osb_instances IN ACCESS EXCLUSIVE MODE")
@@ -217,32 +222,34 @@ func TestAContextThatEndsWhileReading(t *testing.T) {
 		"Read":   func(ctx context.Context) error { _, err := store.Read(ctx, instance(1)); return err },
 		"Change": func(ctx context.Context) error { return store.Change(ctx, instance(1), count(new(int))) },
 	} {
-		ctx, cancel := context.WithCancel(background)
-		done := make(chan error, 1)
-		go func() { done <- call(ctx) }()
-		await(t, pgtest.DB(t, pgtest.URL(t)), "it waits", isWaiting, name)
-		cancel()
-		if err := <-done; !errors.Is(err, context.Canceled) || errors.Is(err, platform.ErrAway) {
-			t.Errorf("%s: %v", of, err)
-		}
+		t.Run(of, func(t *testing.T) {
+			ctx, cancel := context.WithCancel(background)
+			done := make(chan error, 1)
+			go func() { done <- call(ctx) }()
+			await(t, pgtest.DB(t, pgtest.URL(t)), "it waits", isWaiting, name)
+			cancel()
+			if err := <-done; !errors.Is(err, context.Canceled) || errors.Is(err, platform.ErrAway) {
+				t.Errorf("got %v, want context.Canceled without ErrAway", err)
+			}
+		})
 	}
 }
 
 // A context that ends while a step runs, or while a row is waited for, writes nothing, and frees the row.
 func TestAContextThatEnds(t *testing.T) {
 	const name = "osb_platform_context"
-	url := named(t, name)
+	url := schemaNamed(t, name)
 	store := open(t, url)
 	defer store.Close()
 	insert(t, store, instance(1))
 	ctx, cancel := context.WithCancel(background)
-	err := store.Change(ctx, instance(1), func(_ time.Time, held platform.Held) (*platform.Change, error) {
+	err := store.Change(ctx, instance(1), func(_ time.Time, snapshot platform.Snapshot) (*platform.Change, error) {
 		cancel()
-		held.Entry.Unchanged++
-		return &platform.Change{Entry: held.Entry}, nil
+		snapshot.Entry.Unchanged++
+		return &platform.Change{Entry: snapshot.Entry}, nil
 	})
-	if !errors.Is(err, context.Canceled) || counted(t, store, instance(1)) != 0 {
-		t.Errorf("in the step: %v", err)
+	if !errors.Is(err, context.Canceled) || countStays(t, store, instance(1)) != 0 {
+		t.Errorf("in the step: got %v, want %v and nothing written", err, context.Canceled)
 	}
 	tx := begin(t, url)
 	run(t, tx, "SELECT FROM osb_instances FOR UPDATE")
@@ -253,21 +260,19 @@ func TestAContextThatEnds(t *testing.T) {
 	await(t, pgtest.DB(t, pgtest.URL(t)), "the second waits", isWaiting, name)
 	cancel()
 	if err := <-done; !errors.Is(err, context.Canceled) || errors.Is(err, platform.ErrAway) || calls != 0 {
-		t.Errorf("while it waits: %v", err)
+		t.Errorf("while it waits: got %v, want %v and no call", err, context.Canceled)
 	}
-	if err := tx.Rollback(); err != nil {
-		t.Fatal(err)
-	}
-	if err := store.Change(background, instance(1), count(&calls)); err != nil || counted(t, store, instance(1)) != 1 {
-		t.Errorf("afterwards: %v", err)
+	check(t, tx.Rollback())
+	if err := store.Change(background, instance(1), count(&calls)); err != nil || countStays(t, store, instance(1)) != 1 {
+		t.Errorf("afterwards: got %v, want it written once", err)
 	}
 }
 
 func TestAway(t *testing.T) {
-	url := named(t, "osb_platform_away")
+	url := schemaNamed(t, "osb_platform_away")
 	store := open(t, url)
 	defer store.Close()
-	for name, it := range map[string]struct {
+	for name, test := range map[string]struct {
 		url    string
 		isAway bool
 	}{
@@ -275,23 +280,25 @@ func TestAway(t *testing.T) {
 		"an unknown database": {pgtest.In(t, url, "osb_platform_unknown"), false},
 		"no URL":              {"http://127.0.0.1", false},
 	} {
-		_, err := postgres.Open(background, it.url, 1)
-		if err == nil || errors.Is(err, platform.ErrAway) != it.isAway {
-			t.Errorf("%s: %v", name, err)
-		}
+		t.Run(name, func(t *testing.T) {
+			_, err := postgres.Open(background, test.url, 1)
+			if err == nil || errors.Is(err, platform.ErrAway) != test.isAway {
+				t.Errorf("got %v, want an error that is ErrAway: %t", err, test.isAway)
+			}
+		})
 	}
 	_, err := store.Read(background, instance(1))
 	if !errors.Is(err, platform.ErrUnknown) || errors.Is(err, platform.ErrAway) {
-		t.Errorf("an unknown row: %v", err)
+		t.Errorf("an unknown row: got %v, want %v", err, platform.ErrUnknown)
 	}
 	if _, err := postgres.Open(background, url, 0); err == nil {
-		t.Error("a store without connections")
+		t.Error("a store without connections: got no error, want one")
 	}
 }
 
 // What the server may get over by itself is ErrAway: it has no space left, or a lock or a statement takes too long.
 func TestServerThatCannotWrite(t *testing.T) {
-	url := named(t, "osb_platform_cannot_write")
+	url := schemaNamed(t, "osb_platform_cannot_write")
 	store := open(t, url)
 	defer store.Close()
 	insert(t, store, instance(1))
@@ -303,36 +310,64 @@ func TestServerThatCannotWrite(t *testing.T) {
 	for code, isAway := range map[string]bool{
 		"53100": true, "53200": true, "55P03": true, "57014": true, "23514": false, "42501": false,
 	} {
-		pgtest.Exec(t, db, "DELETE FROM fails; INSERT INTO fails VALUES ('"+code+"')")
-		calls := 0
-		err := store.Change(background, instance(1), count(&calls))
-		if err == nil || errors.Is(err, platform.ErrAway) != isAway {
-			t.Errorf("%s: %v", code, err)
-		}
+		t.Run(code, func(t *testing.T) {
+			pgtest.Exec(t, db, "DELETE FROM fails; INSERT INTO fails VALUES ('"+code+"')")
+			calls := 0
+			err := store.Change(background, instance(1), count(&calls))
+			if err == nil || errors.Is(err, platform.ErrAway) != isAway {
+				t.Errorf("got %v, want an error that is ErrAway: %t", err, isAway)
+			}
+		})
 	}
 }
 
 // A row that is deleted by hand isn't taken for one that was written.
 func TestARowThatIsGone(t *testing.T) {
 	for of, call := range transactions {
-		url := named(t, "osb_platform_gone_"+strings.ToLower(of))
-		store := open(t, url)
-		defer store.Close()
-		insert(t, store, instance(1))
-		pgtest.Exec(t, pgtest.DB(t, url), "CREATE FUNCTION f() RETURNS trigger LANGUAGE plpgsql AS "+
-			"$$ BEGIN RETURN NULL; END $$",
-			"CREATE TRIGGER gone BEFORE UPDATE ON osb_instances FOR EACH ROW EXECUTE FUNCTION f()")
-		calls := 0
-		err := call(store, background, &calls)
-		if err == nil || !strings.Contains(err.Error(), "Never delete rows") || calls != 1 {
-			t.Errorf("%s, after %d calls: %v", of, calls, err)
-		}
+		t.Run(of, func(t *testing.T) {
+			url := schemaNamed(t, "osb_platform_gone_"+strings.ToLower(of))
+			store := open(t, url)
+			defer store.Close()
+			insert(t, store, instance(1))
+			pgtest.Exec(t, pgtest.DB(t, url), "CREATE FUNCTION f() RETURNS trigger LANGUAGE plpgsql AS "+
+				"$$ BEGIN RETURN NULL; END $$",
+				"CREATE TRIGGER gone BEFORE UPDATE ON osb_instances FOR EACH ROW EXECUTE FUNCTION f()")
+			calls := 0
+			err := call(store, background, &calls)
+			if err == nil || !strings.Contains(err.Error(), "Never delete rows") || calls != 1 {
+				t.Errorf("%s, after %d calls: got %v, want one after 1 that says what not to delete", of, calls, err)
+			}
+		})
+	}
+}
+
+// A call whose statements can't be prepared fails, and does nothing. It succeeds once they can.
+func TestStatementsThatCannotBePrepared(t *testing.T) {
+	for of, call := range transactions {
+		t.Run(of, func(t *testing.T) {
+			for _, table := range []string{"osb_instances", "osb_lives"} { // of the statement that reads, and the one that writes
+				url := schemaNamed(t, "osb_platform_unprepared_"+strings.ToLower(of)+"_"+table)
+				store := open(t, url)
+				defer store.Close()
+				insert(t, store, instance(1))
+				db := pgtest.DB(t, url)
+				pgtest.Exec(t, db, "ALTER TABLE "+table+" RENAME TO hidden")
+				calls := 0
+				if err := call(store, background, &calls); err == nil || calls != 0 {
+					t.Errorf("%s without %s: got %v after %d calls, want an error and no call", of, table, err, calls)
+				}
+				pgtest.Exec(t, db, "ALTER TABLE hidden RENAME TO "+table)
+				if err := call(store, background, &calls); err != nil || calls != 1 {
+					t.Errorf("%s with %s: got %v after %d calls, want one", of, table, err, calls)
+				}
+			}
+		})
 	}
 }
 
 // A row that can't be read hides no other one. A row whose ids can't be read is found by its number.
 func TestRowsThatCannotBeRead(t *testing.T) {
-	url := named(t, "osb_platform_unreadable")
+	url := schemaNamed(t, "osb_platform_unreadable")
 	store := open(t, url)
 	defer store.Close()
 	spoil := func(t *testing.T, key platform.Key, column string) {
@@ -346,59 +381,59 @@ func TestRowsThatCannotBeRead(t *testing.T) {
 	spoil(t, instance(4), "names")
 	got, err := store.Read(background, instance(4))
 	if err != nil || got.Unreadable == "" || got.Names.Instance != id(4).String() || !got.IsSent {
-		t.Errorf("%+v, %v", got, err)
+		t.Errorf("got %+v, %v, want an unreadable row that was sent, with its number for an id", got, err)
 	}
 }
 
 // What a step returns and can't be written fails no other row.
 func TestAChangeThatCannotBeWritten(t *testing.T) {
-	store := open(t, named(t, "osb_platform_unwritten"))
+	store := open(t, schemaNamed(t, "osb_platform_unwritten"))
 	defer store.Close()
 	insert(t, store, instance(1), instance(2))
-	step := func(_ time.Time, held platform.Held) (*platform.Change, error) {
-		held.Entry.Unchanged++
-		held.Entry.IsSent = held.Key == instance(2) // and there is no record
-		return &platform.Change{Entry: held.Entry}, nil
+	step := func(_ time.Time, snapshot platform.Snapshot) (*platform.Change, error) {
+		snapshot.Entry.Unchanged++
+		snapshot.Entry.IsSent = snapshot.Key == instance(2) // and there is no record
+		return &platform.Change{Entry: snapshot.Entry}, nil
 	}
 	claimed, err := store.Claim(background, []string{"one"}, 10, step)
 	if err != nil || len(claimed) != 2 || claimed[0].Err != nil || claimed[1].Err == nil {
-		t.Errorf("claimed %v, %v", claimed, err)
+		t.Errorf("got %v claimed, %v, want the first, and an error of the second", claimed, err)
 	}
 	if err := store.Change(background, instance(2), step); err == nil {
-		t.Error("it was changed")
+		t.Error("the change: got no error, want one")
 	}
-	if first, second := counted(t, store, instance(1)), counted(t, store, instance(2)); first != 1 || second != 0 {
-		t.Errorf("the rows were counted %d and %d times", first, second)
+	if first, second := countStays(t, store, instance(1)), countStays(t, store, instance(2)); first != 1 || second != 0 {
+		t.Errorf("got counts of %d and %d, want 1 and 0", first, second)
 	}
 }
 
 // The right to a name is lost if its session ends.
 func TestARightThatIsLost(t *testing.T) {
 	const name = "osb_platform_right"
-	store := open(t, named(t, name))
+	store := open(t, schemaNamed(t, name))
 	defer store.Close()
 	end, lost, err := store.Only(background, name)
 	if err != nil || end == nil {
-		t.Fatalf("Only: %v", err)
+		t.Fatalf("Only: got %v, want the right", err)
 	}
 	if again, _, err := store.Only(background, name); err != nil || again != nil {
-		t.Errorf("another: %t, %v", again != nil, err)
+		t.Errorf("another: got %t, %v, want none", again != nil, err)
 	}
 	terminate(t, name)
 	select {
 	case <-lost:
 	case <-time.After(deadline):
-		t.Fatal("nobody is told")
+		t.Fatal("got no report of the lost right in time, want one")
 	}
 	again, lost, err := store.Only(background, name)
 	if err != nil || again == nil {
-		t.Fatalf("after the end of the session: %v", err)
+		t.Fatalf("after the end of the session: got %v, want the right", err)
 	}
 	end()
 	end()
 	select {
 	case <-lost:
-		t.Error("the end of a right that was lost has ended another")
+		t.Error("got the end of another right, want that of the lost one only")
 	default:
 	}
 	again()
@@ -406,13 +441,313 @@ func TestARightThatIsLost(t *testing.T) {
 
 // Version 0.2 and this one take the same lock of a name.
 func TestTheNameOfAWorkerOf02(t *testing.T) {
-	url := named(t, "osb_platform_name_02")
+	url := schemaNamed(t, "osb_platform_name_02")
 	store := open(t, url)
 	defer store.Close()
 	tx := begin(t, url)
 	run(t, tx, "SELECT pg_advisory_lock(1869832816, 145842092)") // 0x6F736270, and crc32 of the name less 2^31
 	end, _, err := store.Only(background, "osb_platform_name_02")
 	if err != nil || end != nil {
-		t.Errorf("beside version 0.2: %t, %v", end != nil, err)
+		t.Errorf("beside version 0.2: got %t, %v, want none", end != nil, err)
 	}
+}
+
+// While the server hangs, a call returns soon after its context has ended, and so does Close.
+func TestAServerThatHangs(t *testing.T) {
+	wire, url := newWire(t, schemaNamed(t, "osb_platform_hangs"))
+	store := open(t, url)
+	insert(t, store, instance(1))
+	step := func(time.Time, platform.Snapshot) (*platform.Change, error) { return nil, nil }
+	wire.hang(true)
+	begun := time.Now()
+	for name, call := range map[string]func(context.Context) error{
+		"Change":  func(ctx context.Context) error { return store.Change(ctx, instance(1), step) },
+		"Claim":   func(ctx context.Context) error { _, err := store.Claim(ctx, []string{"one"}, 1, step); return err },
+		"NextDue": func(ctx context.Context) error { _, _, err := store.NextDue(ctx, []string{"one"}); return err },
+	} {
+		t.Run(name, func(t *testing.T) {
+			ctx, cancel := context.WithCancel(background)
+			time.AfterFunc(50*time.Millisecond, cancel)
+			if err := call(ctx); !errors.Is(err, platform.ErrAway) || !errors.Is(err, context.Canceled) {
+				t.Errorf("got %v, want ErrAway and context.Canceled", err)
+			}
+		})
+	}
+	if err := store.Close(); err != nil {
+		t.Error(err)
+	}
+	wantQuick(t, begun)
+}
+
+// wantQuick fails if the calls have waited for an answer of the server, which would take 45 seconds.
+func wantQuick(t *testing.T, begun time.Time) {
+	t.Helper()
+	if took := time.Since(begun); took > 30*time.Second {
+		t.Errorf("got %v, want at most %v", took, 30*time.Second)
+	}
+}
+
+// A server hangs while the store has idle sessions, whose statements are closed with them.
+func TestClosingWhileTheServerHangs(t *testing.T) {
+	wire, url := newWire(t, schemaNamed(t, "osb_platform_hangs_idle"))
+	store := open(t, url)
+	insert(t, store, instance(1))
+	openAll(t, store, 4)
+	wire.hang(true)
+	begun := time.Now()
+	if err := store.Close(); err != nil {
+		t.Error(err)
+	}
+	wantQuick(t, begun)
+}
+
+// The end of a right doesn't wait for long for a server that hangs.
+func TestEndOfARightWhileTheServerHangs(t *testing.T) {
+	wire, url := newWire(t, schemaNamed(t, "osb_platform_hangs_right"))
+	store := open(t, url)
+	end, _, err := store.Only(background, "one")
+	if err != nil || end == nil {
+		t.Fatalf("got %t, %v, want a right", end != nil, err)
+	}
+	wire.hang(true)
+	begun := time.Now()
+	end()
+	check(t, store.Close())
+	wantQuick(t, begun)
+}
+
+// A server hangs while a step asks it for the bindings of an instance.
+func TestAServerThatHangsInAStep(t *testing.T) {
+	wire, url := newWire(t, schemaNamed(t, "osb_platform_hangs_step"))
+	store := open(t, url)
+	insert(t, store, instance(1))
+	ctx, cancel := context.WithCancel(background)
+	begun := time.Now()
+	err := store.Change(ctx, instance(1), func(_ time.Time, snapshot platform.Snapshot) (*platform.Change, error) {
+		wire.hang(true)
+		time.AfterFunc(50*time.Millisecond, cancel)
+		is, err := snapshot.AllGone()
+		if err == nil {
+			t.Errorf("AllGone: got %t, want an error", is)
+		}
+		return nil, err
+	})
+	if !errors.Is(err, platform.ErrAway) || !errors.Is(err, context.Canceled) {
+		t.Error(err)
+	}
+	if err := store.Close(); err != nil {
+		t.Error(err)
+	}
+	wantQuick(t, begun)
+}
+
+// calls are calls of a store over an instance and a new binding of it, in an order that works.
+func calls(store platform.Store, key, of platform.Key) map[string]func() error {
+	rest := func(_ time.Time, snapshot platform.Snapshot) (*platform.Change, error) {
+		snapshot.Entry.Unchanged++
+		return &platform.Change{Entry: snapshot.Entry, RemoveBindings: !snapshot.Key.IsBinding, WakeInstance: true}, nil
+	}
+	all := reads(store, key)
+	for name, call := range map[string]func() error{
+		"Insert and Change": func() error {
+			if err := store.Insert(background, order(of), accept); err != nil {
+				return err
+			}
+			if err := store.Change(background, of, rest); err != nil {
+				return err
+			}
+			return store.Change(background, key, rest)
+		},
+		"Claim": func() error {
+			_, err := store.Claim(background, []string{"one"}, 10, rest)
+			return err
+		},
+		"Free":        func() error { return store.Free(background, "me") },
+		"Ready":       func() error { return store.Ready(background) },
+		"Fingerprint": func() error { _, err := store.Fingerprint(background, "x"); return err },
+		"ReplaceFingerprint": func() error {
+			was, err := store.Fingerprint(background, "x")
+			if err != nil {
+				return err
+			}
+			return store.ReplaceFingerprint(background, was, was)
+		},
+		"HasWorkers": func() error { _, err := store.HasWorkers(background); return err },
+		"AddBroker, ChangeBroker and DropBroker": func() error {
+			if err := store.AddBroker(background, platform.Broker{Name: "b", URL: "http://b"}); err != nil {
+				return err
+			}
+			move := func(it platform.Broker) (*platform.Broker, error) { it.URL = "http://c"; return &it, nil }
+			if err := store.ChangeBroker(background, "b", move); err != nil {
+				return err
+			}
+			return store.DropBroker(background, "b")
+		},
+		"Only": func() error {
+			end, _, err := store.Only(background, "osb_platform_test_of_calls")
+			if err == nil && end == nil {
+				return errors.New("another has the name")
+			}
+			if err == nil {
+				end()
+			}
+			return err
+		},
+	} {
+		all[name] = call
+	}
+	return all
+}
+
+// reads are the calls of a store that only read.
+func reads(store platform.Store, key platform.Key) map[string]func() error {
+	return map[string]func() error{
+		"Read":     func() error { _, err := store.Read(background, key); return err },
+		"List":     func() error { _, err := store.List(background, platform.Filter{}); return err },
+		"Life":     func() error { _, err := store.Life(background, key); return err },
+		"Counts":   func() error { _, err := store.Counts(background); return err },
+		"InFlight": func() error { _, err := store.InFlight(background, 10); return err },
+		"NextDue":  func() error { _, _, err := store.NextDue(background, []string{"one"}); return err },
+		"Brokers":  func() error { _, err := store.Brokers(background); return err },
+	}
+}
+
+// order is the row of an order that is due.
+func order(key platform.Key) platform.Entry {
+	return platform.Entry{
+		Order: platform.Order{
+			Key: key, Broker: "one", Service: osb.MustParseID(theService), Plan: osb.MustParseID(thePlan),
+			Names:      platform.Names{Instance: key.Instance.String(), Service: theService, Plan: thePlan},
+			OrderTexts: platform.OrderTexts{Space: "a space", Organization: "an organization"}, Body: []byte("{}"), Try: 1, Tries: 3, First: key.ID(),
+		},
+		State: platform.Ordered, Since: at(0), Due: at(0),
+	}
+}
+
+func accept(platform.Snapshot) error { return nil }
+
+// addBroker adds the broker of the orders, unless it is there.
+func addBroker(t testing.TB, store platform.Store) {
+	t.Helper()
+	err := store.AddBroker(background, platform.Broker{Name: "one", URL: "http://one"})
+	if err != nil && !errors.Is(err, platform.ErrUsed) {
+		t.Fatalf("AddBroker: got %v, want no error", err)
+	}
+}
+
+// insert writes the orders of keys, and their broker if it isn't there.
+func insert(t testing.TB, store platform.Store, keys ...platform.Key) {
+	t.Helper()
+	addBroker(t, store)
+	for _, key := range keys {
+		if err := store.Insert(background, order(key), accept); err != nil {
+			t.Fatalf("Insert of %v: got %v, want no error", key, err)
+		}
+	}
+}
+
+// Whatever runs at once, no two transactions wait for each other in a circle. The server counts those that do for each
+// database, so the test has one of its own.
+func TestNoCircle(t *testing.T) {
+	const name, instances, bindings, goroutines = "osb_platform_circle", 6, 4, 9
+	url := pgtest.URL(t)
+	db := pgtest.DB(t, url)
+	pgtest.Exec(t, db, "DROP DATABASE IF EXISTS "+name+" WITH (FORCE)",
+		"CREATE DATABASE "+name+" ENCODING 'UTF8' TEMPLATE template0")
+	t.Cleanup(func() { pgtest.Exec(t, db, "DROP DATABASE "+name+" WITH (FORCE)") })
+	stores := []platform.Store{}
+	for n := 0; n < 3; n++ {
+		stores = append(stores, open(t, pgtest.In(t, url, name)))
+	}
+	for n := 0; n < instances; n++ {
+		insert(t, stores[0], instance(n))
+		for of := 0; of < bindings; of++ {
+			insert(t, stores[0], binding(of, n))
+		}
+	}
+	var all sync.WaitGroup
+	for n := 0; n < goroutines; n++ {
+		all.Add(1)
+		go func(it caller) {
+			defer all.Done()
+			for n := 0; n < 60; n++ {
+				if err := it.call(); err != nil {
+					t.Error(err)
+				}
+			}
+		}(caller{rand.New(rand.NewSource(int64(n))), stores[n%len(stores)], instances, bindings})
+	}
+	all.Wait()
+	if rows, err := stores[0].List(background, platform.Filter{}); err != nil || len(rows) <= instances*(1+bindings) {
+		t.Errorf("got %d rows (%v), want more: no binding was ordered again", len(rows), err)
+	}
+	for _, store := range stores {
+		if err := store.Close(); err != nil {
+			t.Error(err)
+		}
+	}
+	await(t, db, "the sessions have ended",
+		"SELECT NOT EXISTS (SELECT FROM pg_stat_activity WHERE datname = $1 AND backend_type = 'client backend')", name)
+	circles := -1
+	err := db.QueryRow("SELECT deadlocks FROM pg_stat_database WHERE datname = $1", name).Scan(&circles)
+	if err != nil || circles != 0 {
+		t.Errorf("got %d circles, %v, want none", circles, err)
+	}
+}
+
+// A caller makes calls at random.
+type caller struct {
+	random              *rand.Rand
+	store               platform.Store
+	instances, bindings int
+}
+
+func (c caller) call() error {
+	of := c.random.Intn(c.instances)
+	switch c.random.Intn(8) {
+	default:
+		claimed, err := c.store.Claim(background, []string{"one"}, 1+c.random.Intn(12), c.step)
+		for _, row := range claimed {
+			if row.Err != nil {
+				err = row.Err
+			}
+		}
+		return err
+	case 0:
+		return c.store.Change(background, instance(of), c.step)
+	case 1:
+		return c.store.Change(background, binding(c.random.Intn(c.bindings), of), c.step)
+	case 2:
+		return c.store.Free(background, fmt.Sprint("worker ", c.random.Intn(2)))
+	case 3:
+		err := c.store.Insert(background, order(binding(c.random.Intn(c.bindings), of)), accept)
+		if errors.Is(err, platform.ErrUsed) {
+			return nil
+		}
+		return err
+	}
+}
+
+// step changes a row and what is beside it. The row is due again at once.
+func (c caller) step(now time.Time, snapshot platform.Snapshot) (*platform.Change, error) {
+	change := platform.Change{
+		Entry: snapshot.Entry, RemoveBindings: c.random.Intn(2) == 0, WakeInstance: c.random.Intn(2) == 0,
+	}
+	change.Entry.Due, change.Entry.Removal, change.Entry.Lease = now, platform.Removed, platform.Lease{}
+	if snapshot.Key.IsBinding && c.random.Intn(20) == 0 { // a further order of the binding
+		next := order(binding(c.bindings+1+c.random.Intn(1<<40), 0))
+		next.Key.Instance, next.Names.Instance = snapshot.Key.Instance, snapshot.Names.Instance
+		change.Next = &next
+	}
+	if c.random.Intn(2) == 0 {
+		change.Entry.Lease = platform.Lease{
+			Worker: fmt.Sprint("worker ", c.random.Intn(2)), Until: now.Add(5 * time.Millisecond),
+		}
+	}
+	if snapshot.AllGone != nil && c.random.Intn(2) == 0 {
+		if _, err := snapshot.AllGone(); err != nil {
+			return nil, err
+		}
+	}
+	return &change, nil
 }

@@ -2,6 +2,7 @@ package postgres_test
 
 import (
 	"bufio"
+	"errors"
 	"fmt"
 	"io"
 	"os"
@@ -9,8 +10,11 @@ import (
 	"testing"
 	"time"
 
+	"pippinterm/internal/pg/pgtest"
+	"pippinterm/osb"
 	"pippinterm/platform"
 	"pippinterm/platform/postgres"
+	"pippinterm/platform/storetest"
 )
 
 // urlVariable makes the test binary another process of a test: it claims all rows of the store of this URL, and prints
@@ -58,22 +62,22 @@ func claimAll(url string) error {
 func claimSome(store platform.Store) (int, error) {
 	worker := fmt.Sprint("process ", os.Getpid())
 	claimed, err := store.Claim(background, []string{"one"}, 3,
-		func(now time.Time, held platform.Held) (*platform.Change, error) {
-			held.Entry.Lease = platform.Lease{Worker: worker, Until: now.Add(time.Hour)}
-			return &platform.Change{Entry: held.Entry}, nil
+		func(now time.Time, snapshot platform.Snapshot) (*platform.Change, error) {
+			snapshot.Entry.Lease = platform.Lease{Worker: worker, Until: now.Add(time.Hour)}
+			return &platform.Change{Entry: snapshot.Entry}, nil
 		})
-	for _, it := range claimed {
-		if it.Err != nil {
-			return 0, it.Err
+	for _, row := range claimed {
+		if row.Err != nil {
+			return 0, row.Err
 		}
-		fmt.Println(it.Key)
+		fmt.Println(row.Key)
 	}
 	return len(claimed), err
 }
 
 // Of two processes that claim at once, each row goes to one.
 func TestTwoProcesses(t *testing.T) {
-	url := named(t, "osb_platform_processes")
+	url := schemaNamed(t, "osb_platform_processes")
 	store := open(t, url)
 	defer store.Close()
 	const rows = 100
@@ -83,19 +87,19 @@ func TestTwoProcesses(t *testing.T) {
 	processes := []*process{start(t, url), start(t, url)}
 	taken := map[string]int{}
 	for _, word := range []string{"open", "begun", ""} {
-		for _, it := range processes {
-			for _, key := range it.until(t, word) {
+		for _, process := range processes {
+			for _, key := range process.until(t, word) {
 				taken[key]++
 			}
 		}
-		for _, it := range processes {
+		for _, process := range processes {
 			if word != "" {
-				it.release(t)
+				process.release(t)
 			}
 		}
 	}
-	for _, it := range processes {
-		if err := it.command.Wait(); err != nil {
+	for _, process := range processes {
+		if err := process.command.Wait(); err != nil {
 			t.Error(err)
 		}
 	}
@@ -104,11 +108,11 @@ func TestTwoProcesses(t *testing.T) {
 		taken[key.String()]++
 	}
 	if len(taken) != 2*rows {
-		t.Errorf("%d rows of %d were claimed", len(taken), 2*rows)
+		t.Errorf("got %d rows claimed, want %d", len(taken), 2*rows)
 	}
 	for key, count := range taken {
 		if count != 1 {
-			t.Errorf("%s was claimed %d times", key, count)
+			t.Errorf("%s: got %d claims, want 1", key, count)
 		}
 	}
 }
@@ -126,16 +130,10 @@ func start(t *testing.T, url string) *process {
 	command.Env = append(os.Environ(), urlVariable+"="+url)
 	command.Stderr = os.Stderr
 	in, err := command.StdinPipe()
-	if err != nil {
-		t.Fatal(err)
-	}
+	check(t, err)
 	out, err := command.StdoutPipe()
-	if err != nil {
-		t.Fatal(err)
-	}
-	if err := command.Start(); err != nil {
-		t.Fatal(err)
-	}
+	check(t, err)
+	check(t, command.Start())
 	t.Cleanup(func() { _ = command.Process.Kill() })
 	return &process{command: command, in: in, lines: bufio.NewScanner(out)}
 }
@@ -150,7 +148,7 @@ func (p *process) until(t *testing.T, word string) (keys []string) {
 		keys = append(keys, p.lines.Text())
 	}
 	if word != "" {
-		t.Fatalf("the process has ended before %q", word)
+		t.Fatalf("got the end of the process, want %q first", word)
 	}
 	return keys
 }
@@ -160,5 +158,285 @@ func (p *process) release(t *testing.T) {
 	t.Helper()
 	if _, err := io.WriteString(p.in, "\n"); err != nil {
 		t.Fatal(err)
+	}
+}
+
+// The time that a step decides by is read after its rows are locked. A worker that has waited, or was paused before it
+// had the lock, doesn't decide by an old time.
+func TestTheTimeOfAStep(t *testing.T) {
+	for n, test := range []struct {
+		name  string
+		locks string // what another transaction holds
+		key   platform.Key
+	}{
+		{"an instance", "SELECT FROM osb_instances FOR KEY SHARE", instance(1)},
+		{"an instance that is changed", "UPDATE osb_instances SET tries = 7", instance(1)},
+		{"the instance of a binding", "SELECT FROM osb_instances FOR UPDATE", binding(1, 1)},
+		{"the instance of a binding that is changed", "UPDATE osb_instances SET tries = 7 WHERE id IN " +
+			"(SELECT id FROM osb_instances FOR UPDATE)", binding(1, 1)},
+		{"a binding", "SELECT FROM osb_bound FOR UPDATE", binding(1, 1)},
+		{"a binding that is changed", "UPDATE osb_bound SET tries = 7", binding(1, 1)},
+	} {
+		t.Run(test.name, func(t *testing.T) {
+			name := fmt.Sprintf("osb_platform_time_%d", n)
+			url := schemaNamed(t, name)
+			store, tx := open(t, url), begin(t, url)
+			defer store.Close()
+			insert(t, store, instance(1), binding(1, 1))
+			run(t, tx, test.locks)
+			done, now := make(chan error, 1), time.Time{}
+			go func() {
+				step := func(at time.Time, snapshot platform.Snapshot) (*platform.Change, error) {
+					now = at
+					return &platform.Change{Entry: snapshot.Entry}, nil
+				}
+				done <- store.Change(background, test.key, step)
+			}()
+			await(t, pgtest.DB(t, pgtest.URL(t)), "the step waits", isWaiting, name)
+			var released float64
+			check(t, tx.QueryRow("SELECT date_part('epoch', clock_timestamp())").Scan(&released))
+			check(t, tx.Commit())
+			check(t, <-done)
+			if float64(now.UnixMicro())/1e6 < released-1e-6 {
+				t.Errorf("got the time %v, want one after %f", now, released)
+			}
+		})
+	}
+}
+
+// A worker that is paused between two statements of a transaction keeps no other one from claiming what it hasn't
+// locked. When its transaction has been idle for too long, the server ends it: the rows are free, and it writes
+// nothing, whatever it has decided.
+func TestAWorkerThatIsPaused(t *testing.T) {
+	t.Parallel()
+	for n, test := range []struct {
+		name string
+		work func(platform.Store, platform.Step) error
+	}{
+		{"in a claim", func(store platform.Store, step platform.Step) error {
+			_, err := store.Claim(background, []string{"one"}, 2, step)
+			return err
+		}},
+		{"in a change", func(store platform.Store, step platform.Step) error {
+			return store.Change(background, binding(1, 1), step)
+		}},
+	} {
+		it, n := test, n
+		t.Run(it.name, func(t *testing.T) {
+			t.Parallel()
+			url := schemaNamed(t, fmt.Sprintf("osb_platform_pause_%d", n))
+			paused, other := open(t, url), open(t, url)
+			defer paused.Close()
+			defer other.Close()
+			insert(t, paused, instance(1), binding(1, 1), instance(2), instance(3))
+			gate, done := storetest.NewGate(), make(chan error, 1)
+			defer gate.Open()
+			go func() {
+				done <- it.work(paused, func(now time.Time, snapshot platform.Snapshot) (*platform.Change, error) {
+					gate.Pass()
+					snapshot.Entry.Lease = platform.Lease{Worker: "paused", Until: now.Add(time.Hour)}
+					return &platform.Change{Entry: snapshot.Entry}, nil
+				})
+			}()
+			gate.Await(t, done)
+			keys := claimFor(t, other, "other", 10)
+			if len(keys) == 0 || len(keys) == 4 { // all, if it had waited for the end of the session
+				t.Errorf("the other worker: got %v claimed, want some, and not all", keys)
+			}
+			left := 4 - len(keys)
+			await(t, pgtest.DB(t, pgtest.URL(t)), "the server ends the session", "SELECT NOT EXISTS "+
+				"(SELECT FROM pg_stat_activity WHERE application_name = $1 AND state = 'idle in transaction')",
+				fmt.Sprintf("osb_platform_pause_%d", n))
+			if keys = claimFor(t, other, "other", 10); len(keys) != left {
+				t.Errorf("after the end of the session: got %v claimed, want %d", keys, left)
+			}
+			gate.Open()
+			if err := <-done; !errors.Is(err, platform.ErrAway) {
+				t.Errorf("the paused worker: got %v, want %v", err, platform.ErrAway)
+			}
+			for _, key := range []platform.Key{instance(1), binding(1, 1), instance(2), instance(3)} {
+				if entry, err := other.Read(background, key); err != nil || entry.Lease.Worker != "other" {
+					t.Errorf("%v: got %+v, %v, want the lease of the worker other", key, entry.Lease, err)
+				}
+			}
+			if err := paused.Ready(background); err != nil { // it goes on, with another session
+				t.Error(err)
+			}
+		})
+	}
+}
+
+// claimFor leases rows for a worker.
+func claimFor(t testing.TB, store platform.Store, worker string, most int) (keys []platform.Key) {
+	t.Helper()
+	claimed, err := store.Claim(background, []string{"one"}, most,
+		func(now time.Time, snapshot platform.Snapshot) (*platform.Change, error) {
+			snapshot.Entry.Lease = platform.Lease{Worker: worker, Until: now.Add(time.Hour)}
+			return &platform.Change{Entry: snapshot.Entry}, nil
+		})
+	if err != nil {
+		t.Fatalf("Claim: got %v, want no error", err)
+	}
+	for _, row := range claimed {
+		keys = append(keys, row.Key)
+		if row.Err != nil {
+			t.Errorf("%v: got %v, want no error", row.Key, row.Err)
+		}
+	}
+	return keys
+}
+
+// A worker that is paused between its claim and its change has lost its lease, and another one has gone on. Its change
+// reads what the other has written.
+func TestAWorkerThatIsPausedBetweenTransactions(t *testing.T) {
+	url := schemaNamed(t, "osb_platform_between")
+	paused, other := open(t, url), open(t, url)
+	defer paused.Close()
+	defer other.Close()
+	insert(t, paused, instance(1))
+	step := func(worker string) platform.Step {
+		return func(now time.Time, snapshot platform.Snapshot) (*platform.Change, error) {
+			snapshot.Entry.Unchanged++
+			snapshot.Entry.Lease = platform.Lease{Worker: worker, Until: now.Add(-time.Second)} // it is over at once
+			return &platform.Change{Entry: snapshot.Entry}, nil
+		}
+	}
+	for _, test := range []struct {
+		store  platform.Store
+		worker string
+	}{{paused, "paused"}, {other, "other"}} {
+		claimed, err := test.store.Claim(background, []string{"one"}, 1, step(test.worker))
+		if err != nil || len(claimed) != 1 {
+			t.Fatalf("%s: got %v, %v, want one row", test.worker, claimed, err)
+		}
+	}
+	err := paused.Change(background, instance(1), func(_ time.Time, snapshot platform.Snapshot) (*platform.Change, error) {
+		if snapshot.Lease.Worker != "other" || snapshot.Unchanged != 2 {
+			t.Errorf("the change: got %+v, %d, want the other's lease and 2", snapshot.Lease, snapshot.Unchanged)
+		}
+		return nil, nil
+	})
+	if err != nil {
+		t.Error(err)
+	}
+}
+
+// If the row of its instance is locked, a binding is passed over, and its row isn't locked. Otherwise two claims that
+// remove bindings could wait for each other.
+func TestABindingWhoseInstanceIsLocked(t *testing.T) {
+	url := schemaNamed(t, "osb_platform_order")
+	store, tx := open(t, url), begin(t, url)
+	defer store.Close()
+	insert(t, store, instance(1), binding(1, 1), instance(2), binding(2, 2))
+	run(t, tx, "SELECT FROM osb_instances WHERE id = $1 FOR UPDATE", id(1))
+	isChecked := false
+	claimed, err := store.Claim(background, []string{"one"}, 10,
+		func(_ time.Time, snapshot platform.Snapshot) (*platform.Change, error) {
+			if !isChecked {
+				run(t, tx, "SELECT FROM osb_bound WHERE id = $1 FOR UPDATE NOWAIT", id(1))
+			}
+			isChecked = true
+			return nil, nil
+		})
+	if err != nil || len(claimed) != 2 || !isChecked {
+		t.Errorf("got %v claimed, %v, want 2, of which one is checked", claimed, err)
+	}
+}
+
+// A claim waits for no row, not even for one that is changed and then locked.
+func TestABindingWhoseInstanceIsChangedAndLocked(t *testing.T) {
+	url := schemaNamed(t, "osb_platform_versions")
+	store, tx := open(t, url), begin(t, url)
+	defer store.Close()
+	insert(t, store, instance(1), binding(1, 1), instance(2), binding(2, 2))
+	run(t, tx, "UPDATE osb_instances SET tries = 7 WHERE id = $1", id(1))
+	run(t, tx, "SELECT FROM osb_instances WHERE id = $1 FOR UPDATE", id(1))
+	claimed, err := store.Claim(background, []string{"one"}, 10, count(new(int)))
+	if err != nil || len(claimed) != 2 {
+		t.Errorf("got %v claimed, %v, want 2", claimed, err)
+	}
+}
+
+// A binding is sent, and then its instance is stepped in the same claim: the binding may exist, though the database
+// doesn't have it yet.
+func TestAnInstanceBehindItsBinding(t *testing.T) {
+	store := open(t, schemaNamed(t, "osb_platform_behind"))
+	defer store.Close()
+	insert(t, store, instance(1), instance(2), binding(1, 1), binding(2, 2))
+	for n, key := range []platform.Key{binding(1, 1), binding(2, 2), instance(1), instance(2)} {
+		err := store.Change(background, key, func(_ time.Time, snapshot platform.Snapshot) (*platform.Change, error) {
+			snapshot.Entry.Due = at(n)
+			return &platform.Change{Entry: snapshot.Entry}, nil
+		})
+		check(t, err)
+	}
+	claimed, err := store.Claim(background, []string{"one"}, 10,
+		func(_ time.Time, snapshot platform.Snapshot) (*platform.Change, error) {
+			switch snapshot.Key {
+			case binding(1, 1):
+				snapshot.Entry.State, snapshot.Entry.IsSent, snapshot.Entry.Record = platform.Wanted, true, wantedBinding(t)
+				return &platform.Change{Entry: snapshot.Entry}, nil
+			case instance(1), instance(2):
+				is, err := snapshot.AllGone()
+				if err != nil || is != (snapshot.Key == instance(2)) {
+					t.Errorf("the bindings of %v: got all gone %t, %v, want it of the second", snapshot.Key, is, err)
+				}
+			}
+			return nil, nil
+		})
+	if err != nil || len(claimed) != 4 {
+		t.Errorf("got %v claimed, %v, want 4", claimed, err)
+	}
+}
+
+func wantedBinding(t *testing.T) osb.Record {
+	t.Helper()
+	wanted, sent := osb.Create(id(1), osb.MustParseID(theService), osb.MustParseID(thePlan), true)
+	ready, err := wanted.Answer(sent.Attempt, osb.Answer{Status: 201, Body: osb.BodyEmpty})
+	check(t, err)
+	record, _, err := ready.CreateBinding(id(1), true)
+	check(t, err)
+	return record
+}
+
+// Many steps of bindings of an instance run at once, and each may wake the instance. None is undone and tried again.
+func TestBindingsThatWakeAtOnce(t *testing.T) {
+	url := schemaNamed(t, "osb_platform_wake")
+	stores := []platform.Store{open(t, url), open(t, url)}
+	insert(t, stores[0], instance(1))
+	err := stores[0].Change(background, instance(1), func(_ time.Time, snapshot platform.Snapshot) (*platform.Change, error) {
+		snapshot.Entry.Removal, snapshot.Entry.Due = platform.Removed, time.Time{}
+		return &platform.Change{Entry: snapshot.Entry}, nil
+	})
+	check(t, err)
+	const steps = 4
+	gate, done := storetest.NewGate(), make(chan error, steps)
+	defer gate.Open()
+	for n := 0; n < steps; n++ {
+		insert(t, stores[0], binding(n, 1))
+		go func(n int) {
+			done <- stores[n%2].Change(background, binding(n, 1),
+				func(_ time.Time, snapshot platform.Snapshot) (*platform.Change, error) {
+					gate.Pass()
+					return &platform.Change{Entry: snapshot.Entry, WakeInstance: true}, nil
+				})
+		}(n)
+	}
+	for n := 0; n < steps; n++ {
+		gate.Await(t, done)
+	}
+	gate.Open()
+	for n := 0; n < steps; n++ {
+		if err := <-done; err != nil {
+			t.Error(err)
+		}
+	}
+	if more := gate.Steps(); more != 0 {
+		t.Errorf("got %d steps tried again, want 0", more)
+	}
+	for _, store := range stores {
+		if err := store.Close(); err != nil {
+			t.Error(err)
+		}
 	}
 }

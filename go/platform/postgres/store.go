@@ -23,10 +23,13 @@ import (
 	"database/sql"
 	"errors"
 	"fmt"
+	"hash/crc32"
+	"runtime/debug"
 	"sync"
 	"time"
 
 	"pippinterm/internal/pg"
+	"pippinterm/platform"
 )
 
 const (
@@ -55,6 +58,16 @@ type Store struct {
 	running  sync.WaitGroup
 }
 
+// These errors are returned wrapped: compare them by errors.Is.
+var (
+	// ErrBadAddress reports that a URL of a server can't be used.
+	ErrBadAddress = pg.ErrBadAddress
+	// ErrNotDurable reports that a commit might not outlive a power cut: synchronous_commit is off.
+	ErrNotDurable = pg.ErrNotDurable
+	// ErrUnknownCommit reports that nobody knows whether a transaction was committed.
+	ErrUnknownCommit = pg.ErrUnknownCommit
+)
+
 // Open opens the store in the database of a URL, with at most so many connections, at least 1; each right of Only has
 // one more. It creates the tables, or extends those of version 0.2, whose workers have to be stopped before. Version
 // 0.2 can't serve the tables any more then. For tables that need no change, a role that may read, insert, update and
@@ -71,9 +84,9 @@ type Store struct {
 // If the server doesn't answer, a call returns within 2 seconds after its context has ended. Without that each
 // statement is waited for 45 seconds at most.
 //
-// Errors: pg.ErrBadAddress, pg.ErrNotDurable, and those of the connection and of the server. The calls of a
+// Errors: ErrBadAddress, ErrNotDurable, and those of the connection and of the server. The calls of a
 // Store return platform.ErrAway if the server can't be reached for now, and also if the answer to a COMMIT was lost
-// (pg.ErrUnknownCommit): after any other error nothing is written.
+// (ErrUnknownCommit): after any other error nothing is written.
 func Open(ctx context.Context, url string, most int) (*Store, error) {
 	return open(ctx, url, most, extend)
 }
@@ -168,9 +181,6 @@ func (s *Store) transaction(ctx context.Context, work func(*sql.Tx) (bool, error
 		default:
 			return err
 		}
-		if ctx.Err() != nil {
-			return ctx.Err()
-		}
 	}
 }
 
@@ -181,4 +191,261 @@ func (s *Store) attempt(ctx context.Context, work func(*sql.Tx) (bool, error)) e
 	}
 	defer conn.Close()
 	return pg.Transaction(ctx, conn, work)
+}
+
+// A call is one call of a Store. The functions that its caller has passed are called by do alone, so that none of them
+// runs once the call has returned.
+type call struct {
+	turn   sync.Mutex
+	isOver bool
+}
+
+var errOver = errors.New("the call has ended")
+
+// do calls a function that the caller has passed. A panic of it is an error.
+func (c *call) do(passed func() error) (err error) {
+	c.turn.Lock()
+	defer c.turn.Unlock()
+	if c.isOver {
+		return errOver
+	}
+	defer func() {
+		if what := recover(); what != nil {
+			err = fmt.Errorf("panic: %v\n%s", what, debug.Stack())
+		}
+	}()
+	return passed()
+}
+
+func (c *call) end() {
+	c.turn.Lock()
+	defer c.turn.Unlock()
+	c.isOver = true
+}
+
+// within calls work as a call of the store, and returns what it returns. lib/pq doesn't return before the server has
+// answered, or its time is over, even if the context ends. So once the context has ended, work is waited for no longer
+// than grace; the connection that it uses is closed when it returns.
+func within[T any](ctx context.Context, s *Store, work func(*call) (T, error)) (value T, err error) {
+	if err := s.enter(); err != nil {
+		return value, err
+	}
+	defer s.running.Done()
+	this := &call{}
+	value, isLeft, err := bound(ctx, func() (T, error) { return work(this) })
+	if isLeft {
+		this.end()
+	}
+	if ctx.Err() != nil && pg.IsCode(err, pg.QueryCanceled) {
+		err = ctx.Err()
+	}
+	return value, asAway(err)
+}
+
+// An outcome is what work returns.
+type outcome[T any] struct {
+	value T
+	err   error
+}
+
+// bound returns what work returns. If isLeft is true, it has left work running, since the context has ended.
+func bound[T any](ctx context.Context, work func() (T, error)) (value T, isLeft bool, err error) {
+	if ctx.Done() == nil {
+		value, err = work()
+		return value, false, err
+	}
+	done := make(chan outcome[T], 1)
+	go func() {
+		it := outcome[T]{err: errors.New("a function that was passed has ended its goroutine")}
+		defer func() { done <- it }()
+		it.value, it.err = work()
+	}()
+	select {
+	case it := <-done:
+		return it.value, false, it.err
+	case <-ctx.Done():
+	}
+	timer := time.NewTimer(grace)
+	defer timer.Stop()
+	select {
+	case it := <-done:
+		return it.value, false, it.err
+	case <-timer.C:
+		return value, true, away{ctx.Err()}
+	}
+}
+
+// run is within for work that has only an error.
+func (s *Store) run(ctx context.Context, work func(*call) error) error {
+	_, err := within(ctx, s, func(this *call) (struct{}, error) { return struct{}{}, work(this) })
+	return err
+}
+
+// away is an error that is platform.ErrAway too.
+type away struct{ error }
+
+func (a away) Error() string { return platform.ErrAway.Error() + ": " + a.error.Error() }
+
+func (a away) Unwrap() error { return a.error }
+
+func (a away) Is(other error) bool { return other == platform.ErrAway }
+
+// asAway makes an error platform.ErrAway if the server can't be used for now, or nobody knows whether it has committed.
+func asAway(err error) error {
+	if !pg.IsAway(err) {
+		return err
+	}
+	return away{err}
+}
+
+// workerLock is the first half of the key of a worker's advisory lock. The second half is a digest of its name. Version
+// 0.2 takes the same locks.
+const workerLock = 0x6F736270
+
+const (
+	looks    = 2 * time.Second  // so often it is looked whether the session of a worker lives
+	patience = 10 * time.Second // so long a session may take to answer that
+	goodbye  = 2 * time.Second  // so long the end of a right is waited for
+)
+
+// Only takes an advisory lock on a session of its own, as platform.Store says. The lock ends with the session, so the
+// URL must not be that of a pooler that gives a session to many clients in turn. lost is closed if the session has
+// ended, or hasn't answered for 10 seconds.
+func (s *Store) Only(ctx context.Context, worker string) (end func(), lost <-chan struct{}, err error) {
+	it, err := within(ctx, s, func(*call) (*right, error) { return s.right(ctx, worker) })
+	if err != nil || it == nil {
+		return nil, nil, err
+	}
+	it.watching.Add(1)
+	go it.watch()
+	return it.end, it.lost, nil
+}
+
+// A right is that of a worker to its name.
+type right struct {
+	db       *sql.DB
+	conn     *sql.Conn
+	lost     chan struct{}
+	over     chan struct{}
+	once     sync.Once
+	watching sync.WaitGroup
+}
+
+// right takes the lock of a name, or returns nil if another session has it.
+func (s *Store) right(ctx context.Context, worker string) (*right, error) {
+	db, err := pg.Open(s.url, options(1, patience))
+	if err != nil {
+		return nil, err
+	}
+	it := &right{db: db, lost: make(chan struct{}), over: make(chan struct{})}
+	isOurs := false
+	if it.conn, err = db.Conn(ctx); err == nil {
+		name := int32(int64(crc32.ChecksumIEEE([]byte(worker))) - 1<<31)
+		err = it.conn.QueryRowContext(ctx, "SELECT pg_try_advisory_lock($1, $2)", workerLock, name).Scan(&isOurs)
+	}
+	if err != nil || !isOurs {
+		it.close()
+		return nil, err
+	}
+	return it, nil
+}
+
+func (r *right) close() {
+	if r.conn != nil {
+		pg.Discard(r.conn)
+	}
+	_ = r.db.Close()
+}
+
+// watch closes lost if the session ends before the right does.
+func (r *right) watch() {
+	defer r.watching.Done()
+	ticker := time.NewTicker(looks)
+	defer ticker.Stop()
+	for {
+		select {
+		case <-r.over:
+			return
+		case <-ticker.C:
+		}
+		if !r.lives() {
+			close(r.lost)
+			return
+		}
+	}
+}
+
+// lives is whether the session has answered.
+func (r *right) lives() bool {
+	ctx, cancel := context.WithTimeout(context.Background(), patience)
+	defer cancel()
+	_, isLeft, err := bound(ctx, func() (sql.Result, error) { return r.conn.ExecContext(ctx, "SELECT 1") })
+	return err == nil && !isLeft
+}
+
+// end ends the right. It returns once the server has freed the name, or after a moment if the server doesn't answer.
+func (r *right) end() {
+	r.once.Do(func() {
+		close(r.over)
+		ended := make(chan struct{})
+		go func() {
+			defer close(ended)
+			r.watching.Wait()
+			_, _ = r.conn.ExecContext(context.Background(), "SELECT pg_advisory_unlock_all()")
+			r.close()
+		}()
+		select {
+		case <-ended:
+		case <-time.After(goodbye):
+		}
+	})
+}
+
+// HasWorkers looks for locks of workers, as platform.Store says.
+func (s *Store) HasWorkers(ctx context.Context) (bool, error) {
+	return within(ctx, s, func(*call) (has bool, err error) {
+		err = s.db.QueryRowContext(ctx, hasWorkers, workerLock).Scan(&has)
+		return has, err
+	})
+}
+
+const leasedBy = `
+SELECT id, NULL FROM osb_instances WHERE worker = $1 UNION ALL SELECT id, binding FROM osb_bound WHERE worker = $1
+`
+
+const (
+	freeInstance = "UPDATE osb_instances" + freed
+	freeBinding  = "UPDATE osb_bound" + freed + " AND binding = $3"
+	freed        = " SET worker = NULL, leased_until = NULL, due = least(due, " + clock +
+		") WHERE worker = $1 AND id = $2"
+)
+
+// Free ends the leases of a worker, as platform.Store says. Each row is a transaction of its own: with more rows locked
+// it could wait for a step that waits for it. If it fails, it may have ended some.
+func (s *Store) Free(ctx context.Context, worker string) error {
+	return s.run(ctx, func(*call) error {
+		type key struct {
+			id      string
+			binding sql.NullString
+		}
+		keys := []key{}
+		rows, err := s.db.QueryContext(ctx, leasedBy, worker)
+		err = each(rows, err, func(rows *sql.Rows) error {
+			var it key
+			err := rows.Scan(&it.id, &it.binding)
+			keys = append(keys, it)
+			return err
+		})
+		for n := 0; n < len(keys) && err == nil; n++ {
+			query, parameters := freeInstance, []any{worker, keys[n].id}
+			if keys[n].binding.Valid {
+				query, parameters = freeBinding, append(parameters, keys[n].binding.String)
+			}
+			err = s.transaction(ctx, func(tx *sql.Tx) (bool, error) {
+				_, err := tx.ExecContext(ctx, query, parameters...)
+				return true, err
+			})
+		}
+		return err
+	})
 }

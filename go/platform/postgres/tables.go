@@ -5,6 +5,7 @@ import (
 	"database/sql"
 	"errors"
 	"fmt"
+	"strings"
 	"time"
 
 	"pippinterm/internal/pg"
@@ -30,7 +31,7 @@ CREATE INDEX IF NOT EXISTS osb_leased_instances ON osb_instances (leased_until) 
 // The rows of version 0.2 are of one broker, which gets the name default. Their ids are their own names, nobody knows
 // whether the platform has made them up, and they are tried once. Of a row that is gone only the last deletion was due,
 // and no step of one that is withdrawn counts. The user of the broker, the organization and the space are those that
-// version 0.2 sends if it isn't told others.
+// version 0.2 sends if no others are given.
 //
 // The last statements stop version 0.2, which would send the orders of all brokers to its own: it rejects a store whose
 // broker has another URL, and can't insert a row without names.
@@ -75,10 +76,28 @@ INSERT INTO osb_broker_asked VALUES (1, 'of a later version of osb-platform, whi
     ON CONFLICT (one) DO UPDATE SET url = excluded.url;
 `
 
-// isCurrent is whether nothing is missing: all that version 0.2 didn't have comes in one transaction.
-const isCurrent = "SELECT to_regclass('osb_platform') IS NOT NULL"
+// isSince02 is whether the tables have what version 0.2 didn't have: that is added in one transaction.
+const isSince02 = "SELECT to_regclass('osb_platform') IS NOT NULL"
 
-// hasWorkers is whether a worker of version 0.2 may run over the tables: it holds a lock of its name (only.go). No
+// isCurrent is whether nothing is missing: the tables have the columns of platform.ColumnNames, too.
+var isCurrent = isSince02 + fmt.Sprintf(" AND (SELECT count(*) FROM pg_attribute WHERE NOT attisdropped "+
+	"AND attrelid IN (to_regclass('osb_instances'), to_regclass('osb_bound')) AND attname IN ('%s')) = %d",
+	strings.Join(texts(), "', '"), 2*len(texts()))
+
+// texts are the columns of platform.ColumnNames.
+func texts() []string { return append(append([]string{}, orderTexts...), entryTexts...) }
+
+// missingTexts are statements that add those that the tables lack.
+func missingTexts() (statements string) {
+	for _, table := range []string{"osb_instances", "osb_bound"} {
+		for _, name := range texts() {
+			statements += "ALTER TABLE " + table + " ADD COLUMN IF NOT EXISTS " + name + " text;\n"
+		}
+	}
+	return statements
+}
+
+// hasWorkers is whether a worker of version 0.2 may run over the tables: it holds a lock of its name (store.go). No
 // later worker runs before the tables are extended.
 const hasWorkers = `
 SELECT to_regclass('osb_instances') IS NOT NULL AND EXISTS (SELECT FROM pg_locks JOIN pg_database ON oid = database
@@ -145,12 +164,19 @@ func extend(ctx context.Context, tx *sql.Tx) (bool, error) {
 	if err := tx.QueryRowContext(ctx, isCurrent).Scan(&isDone); err != nil || isDone {
 		return false, err
 	}
+	if err := tx.QueryRowContext(ctx, isSince02).Scan(&isDone); err != nil {
+		return false, err
+	}
+	if isDone {
+		_, err := tx.ExecContext(ctx, missingTexts())
+		return true, err
+	}
 	if err := tx.QueryRowContext(ctx, hasWorkers, workerLock).Scan(&hasAny); err != nil {
 		return false, err
 	}
 	if hasAny {
 		return false, pg.Lasting(errWorkers)
 	}
-	_, err := tx.ExecContext(ctx, tablesOf02+tablesSince02)
+	_, err := tx.ExecContext(ctx, tablesOf02+tablesSince02+missingTexts())
 	return true, err
 }

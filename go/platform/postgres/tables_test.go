@@ -9,6 +9,7 @@ import (
 	"testing"
 	"time"
 
+	"pippinterm/internal/diff"
 	"pippinterm/internal/pg"
 	"pippinterm/internal/pg/pgtest"
 	"pippinterm/osb"
@@ -60,7 +61,7 @@ type row02 struct {
 	parameters string
 }
 
-// rows02 has each state, with what comes along with it.
+// rows02 has each state, with all that belongs to it.
 var rows02 = []row02{
 	{state: platform.Ordered, isOrder: true, due: true, parameters: `{"parameters": {"x": [1, "é"]}}`},
 	{state: platform.Ordered, isOrder: true, due: true, removal: 1},
@@ -130,13 +131,14 @@ func want02(t *testing.T, got platform.Entry, n int, it row02) {
 	t.Helper()
 	order := platform.Order{
 		Key: instance(n), Broker: "default", Service: osb.MustParseID(theService), Plan: osb.MustParseID(thePlan),
-		Names:        platform.Names{Instance: id(n).String(), Service: theService, Plan: thePlan},
-		Organization: "osb-platform", Space: "osb-platform", Try: 1, Tries: 1, First: id(n),
+		Names:      platform.Names{Instance: id(n).String(), Service: theService, Plan: thePlan},
+		OrderTexts: platform.OrderTexts{Organization: "osb-platform", Space: "osb-platform"}, Try: 1, Tries: 1, First: id(n),
 	}
 	body := string(got.Body)
 	got.Order.Body = nil
-	if fmt.Sprintf("%+v", got.Order) != fmt.Sprintf("%+v", order) || body != orText(it.parameters, "{}") {
-		t.Errorf("row %d: the order is %+v with %s", n, got.Order, body)
+	diff.Check(t, got.Order, order, "row %d: the order", n)
+	if want := orText(it.parameters, "{}"); body != want {
+		t.Errorf("row %d: got the body %s, want %s", n, body, want)
 	}
 	polled, due, lease := time.Time{}, time.Time{}, platform.Lease{}
 	if it.isPolled {
@@ -157,10 +159,10 @@ func want02(t *testing.T, got platform.Entry, n int, it row02) {
 	have := []any{got.State, got.Since, got.SentUntil, got.PolledSince, got.Removal, got.HasLast, got.Due,
 		got.Unchanged, got.Lease, got.IsSent, operation}
 	if fmt.Sprint(have...) != fmt.Sprint(want...) {
-		t.Errorf("row %d: %v, want %v", n, have, want)
+		t.Errorf("row %d: got %v, want %v", n, have, want)
 	}
 	if got.IsSent && (platform.StateOf(got.Record) != it.state || got.Record.Attempt() != uint64(it.attempt(n))) {
-		t.Errorf("row %d: the record is %v", n, got.Record)
+		t.Errorf("row %d: got the record %v, want its state and attempt", n, got.Record)
 	}
 }
 
@@ -169,28 +171,26 @@ func TestTablesOf02(t *testing.T) {
 	url := pgtest.Schema(t, pgtest.URL(t), "osb_platform_of_02")
 	db := pgtest.DB(t, url)
 	pgtest.Exec(t, db, of02...)
-	for n, it := range rows02 {
-		pgtest.Exec(t, db, insert02(n, it))
+	for n, old := range rows02 {
+		pgtest.Exec(t, db, insert02(n, old))
 	}
 	const lives = "INSERT INTO osb_lives VALUES ('%v', 1, 'wanted', 7.5), ('%[1]v', 2, 'polling', 8)"
 	pgtest.Exec(t, db, fmt.Sprintf(lives, id(7)))
 	for n := 0; n < 2; n++ { // the second time nothing is left to do
 		store := open(t, url)
-		for n, it := range rows02 {
+		for n, old := range rows02 {
 			entry, err := store.Read(background, instance(n))
-			if err != nil {
-				t.Fatal(err)
-			}
-			want02(t, entry, n, it)
+			check(t, err)
+			want02(t, entry, n, old)
 		}
 		life, err := store.Life(background, instance(7))
 		if err != nil || len(life) != 2 || life[1].State != platform.Polling || life[0].Since.UnixMilli() != 7500 {
-			t.Errorf("the life is %v, %v", life, err)
+			t.Errorf("the life: got %v, %v, want both states with their times", life, err)
 		}
 		brokers, err := store.Brokers(background)
 		if err != nil || len(brokers) != 1 || brokers[0].Name != "default" || brokers[0].User != "platform" ||
 			brokers[0].URL != theBroker {
-			t.Errorf("the brokers are %+v, %v", brokers, err)
+			t.Errorf("the brokers: got %+v, %v, want the one of version 0.2", brokers, err)
 		}
 		if err := store.Close(); err != nil {
 			t.Error(err)
@@ -205,30 +205,28 @@ func goOn02(t *testing.T, store *postgres.Store) {
 	t.Helper()
 	defer store.Close()
 	claimed, err := store.Claim(background, []string{"default"}, 100,
-		func(now time.Time, held platform.Held) (*platform.Change, error) {
-			held.Entry.State = platform.Abandoned
-			held.Entry.Lease = platform.Lease{Worker: "me", Until: now.Add(time.Hour)}
-			return &platform.Change{Entry: held.Entry}, nil
+		func(now time.Time, snapshot platform.Snapshot) (*platform.Change, error) {
+			snapshot.Entry.State = platform.Abandoned
+			snapshot.Entry.Lease = platform.Lease{Worker: "me", Until: now.Add(time.Hour)}
+			return &platform.Change{Entry: snapshot.Entry}, nil
 		})
-	if err != nil {
-		t.Fatal(err)
-	}
+	check(t, err)
 	due := map[platform.Key]bool{}
-	for n, it := range rows02 {
-		due[instance(n)] = it.due && !it.isToRest
+	for n, old := range rows02 {
+		due[instance(n)] = old.due && !old.isToRest
 	}
-	for _, it := range claimed {
-		if it.Err != nil || !due[it.Key] {
-			t.Errorf("claimed %v: %v", it.Key, it.Err)
+	for _, row := range claimed {
+		if row.Err != nil || !due[row.Key] {
+			t.Errorf("got %v claimed (%v), want one that is due", row.Key, row.Err)
 		}
-		delete(due, it.Key)
-		if life, err := store.Life(background, it.Key); err != nil || len(life) != 1 {
-			t.Errorf("the life of %v: %v, %v", it.Key, life, err)
+		delete(due, row.Key)
+		if life, err := store.Life(background, row.Key); err != nil || len(life) != 1 {
+			t.Errorf("the life of %v: got %v, %v, want 1", row.Key, life, err)
 		}
 	}
 	for key, isDue := range due {
 		if isDue {
-			t.Errorf("%v wasn't claimed", key)
+			t.Errorf("%v: got it not claimed, want it claimed", key)
 		}
 	}
 }
@@ -240,12 +238,12 @@ func rejected02(t *testing.T, url string) {
 	var asked string
 	pgtest.Exec(t, db, "INSERT INTO osb_broker_asked VALUES (1, '"+theBroker+"') ON CONFLICT DO NOTHING")
 	if err := db.QueryRow("SELECT url FROM osb_broker_asked").Scan(&asked); err != nil || asked == theBroker {
-		t.Errorf("the broker that version 0.2 reads is %q, %v", asked, err)
+		t.Errorf("the broker that version 0.2 reads: got %q, %v, want another", asked, err)
 	}
 	const order = "INSERT INTO osb_instances (id, service, plan, further, state, since, removal, due, tries) " +
 		"VALUES ('x', 'x', 'x', '{}', 'ordered', 1, 0, 1, 0)"
 	if _, err := db.Exec(order); !pg.IsCode(err, "23502") {
-		t.Errorf("an order of version 0.2: %v", err)
+		t.Errorf("an order of version 0.2: got %v, want an error of a column", err)
 	}
 }
 
@@ -256,7 +254,7 @@ func TestTablesOf02WithoutABroker(t *testing.T) {
 	store := open(t, url)
 	defer store.Close()
 	if brokers, err := store.Brokers(background); err != nil || len(brokers) != 0 {
-		t.Errorf("the brokers are %+v, %v", brokers, err)
+		t.Errorf("the brokers: got %+v, %v, want none", brokers, err)
 	}
 }
 
@@ -266,9 +264,7 @@ func TestAWorkerOf02(t *testing.T) {
 	db := pgtest.DB(t, url)
 	pgtest.Exec(t, db, of02...)
 	conn, err := db.Conn(background)
-	if err != nil {
-		t.Fatal(err)
-	}
+	check(t, err)
 	defer conn.Close()
 	const name = "SELECT pg_advisory_lock(1869832816, 12345)" // as version 0.2 has it: osbp, and a digest
 	if _, err := conn.ExecContext(background, name); err != nil {
@@ -276,10 +272,10 @@ func TestAWorkerOf02(t *testing.T) {
 	}
 	_, err = postgres.Open(background, url, 1)
 	if err == nil || !strings.Contains(err.Error(), "Stop all of its workers") {
-		t.Errorf("beside a worker: %v", err)
+		t.Errorf("beside a worker: got %v, want one that says to stop the workers", err)
 	}
 	if _, isLasting := pg.Remedy(err); !isLasting {
-		t.Error("the error doesn't last")
+		t.Error("got an error that passes, want one that lasts")
 	}
 	if _, err := conn.ExecContext(background, "SELECT pg_advisory_unlock_all()"); err != nil {
 		t.Fatal(err)
@@ -291,28 +287,30 @@ func TestAWorkerOf02(t *testing.T) {
 
 // Platforms that start at once create or extend the tables once.
 func TestManyOpen(t *testing.T) {
-	for _, it := range []struct {
+	for _, test := range []struct {
 		schema string
 		tables []string
 	}{{"osb_platform_many_new", nil}, {"osb_platform_many_02", of02}} {
-		url := pgtest.Schema(t, pgtest.URL(t), it.schema)
-		pgtest.Exec(t, pgtest.DB(t, url), it.tables...)
-		var all sync.WaitGroup
-		for n := 0; n < 6; n++ {
-			all.Add(1)
-			go func() {
-				defer all.Done()
-				store, err := postgres.Open(background, url, 1)
-				if err != nil {
-					t.Errorf("%s: %v", it.schema, err)
-					return
-				}
-				if err := store.Close(); err != nil {
-					t.Error(err)
-				}
-			}()
-		}
-		all.Wait()
+		t.Run(test.schema, func(t *testing.T) {
+			url := pgtest.Schema(t, pgtest.URL(t), test.schema)
+			pgtest.Exec(t, pgtest.DB(t, url), test.tables...)
+			var all sync.WaitGroup
+			for n := 0; n < 6; n++ {
+				all.Add(1)
+				go func() {
+					defer all.Done()
+					store, err := postgres.Open(background, url, 1)
+					if err != nil {
+						t.Errorf("got %v, want no error", err)
+						return
+					}
+					if err := store.Close(); err != nil {
+						t.Error(err)
+					}
+				}()
+			}
+			all.Wait()
+		})
 	}
 }
 
@@ -322,21 +320,21 @@ func TestOpenExisting(t *testing.T) {
 	db := pgtest.DB(t, url)
 	_, err := postgres.OpenExisting(background, url, 1)
 	if _, isLasting := pg.Remedy(err); !errors.Is(err, platform.ErrNoStore) || !isLasting {
-		t.Errorf("without tables: %v", err)
+		t.Errorf("without tables: got %v, want a lasting %v", err, platform.ErrNoStore)
 	}
 	var relations int
 	query := "SELECT count(*) FROM pg_class WHERE relnamespace = 'osb_platform_existing'::regnamespace"
 	if err := db.QueryRow(query).Scan(&relations); err != nil || relations != 0 {
-		t.Errorf("%d relations are there: %v", relations, err)
+		t.Errorf("got %d relations (%v), want none", relations, err)
 	}
 	pgtest.Exec(t, db, of02...)
 	for _, tables := range []string{"those of version 0.2", "those of this version"} {
 		store, err := postgres.OpenExisting(background, url, 1)
 		if err != nil {
-			t.Fatalf("%s: %v", tables, err)
+			t.Fatalf("%s: got %v, want no error", tables, err)
 		}
 		if brokers, err := store.Brokers(background); err != nil || len(brokers) != 1 {
-			t.Errorf("%s: %+v, %v", tables, brokers, err)
+			t.Errorf("%s: got %+v, %v, want one broker", tables, brokers, err)
 		}
 		if err := store.Close(); err != nil {
 			t.Error(err)
@@ -344,8 +342,44 @@ func TestOpenExisting(t *testing.T) {
 	}
 }
 
-// A role that may not change tables serves tables that need no change, and is told what to do about others. So no
-// command has a statement that locks a table: each needs the owner.
+// The columns that the tables of an earlier version lack are added when a store is opened, with empty texts, and are
+// used. Here they are two of today's.
+func TestMissingColumns(t *testing.T) {
+	url := pgtest.Schema(t, pgtest.URL(t), "osb_platform_columns")
+	db := pgtest.DB(t, url)
+	pgtest.Exec(t, db, of02...)
+	pgtest.Exec(t, db, insert02(0, rows02[7]))
+	entry := platform.Entry{
+		Order: platform.Order{
+			Key: instance(1), Broker: "default", OrderTexts: platform.OrderTexts{Organization: "o", Space: "s"},
+			Body: []byte("{}"), Names: platform.Names{Instance: id(1).String()}, Try: 1, Tries: 1, First: id(1),
+		},
+		EntryTexts: platform.EntryTexts{Dashboard: "https://one.example", Because: "nobody wants it"},
+		State:      platform.Ordered, Since: at(0),
+	}
+	for n, lost := range []string{"", "because", "space"} {
+		if lost != "" {
+			pgtest.Exec(t, db, "ALTER TABLE osb_instances DROP COLUMN "+lost, "ALTER TABLE osb_bound DROP COLUMN "+lost)
+		}
+		store := open(t, url)
+		got, err := store.Read(background, instance(0))
+		if err != nil || got.State != platform.Ready || got.Because != "" {
+			t.Errorf("without %q: got %s, %q, %v, want a row that is ready", lost, got.State, got.Because, err)
+		}
+		entry.Key = instance(n + 1)
+		check(t, store.Insert(background, entry, func(platform.Snapshot) error { return nil }))
+		got, err = store.Read(background, entry.Key)
+		check(t, err)
+		diff.Check(t, got.EntryTexts, entry.EntryTexts, "without %q", lost)
+		diff.Check(t, got.OrderTexts, entry.OrderTexts, "without %q", lost)
+		if err := store.Close(); err != nil {
+			t.Error(err)
+		}
+	}
+}
+
+// A role that may not change tables serves tables that need no change, and the error says what to do about others. So
+// no command has a statement that locks a table: each needs the owner.
 func TestARoleThatMayNotAlter(t *testing.T) {
 	url := pgtest.Schema(t, pgtest.URL(t), "osb_platform_rights")
 	db := pgtest.DB(t, url)
@@ -359,19 +393,17 @@ func TestARoleThatMayNotAlter(t *testing.T) {
 	t.Cleanup(func() { pgtest.Exec(t, db, "DROP OWNED BY osb_platform_writer", "DROP ROLE osb_platform_writer") })
 	as := pgtest.As(t, url, "osb_platform_writer", "x")
 	if _, err := postgres.Open(background, as, 1); err == nil || !strings.Contains(err.Error(), "as their owner") {
-		t.Errorf("before the tables were extended: %v", err)
+		t.Errorf("before the tables were extended: got %v, want an error with \"as their owner\"", err)
 	}
 	owner := open(t, url)
 	addBroker(t, owner)
 	_ = owner.Close()
 	store, err := postgres.Open(background, as, 2)
-	if err != nil {
-		t.Fatal(err)
-	}
+	check(t, err)
 	defer store.Close()
 	for name, call := range calls(store, instance(7), binding(1, 7)) {
 		if err := call(); err != nil {
-			t.Errorf("%s: %v", name, err)
+			t.Errorf("%s: got %v, want no error", name, err)
 		}
 	}
 }
@@ -384,9 +416,7 @@ func TestReadingLocksNothing(t *testing.T) {
 	defer store.Close()
 	insert(t, store, instance(1), binding(1, 1))
 	tx, err := pgtest.DB(t, url).Begin()
-	if err != nil {
-		t.Fatal(err)
-	}
+	check(t, err)
 	defer func() { _ = tx.Rollback() }()
 	const lock = "LOCK TABLE osb_instances, osb_bound, osb_lives, osb_brokers, osb_broker_asked, osb_platform " +
 		"IN EXCLUSIVE MODE"
@@ -398,7 +428,7 @@ func TestReadingLocksNothing(t *testing.T) {
 	defer cancel()
 	second, err := postgres.Open(ctx, url, 1)
 	if err != nil {
-		t.Fatalf("Open: %v", err)
+		t.Fatalf("Open: got %v, want no error", err)
 	}
 	defer second.Close()
 	for name, call := range reads(second, instance(1)) {
@@ -407,10 +437,10 @@ func TestReadingLocksNothing(t *testing.T) {
 		select {
 		case err := <-done:
 			if err != nil {
-				t.Errorf("%s: %v", name, err)
+				t.Errorf("%s: got %v, want no error", name, err)
 			}
 		case <-ctx.Done():
-			t.Fatalf("%s waits", name)
+			t.Fatalf("%s: got no end in time, want one", name)
 		}
 	}
 }
@@ -423,20 +453,35 @@ func TestAnotherEncoding(t *testing.T) {
 	t.Cleanup(func() { pgtest.Exec(t, db, "DROP DATABASE osb_platform_latin1 WITH (FORCE)") })
 	_, err := postgres.Open(background, pgtest.In(t, url, "osb_platform_latin1"), 1)
 	if err == nil || !strings.Contains(err.Error(), "LATIN1") {
-		t.Errorf("Open: %v", err)
+		t.Errorf("Open: got %v, want an error with \"LATIN1\"", err)
+	}
+}
+
+// A prefix chooses its rows also if the database compares digits by the value of the whole number.
+func TestPrefixInAnOddOrder(t *testing.T) {
+	url := pgtest.URL(t)
+	db := pgtest.DB(t, url)
+	pgtest.Exec(t, db, "DROP DATABASE IF EXISTS osb_platform_numeric")
+	if _, err := db.Exec("CREATE DATABASE osb_platform_numeric LOCALE_PROVIDER icu ICU_LOCALE 'en-US-u-kn-true' " +
+		"LOCALE 'C' ENCODING 'UTF8' TEMPLATE template0"); err != nil {
+		t.Skipf("the server has no such order, as before PostgreSQL 15: %v", err)
+	}
+	t.Cleanup(func() { pgtest.Exec(t, db, "DROP DATABASE osb_platform_numeric WITH (FORCE)") })
+	store := open(t, pgtest.In(t, url, "osb_platform_numeric"))
+	defer store.Close()
+	insert(t, store, instance(0x2002), instance(0x20bb), instance(0x2f00), instance(0x3000))
+	rows, err := store.List(background, platform.Filter{Prefix: id(0x2000).String()[:33]})
+	if err != nil || len(rows) != 3 {
+		t.Errorf("got %d rows, %v, want 3", len(rows), err)
 	}
 }
 
 // A broker and a platform use one database.
 func TestBesideABroker(t *testing.T) {
 	url := pgtest.Schema(t, pgtest.URL(t), "osb_platform_beside")
-	if err := openBroker(url); err != nil {
-		t.Fatal(err)
-	}
+	check(t, openBroker(url))
 	store := open(t, url)
 	defer store.Close()
 	insert(t, store, instance(1), binding(1, 1))
-	if err := openBroker(url); err != nil {
-		t.Fatal(err)
-	}
+	check(t, openBroker(url))
 }

@@ -33,8 +33,8 @@ type connection struct {
 // A table has the statements of one of the two tables of rows.
 type table struct{ read, insert, update, updateInState, postpone *sqlitefile.Statement }
 
-// prepared prepares the statements for a connection.
-func prepared(ctx context.Context, conn *sqlitefile.Conn) (*connection, error) {
+// prepare prepares the statements for a connection.
+func prepare(ctx context.Context, conn *sqlitefile.Conn) (*connection, error) {
 	c := &connection{
 		Conn: conn, due: map[int]*sqlitefile.Statement{}, lists: map[string]*sqlitefile.Statement{},
 	}
@@ -119,8 +119,8 @@ func (c *connection) ofReading() map[**sqlitefile.Statement]string {
 // ofBrokers are the statements of brokers.
 func (c *connection) ofBrokers() map[**sqlitefile.Statement]string {
 	return map[**sqlitefile.Statement]string{
-		&c.brokers:      "SELECT name, " + joined(brokerColumns) + " FROM osb_brokers ORDER BY name",
-		&c.broker:       "SELECT name, " + joined(brokerColumns) + " FROM osb_brokers WHERE name = ?",
+		&c.brokers:      "SELECT name, " + join(brokerColumns) + " FROM osb_brokers ORDER BY name",
+		&c.broker:       "SELECT name, " + join(brokerColumns) + " FROM osb_brokers WHERE name = ?",
 		&c.insertBroker: inserting("osb_brokers", append([]string{"name"}, brokerColumns...)...),
 		&c.updateBroker: updating("osb_brokers", "name = ?", brokerColumns),
 		&c.dropBroker:   "DELETE FROM osb_brokers WHERE name = ?",
@@ -140,8 +140,8 @@ func (c *connection) of(key platform.Key) *table {
 // entry reads a row. Errors: platform.ErrUnknown; that the row can't be read.
 func (c *connection) entry(key platform.Key) (platform.Entry, error) { return c.readBy(entryOf, key) }
 
-// shown reads a row to show it (shownOf). Errors: platform.ErrUnknown.
-func (c *connection) shown(key platform.Key) (platform.Entry, error) { return c.readBy(shownOf, key) }
+// show reads a row to show it (shownOf). Errors: platform.ErrUnknown.
+func (c *connection) show(key platform.Key) (platform.Entry, error) { return c.readBy(shownOf, key) }
 
 func (c *connection) readBy(
 	read func([]driver.Value) (platform.Entry, error), key platform.Key,
@@ -156,20 +156,20 @@ func (c *connection) readBy(
 	return read(values)
 }
 
-// held reads what a step is told of a row.
-func (c *connection) held(key platform.Key) (held platform.Held, err error) {
-	if held.Entry, err = c.entry(key); err != nil {
-		return held, err
+// readSnapshot reads what a step gets of a row.
+func (c *connection) readSnapshot(key platform.Key) (snapshot platform.Snapshot, err error) {
+	if snapshot.Entry, err = c.entry(key); err != nil {
+		return snapshot, err
 	}
 	if key.IsBinding {
-		held.Instance, err = c.instance(key)
-		return held, err
+		snapshot.Instance, err = c.instance(key)
+		return snapshot, err
 	}
-	held.AllGone = func() (bool, error) {
+	snapshot.AllGone = func() (bool, error) {
 		row, err := c.anyBinding.One(key.Instance.String())
 		return row == nil && err == nil, err
 	}
-	return held, nil
+	return snapshot, nil
 }
 
 // instance reads the row of a binding's instance.
@@ -256,8 +256,8 @@ func (c *connection) keysDue(brokers []string, until, now driver.Value, most int
 			return nil, err
 		}
 		values := []driver.Value{until, now, int64(most)}
-		for _, it := range brokers[:count] {
-			values = append(values, it)
+		for _, broker := range brokers[:count] {
+			values = append(values, broker)
 		}
 		brokers = brokers[count:]
 		err = statement.Each(values, func(values []driver.Value) error {
@@ -297,10 +297,10 @@ func (c *connection) dueOf(count int) (*sqlitefile.Statement, error) {
 func dueText(count int) string {
 	var parts []string
 	for n := 0; n < count; n++ {
-		for _, it := range [][2]string{{"osb_instances", "id, ''"}, {"osb_bindings", "instance, id"}} {
+		for _, pair := range [][2]string{{"osb_instances", "id, ''"}, {"osb_bindings", "instance, id"}} {
 			parts = append(parts, fmt.Sprintf("SELECT * FROM (SELECT due, %s FROM %s INDEXED BY %s_to_do "+
 				"WHERE broker = ?%d AND due IS NOT NULL AND due <= ?1 AND (leased_until IS NULL OR leased_until < ?2) "+
-				"ORDER BY due LIMIT ?3)", it[1], it[0], it[0], n+4))
+				"ORDER BY due LIMIT ?3)", pair[1], pair[0], pair[0], n+4))
 		}
 	}
 	return strings.Join(parts, " UNION ALL ") + " ORDER BY 1, 2, 3 LIMIT ?3"

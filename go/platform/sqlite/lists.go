@@ -30,11 +30,19 @@ var (
 			return platform.Place{State: e.State, Since: e.Since, Key: e.Key}
 		},
 	}
+	briefRow = view[platform.Entry]{
+		instance: brief(instanceRow), binding: brief(bindingRow), read: shownOf, place: wholeRow.place,
+	}
 	onlyPlace = view[platform.Place]{
 		instance: "id, NULL, state, since", binding: "instance, id, state, since", read: placeOf,
 		place: func(at platform.Place) platform.Place { return at },
 	}
 )
+
+// brief are columns with nothing in place of those that may be long.
+func brief(columns string) string {
+	return strings.NewReplacer("further", "''", "credentials", "NULL").Replace(columns)
+}
 
 func placeOf(values []driver.Value) (platform.Place, error) {
 	r := &row{values: values}
@@ -44,6 +52,9 @@ func placeOf(values []driver.Value) (platform.Place, error) {
 
 // List returns rows of one snapshot, in the order of the filter.
 func (s *Store) List(ctx context.Context, filter platform.Filter) ([]platform.Entry, error) {
+	if filter.IsBrief {
+		return listOf(ctx, s, filter, briefRow)
+	}
 	return listOf(ctx, s, filter, wholeRow)
 }
 
@@ -65,7 +76,7 @@ func listOf[T any](ctx context.Context, s *Store, filter platform.Filter, of vie
 func (s *Store) ReadAll(ctx context.Context, keys []platform.Key) ([]platform.Entry, error) {
 	return inSnapshot(ctx, s, func(c *connection) (entries []platform.Entry, err error) {
 		for _, key := range keys {
-			entry, err := c.shown(key)
+			entry, err := c.show(key)
 			switch {
 			case errors.Is(err, platform.ErrUnknown):
 			case err != nil:
@@ -145,7 +156,7 @@ func (l *listing[T]) in(state platform.State, most int) error {
 	filter, chosen := l.filter, &selection{}
 	isNarrow := filter.Instance != nil || filter.First != nil || filter.Prefix != ""
 	where := func(key string) {
-		chosen.and(unindexed(isNarrow)+"state = ?", string(state))
+		chosen.and(withoutIndex(isNarrow)+"state = ?", string(state))
 		chosen.of(filter, isNarrow)
 		if after := filter.After; after != nil && (after.State == state || filter.Order == platform.ByTime) {
 			chosen.after(filter, "since, "+key)
@@ -169,7 +180,7 @@ func (l *listing[T]) byKey() error {
 	isUnindexed := filter.Instance != nil || filter.First != nil || filter.Prefix != "" || count > fewRows
 	where := func(key string) {
 		if len(filter.States) > 0 {
-			chosen.and(unindexed(isUnindexed)+"state IN "+anyState, padded(filter.States)...)
+			chosen.and(withoutIndex(isUnindexed)+"state IN "+anyState, pad(filter.States)...)
 		}
 		chosen.of(filter, isUnindexed)
 		if filter.After != nil {
@@ -184,7 +195,7 @@ func (c *connection) countOf(filter platform.Filter) (count int64, err error) {
 	s := &selection{}
 	s.text.WriteString("SELECT coalesce(sum(count), 0) FROM osb_counts WHERE true")
 	if len(filter.States) > 0 {
-		s.and("state IN "+anyState, padded(filter.States)...)
+		s.and("state IN "+anyState, pad(filter.States)...)
 	}
 	if filter.Broker != "" {
 		s.and("broker = ?", filter.Broker)
@@ -275,7 +286,7 @@ func (s *Store) InFlight(ctx context.Context, most int) (entries []platform.Entr
 			keys, err := c.keysInFlight(most)
 			for n := 0; n < len(keys) && err == nil; n++ {
 				var entry platform.Entry
-				entry, err = c.shown(keys[n])
+				entry, err = c.show(keys[n])
 				entries = append(entries, entry)
 			}
 			return err
@@ -291,4 +302,137 @@ func (c *connection) keysInFlight(most int) (keys []platform.Key, err error) {
 		return r.err
 	})
 	return keys, err
+}
+
+// A selection is a statement with its values.
+type selection struct {
+	text   strings.Builder
+	values []driver.Value
+}
+
+// from adds the rows of a table to those that are selected. The conditions on them follow.
+func (s *selection) from(columns, table string) {
+	if s.text.Len() > 0 {
+		s.text.WriteString(" UNION ALL ")
+	}
+	s.text.WriteString("SELECT " + columns + " FROM " + table + " WHERE true")
+}
+
+// and adds a condition, in which each ? stands for the next of the values.
+func (s *selection) and(condition string, values ...driver.Value) {
+	s.text.WriteString(" AND " + condition)
+	s.values = append(s.values, values...)
+}
+
+// withoutIndex is what stands before a column so that no index of it is used: another one leads to fewer rows.
+func withoutIndex(is bool) string {
+	if is {
+		return "+"
+	}
+	return ""
+}
+
+// of adds the conditions of a filter, except for those on states and the place. isUnindexed is whether no index of
+// brokers is used.
+func (s *selection) of(filter platform.Filter, isUnindexed bool) {
+	if filter.Broker != "" {
+		s.and(withoutIndex(isUnindexed)+"broker = ?", filter.Broker)
+	}
+	if filter.Instance != nil {
+		s.and("instance = ?", filter.Instance.String())
+	}
+	if filter.First != nil {
+		first := filter.First.String()
+		s.and("(first = ? OR first IS NULL AND id = ?)", first, first)
+	}
+	if filter.Prefix != "" { // behind a digit or a hyphen comes a g
+		s.and("id >= ? AND id < ?", filter.Prefix, filter.Prefix+"g")
+	}
+}
+
+// after adds that a row comes behind the place of a filter, by the columns of its order. An instance comes before its
+// bindings, and in the opposite order behind them.
+func (s *selection) after(filter platform.Filter, columns string) {
+	place, isBinding := *filter.After, strings.HasSuffix(columns, "instance, id")
+	var values []driver.Value
+	if strings.HasPrefix(columns, "since") {
+		since := seconds(place.Since)
+		if since == nil {
+			since = -never
+		}
+		values = append(values, since)
+	}
+	values = append(values, place.Key.Instance.String())
+	if isBinding {
+		values = append(values, bindingOf(place.Key))
+	}
+	is := " > "
+	switch {
+	case filter.Latest && !isBinding && place.Key.IsBinding:
+		is = " <= "
+	case filter.Latest:
+		is = " < "
+	}
+	s.and("("+columns+")"+is+"(?"+strings.Repeat(", ?", len(values)-1)+")", values...)
+}
+
+// bindingOf is the id of a binding, or an empty text for an instance.
+func bindingOf(key platform.Key) string {
+	if key.IsBinding {
+		return key.Binding.String()
+	}
+	return ""
+}
+
+// anyState is a list of as many states as there are, so that statements with any number of them have one text. padded
+// are its values: these states, and texts that are no state.
+var anyState = "(?" + strings.Repeat(", ?", len(states)-1) + ")"
+
+func pad(of []platform.State) []driver.Value {
+	values, chosen := make([]driver.Value, 0, len(states)), map[platform.State]bool{}
+	for _, state := range of {
+		chosen[state] = true
+	}
+	for _, state := range states {
+		if !chosen[state] {
+			state = ""
+		}
+		values = append(values, string(state))
+	}
+	return values
+}
+
+func wantsInstances(filter platform.Filter) bool {
+	return filter.Instance == nil && (filter.Bindings == nil || !*filter.Bindings)
+}
+
+func wantsBindings(filter platform.Filter) bool { return filter.Bindings == nil || *filter.Bindings }
+
+// statesOf are the states of the rows of a filter, in their order.
+func statesOf(filter platform.Filter) (of []platform.State) {
+	chosen := map[platform.State]bool{}
+	for _, state := range filter.States {
+		chosen[state] = true
+	}
+	for at := range states {
+		it := states[at]
+		if filter.Latest {
+			it = states[len(states)-1-at]
+		}
+		if isBehind(filter, it) && (len(chosen) == 0 || chosen[it]) {
+			of = append(of, it)
+		}
+	}
+	return of
+}
+
+// isBehind is whether rows in a state may come behind the place of a filter.
+func isBehind(filter platform.Filter, state platform.State) bool {
+	switch {
+	case filter.After == nil || filter.Order == platform.ByTime:
+		return true
+	case filter.Latest:
+		return state <= filter.After.State
+	}
+	return state >= filter.After.State
 }

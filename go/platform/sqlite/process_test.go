@@ -55,9 +55,9 @@ const each = 50
 // count counts in a row.
 func count(s *Store) error {
 	for n := 0; n < each; n++ {
-		err := s.Change(background, keyOf(1), func(_ time.Time, held platform.Held) (*platform.Change, error) {
-			held.Entry.Unchanged++
-			return &platform.Change{Entry: held.Entry}, nil
+		err := s.Change(background, keyOf(1), func(_ time.Time, snapshot platform.Snapshot) (*platform.Change, error) {
+			snapshot.Entry.Unchanged++
+			return &platform.Change{Entry: snapshot.Entry}, nil
 		})
 		if err != nil {
 			return err
@@ -66,28 +66,24 @@ func count(s *Store) error {
 	return nil
 }
 
-// A child is another process, which says how far it has come.
+// A child is another process, which says how far it is.
 type child struct {
 	*exec.Cmd
 	input io.Closer
 	lines *bufio.Scanner
 }
 
-func started(t *testing.T, path string) *child {
+func startChild(t *testing.T, path string) *child {
 	t.Helper()
 	it := &child{Cmd: exec.Command(os.Args[0])}
 	it.Env, it.Stderr = append(os.Environ(), pathVariable+"="+path), os.Stderr
 	input, err := it.StdinPipe()
-	if err != nil {
-		t.Fatal(err)
-	}
+	check(t, err)
 	output, err := it.StdoutPipe()
 	if err == nil {
 		err = it.Start()
 	}
-	if err != nil {
-		t.Fatal(err)
-	}
+	check(t, err)
 	it.input, it.lines = input, bufio.NewScanner(output)
 	return it
 }
@@ -96,7 +92,7 @@ func started(t *testing.T, path string) *child {
 func (c *child) wait(t *testing.T, line string) {
 	t.Helper()
 	if !c.lines.Scan() || c.lines.Text() != line {
-		t.Errorf("the child says %q, and not %q", c.lines.Text(), line)
+		t.Errorf("the child: got %q, want %q", c.lines.Text(), line)
 	}
 }
 
@@ -111,26 +107,24 @@ func (c *child) kill() {
 func TestProcesses(t *testing.T) {
 	path := filepath.Join(t.TempDir(), "store")
 	s := withBroker(t, open(t, path))
-	if err := s.Insert(background, order(1), nil); err != nil {
-		t.Fatal(err)
-	}
-	other := started(t, path)
+	check(t, s.Insert(background, order(1), nil))
+	other := startChild(t, path)
 	defer other.kill()
 	other.wait(t, "begun")
 	if end, _, err := s.Only(background, "child"); err != nil || end != nil {
-		t.Errorf("beside the child: %t, %v", end != nil, err)
+		t.Errorf("beside the child: got %t, %v, want none", end != nil, err)
 	}
 	if err := count(s); err != nil {
 		t.Error(err)
 	}
 	other.wait(t, "counted")
 	if got, err := s.Read(background, keyOf(1)); err != nil || got.Unchanged != 2*each {
-		t.Errorf("%d of %d were counted: %v", got.Unchanged, 2*each, err)
+		t.Errorf("got a count of %d, want %d: %v", got.Unchanged, 2*each, err)
 	}
 	other.kill()
 	end, _, err := s.Only(background, "child")
 	if err != nil || end == nil {
-		t.Fatalf("once it was killed: %t, %v", end != nil, err)
+		t.Fatalf("once it was killed: got %t, %v, want the right", end != nil, err)
 	}
 	end()
 }

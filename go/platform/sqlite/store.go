@@ -11,7 +11,11 @@ import (
 	"fmt"
 	"io/fs"
 	"os"
+	"path/filepath"
 	"sort"
+	"strings"
+	"sync"
+	"syscall"
 	"time"
 
 	"pippinterm/internal/sqlitefile"
@@ -29,6 +33,14 @@ type Store struct{ file *sqlitefile.File[*connection] }
 
 var _ platform.Store = (*Store)(nil)
 
+// These errors are returned wrapped: compare them by errors.Is.
+var (
+	// ErrBusy reports that another process has locked the file for too long.
+	ErrBusy = sqlitefile.ErrBusy
+	// ErrUnknownCommit reports that nobody knows whether a transaction was committed.
+	ErrUnknownCommit = sqlitefile.ErrUnknownCommit
+)
+
 // Open opens a file, and creates it if there is none. A file of version 0.2 is extended in one transaction: its broker
 // becomes the broker "default" with the user "platform" and no password, and its rows have the organization and the
 // space "osb-platform". Version 0.2 refuses to run over the file afterwards. Nothing is written to a file whose tables
@@ -36,7 +48,7 @@ var _ platform.Store = (*Store)(nil)
 //
 // Errors name the file: it can't be opened or extended, it is of a later version or of another program, or it is of
 // version 0.2 and a worker of that version runs. Nothing was changed then.
-func Open(ctx context.Context, path string) (*Store, error) { return opened(ctx, path, nil, migrate) }
+func Open(ctx context.Context, path string) (*Store, error) { return openAt(ctx, path, nil, migrate) }
 
 // OpenExisting is Open of a file that has the tables, of this version or of version 0.2. Otherwise it creates nothing,
 // and the error is platform.ErrNoStore: there is no file, or it has no tables.
@@ -45,17 +57,17 @@ func OpenExisting(ctx context.Context, path string) (*Store, error) {
 	if errors.Is(err, fs.ErrNotExist) || err == nil && about.Mode().IsRegular() && about.Size() == 0 {
 		return nil, fmt.Errorf("sqlite: %s: %w", path, platform.ErrNoStore)
 	}
-	return opened(ctx, path, nil, migrateExisting)
+	return openAt(ctx, path, nil, migrateExisting)
 }
 
-// opened is a store over a file whose connections a driver opens, SQLite's own if it is nil. bring brings its tables up
+// openAt is a store over a file whose connections a driver opens, SQLite's own if it is nil. bring brings its tables up
 // to date.
-func opened(
+func openAt(
 	ctx context.Context, path string, by driver.Driver,
 	bring func(ctx context.Context, conn *sqlitefile.Conn, path string) error,
 ) (*Store, error) {
 	file, err := sqlitefile.Open(ctx, path, sqlitefile.Options[*connection]{
-		Readers: readers, Together: together, Cache: cache, Driver: by, Migrate: bring, Prepare: prepared,
+		Readers: readers, Together: together, Cache: cache, Driver: by, Migrate: bring, Prepare: prepare,
 	})
 	if err != nil {
 		return nil, err
@@ -67,7 +79,7 @@ func opened(
 func (s *Store) Close() error { return s.file.Close() }
 
 // now is the time of the store.
-func now() time.Time { return rounded(time.Now()) }
+func now() time.Time { return round(time.Now()) }
 
 // write has a job written with all others that wait.
 func (s *Store) write(ctx context.Context, do func(*connection) error) error {
@@ -87,21 +99,21 @@ func away(err error) error {
 }
 
 // Insert writes the row of a new order.
-func (s *Store) Insert(ctx context.Context, entry platform.Entry, check func(platform.Held) error) error {
+func (s *Store) Insert(ctx context.Context, entry platform.Entry, check func(platform.Snapshot) error) error {
 	return s.write(ctx, func(c *connection) (err error) {
-		held := platform.Held{Entry: entry}
+		snapshot := platform.Snapshot{Entry: entry}
 		if broker, err := c.broker.One(entry.Broker); err != nil {
 			return err
 		} else if broker == nil {
 			return unknownBroker(entry.Broker)
 		}
 		if entry.Key.IsBinding {
-			if held.Instance, err = c.instance(entry.Key); err != nil {
+			if snapshot.Instance, err = c.instance(entry.Key); err != nil {
 				return err
 			}
 		}
 		if check != nil {
-			if err := check(held); err != nil {
+			if err := check(snapshot); err != nil {
 				return err
 			}
 		}
@@ -113,12 +125,12 @@ func (s *Store) Insert(ctx context.Context, entry platform.Entry, check func(pla
 func (s *Store) Change(ctx context.Context, key platform.Key, step platform.Step) error {
 	return s.write(ctx, func(c *connection) error {
 		now := now()
-		held, err := c.held(key)
+		snapshot, err := c.readSnapshot(key)
 		if err != nil {
 			return err
 		}
-		before := held.Entry
-		change, err := step(now, held)
+		before := snapshot.Entry
+		change, err := step(now, snapshot)
 		if err != nil || change == nil {
 			return err
 		}
@@ -129,7 +141,7 @@ func (s *Store) Change(ctx context.Context, key platform.Key, step platform.Step
 // Claim is one transaction, or a part of one. Nobody writes beside it, so no row is locked by another transaction.
 func (s *Store) Claim(
 	ctx context.Context, brokers []string, most int, step platform.Step,
-) (claimed []platform.Claimed, err error) {
+) (claimed []platform.ClaimedRow, err error) {
 	if most <= 0 || len(brokers) == 0 {
 		return nil, ctx.Err()
 	}
@@ -139,14 +151,14 @@ func (s *Store) Claim(
 		if err != nil {
 			return err
 		}
-		for _, it := range keys {
-			failed := c.claim(now, it.key, step)
+		for _, key := range keys {
+			failed := c.claim(now, key.key, step)
 			if failed != nil {
-				if err := c.postpone(now, it.key); err != nil {
+				if err := c.postpone(now, key.key); err != nil {
 					return fmt.Errorf("%w (after: %v)", err, failed)
 				}
 			}
-			claimed = append(claimed, platform.Claimed{Key: it.key, Err: failed})
+			claimed = append(claimed, platform.ClaimedRow{Key: key.key, Err: failed})
 		}
 		return nil
 	})
@@ -158,14 +170,14 @@ func (s *Store) Claim(
 
 // claim steps one row. If it fails, nothing of the row is written.
 func (c *connection) claim(now time.Time, key platform.Key, step platform.Step) error {
-	held, err := c.held(key)
+	snapshot, err := c.readSnapshot(key)
 	if err != nil {
 		return err
 	}
-	before := held.Entry
+	before := snapshot.Entry
 	var change *platform.Change
 	err = sqlitefile.Safely(func() (err error) {
-		change, err = step(now, held)
+		change, err = step(now, snapshot)
 		return err
 	})
 	switch {
@@ -247,7 +259,7 @@ func (s *Store) Free(ctx context.Context, worker string) error {
 // Read returns the row of a key.
 func (s *Store) Read(ctx context.Context, key platform.Key) (entry platform.Entry, err error) {
 	err = s.read(ctx, func(c *connection) error {
-		entry, err = c.shown(key)
+		entry, err = c.show(key)
 		return err
 	})
 	return entry, err
@@ -293,5 +305,194 @@ func (s *Store) Ready(ctx context.Context) error {
 	return s.write(ctx, func(c *connection) error {
 		_, err := c.ready.Run(time.Now().UnixNano())
 		return err
+	})
+}
+
+// Only locks a file beside the database, as version 0.2 does. The lock ends with the process, and can't be lost.
+//
+// Errors: the name of the worker is empty, or can't be a part of a file's name; those of the file.
+func (s *Store) Only(_ context.Context, worker string) (end func(), lost <-chan struct{}, err error) {
+	if worker == "" || strings.ContainsAny(worker, "/\x00") {
+		return nil, nil, fmt.Errorf("sqlite: %q can't be a worker's name", worker)
+	}
+	file, err := lock(s.file.Path()+"."+worker+lockEnd, os.O_CREATE)
+	if err != nil || file == nil {
+		return nil, nil, err
+	}
+	var once sync.Once
+	return func() { once.Do(func() { unlock(file) }) }, make(chan struct{}), nil
+}
+
+// HasWorkers looks for files that are locked.
+func (s *Store) HasWorkers(context.Context) (bool, error) {
+	worker, err := running(s.file.Path())
+	return worker != "", err
+}
+
+// lockEnd is the end of the name of a worker's lock.
+const lockEnd = ".lock"
+
+// lock locks a file, and returns nil if somebody else has locked it. A symbolic link isn't followed.
+func lock(path string, flags int) (*os.File, error) {
+	file, err := os.OpenFile(path, os.O_RDWR|syscall.O_NOFOLLOW|flags, 0o600)
+	if err != nil {
+		return nil, fmt.Errorf("sqlite: the lock of a worker: %w", err)
+	}
+	err = syscall.Flock(int(file.Fd()), syscall.LOCK_EX|syscall.LOCK_NB)
+	switch {
+	case err == nil:
+		return file, nil
+	case errors.Is(err, syscall.EWOULDBLOCK):
+		_ = file.Close()
+		return nil, nil
+	}
+	_ = file.Close()
+	return nil, fmt.Errorf("sqlite: the lock %s: %w", path, err)
+}
+
+// running is the name of a worker that runs over the file of a path, or empty.
+func running(path string) (string, error) {
+	folder, name := filepath.Split(path)
+	entries, err := os.ReadDir(folder)
+	if err != nil {
+		return "", fmt.Errorf("sqlite: the locks of workers: %w", err)
+	}
+	for _, entry := range entries {
+		if !strings.HasPrefix(entry.Name(), name+".") || !strings.HasSuffix(entry.Name(), lockEnd) {
+			continue
+		}
+		file, err := lock(filepath.Join(folder, entry.Name()), 0)
+		if err != nil {
+			return "", err
+		}
+		if file == nil {
+			return strings.TrimSuffix(strings.TrimPrefix(entry.Name(), name+"."), lockEnd), nil
+		}
+		unlock(file)
+	}
+	return "", nil
+}
+
+// unlock ends a lock. Closing alone isn't enough, because between fork and exec any process that is being started has
+// the file open for a moment.
+func unlock(file *os.File) {
+	_ = syscall.Flock(int(file.Fd()), syscall.LOCK_UN)
+	_ = file.Close()
+}
+
+// The columns of a broker, but its name.
+var brokerColumns = []string{
+	"url", "user", "password", "password_file", "settings", "catalogue", "catalogue_at", "reason",
+}
+
+// Brokers returns all brokers, by name.
+func (s *Store) Brokers(ctx context.Context) (brokers []platform.Broker, err error) {
+	err = s.read(ctx, func(c *connection) error {
+		brokers = nil
+		return c.brokers.Each(nil, func(values []driver.Value) error {
+			broker, err := brokerOf(values)
+			brokers = append(brokers, broker)
+			return err
+		})
+	})
+	return brokers, err
+}
+
+func brokerOf(values []driver.Value) (broker platform.Broker, err error) {
+	r := &row{values: values}
+	broker.Name, broker.URL, broker.User = r.text(""), r.text(""), r.text("")
+	broker.Password, broker.PasswordFile = r.blob(), r.text("")
+	settings := r.text("")
+	broker.Catalogue, broker.CatalogueAt, broker.Reason = r.json(), r.at(), r.reason()
+	err = r.err
+	if err == nil {
+		err = broker.ReadSettings([]byte(settings))
+	}
+	if err != nil {
+		err = fmt.Errorf("sqlite: the broker %s: %w", broker.Name, err)
+	}
+	return broker, err
+}
+
+// AddBroker writes a new broker.
+func (s *Store) AddBroker(ctx context.Context, broker platform.Broker) error {
+	values, err := brokerValues(broker)
+	if err != nil {
+		return err
+	}
+	return s.write(ctx, func(c *connection) error {
+		return one(platform.ErrUsed)(c.insertBroker.Run(append([]driver.Value{broker.Name}, values...)...))
+	})
+}
+
+// ChangeBroker is one transaction, or a part of one. Nobody writes beside it. change must not call what writes.
+func (s *Store) ChangeBroker(
+	ctx context.Context, name string, change func(platform.Broker) (*platform.Broker, error),
+) error {
+	return s.write(ctx, func(c *connection) error {
+		row, err := c.broker.One(name)
+		if err != nil {
+			return err
+		}
+		if row == nil {
+			return unknownBroker(name)
+		}
+		before, err := brokerOf(row)
+		if err != nil {
+			return err
+		}
+		after, err := change(before)
+		if err != nil || after == nil {
+			return err
+		}
+		values, err := brokerValues(*after)
+		if err != nil {
+			return err
+		}
+		return one(platform.ErrUnknown)(c.updateBroker.Run(append(values, name)...))
+	})
+}
+
+// unknownBroker is platform.ErrUnknown of a broker.
+func unknownBroker(name string) error {
+	return fmt.Errorf("%w: the broker %s", platform.ErrUnknown, name)
+}
+
+// one returns the error if a statement has written no row.
+func one(otherwise error) func(rows int64, err error) error {
+	return func(rows int64, err error) error {
+		if err == nil && rows == 0 {
+			return otherwise
+		}
+		return err
+	}
+}
+
+func brokerValues(broker platform.Broker) ([]driver.Value, error) {
+	settings, err := broker.SettingsText()
+	if err != nil {
+		return nil, err
+	}
+	reason, err := reasonValue(broker.Reason)
+	return []driver.Value{
+		broker.URL, broker.User, blobValue(broker.Password), broker.PasswordFile, string(settings),
+		jsonValue(broker.Catalogue), seconds(broker.CatalogueAt), reason,
+	}, err
+}
+
+// DropBroker deletes a broker of which nothing was ever ordered.
+func (s *Store) DropBroker(ctx context.Context, name string) error {
+	return s.write(ctx, func(c *connection) error {
+		used, err := c.brokerUsed.One(name)
+		if err != nil {
+			return err
+		}
+		if err := one(platform.ErrUnknown)(c.dropBroker.Run(name)); err != nil {
+			return err
+		}
+		if used != nil {
+			return platform.ErrUsed // and the row stays, as nothing of a job that fails is written
+		}
+		return nil
 	})
 }

@@ -9,7 +9,6 @@ import (
 	"fmt"
 	"os"
 	"path/filepath"
-	"reflect"
 	"strings"
 	"sync"
 	"syscall"
@@ -18,9 +17,12 @@ import (
 
 	"github.com/mattn/go-sqlite3"
 
+	"pippinterm/internal/diff"
 	"pippinterm/internal/sqlitefile"
+	"pippinterm/internal/storefaults"
 	"pippinterm/osb"
 	"pippinterm/platform"
+	"pippinterm/platform/storetest"
 )
 
 var (
@@ -36,9 +38,7 @@ func keyOf(n int) platform.Key {
 func open(t testing.TB, path string) *Store {
 	t.Helper()
 	s, err := Open(background, path)
-	if err != nil {
-		t.Fatal(err)
-	}
+	check(t, err)
 	t.Cleanup(func() {
 		if err := s.Close(); err != nil {
 			t.Error(err)
@@ -47,33 +47,27 @@ func open(t testing.TB, path string) *Store {
 	return s
 }
 
-// executed executes statements in a file, with the driver alone.
-func executed(t *testing.T, path string, statements ...string) {
+// executeIn executes statements in a file, with the driver alone.
+func executeIn(t *testing.T, path string, statements ...string) {
 	t.Helper()
 	made, err := (&sqlite3.SQLiteDriver{}).Open("file:" + path)
-	if err != nil {
-		t.Fatal(err)
-	}
+	check(t, err)
 	defer made.Close()
-	for _, it := range statements {
-		if _, err := made.(*sqlite3.SQLiteConn).Exec(it, nil); err != nil {
-			t.Fatalf("%s: %v", it, err)
+	for _, statement := range statements {
+		if _, err := made.(*sqlite3.SQLiteConn).Exec(statement, nil); err != nil {
+			t.Fatalf("%s: got %v, want no error", statement, err)
 		}
 	}
 }
 
-// queried is the first column of a query's rows.
-func queried(t *testing.T, path, query string) (found []string) {
+// query is the first column of a query's rows.
+func query(t *testing.T, path, query string) (found []string) {
 	t.Helper()
 	made, err := (&sqlite3.SQLiteDriver{}).Open("file:" + path + "?mode=ro")
-	if err != nil {
-		t.Fatal(err)
-	}
+	check(t, err)
 	defer made.Close()
 	rows, err := made.(*sqlite3.SQLiteConn).Query(query, nil)
-	if err != nil {
-		t.Fatal(err)
-	}
+	check(t, err)
 	defer rows.Close()
 	row := make([]driver.Value, len(rows.Columns()))
 	for rows.Next(row) == nil {
@@ -86,11 +80,9 @@ func queried(t *testing.T, path, query string) (found []string) {
 func old(t *testing.T) string {
 	t.Helper()
 	dump, err := os.ReadFile("testdata/store-0.2.sql")
-	if err != nil {
-		t.Fatal(err)
-	}
+	check(t, err)
 	path := filepath.Join(t.TempDir(), "instances.sqlite")
-	executed(t, path, "PRAGMA journal_mode = WAL", string(dump))
+	executeIn(t, path, "PRAGMA journal_mode = WAL", string(dump))
 	return path
 }
 
@@ -128,8 +120,8 @@ func oldRows() []platform.Entry {
 		rows[n].IsSent = rows[n].State != platform.Ordered && rows[n].State != platform.Withdrawn
 		rows[n].Order = platform.Order{
 			Key: key, Broker: "default", Service: service, Plan: plan,
-			Names:        platform.Names{Instance: key.String(), Service: service.String(), Plan: plan.String()},
-			Organization: "osb-platform", Space: "osb-platform", Body: json.RawMessage("{}"),
+			Names:      platform.Names{Instance: key.String(), Service: service.String(), Plan: plan.String()},
+			OrderTexts: platform.OrderTexts{Organization: "osb-platform", Space: "osb-platform"}, Body: json.RawMessage("{}"),
 			Try: 1, Tries: 1, First: key.Instance,
 		}
 	}
@@ -141,32 +133,30 @@ func oldRows() []platform.Entry {
 func TestOpenExisting(t *testing.T) {
 	missing, empty, bare := filepath.Join(t.TempDir(), "missing"), filepath.Join(t.TempDir(), "empty"),
 		filepath.Join(t.TempDir(), "bare")
-	if err := os.WriteFile(empty, nil, 0o600); err != nil {
-		t.Fatal(err)
-	}
-	executed(t, bare, "PRAGMA journal_mode = WAL", "CREATE TABLE one (one)", "DROP TABLE one")
+	check(t, os.WriteFile(empty, nil, 0o600))
+	executeIn(t, bare, "PRAGMA journal_mode = WAL", "CREATE TABLE one (one)", "DROP TABLE one")
 	for _, path := range []string{missing, empty, bare} {
 		if _, err := OpenExisting(background, path); !errors.Is(err, platform.ErrNoStore) {
-			t.Errorf("%s: %v", path, err)
+			t.Errorf("%s: got %v, want ErrNoStore", path, err)
 		}
 	}
 	if _, err := os.Stat(missing); !os.IsNotExist(err) {
-		t.Errorf("the missing file: %v", err)
+		t.Errorf("the missing file: got %v, want none", err)
 	}
 	if about, err := os.Stat(empty); err != nil || about.Size() != 0 {
-		t.Errorf("the empty file: %v, %v", about, err)
+		t.Errorf("the empty file: got %v, %v, want it empty", about, err)
 	}
-	if found := queried(t, bare, "SELECT name FROM sqlite_master"); len(found) != 0 {
-		t.Errorf("the file without tables has %v", found)
+	if found := query(t, bare, "SELECT name FROM sqlite_master"); len(found) != 0 {
+		t.Errorf("the file without tables: got %v, want none", found)
 	}
 	path := old(t)
 	for _, tables := range []string{"those of version 0.2", "those of this version"} {
 		store, err := OpenExisting(background, path)
 		if err != nil {
-			t.Fatalf("%s: %v", tables, err)
+			t.Fatalf("%s: got %v, want no error", tables, err)
 		}
 		if brokers, err := store.Brokers(background); err != nil || len(brokers) != 1 {
-			t.Errorf("%s: %+v, %v", tables, brokers, err)
+			t.Errorf("%s: got %+v, %v, want one broker", tables, brokers, err)
 		}
 		if err := store.Close(); err != nil {
 			t.Error(err)
@@ -180,28 +170,24 @@ func TestMigration(t *testing.T) {
 	inFlight := map[int]osb.Kind{4: osb.KindProvision, 9: osb.KindPoll}
 	for n, want := range oldRows() {
 		got, err := s.Read(background, want.Key)
-		if err != nil {
-			t.Fatal(err)
-		}
+		check(t, err)
 		kind, isInFlight := inFlight[n+1]
 		if !isInFlight {
 			kind = osb.KindNone
 		}
 		if got.IsSent && (platform.StateOf(got.Record) != want.State || got.Record.InFlight() != kind) {
-			t.Errorf("%v: the record is %v", want.Key, got.Record)
+			t.Errorf("%v: got the record %v, want its state and its request", want.Key, got.Record)
 		}
 		got.Record = osb.Record{}
-		if !reflect.DeepEqual(got, want) {
-			t.Errorf("%v: got\n%+v, want\n%+v", want.Key, got, want)
-		}
+		diff.Check(t, got, want, "%v", want.Key)
 	}
 	brokers, err := s.Brokers(background)
 	if err != nil || len(brokers) != 1 {
-		t.Fatalf("%+v, %v", brokers, err)
+		t.Fatalf("got %+v, %v, want one broker", brokers, err)
 	}
 	if it := brokers[0]; it.Name != "default" || it.URL != "https://broker.example/v0.2" || it.User != "platform" ||
 		it.Password != nil || it.PasswordFile != "" || it.Catalogue != nil {
-		t.Errorf("the broker is %+v", it)
+		t.Errorf("the broker: got %+v, want the one of version 0.2", it)
 	}
 	life, err := s.Life(background, keyOf(9))
 	want := []platform.Stay{
@@ -209,7 +195,7 @@ func TestMigration(t *testing.T) {
 		{State: platform.Cleaning, Since: at(1790000049383)},
 	}
 	if err != nil || fmt.Sprint(life) != fmt.Sprint(want) {
-		t.Errorf("%v, %v", life, err)
+		t.Errorf("got %v, %v, want %v", life, err, want)
 	}
 }
 
@@ -221,36 +207,36 @@ func TestMigratedRowsAreUsed(t *testing.T) {
 	for n := 0; n < 12; n++ {
 		rows, err := s.List(background, platform.Filter{After: place, Most: 1})
 		if err != nil || len(rows) != 1 {
-			t.Fatalf("row %d: %v, %v", n, rows, err)
+			t.Fatalf("row %d: got %v, %v, want 1", n, rows, err)
 		}
 		place = &platform.Place{State: rows[0].State, Since: rows[0].Since, Key: rows[0].Key}
 	}
 	if rows, err := s.List(background, platform.Filter{After: place, Most: 1}); err != nil || len(rows) != 0 {
-		t.Errorf("behind the last: %v, %v", rows, err)
+		t.Errorf("behind the last: got %v, %v, want none", rows, err)
 	}
-	executed(t, path, "UPDATE osb_instances SET due = due - 1e9, leased_until = leased_until - 1e9")
+	executeIn(t, path, "UPDATE osb_instances SET due = due - 1e9, leased_until = leased_until - 1e9")
 	steps := 0
 	_, err := s.Claim(background, []string{"default"}, 100,
-		func(_ time.Time, held platform.Held) (*platform.Change, error) {
+		func(_ time.Time, snapshot platform.Snapshot) (*platform.Change, error) {
 			steps++
-			held.Entry.Lease, held.Entry.Due = platform.Lease{}, time.Time{}
-			return &platform.Change{Entry: held.Entry}, nil
+			snapshot.Entry.Lease, snapshot.Entry.Due = platform.Lease{}, time.Time{}
+			return &platform.Change{Entry: snapshot.Entry}, nil
 		})
 	if err != nil || steps != 8 {
-		t.Errorf("%d steps, %v", steps, err)
+		t.Errorf("got %d steps, %v, want 8", steps, err)
 	}
 	counts, err := s.Counts(background)
 	if err != nil || len(counts) != 9 {
-		t.Errorf("%v, %v", counts, err)
+		t.Errorf("got %v, %v, want 9 counts", counts, err)
 	}
-	for _, it := range counts {
-		isTwice := it.State == platform.Ordered || it.State == platform.Ready || it.State == platform.Gone
-		if (it.Count == 2) != isTwice || it.Broker != "default" || it.IsBinding {
-			t.Errorf("counted %+v", it)
+	for _, count := range counts {
+		isTwice := count.State == platform.Ordered || count.State == platform.Ready || count.State == platform.Gone
+		if (count.Count == 2) != isTwice || count.Broker != "default" || count.IsBinding {
+			t.Errorf("got the count %+v, want 2 of the one that is there twice", count)
 		}
 	}
 	if err := s.DropBroker(background, "default"); !errors.Is(err, platform.ErrUsed) {
-		t.Errorf("%v", err)
+		t.Errorf("got %v, want ErrUsed", err)
 	}
 }
 
@@ -259,43 +245,71 @@ func TestOldVersionIsKeptOut(t *testing.T) {
 	isNew := filepath.Join(t.TempDir(), "new")
 	for _, path := range []string{old(t), isNew} {
 		open(t, path)
-		kept := queried(t, path, "SELECT url FROM osb_broker_asked")
+		kept := query(t, path, "SELECT url FROM osb_broker_asked")
 		if len(kept) != 1 || !strings.Contains(kept[0], "later version") {
-			t.Errorf("%s: %q", path, kept)
+			t.Errorf("%s: got the URLs %q, want one that names a later version", path, kept)
 		}
 	}
 }
 
-// closed opens and closes a file, and returns its bytes.
-func closed(t *testing.T, path string) []byte {
+// closeAndRead opens and closes a file, and returns its bytes.
+func closeAndRead(t *testing.T, path string) []byte {
 	t.Helper()
 	s, err := Open(background, path)
 	if err == nil {
 		err = s.Close()
 	}
-	if err != nil {
-		t.Fatal(err)
-	}
+	check(t, err)
 	if _, err := os.Stat(path + "-wal"); !errors.Is(err, os.ErrNotExist) {
-		t.Fatalf("there is a log after Close: %v", err)
+		t.Fatalf("a log after Close: got %v, want none", err)
 	}
 	content, err := os.ReadFile(path)
-	if err != nil {
-		t.Fatal(err)
-	}
+	check(t, err)
 	return content
 }
 
 // A file whose tables are current isn't written when it is opened.
 func TestOpeningWritesNothing(t *testing.T) {
 	for _, path := range []string{old(t), filepath.Join(t.TempDir(), "new")} {
-		first := closed(t, path)
+		first := closeAndRead(t, path)
 		for n := 0; n < 2; n++ {
-			if again := closed(t, path); !bytes.Equal(first, again) {
-				t.Errorf("%s: opening has changed the file", path)
+			if again := closeAndRead(t, path); !bytes.Equal(first, again) {
+				t.Errorf("%s: got another file after opening, want the same", path)
 			}
 		}
 	}
+}
+
+// The columns that a file of an earlier version lacks are added when it is opened, with empty texts, and are used. Here
+// they are two of today's.
+func TestMissingColumns(t *testing.T) {
+	path := filepath.Join(t.TempDir(), "store")
+	first, err := Open(background, path)
+	check(t, err)
+	entry := order(1)
+	entry.Dashboard, entry.Because = "https://one.example", "nobody wants it"
+	accept := func(platform.Snapshot) error { return nil }
+	check(t, withBroker(t, first).Insert(background, entry, accept))
+	check(t, first.Close())
+	for _, table := range []string{"osb_instances", "osb_bindings"} {
+		executeIn(t, path, "ALTER TABLE "+table+" DROP COLUMN because", "ALTER TABLE "+table+" DROP COLUMN space")
+	}
+	closeAndRead(t, path)
+	if got, want := closeAndRead(t, path), closeAndRead(t, path); !bytes.Equal(got, want) {
+		t.Error("got another file from opening it once more, want the same")
+	}
+	again := open(t, path)
+	got, err := again.Read(background, entry.Key)
+	if err != nil || got.Dashboard != entry.Dashboard || got.Because != "" || got.Space != "" {
+		t.Errorf("got %q, %q, %q, %v, want the dashboard alone", got.Dashboard, got.Because, got.Space, err)
+	}
+	further := order(2)
+	further.EntryTexts, further.Space = entry.EntryTexts, "space"
+	check(t, again.Insert(background, further, accept))
+	got, err = again.Read(background, further.Key)
+	check(t, err)
+	diff.Check(t, got.EntryTexts, further.EntryTexts, "the texts of the entry")
+	diff.Check(t, got.OrderTexts, further.OrderTexts, "the texts of the order")
 }
 
 // Many that open a file of 0.2 at once extend it once.
@@ -312,7 +326,7 @@ func TestMigrationsAtOnce(t *testing.T) {
 				return
 			}
 			if rows, err := s.List(background, platform.Filter{}); err != nil || len(rows) != 12 {
-				t.Errorf("%d rows, %v", len(rows), err)
+				t.Errorf("got %d rows, %v, want 12", len(rows), err)
 			}
 			if err := s.Close(); err != nil {
 				t.Error(err)
@@ -325,18 +339,18 @@ func TestMigrationsAtOnce(t *testing.T) {
 // A migration that fails leaves the file as it was, also if it has done most by then.
 func TestMigrationFails(t *testing.T) {
 	path := old(t)
-	executed(t, path, "UPDATE osb_instances SET due = 1e300 WHERE id LIKE '%1'", // in the way of nothing
+	executeIn(t, path, "UPDATE osb_instances SET due = 1e300 WHERE id LIKE '%1'", // in the way of nothing
 		"CREATE TABLE osb_readiness (x)")
 	schema := "SELECT group_concat(sql) FROM (SELECT sql FROM sqlite_master ORDER BY name)"
-	before, rows := queried(t, path, schema), queried(t, path, "SELECT since FROM osb_instances")
+	before, rows := query(t, path, schema), query(t, path, "SELECT since FROM osb_instances")
 	if _, err := Open(background, path); err == nil || !strings.Contains(err.Error(), path) {
-		t.Errorf("it was opened: %v", err)
+		t.Errorf("got %v, want an error that names the file", err)
 	}
-	if after := queried(t, path, schema); fmt.Sprint(after) != fmt.Sprint(before) {
-		t.Errorf("the tables are %s, and were %s", after, before)
+	if after := query(t, path, schema); fmt.Sprint(after) != fmt.Sprint(before) {
+		t.Errorf("the tables: got %s, want %s", after, before)
 	}
-	if after := queried(t, path, "SELECT since FROM osb_instances"); fmt.Sprint(after) != fmt.Sprint(rows) {
-		t.Errorf("the rows are %s, and were %s", after, rows)
+	if after := query(t, path, "SELECT since FROM osb_instances"); fmt.Sprint(after) != fmt.Sprint(rows) {
+		t.Errorf("the rows: got %s, want %s", after, rows)
 	}
 }
 
@@ -346,26 +360,26 @@ func TestForeignFiles(t *testing.T) {
 	later, foreign, numbered, text := filepath.Join(folder, "later"), filepath.Join(folder, "foreign"),
 		filepath.Join(folder, "numbered"), filepath.Join(folder, "text")
 	namesake := filepath.Join(folder, "namesake")
-	executed(t, namesake, "PRAGMA journal_mode = WAL", "CREATE TABLE osb_instances (id TEXT PRIMARY KEY, plan TEXT)")
-	closed(t, later)
-	executed(t, later, "PRAGMA user_version = 4")
-	executed(t, foreign, "PRAGMA journal_mode = WAL", "CREATE TABLE holdings (id TEXT PRIMARY KEY)")
-	executed(t, numbered, "PRAGMA journal_mode = WAL", "CREATE TABLE x (y)", "PRAGMA user_version = 4")
-	if err := os.WriteFile(text, bytes.Repeat([]byte("a text\n"), 1000), 0o600); err != nil {
-		t.Fatal(err)
-	}
+	executeIn(t, namesake, "PRAGMA journal_mode = WAL", "CREATE TABLE osb_instances (id TEXT PRIMARY KEY, plan TEXT)")
+	closeAndRead(t, later)
+	executeIn(t, later, "PRAGMA user_version = 4")
+	executeIn(t, foreign, "PRAGMA journal_mode = WAL", "CREATE TABLE holdings (id TEXT PRIMARY KEY)")
+	executeIn(t, numbered, "PRAGMA journal_mode = WAL", "CREATE TABLE x (y)", "PRAGMA user_version = 4")
+	check(t, os.WriteFile(text, bytes.Repeat([]byte("a text\n"), 1000), 0o600))
 	for path, want := range map[string]error{
 		namesake: errForeign,
 		later:    errLater, foreign: errForeign, numbered: errForeign, text: nil, folder: nil,
 	} {
-		before, _ := os.ReadFile(path)
-		_, err := Open(background, path)
-		if err == nil || !strings.Contains(err.Error(), path) || want != nil && !errors.Is(err, want) {
-			t.Errorf("%s: %v", path, err)
-		}
-		if after, _ := os.ReadFile(path); !bytes.Equal(before, after) {
-			t.Errorf("%s was changed", path)
-		}
+		t.Run(filepath.Base(path), func(t *testing.T) {
+			before, _ := os.ReadFile(path)
+			_, err := Open(background, path)
+			if err == nil || !strings.Contains(err.Error(), path) || want != nil && !errors.Is(err, want) {
+				t.Errorf("%s: got %v, want an error with the path, of the kind %v", path, err, want)
+			}
+			if after, _ := os.ReadFile(path); !bytes.Equal(before, after) {
+				t.Errorf("%s: got it changed, want it unchanged", path)
+			}
+		})
 	}
 }
 
@@ -374,7 +388,7 @@ func TestFileIsForItsOwner(t *testing.T) {
 	open(t, path)
 	for _, name := range []string{path, path + "-wal"} {
 		if info, err := os.Stat(name); err != nil || info.Mode().Perm() != 0o600 {
-			t.Errorf("%s: %v, %v", name, info, err)
+			t.Errorf("%s: got %v, %v, want the mode 600", name, info, err)
 		}
 	}
 }
@@ -382,9 +396,7 @@ func TestFileIsForItsOwner(t *testing.T) {
 // withBroker is a store with the broker of the orders.
 func withBroker(t testing.TB, s *Store) *Store {
 	t.Helper()
-	if err := s.AddBroker(background, platform.Broker{Name: "one", URL: "http://one"}); err != nil {
-		t.Fatal(err)
-	}
+	check(t, s.AddBroker(background, platform.Broker{Name: "one", URL: "http://one"}))
 	return s
 }
 
@@ -394,7 +406,7 @@ func order(n int) platform.Entry {
 	return platform.Entry{
 		Order: platform.Order{
 			Key: key, Broker: "one", Service: service, Plan: plan,
-			Organization: "o", Space: "s", Body: json.RawMessage(`{}`),
+			OrderTexts: platform.OrderTexts{Organization: "o", Space: "s"}, Body: json.RawMessage(`{}`),
 			Names: platform.Names{Instance: key.String(), Service: service.String(), Plan: plan.String()},
 			Try:   1, Tries: 1, First: key.Instance,
 		},
@@ -411,18 +423,16 @@ func TestTimes(t *testing.T) {
 		at(1e12), at(1e12).Add(1), at(1e12).Add(time.Millisecond - 1), at(1e12).Add(time.Millisecond),
 	} {
 		entry.Key, entry.SentUntil = keyOf(n), meant
-		if err := s.Insert(background, entry, nil); err != nil {
-			t.Fatal(err)
-		}
+		check(t, s.Insert(background, entry, nil))
 		if got, err := s.Read(background, entry.Key); err != nil || !got.SentUntil.Equal(want[n]) {
-			t.Errorf("%v: %v, %v", meant, got.SentUntil, err)
+			t.Errorf("%v: got %v, %v, want %v", meant, got.SentUntil, err, want[n])
 		}
 	}
 	for n := 0; n < 5; n++ {
 		before := time.Now()
 		_, now, err := s.NextDue(background, []string{"one"})
 		if err != nil || now.Before(before) || now.Nanosecond()%1e6 != 0 {
-			t.Errorf("%v isn't after %v: %v", now, before, err)
+			t.Errorf("got %v after %v (%v), want a later time in milliseconds", now, before, err)
 		}
 	}
 }
@@ -433,19 +443,15 @@ func TestOnlyIsTheLockOfOldVersions(t *testing.T) {
 	path := filepath.Join(t.TempDir(), "store")
 	s := open(t, path)
 	file, err := os.Create(path + ".worker-1.lock")
-	if err != nil {
-		t.Fatal(err)
-	}
+	check(t, err)
 	defer file.Close()
-	if err := syscall.Flock(int(file.Fd()), syscall.LOCK_EX); err != nil {
-		t.Fatal(err)
-	}
+	check(t, syscall.Flock(int(file.Fd()), syscall.LOCK_EX))
 	if end, _, err := s.Only(background, "worker-1"); end != nil || err != nil {
-		t.Errorf("%t, %v", end != nil, err)
+		t.Errorf("got a lock: %t, and the error %v, want neither", end != nil, err)
 	}
 	for _, name := range []string{"", "../x", "a\x00"} {
 		if end, _, err := s.Only(background, name); end != nil || err == nil {
-			t.Errorf("%q: %t", name, end != nil)
+			t.Errorf("%q: got a lock: %t, and the error %v, want only an error", name, end != nil, err)
 		}
 	}
 }
@@ -453,19 +459,15 @@ func TestOnlyIsTheLockOfOldVersions(t *testing.T) {
 // While a worker of version 0.2 runs, its file isn't extended: it would send what isn't its broker's.
 func TestOldWorkerRuns(t *testing.T) {
 	path := old(t)
-	lock, err := locked(path+".worker-1.lock", os.O_CREATE) // that of 0.2
-	if err != nil {
-		t.Fatal(err)
-	}
+	lock, err := lock(path+".worker-1.lock", os.O_CREATE) // that of 0.2
+	check(t, err)
 	before, err := os.ReadFile(path)
-	if err != nil {
-		t.Fatal(err)
-	}
+	check(t, err)
 	if _, err := Open(background, path); err == nil || !strings.Contains(err.Error(), "worker-1 ") {
-		t.Errorf("it was opened: %v", err)
+		t.Errorf("got %v, want an error that names the worker", err)
 	}
 	if after, err := os.ReadFile(path); err != nil || !bytes.Equal(before, after) {
-		t.Errorf("it was changed: %v", err)
+		t.Errorf("got the file changed (%v), want it unchanged", err)
 	}
 	unlock(lock)
 	end, _, err := open(t, path).Only(background, "worker-1")
@@ -486,12 +488,12 @@ func TestQueriesUseIndexes(t *testing.T) {
 		{Most: 5, After: &platform.Place{State: platform.Ready, Since: at(1), Key: keyOf(1)}},
 		{Most: 5, Broker: "one", After: &platform.Place{State: platform.Ready, Since: at(1), Key: keyOf(1)}},
 	}
-	for _, it := range filters {
-		it.Latest = true
-		filters = append(filters, it)
+	for _, filter := range filters {
+		filter.Latest = true
+		filters = append(filters, filter)
 	}
-	for _, it := range filters {
-		if _, err := s.List(background, it); err != nil {
+	for _, filter := range filters {
+		if _, err := s.List(background, filter); err != nil {
 			t.Fatal(err)
 		}
 	}
@@ -503,17 +505,15 @@ func TestQueriesUseIndexes(t *testing.T) {
 			wantIndexed(t, c, dueText(count), count+3, true)
 		}
 		others, reading := c.ofOthers(), c.ofReading()
-		for it, values := range map[**sqlitefile.Statement]int{
+		for statement, values := range map[**sqlitefile.Statement]int{
 			&c.freeInstances: 2, &c.freeBindings: 2, &c.removeBindings: 2, &c.wakeInstance: 2, &c.anyBinding: 1,
 			&c.stay: 3, &c.life: 1, &c.inFlight: 1, &c.counts: 0,
 		} {
-			wantIndexed(t, c, others[it]+reading[it], values, false)
+			wantIndexed(t, c, others[statement]+reading[statement], values, false)
 		}
 		return wantOfDue(t, c, reading[&c.oldestDue])
 	})
-	if err != nil {
-		t.Fatal(err)
-	}
+	check(t, err)
 }
 
 // wantOfDue fails if a query reads rows that rest: the two indexes have none.
@@ -526,12 +526,12 @@ func wantOfDue(t *testing.T, c *connection, query string) error {
 			return nil
 		}
 		if scans++; !strings.HasSuffix(step, "_to_do") {
-			t.Errorf("%s\n%s", step, query)
+			t.Errorf("got %s, want an index of what is to do, in\n%s", step, query)
 		}
 		return nil
 	})
 	if scans != 2 {
-		t.Errorf("%d scans\n%s", scans, query)
+		t.Errorf("got %d scans, want 2:\n%s", scans, query)
 	}
 	return err
 }
@@ -544,11 +544,85 @@ func wantIndexed(t *testing.T, c *connection, query string, values int, isFew bo
 		step := fmt.Sprint(row[3])
 		isScan := strings.Contains(step, "SCAN osb_") && !strings.Contains(step, "USING INDEX osb_leased_")
 		if isScan || !isFew && strings.Contains(step, "TEMP B-TREE FOR ORDER BY") {
-			t.Errorf("%s\n%s", step, query)
+			t.Errorf("got %s, want an index and no sort, in\n%s", step, query)
 		}
 		return nil
 	})
 	if err != nil {
 		t.Error(err)
+	}
+}
+
+// A symbolic link in place of a worker's lock isn't followed.
+func TestOnlyFollowsNoLink(t *testing.T) {
+	folder := t.TempDir()
+	path := filepath.Join(folder, "store")
+	s := open(t, path)
+	check(t, os.Symlink(filepath.Join(folder, "other"), path+".me.lock"))
+	if end, _, err := s.Only(background, "me"); end != nil || !errors.Is(err, syscall.ELOOP) {
+		t.Errorf("Only: got %v, want %v", err, syscall.ELOOP)
+	}
+	if _, err := os.Lstat(filepath.Join(folder, "other")); !errors.Is(err, os.ErrNotExist) {
+		t.Errorf("the link: got %v, want it not followed", err)
+	}
+}
+
+// What every store must do if one of its statements fails.
+func TestFaults(t *testing.T) {
+	folder, err := os.MkdirTemp("", "osb-sqlite")
+	check(t, err)
+	t.Cleanup(func() { _ = os.RemoveAll(folder) })
+	path := func(t *testing.T) string { return filepath.Join(folder, storetest.NameOf(t)) }
+	storetest.TestFaults(t, storetest.Faulty{
+		Open: func(t *testing.T) (platform.Store, *storefaults.Countdown) {
+			by := &storefaults.Driver{}
+			store, err := openAt(background, path(t), by, migrate)
+			check(t, err)
+			return store, &by.Countdown
+		},
+		Beside: func(t *testing.T) platform.Store {
+			store, err := Open(background, path(t))
+			check(t, err)
+			return store
+		},
+		Empty: func(t *testing.T) {
+			executeIn(t, path(t), "DELETE FROM osb_instances; DELETE FROM osb_bindings; DELETE FROM osb_lives; "+
+				"DELETE FROM osb_brokers; DELETE FROM osb_counts; UPDATE osb_store SET fingerprint = NULL")
+		},
+		Spoil: func(t *testing.T, broker string) {
+			executeIn(t, path(t), "UPDATE osb_brokers SET settings = 'x' WHERE name = '"+broker+"'")
+		},
+		Faults:  []storefaults.Fault{storefaults.Refused, storefaults.Lost},
+		Without: []string{"Only", "HasWorkers"}, // they lock files
+	})
+}
+
+// Each statement of Open and OpenExisting fails once, over a new file and over one of version 0.2: the error is
+// returned, and the file can be opened later.
+func TestOpeningThatFails(t *testing.T) {
+	for _, path := range []string{filepath.Join(t.TempDir(), "store"), old(t)} {
+		for _, bring := range []func(context.Context, *sqlitefile.Conn, string) error{migrate, migrateExisting} {
+			for n, failed := 1, "none yet"; failed != ""; n++ {
+				by := &storefaults.Driver{}
+				by.Fail(n, storefaults.Refused)
+				store, err := openAt(background, path, by, bring)
+				failed = by.FailedStatement()
+				if failed != "" && !errors.Is(err, storefaults.ErrFault) || failed == "" && err != nil {
+					t.Errorf("%q has failed: got %v, want an error exactly then", failed, err)
+				}
+				if err == nil {
+					_ = store.Close()
+				}
+			}
+		}
+		open(t, path)
+	}
+}
+
+// check ends the test at an error.
+func check(t testing.TB, err error) {
+	t.Helper()
+	if err != nil {
+		t.Fatal(err)
 	}
 }

@@ -3,12 +3,12 @@ package storetest
 import (
 	"errors"
 	"fmt"
-	"reflect"
 	"strings"
 	"sync"
 	"testing"
 	"time"
 
+	"pippinterm/internal/diff"
 	"pippinterm/osb"
 	"pippinterm/platform"
 )
@@ -17,36 +17,32 @@ import (
 func claim(t *testing.T, store platform.Store, of []string, most int, until time.Time) []platform.Key {
 	t.Helper()
 	stepped := []platform.Key{}
-	claimed, err := store.Claim(background, of, most, func(_ time.Time, held platform.Held) (*platform.Change, error) {
-		stepped = append(stepped, held.Key)
-		return &platform.Change{Entry: leased(held.Entry, "a worker", until)}, nil
+	claimed, err := store.Claim(background, of, most, func(_ time.Time, snapshot platform.Snapshot) (*platform.Change, error) {
+		stepped = append(stepped, snapshot.Key)
+		return &platform.Change{Entry: withLease(snapshot.Entry, "a worker", until)}, nil
 	})
 	if err != nil {
-		t.Fatalf("Claim: %v", err)
+		t.Fatalf("Claim: got %v, want no error", err)
 	}
 	keys := []platform.Key{}
-	for _, it := range claimed {
-		keys = append(keys, it.Key)
-		if it.Err != nil {
-			t.Errorf("the claim of %v: %v", it.Key, it.Err)
+	for _, row := range claimed {
+		keys = append(keys, row.Key)
+		if row.Err != nil {
+			t.Errorf("the claim of %v: got %v, want no error", row.Key, row.Err)
 		}
 	}
-	if !reflect.DeepEqual(keys, stepped) {
-		t.Errorf("stepped were %v, and claimed %v", stepped, keys)
-	}
+	diff.Check(t, keys, stepped, "the claimed rows, and those that were stepped")
 	return keys
 }
 
 func wantClaimed(t *testing.T, what string, got []platform.Key, want ...platform.Key) {
 	t.Helper()
-	if !reflect.DeepEqual(got, append([]platform.Key{}, want...)) {
-		t.Errorf("%s: claimed %v, want %v", what, got, want)
-	}
+	diff.Check(t, got, append([]platform.Key{}, want...), "%s", what)
 }
 
 // The longest due come first, instances and bindings alike. What is due later or rests isn't claimed.
 func testClaimOrder(t *testing.T, open opener) {
-	first, second := opened(t, open), opened(t, open)
+	first, second := openStore(t, open), openStore(t, open)
 	insert(t, first,
 		due(order(instance(1)), past(50)), due(order(instance(2)), past(10)), due(order(binding(3, 1)), past(30)),
 		due(order(instance(4)), past(20)), due(order(binding(5, 1)), past(40)), due(order(binding(1, 2)), past(5)),
@@ -60,7 +56,7 @@ func testClaimOrder(t *testing.T, open opener) {
 }
 
 func testClaimBrokers(t *testing.T, open opener) {
-	store := opened(t, open)
+	store := openStore(t, open)
 	for n, name := range []string{"one", "two", "three", "one"} {
 		entry, of := due(order(instance(n)), past(n)), due(order(binding(n, n)), past(10+n))
 		entry.Broker, of.Broker = name, name
@@ -76,20 +72,20 @@ func testClaimBrokers(t *testing.T, open opener) {
 
 // A row that is leased is passed over until the lease is over, by its own worker too. A lease ends with a Change.
 func testLeases(t *testing.T, open opener) {
-	first, second := opened(t, open), opened(t, open)
+	first, second := openStore(t, open), openStore(t, open)
 	insert(t, first,
-		leased(order(instance(1)), "a worker", future(1)), leased(order(instance(2)), "a worker", past(1)),
-		leased(order(binding(1, 1)), "another", future(1)),
-		leased(due(order(binding(2, 1)), past(1)), "another", past(1)))
+		withLease(order(instance(1)), "a worker", future(1)), withLease(order(instance(2)), "a worker", past(1)),
+		withLease(order(binding(1, 1)), "another", future(1)),
+		withLease(due(order(binding(2, 1)), past(1)), "another", past(1)))
 	leases := []platform.Lease{}
-	_, err := first.Claim(background, brokers, 10, func(now time.Time, held platform.Held) (*platform.Change, error) {
-		leases = append(leases, held.Lease)
-		return &platform.Change{Entry: leased(held.Entry, "the next", now.Add(time.Hour))}, nil
+	_, err := first.Claim(background, brokers, 10, func(now time.Time, snapshot platform.Snapshot) (*platform.Change, error) {
+		leases = append(leases, snapshot.Lease)
+		return &platform.Change{Entry: withLease(snapshot.Entry, "the next", now.Add(time.Hour))}, nil
 	})
-	must(t, err)
+	check(t, err)
 	for n, worker := range []string{"a worker", "another"} {
 		if len(leases) != 2 || leases[n].Worker != worker || !leases[n].Until.Equal(past(1)) {
-			t.Errorf("the leases that were over are %+v", leases)
+			t.Errorf("the leases that were over: got %+v, want both", leases)
 		}
 	}
 	wantClaimed(t, "while all are leased", claim(t, second, brokers, 10, future(0)))
@@ -99,7 +95,7 @@ func testLeases(t *testing.T, open opener) {
 
 // A row whose step fails stays as it was, but is due later. Those beside it are written.
 func testFailingClaim(t *testing.T, open opener) {
-	store := opened(t, open)
+	store := openStore(t, open)
 	const kinds = 7
 	entries := []platform.Entry{}
 	for n := 0; n < kinds; n++ {
@@ -110,9 +106,9 @@ func testFailingClaim(t *testing.T, open opener) {
 	}
 	insert(t, store, entries...)
 	used := order(instance(0))
-	step := func(_ time.Time, held platform.Held) (*platform.Change, error) {
-		all := platform.Change{Entry: in(t, held.Key, platform.Wanted), RemoveBindings: !held.Key.IsBinding}
-		switch held.Key.ID() {
+	step := func(_ time.Time, snapshot platform.Snapshot) (*platform.Change, error) {
+		all := platform.Change{Entry: in(t, snapshot.Key, platform.Wanted), RemoveBindings: !snapshot.Key.IsBinding}
+		switch snapshot.Key.ID() {
 		case id(1):
 			return &all, errWrong
 		case id(2):
@@ -129,16 +125,16 @@ func testFailingClaim(t *testing.T, open opener) {
 	begun := now(t, store)
 	claimed, err := store.Claim(background, brokers, 100, step)
 	if err != nil || len(claimed) != len(entries) {
-		t.Fatalf("Claim: %v, %v", claimed, err)
+		t.Fatalf("Claim: got %v, %v, want all rows", claimed, err)
 	}
-	for n, it := range claimed {
+	for n, row := range claimed {
 		key := entries[n].Key
 		isRight := []bool{
-			it.Err == nil, errors.Is(it.Err, errWrong), it.Err != nil && strings.Contains(it.Err.Error(), "a bug"),
-			it.Err == nil, errors.Is(it.Err, platform.ErrUsed), it.Err == nil, errors.Is(it.Err, osb.ErrBadRecord),
+			row.Err == nil, errors.Is(row.Err, errWrong), row.Err != nil && strings.Contains(row.Err.Error(), "a bug"),
+			row.Err == nil, errors.Is(row.Err, platform.ErrUsed), row.Err == nil, errors.Is(row.Err, osb.ErrBadRecord),
 		}
-		if it.Key != key || !isRight[n%kinds] {
-			t.Errorf("claimed %v with %v", it.Key, it.Err)
+		if row.Key != key || !isRight[n%kinds] {
+			t.Errorf("got %v claimed with %v, want each row with its own outcome", row.Key, row.Err)
 		}
 	}
 	wantAfterFailing(t, store, entries, begun)
@@ -148,7 +144,7 @@ func testFailingClaim(t *testing.T, open opener) {
 func now(t *testing.T, store platform.Store) time.Time {
 	t.Helper()
 	_, at, err := store.NextDue(background, nil)
-	must(t, err)
+	check(t, err)
 	return at
 }
 
@@ -156,21 +152,21 @@ func now(t *testing.T, store platform.Store) time.Time {
 func wantAfterFailing(t *testing.T, store platform.Store, before []platform.Entry, begun time.Time) {
 	t.Helper()
 	first, last := begun.Add(platform.FailedRest), now(t, store).Add(platform.FailedRest)
-	for _, it := range before {
-		want, isWritten, stays := it, it.Key.ID() == id(0) || it.Key.ID() == id(5), 0
+	for _, entry := range before {
+		want, isWritten, stays := entry, entry.Key.ID() == id(0) || entry.Key.ID() == id(5), 0
 		if isWritten {
-			want, stays = in(t, it.Key, platform.Wanted), 1
+			want, stays = in(t, entry.Key, platform.Wanted), 1
 		}
-		got := read(t, store, it.Key)
-		if hasFailed := !isWritten && it.Key.ID() != id(3); hasFailed {
+		got := read(t, store, entry.Key)
+		if hasFailed := !isWritten && entry.Key.ID() != id(3); hasFailed {
 			if got.Due.Before(first.Truncate(time.Millisecond)) || got.Due.After(last.Add(time.Millisecond)) {
-				t.Errorf("%v is due at %v, and not between %v and %v", it.Key, got.Due, first, last)
+				t.Errorf("%v: got it due at %v, want it between %v and %v", entry.Key, got.Due, first, last)
 			}
 			want.Due = got.Due
 		}
-		wantEntry(t, it.Key.String(), got, want)
-		if life, err := store.Life(background, it.Key); err != nil || len(life) != stays {
-			t.Errorf("the life of %v: %v, %v", it.Key, life, err)
+		wantEntry(t, entry.Key.String(), got, want)
+		if life, err := store.Life(background, entry.Key); err != nil || len(life) != stays {
+			t.Errorf("the life of %v: got %v, %v, want %d", entry.Key, life, err, stays)
 		}
 	}
 }
@@ -178,7 +174,7 @@ func wantAfterFailing(t *testing.T, store platform.Store, before []platform.Entr
 // Rows whose steps always fail keep no other row waiting, though they are due the longest, and though there are more of
 // them than are claimed at once.
 func testPoisoned(t *testing.T, open opener) {
-	store := opened(t, open)
+	store := openStore(t, open)
 	const poisoned, most = 20, 4
 	healthy := due(order(binding(1000, 0)), past(poisoned))
 	for n := 0; n < poisoned; n += 2 {
@@ -188,62 +184,62 @@ func testPoisoned(t *testing.T, open opener) {
 	for n := 0; n <= poisoned/most; n++ {
 		isStepped := false
 		claimed, err := store.Claim(background, brokers, most,
-			func(_ time.Time, held platform.Held) (*platform.Change, error) {
-				if held.Key == healthy.Key {
+			func(_ time.Time, snapshot platform.Snapshot) (*platform.Change, error) {
+				if snapshot.Key == healthy.Key {
 					isStepped = true
-					return &platform.Change{Entry: leased(held.Entry, "a worker", future(0))}, nil
+					return &platform.Change{Entry: withLease(snapshot.Entry, "a worker", future(0))}, nil
 				}
 				return nil, errWrong
 			})
-		must(t, err)
+		check(t, err)
 		if isStepped {
 			return
 		}
 		if len(claimed) != most {
-			t.Errorf("claimed %v", claimed)
+			t.Errorf("got %v claimed, want %d", claimed, most)
 		}
 	}
-	t.Error("the row whose step doesn't fail is never claimed")
+	t.Error("the row whose step doesn't fail: got no claim, want one")
 }
 
 // A step reads what steps before it in the same claim have written, so that none of it is lost.
 func testClaimSees(t *testing.T, open opener) {
-	store := opened(t, open)
+	store := openStore(t, open)
 	insert(t, store, due(order(instance(1)), past(1)), due(in(t, binding(1, 1), platform.Ready), past(2)))
 	of := due(in(t, instance(2), platform.Ready), past(4))
 	of.Removal = platform.Removed
 	insert(t, store, of, due(in(t, binding(1, 2), platform.Cleaning), past(3)))
 	steps := []platform.Key{}
-	_, err := store.Claim(background, brokers, 10, func(_ time.Time, held platform.Held) (*platform.Change, error) {
-		steps = append(steps, held.Key)
-		change := platform.Change{Entry: leased(held.Entry, "a worker", future(0))}
-		switch held.Key {
+	_, err := store.Claim(background, brokers, 10, func(_ time.Time, snapshot platform.Snapshot) (*platform.Change, error) {
+		steps = append(steps, snapshot.Key)
+		change := platform.Change{Entry: withLease(snapshot.Entry, "a worker", future(0))}
+		switch snapshot.Key {
 		case instance(1):
 			change.RemoveBindings, change.Entry.Because = true, "seen"
 		case binding(1, 1):
-			if held.Removal != platform.Removed || held.Instance.Because != "seen" {
-				t.Errorf("the binding is %+v of %+v", held.Entry, held.Instance)
+			if snapshot.Removal != platform.Removed || snapshot.Instance.Because != "seen" {
+				t.Errorf("the binding: got %+v of %+v, want it removed, with its instance", snapshot.Entry, snapshot.Instance)
 			}
 		case binding(1, 2):
-			change.Entry = in(t, held.Key, platform.Gone)
+			change.Entry = in(t, snapshot.Key, platform.Gone)
 			change.WakeInstance = true
 		case instance(2):
-			if isAllGone, err := held.AllGone(); err != nil || !isAllGone {
-				t.Errorf("all are gone: %t, %v", isAllGone, err)
+			if isAllGone, err := snapshot.AllGone(); err != nil || !isAllGone {
+				t.Errorf("AllGone: got %t, %v, want true", isAllGone, err)
 			}
 		}
 		return &change, nil
 	})
-	must(t, err)
+	check(t, err)
 	wantClaimed(t, "in order", steps, instance(1), binding(1, 1), binding(1, 2), instance(2))
 	if got := read(t, store, binding(1, 1)); got.Removal != platform.Removed || got.Lease.Worker != "a worker" {
-		t.Errorf("the binding is %+v", got)
+		t.Errorf("the binding: got %+v, want it removed and leased", got)
 	}
 }
 
 // Of many that claim at once, each row goes to one.
 func testClaimsAtOnce(t *testing.T, open opener) {
-	stores := []platform.Store{opened(t, open), opened(t, open)}
+	stores := []platform.Store{openStore(t, open), openStore(t, open)}
 	const rows = 40
 	for n := 0; n < rows; n++ {
 		insert(t, stores[0], order(instance(n)), order(binding(n, n)))
@@ -251,11 +247,11 @@ func testClaimsAtOnce(t *testing.T, open opener) {
 	var all sync.WaitGroup
 	var turn sync.Mutex
 	taken := map[platform.Key]int{}
-	take := func(claimed []platform.Claimed) {
+	take := func(claimed []platform.ClaimedRow) {
 		turn.Lock()
 		defer turn.Unlock()
-		for _, it := range claimed {
-			taken[it.Key]++
+		for _, row := range claimed {
+			taken[row.Key]++
 		}
 	}
 	for n := 0; n < 8; n++ {
@@ -265,7 +261,7 @@ func testClaimsAtOnce(t *testing.T, open opener) {
 			for most := 1; most <= 2*rows; most++ {
 				claimed, err := store.Claim(background, brokers, most, leaseFor(worker))
 				if err != nil {
-					t.Errorf("Claim: %v", err)
+					t.Errorf("Claim: got %v, want no error", err)
 				}
 				take(claimed)
 				if len(claimed) == 0 { // others have locked what is left
@@ -277,40 +273,40 @@ func testClaimsAtOnce(t *testing.T, open opener) {
 	all.Wait()
 	// Two claims that have each locked a row of the other return nothing. So some rows may be left.
 	claimed, err := stores[0].Claim(background, brokers, 2*rows, leaseFor("the last"))
-	must(t, err)
+	check(t, err)
 	take(claimed)
 	if len(taken) != 2*rows {
-		t.Errorf("%d rows of %d were claimed", len(taken), 2*rows)
+		t.Errorf("got %d rows claimed, want %d", len(taken), 2*rows)
 	}
 	for key, count := range taken {
 		if count != 1 {
-			t.Errorf("%v was claimed %d times", key, count)
+			t.Errorf("%v: got %d claims, want 1", key, count)
 		}
 	}
 	wantClaimed(t, "after all", claim(t, stores[0], brokers, 10, future(0)))
 }
 
 func leaseFor(worker string) platform.Step {
-	return func(_ time.Time, held platform.Held) (*platform.Change, error) {
-		return &platform.Change{Entry: leased(held.Entry, worker, future(0))}, nil
+	return func(_ time.Time, snapshot platform.Snapshot) (*platform.Change, error) {
+		return &platform.Change{Entry: withLease(snapshot.Entry, worker, future(0))}, nil
 	}
 }
 
 // While a transaction has locked rows, a claim passes over them, or waits until it can: it never takes what the other
 // one is about to lease, or to put off.
 func testClaimPassesOver(t *testing.T, open opener) {
-	first, second := opened(t, open), opened(t, open)
+	first, second := openStore(t, open), openStore(t, open)
 	insert(t, first, due(order(instance(1)), past(1)), due(order(instance(2)), past(2)))
 	gate, done, late := NewGate(), make(chan error, 1), make(chan error, 1)
 	defer gate.Open()
 	go func() {
-		done <- first.Change(background, instance(1), func(_ time.Time, held platform.Held) (*platform.Change, error) {
+		done <- first.Change(background, instance(1), func(_ time.Time, snapshot platform.Snapshot) (*platform.Change, error) {
 			gate.Pass()
-			return &platform.Change{Entry: due(held.Entry, future(0))}, nil
+			return &platform.Change{Entry: due(snapshot.Entry, future(0))}, nil
 		})
 	}()
 	gate.Await(t, done)
-	var claimed []platform.Claimed
+	var claimed []platform.ClaimedRow
 	go func() {
 		found, err := second.Claim(background, brokers, 10, leaseFor("a worker"))
 		claimed = found
@@ -323,12 +319,53 @@ func testClaimPassesOver(t *testing.T, open opener) {
 	}
 	gate.Open()
 	if err := <-done; err != nil {
-		t.Errorf("Change: %v", err)
+		t.Errorf("Change: got %v, want no error", err)
 	}
-	if err := <-late; err != nil || len(claimed) != 1 || claimed[0] != (platform.Claimed{Key: instance(2)}) {
-		t.Errorf("beside a transaction: claimed %v, %v", claimed, err)
+	if err := <-late; err != nil || len(claimed) != 1 || claimed[0] != (platform.ClaimedRow{Key: instance(2)}) {
+		t.Errorf("beside a transaction: got %v claimed, %v, want the second only", claimed, err)
 	}
 	if got := read(t, first, instance(1)); !got.Due.Equal(future(0)) || got.Lease != (platform.Lease{}) {
-		t.Errorf("the row of the transaction is %+v", got)
+		t.Errorf("the row of the transaction: got %+v, want it due later without a lease", got)
 	}
 }
+
+// A Gate keeps steps waiting, so that a test can see what others do meanwhile.
+//
+// Defer Open behind what waits for the steps, such as closing their store. A test that fails at the gate then ends, and
+// doesn't wait for its own step.
+type Gate struct {
+	steps chan struct{}
+	open  chan struct{}
+	once  sync.Once
+}
+
+// NewGate returns a gate that is closed.
+func NewGate() *Gate { return &Gate{steps: make(chan struct{}, 100), open: make(chan struct{})} }
+
+// Pass waits until the gate is open. Steps call it.
+func (g *Gate) Pass() {
+	select {
+	case g.steps <- struct{}{}:
+	default: // so many steps are awaited by no test
+	}
+	<-g.open
+}
+
+// Await waits for one more step at the gate. It fails the test if a call ends before it has a step. done has the errors
+// of the calls.
+func (g *Gate) Await(t testing.TB, done <-chan error) {
+	t.Helper()
+	select {
+	case <-g.steps:
+	case err := <-done:
+		t.Fatalf("a call: got %v before its step, want it to wait", err)
+	case <-time.After(deadline):
+		t.Fatal("got no step in time, want one")
+	}
+}
+
+// Steps returns how many steps have begun that weren't awaited.
+func (g *Gate) Steps() int { return len(g.steps) }
+
+// Open lets all steps pass, now and later.
+func (g *Gate) Open() { g.once.Do(func() { close(g.open) }) }

@@ -4,14 +4,16 @@ import (
 	"context"
 	"fmt"
 	"sort"
+	"strings"
 	"testing"
 	"time"
 
+	"pippinterm/internal/diff"
 	"pippinterm/platform"
 )
 
-// listed are rows of all kinds.
-func listed(t *testing.T, store platform.Store) (rows []platform.Entry) {
+// insertRows are rows of all kinds.
+func insertRows(t *testing.T, store platform.Store) (rows []platform.Entry) {
 	t.Helper()
 	states := []platform.State{
 		platform.Abandoned, platform.Cleaning, platform.CleaningPolling, platform.Gone, platform.Ordered,
@@ -44,11 +46,11 @@ func before(order platform.Ordering, one, other platform.Entry) bool {
 }
 
 func testList(t *testing.T, open opener) {
-	store := opened(t, open)
-	rows := listed(t, opened(t, open))
+	store := openStore(t, open)
+	rows := insertRows(t, openStore(t, open))
 	yes, no, of, none, third := true, false, instance(0x20002).Instance, instance(0x777).Instance, id(3)
-	last := instance(0x10000*19 + 19).Instance
-	for _, it := range []struct {
+	last, bound := instance(0x10000*19+19).Instance, binding(0x40002, 0x20002).Binding
+	for _, test := range []struct {
 		filter platform.Filter
 		has    func(platform.Entry) bool
 	}{
@@ -73,6 +75,8 @@ func testList(t *testing.T, open opener) {
 		{platform.Filter{Instance: &none}, func(platform.Entry) bool { return false }},
 		{platform.Filter{Instance: &of, Bindings: &no}, func(platform.Entry) bool { return false }},
 		{platform.Filter{First: &third}, func(e platform.Entry) bool { return e.First == third }},
+		{platform.Filter{First: &of}, func(e platform.Entry) bool { return e.First == of }}, // the first try itself
+		{platform.Filter{First: &bound}, func(e platform.Entry) bool { return e.First == bound }},
 		{
 			platform.Filter{First: &third, Instance: &last},
 			func(e platform.Entry) bool { return e.First == third && e.Key.IsBinding && e.Key.Instance == last },
@@ -87,7 +91,7 @@ func testList(t *testing.T, open opener) {
 			},
 		},
 	} {
-		wantList(t, store, rows, it.filter, it.has)
+		wantList(t, store, rows, test.filter, test.has)
 	}
 	for _, prefix := range []string{
 		"0", "00000000-0000-4000-8000-0000000", "00000000-0000-4000-8000-00000002",
@@ -107,9 +111,9 @@ func wantList(
 	for _, order := range []platform.Ordering{platform.ByState, platform.ByTime, platform.ByKey} {
 		sort.Slice(rows, func(i, j int) bool { return before(order, rows[i], rows[j]) })
 		want := []platform.Key{}
-		for _, it := range rows {
-			if has(it) {
-				want = append(want, it.Key)
+		for _, row := range rows {
+			if has(row) {
+				want = append(want, row.Key)
 			}
 		}
 		filter.Order, filter.Latest = order, false
@@ -124,18 +128,33 @@ func wantListed(t *testing.T, store platform.Store, filter platform.Filter, want
 	t.Helper()
 	got, err := store.List(background, filter)
 	if err != nil {
-		t.Errorf("%+v: %v", filter, err)
+		t.Errorf("%+v: got %v, want no error", filter, err)
 	}
 	wantKeys(t, fmt.Sprintf("%+v", filter), got, want...)
+	wantBrief(t, store, filter, got)
 	inPages(t, store, filter, want)
 	places, err := store.Places(background, filter)
 	if err != nil || len(places) != len(got) {
-		t.Fatalf("%+v: it has %d places, %v, want %d", filter, len(places), err, len(got))
+		t.Fatalf("%+v: got %d places, %v, want %d", filter, len(places), err, len(got))
 	}
-	for at, it := range got {
-		if want := (platform.Place{State: it.State, Since: it.Since, Key: it.Key}); places[at] != want {
-			t.Errorf("%+v: the place is %+v, want %+v", filter, places[at], want)
+	for at, entry := range got {
+		if want := (platform.Place{State: entry.State, Since: entry.Since, Key: entry.Key}); places[at] != want {
+			t.Errorf("%+v: the place: got %+v, want %+v", filter, places[at], want)
 		}
+	}
+}
+
+// wantBrief fails unless a brief list has these rows, without bodies and credentials.
+func wantBrief(t *testing.T, store platform.Store, filter platform.Filter, rows []platform.Entry) {
+	t.Helper()
+	filter.IsBrief = true
+	got, err := store.List(background, filter)
+	if err != nil || len(got) != len(rows) {
+		t.Fatalf("%+v: got %d rows, %v, want %d", filter, len(got), err, len(rows))
+	}
+	for at, want := range rows {
+		want.Body, want.Credentials = nil, nil
+		diff.Check(t, got[at], want, "%+v", filter)
 	}
 }
 
@@ -154,7 +173,7 @@ func inPages(t *testing.T, store platform.Store, filter platform.Filter, want []
 	for len(all) <= len(want) {
 		page, err := store.List(background, filter)
 		if err != nil || len(page) > filter.Most {
-			t.Fatalf("%+v: %d rows, %v", filter, len(page), err)
+			t.Fatalf("%+v: got %d rows, %v, want no more than a page", filter, len(page), err)
 		}
 		all = append(all, page...)
 		if len(page) < filter.Most {
@@ -168,24 +187,24 @@ func inPages(t *testing.T, store platform.Store, filter platform.Filter, want []
 
 // A place needs no row, and a step writes times that a place finds again.
 func testPages(t *testing.T, open opener) {
-	store := opened(t, open)
+	store := openStore(t, open)
 	for n := 0; n < 7; n++ {
 		insert(t, store, order(instance(n)))
 	}
 	for n := 0; n < 7; n++ {
-		err := store.Change(background, instance(n), func(now time.Time, held platform.Held) (*platform.Change, error) {
-			held.Entry.Since = now
-			return &platform.Change{Entry: held.Entry}, nil
+		err := store.Change(background, instance(n), func(now time.Time, snapshot platform.Snapshot) (*platform.Change, error) {
+			snapshot.Entry.Since = now
+			return &platform.Change{Entry: snapshot.Entry}, nil
 		})
-		must(t, err)
+		check(t, err)
 	}
 	all, err := store.List(background, platform.Filter{})
 	if err != nil || len(all) != 7 {
-		t.Fatalf("List: %v, %v", all, err)
+		t.Fatalf("List: got %v, %v, want 7", all, err)
 	}
 	keys := []platform.Key{}
-	for _, it := range all {
-		keys = append(keys, it.Key)
+	for _, entry := range all {
+		keys = append(keys, entry.Key)
 	}
 	inPages(t, store, platform.Filter{}, keys)
 	for place, want := range map[platform.Place]int{
@@ -198,19 +217,19 @@ func testPages(t *testing.T, open opener) {
 	} {
 		place := place
 		rows, err := store.List(background, platform.Filter{After: &place})
-		must(t, err)
+		check(t, err)
 		wantKeys(t, fmt.Sprintf("after %+v", place), rows, keys[want:]...)
 		before := want // the row at a place isn't behind it in either order
 		if want > 0 && keys[want-1] == place.Key {
 			before--
 		}
 		rows, err = store.List(background, platform.Filter{After: &place, Latest: true})
-		must(t, err)
+		check(t, err)
 		wantKeys(t, fmt.Sprintf("before %+v", place), rows, backwards(keys[:before])...)
 	}
 }
 
-// A moving is a store in which a row comes to another state after each call that lists rows.
+// A moving is a store in which a row changes to another state after each call that lists rows.
 type moving struct {
 	platform.Store
 	move func()
@@ -231,17 +250,17 @@ func (m moving) ReadAll(ctx context.Context, keys []platform.Key) ([]platform.En
 	return m.Store.ReadAll(ctx, keys)
 }
 
-// Rows come to other states while all are listed, and each that fits the filter all the while is listed once: in a walk
-// in each order, and in pages by key.
+// Rows change to other states while all are listed, and each that fits the filter all the while is listed once: in a
+// walk in each order, and in pages by key.
 func testListsWhileRowsMove(t *testing.T, open opener) {
-	other := opened(t, open)
+	other := openStore(t, open)
 	const count = 40
 	states := []platform.State{platform.Ready, platform.Cleaning, platform.Gone, platform.Unsettled, platform.Ready}
 	for n := 0; n < count; n++ {
 		insert(t, other, in(t, instance(n), states[n%2]))
 	}
 	moves, moved := 0, map[platform.Key]bool{}
-	store := moving{opened(t, open), func() {
+	store := moving{openStore(t, open), func() {
 		for n := 0; n < 7; n++ { // here and there in the list, to a place before or behind
 			key := instance(moves * 11 % count)
 			change(t, other, key, func(it *platform.Change) {
@@ -257,25 +276,25 @@ func testListsWhileRowsMove(t *testing.T, open opener) {
 	} {
 		moved = map[platform.Key]bool{}
 		before, err := other.List(background, platform.Filter{States: filter.States})
-		must(t, err)
+		check(t, err)
 		seen := map[platform.Key]int{}
-		must(t, platform.Walk(background, store, filter, 3, func(rows []platform.Entry) error {
-			for _, it := range rows {
-				seen[it.Key]++
+		check(t, platform.Walk(background, store, filter, 3, func(rows []platform.Entry) error {
+			for _, row := range rows {
+				seen[row.Key]++
 			}
 			return nil
 		}))
 		wantOnce(t, fmt.Sprintf("a walk, %+v", filter), seen, before, moved, len(filter.States) != 1)
 		moved = map[platform.Key]bool{}
 		before, err = other.List(background, platform.Filter{States: filter.States})
-		must(t, err)
+		check(t, err)
 		filter.Order, filter.Most, seen = platform.ByKey, 3, map[platform.Key]int{}
 		for rows := make([]platform.Entry, 3); len(rows) == 3; {
 			rows, err = store.List(background, filter)
-			must(t, err)
-			for _, it := range rows {
-				seen[it.Key]++
-				filter.After = &platform.Place{Key: it.Key}
+			check(t, err)
+			for _, row := range rows {
+				seen[row.Key]++
+				filter.After = &platform.Place{Key: row.Key}
 			}
 		}
 		wantOnce(t, fmt.Sprintf("pages, %+v", filter), seen, before, moved, len(filter.States) != 1)
@@ -290,35 +309,35 @@ func wantOnce(
 ) {
 	t.Helper()
 	if len(moved) == 0 {
-		t.Errorf("%s: nothing has moved", what)
+		t.Errorf("%s: got nothing that has moved, want something", what)
 	}
-	for _, it := range before {
-		if count := seen[it.Key]; count > 1 || count == 0 && (isAny || !moved[it.Key]) {
-			t.Errorf("%s: %v was listed %d times, want 1", what, it.Key, count)
+	for _, entry := range before {
+		if count := seen[entry.Key]; count > 1 || count == 0 && (isAny || !moved[entry.Key]) {
+			t.Errorf("%s: %v: got it %d times, want 1", what, entry.Key, count)
 		}
 	}
 }
 
 // Rows are read by their keys, in the order of these, and a key without a row is left out.
 func testReadAll(t *testing.T, open opener) {
-	store := opened(t, open)
+	store := openStore(t, open)
 	insert(t, store, order(instance(1)), in(t, binding(2, 1), platform.Ready), in(t, instance(3), platform.Gone))
 	rows, err := store.ReadAll(background, []platform.Key{
 		instance(3), binding(2, 1), instance(2), binding(1, 1), instance(1), binding(2, 3),
 	})
-	must(t, err)
+	check(t, err)
 	wantKeys(t, "all", rows, instance(3), binding(2, 1), instance(1))
-	for _, it := range rows {
-		wantEntry(t, it.Key.String(), it, read(t, store, it.Key))
+	for _, row := range rows {
+		wantEntry(t, row.Key.String(), row, read(t, store, row.Key))
 	}
 	rows, err = store.ReadAll(background, nil)
-	must(t, err)
+	check(t, err)
 	wantKeys(t, "none", rows)
 }
 
 func testCounts(t *testing.T, open opener) {
-	first, second := opened(t, open), opened(t, open)
-	rows := listed(t, first)
+	first, second := openStore(t, open), openStore(t, open)
+	rows := insertRows(t, first)
 	wantCounts(t, second, rows)
 	moved := 0
 	for n := range rows {
@@ -329,7 +348,7 @@ func testCounts(t *testing.T, open opener) {
 		}
 	}
 	if moved == 0 {
-		t.Error("no row is ready")
+		t.Error("got no row that is ready, want one")
 	}
 	wantCounts(t, second, rows)
 }
@@ -342,40 +361,40 @@ func wantCounts(t *testing.T, store platform.Store, rows []platform.Entry) {
 		state     platform.State
 	}
 	want := map[kind]platform.Count{}
-	for _, it := range rows {
-		key := kind{it.Broker, it.Key.IsBinding, it.State}
+	for _, row := range rows {
+		key := kind{row.Broker, row.Key.IsBinding, row.State}
 		count := want[key]
-		if count.Count == 0 || it.Since.Before(count.Oldest) {
-			count.Oldest = it.Since
+		if count.Count == 0 || row.Since.Before(count.Oldest) {
+			count.Oldest = row.Since
 		}
 		count.Count++
 		want[key] = count
 	}
 	counts, err := store.Counts(background)
-	must(t, err)
-	for _, it := range counts {
-		key := kind{it.Broker, it.IsBinding, it.State}
-		if it.Count != want[key].Count || it.Count > 0 && milliseconds(it.Oldest) != milliseconds(want[key].Oldest) {
-			t.Errorf("counted %+v, want %+v", it, want[key])
+	check(t, err)
+	for _, count := range counts {
+		key := kind{count.Broker, count.IsBinding, count.State}
+		if count.Count != want[key].Count || count.Count > 0 && milliseconds(count.Oldest) != milliseconds(want[key].Oldest) {
+			t.Errorf("got the count %+v, want %+v", count, want[key])
 		}
 		delete(want, key)
 	}
 	if len(want) != 0 {
-		t.Errorf("not counted: %v", want)
+		t.Errorf("the counts: got none of %v, want them", want)
 	}
 }
 
 func testInFlight(t *testing.T, open opener) {
-	store := opened(t, open)
+	store := openStore(t, open)
 	insert(t, store,
-		order(instance(1)), leased(order(instance(2)), "one", future(3)),
-		leased(order(binding(1, 1)), "two", future(1)), order(binding(2, 1)),
-		leased(order(instance(3)), "two", past(2)), leased(order(binding(3, 1)), "one", future(2)),
-		leased(in(t, instance(4), platform.Polling), "one", future(4)))
+		order(instance(1)), withLease(order(instance(2)), "one", future(3)),
+		withLease(order(binding(1, 1)), "two", future(1)), order(binding(2, 1)),
+		withLease(order(instance(3)), "two", past(2)), withLease(order(binding(3, 1)), "one", future(2)),
+		withLease(in(t, instance(4), platform.Polling), "one", future(4)))
 	want := []platform.Key{instance(3), binding(1, 1), binding(3, 1), instance(2), instance(4)}
 	for _, most := range []int{0, 1, 3, 5, 100} {
 		rows, err := store.InFlight(background, most)
-		must(t, err)
+		check(t, err)
 		if most > 0 { // what 0 stands for isn't said
 			expected := want
 			if most < len(want) {
@@ -385,21 +404,21 @@ func testInFlight(t *testing.T, open opener) {
 		}
 	}
 	rows, err := store.InFlight(background, 1)
-	must(t, err)
-	wantEntry(t, "the first", rows[0], leased(order(instance(3)), "two", past(2)))
+	check(t, err)
+	wantEntry(t, "the first", rows[0], withLease(order(instance(3)), "two", past(2)))
 }
 
 // A row counts once nobody has leased it. A lease that is over is nobody's.
 func testNextDue(t *testing.T, open opener) {
-	store := opened(t, open)
+	store := openStore(t, open)
 	wantDue := func(what string, of []string, want time.Time) {
 		t.Helper()
 		got, now, err := store.NextDue(background, of)
 		if err != nil || milliseconds(got) != milliseconds(want) {
-			t.Errorf("%s: %v, %v, want %v", what, got, err, want)
+			t.Errorf("%s: got %v, %v, want %v", what, got, err, want)
 		}
 		if now.Before(time.Now().Add(-deadline)) || now.After(time.Now().Add(deadline)) {
-			t.Errorf("%s: the time is %v", what, now)
+			t.Errorf("%s: got the time %v, want about now", what, now)
 		}
 	}
 	wantDue("an empty store", brokers, time.Time{})
@@ -407,10 +426,10 @@ func testNextDue(t *testing.T, open opener) {
 	wantDue("a binding", brokers, future(9))
 	insert(t, store, due(order(instance(2)), future(8)))
 	wantDue("an instance", brokers, future(8))
-	insert(t, store, leased(due(order(instance(3)), past(1)), "a worker", future(1)))
-	insert(t, store, leased(due(order(binding(3, 3)), past(1)), "a worker", future(1)))
+	insert(t, store, withLease(due(order(instance(3)), past(1)), "a worker", future(1)))
+	insert(t, store, withLease(due(order(binding(3, 3)), past(1)), "a worker", future(1)))
 	wantDue("beside leased rows", brokers, future(8))
-	insert(t, store, leased(due(order(binding(4, 3)), future(7)), "a worker", past(1)))
+	insert(t, store, withLease(due(order(binding(4, 3)), future(7)), "a worker", past(1)))
 	wantDue("beside a lease that is over", brokers, future(7))
 	another := due(order(instance(5)), past(2))
 	another.Broker = "two"
@@ -424,15 +443,15 @@ func testNextDue(t *testing.T, open opener) {
 // The oldest row counts by its Due, or by its DueSince. What is leased counts by its DueSince, or once its lease is
 // over.
 func testOldestDue(t *testing.T, open opener) {
-	store := opened(t, open)
+	store := openStore(t, open)
 	wantDue := func(what string, want time.Time) {
 		t.Helper()
 		got, now, err := store.OldestDue(background)
 		if err != nil || milliseconds(got) != milliseconds(want) {
-			t.Errorf("%s: %v, %v, want %v", what, got, err, want)
+			t.Errorf("%s: got %v, %v, want %v", what, got, err, want)
 		}
 		if now.Before(time.Now().Add(-deadline)) || now.After(time.Now().Add(deadline)) {
-			t.Errorf("%s: the time is %v", what, now)
+			t.Errorf("%s: got the time %v, want about now", what, now)
 		}
 	}
 	since := func(entry platform.Entry, at time.Time) platform.Entry {
@@ -446,11 +465,11 @@ func testOldestDue(t *testing.T, open opener) {
 	another.Broker = "two"
 	insert(t, store, another)
 	wantDue("of another broker", future(8))
-	insert(t, store, leased(due(order(instance(3)), past(1)), "a worker", future(7)))
+	insert(t, store, withLease(due(order(instance(3)), past(1)), "a worker", future(7)))
 	wantDue("of a leased row", future(7))
-	insert(t, store, leased(due(order(binding(3, 3)), past(9)), "a worker", past(2)))
+	insert(t, store, withLease(due(order(binding(3, 3)), past(9)), "a worker", past(2)))
 	wantDue("of a row whose lease is over", past(9))
-	insert(t, store, since(leased(due(order(instance(4)), future(3)), "a worker", future(3)), past(8)))
+	insert(t, store, since(withLease(due(order(instance(4)), future(3)), "a worker", future(3)), past(8)))
 	wantDue("of an instance that was put off", past(8))
 	insert(t, store, since(due(order(binding(4, 3)), future(3)), past(7)))
 	wantDue("of a binding that was put off", past(7))
@@ -465,59 +484,155 @@ func testOldestDue(t *testing.T, open opener) {
 
 // All leases of a worker end, and its rows are due at once.
 func testFree(t *testing.T, open opener) {
-	store, other := opened(t, open), opened(t, open)
+	store, other := openStore(t, open), openStore(t, open)
 	until := future(1)
 	mine := []platform.Entry{
-		leased(order(instance(1)), "me", until), leased(due(order(instance(2)), future(1)), "me", until),
-		leased(in(t, binding(1, 1), platform.Polling), "me", past(1)),
+		withLease(order(instance(1)), "me", until), withLease(due(order(instance(2)), future(1)), "me", until),
+		withLease(in(t, binding(1, 1), platform.Polling), "me", past(1)),
 	}
 	others := []platform.Entry{
-		leased(order(instance(3)), "m", until), leased(order(binding(3, 3)), "me too", until),
+		withLease(order(instance(3)), "m", until), withLease(order(binding(3, 3)), "me too", until),
 		order(instance(4)), in(t, instance(5), platform.Ready),
 	}
 	insert(t, store, append(append([]platform.Entry{}, mine...), others...)...)
-	must(t, store.Free(background, "me"))
+	check(t, store.Free(background, "me"))
 	for _, want := range mine {
 		got := read(t, other, want.Key)
 		wantDueNow(t, want.Key.String(), got)
 		want.Lease, want.Due = platform.Lease{}, got.Due
 		wantEntry(t, want.Key.String(), got, want)
 	}
-	for _, it := range others {
-		wantEntry(t, it.Key.String(), read(t, other, it.Key), it)
+	for _, entry := range others {
+		wantEntry(t, entry.Key.String(), read(t, other, entry.Key), entry)
 	}
-	must(t, store.Free(background, "nobody"))
+	check(t, store.Free(background, "nobody"))
 	if got := claim(t, other, brokers, 10, until); len(got) != 4 {
-		t.Errorf("claimed %v", got)
+		t.Errorf("got %v claimed, want 4", got)
 	}
 }
 
 // One at a time is the worker of a name, among all stores of the database.
 func testOnly(t *testing.T, open opener) {
-	first, second := opened(t, open), opened(t, open)
+	first, second := openStore(t, open), openStore(t, open)
 	end, lost, err := first.Only(background, "me")
 	if err != nil || end == nil || lost == nil {
-		t.Fatalf("Only: %t, %t, %v", end != nil, lost != nil, err)
+		t.Fatalf("Only: got %t, %t, %v, want the right", end != nil, lost != nil, err)
 	}
 	for _, store := range []platform.Store{second, first} {
 		if end, _, err := store.Only(background, "me"); err != nil || end != nil {
-			t.Errorf("another of the name: %t, %v", end != nil, err)
+			t.Errorf("another of the name: got %t, %v, want none", end != nil, err)
 		}
 	}
 	other, _, err := second.Only(background, "me-2_.x")
 	if err != nil || other == nil {
-		t.Fatalf("another name: %t, %v", other != nil, err)
+		t.Fatalf("another name: got %t, %v, want the right", other != nil, err)
 	}
 	other()
 	select {
 	case <-lost:
-		t.Error("the right was lost")
+		t.Error("got the right lost, want it kept")
 	default:
 	}
 	end()
 	again, _, err := second.Only(background, "me")
 	if err != nil || again == nil {
-		t.Fatalf("after the end: %t, %v", again != nil, err)
+		t.Fatalf("after the end: got %t, %v, want the right", again != nil, err)
 	}
 	again()
+}
+
+// TestUnreadable tests that rows that can't be read hide no other ones. The function spoil makes the record of a row one
+// that can't be read. The store is empty at first, and the caller closes it.
+func TestUnreadable(t *testing.T, store platform.Store, spoil func(t *testing.T, key platform.Key)) {
+	rows := []platform.Entry{
+		due(in(t, instance(1), platform.Polling), past(1)), due(in(t, instance(2), platform.Polling), past(2)),
+		due(in(t, binding(1, 1), platform.Polling), past(3)), due(in(t, binding(2, 2), platform.Polling), past(4)),
+		due(in(t, binding(3, 1), platform.Polling), past(5)),
+		withLease(in(t, instance(3), platform.Wanted), "a worker", future(1)), in(t, instance(4), platform.Wanted),
+	}
+	spoiled := map[platform.Key]bool{instance(2): true, binding(1, 1): true, instance(3): true}
+	for n := range rows {
+		rows[n].Since = past(n)
+		insert(t, store, rows[n])
+	}
+	for key := range spoiled {
+		spoil(t, key)
+	}
+	wantShown(t, store, rows, spoiled)
+	wantNotStepped(t, store, rows[:5], spoiled)
+	for key := range spoiled {
+		err := store.Change(background, key, func(time.Time, platform.Snapshot) (*platform.Change, error) {
+			t.Errorf("%v: got a step, want none", key)
+			return nil, nil
+		})
+		if err == nil {
+			t.Errorf("%v: got no error, want one", key)
+		}
+	}
+	err := store.Insert(background, order(binding(9, 2)), func(platform.Snapshot) error {
+		t.Error("an order of a binding: got a check against an instance that can't be read, want none")
+		return nil
+	})
+	if err == nil {
+		t.Error("a binding of an instance that can't be read: got no error, want one")
+	}
+}
+
+// wantShown checks that all rows are read and listed, those that can't be read with the reason.
+func wantShown(t *testing.T, store platform.Store, rows []platform.Entry, spoiled map[platform.Key]bool) {
+	t.Helper()
+	keys := []platform.Key{}
+	for _, row := range rows {
+		keys = append(keys, row.Key)
+	}
+	all, err := store.List(background, platform.Filter{})
+	check(t, err)
+	wantKeys(t, "beside rows that can't be read", all, keys...)
+	inPages(t, store, platform.Filter{}, keys)
+	flying, err := store.InFlight(background, 10)
+	check(t, err)
+	wantKeys(t, "in flight", flying, instance(3))
+	for n, want := range rows {
+		for _, got := range []platform.Entry{all[n], read(t, store, want.Key)} {
+			if (got.Unreadable != "") != spoiled[want.Key] {
+				t.Errorf("%v: got the reason %q why it can't be read, want one exactly if it is spoilt", want.Key, got.Unreadable)
+			}
+			if spoiled[want.Key] { // all else is as it was written
+				want.Record, want.IsSent, want.Unreadable = got.Record, false, got.Unreadable
+			}
+			wantEntry(t, want.Key.String(), got, want)
+		}
+	}
+}
+
+// wantNotStepped claims rows that are due. Those that can't be read, and the bindings of such an instance, have an error
+// and are due later, and nothing of them is written.
+func wantNotStepped(t *testing.T, store platform.Store, rows []platform.Entry, spoiled map[platform.Key]bool) {
+	t.Helper()
+	stepped := map[platform.Key]bool{}
+	claimed, err := store.Claim(background, brokers, 10,
+		func(_ time.Time, snapshot platform.Snapshot) (*platform.Change, error) {
+			stepped[snapshot.Key] = true
+			snapshot.Entry.Due = time.Time{}
+			return &platform.Change{Entry: snapshot.Entry}, nil
+		})
+	if err != nil || len(claimed) != len(rows) {
+		t.Fatalf("got %v claimed, %v, want all rows", claimed, err)
+	}
+	for _, row := range claimed {
+		isSpoiled := spoiled[row.Key] || row.Key.IsBinding && spoiled[platform.InstanceKey(row.Key.Instance)]
+		if (row.Err != nil) != isSpoiled || stepped[row.Key] == isSpoiled {
+			t.Errorf("%v: got a step %t, %v, want one unless it is spoilt", row.Key, stepped[row.Key], row.Err)
+		}
+		if row.Err != nil && !strings.Contains(row.Err.Error(), row.Key.Instance.String()) {
+			t.Errorf("%v: got %v, want an error that names it", row.Key, row.Err)
+		}
+		got := read(t, store, row.Key)
+		if (got.Unreadable != "") != spoiled[row.Key] || got.State != platform.Polling {
+			t.Errorf("%v: got %s and %q afterwards, want it polling", row.Key, got.State, got.Unreadable)
+		}
+		if isSpoiled && got.Due.Before(time.Now()) {
+			t.Errorf("%v: got it due at %v, want it later", row.Key, got.Due)
+		}
+	}
 }

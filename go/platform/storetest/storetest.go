@@ -5,15 +5,24 @@ import (
 	"context"
 	"crypto/sha256"
 	"encoding/hex"
+	"encoding/json"
+	"errors"
+	"fmt"
+	"runtime/debug"
+	"sync"
 	"testing"
+	"time"
+	"unicode/utf8"
 
+	"pippinterm/internal/diff"
+	"pippinterm/osb"
 	"pippinterm/platform"
 )
 
 // Test runs the tests. The function open opens one more store over the database of t. The same t has the same database
 // in each call, and at first it is empty: NameOf(t) can name it. The tests close what they open.
 func Test(t *testing.T, open func(t *testing.T) platform.Store) {
-	for _, it := range []struct {
+	for _, test := range []struct {
 		name string
 		run  func(*testing.T, opener)
 	}{
@@ -32,6 +41,7 @@ func Test(t *testing.T, open func(t *testing.T) platform.Store) {
 		{"changes that exclude each other", testExclusion},
 		{"a binding and its instance", testInstanceOfBinding},
 		{"whether all bindings are gone", testAllGone},
+		{"bindings of the instances of a claim", testAllGoneOfAClaim},
 		{"removing bindings", testRemoveBindings},
 		{"waking an instance", testWakeInstance},
 		{"lives", testLife},
@@ -68,7 +78,7 @@ func Test(t *testing.T, open func(t *testing.T) platform.Store) {
 		{"ready", testReady},
 		{"closing", testClose},
 	} {
-		it := it
+		it := test
 		t.Run(it.name, func(t *testing.T) { it.run(t, open) })
 	}
 }
@@ -82,16 +92,899 @@ func NameOf(t testing.TB) string {
 // An opener opens one more store over the database of a test.
 type opener = func(*testing.T) platform.Store
 
-// opened is a store that is closed at the end of the test.
-func opened(t *testing.T, open opener) platform.Store {
+// openStore is a store that is closed at the end of the test.
+func openStore(t *testing.T, open opener) platform.Store {
 	t.Helper()
 	store := open(t)
 	t.Cleanup(func() {
 		if err := store.Close(); err != nil {
-			t.Errorf("Close: %v", err)
+			t.Errorf("Close: got %v, want no error", err)
 		}
 	})
 	return store
 }
 
 var background = context.Background()
+
+// soon is how long a test waits for something that must not happen.
+const soon = 150 * time.Millisecond
+
+// deadline is how long a test waits for something that must happen.
+const deadline = time.Minute
+
+var (
+	service  = osb.MustParseID("00000000-0000-0000-0000-0000000000a0")
+	plan     = osb.MustParseID("00000000-0000-0000-0000-0000000000b2")
+	errWrong = errors.New("wrong")
+)
+
+// brokers are those of all rows of a test, unless it says otherwise.
+var brokers = []string{"one"}
+
+func id(n int) osb.ID { return osb.MustParseID(fmt.Sprintf("00000000-0000-4000-8000-%012x", n)) }
+
+func instance(n int) platform.Key { return platform.InstanceKey(id(n)) }
+
+func binding(n, of int) platform.Key { return platform.BindingKey(id(of), id(n)) }
+
+// past is a time that was so many seconds after another one, long ago. future is a later one.
+func past(seconds int) time.Time {
+	return time.Date(2020, 2, 3, 4, 5, 6, 789e6, time.UTC).Add(time.Duration(seconds) * time.Second)
+}
+
+func future(seconds int) time.Time { return past(seconds).AddDate(200, 0, 0) }
+
+// order is the row of an order that is due.
+func order(key platform.Key) platform.Entry {
+	entry := platform.Entry{
+		Order: platform.Order{
+			Key: key, Broker: "one", Service: service, Plan: plan, IsOwnID: true,
+			Names:      platform.Names{Instance: key.Instance.String(), Service: service.String(), Plan: plan.String()},
+			OrderTexts: platform.OrderTexts{Space: "a space", Organization: "an organization"}, Body: json.RawMessage(`{}`),
+			Try: 1, Tries: 3, First: key.ID(),
+		},
+		State: platform.Ordered, Since: past(0), Due: past(0),
+	}
+	if key.IsBinding {
+		entry.Names.Binding = key.Binding.String()
+	}
+	return entry
+}
+
+// full is a row in which nothing is left out.
+func full(t *testing.T, key platform.Key) platform.Entry {
+	operation := "task/17 \"é\" 😀"
+	reason := platform.Reason{
+		At: past(7), Kind: "provision", Status: 507, Error: "QuotaExceeded", Description: "no 'more' \"disk\"\n",
+		Lost: "lost",
+	}
+	entry := in(t, key, platform.Polling)
+	entry.Broker = "another-1"
+	entry.Names = platform.Names{Instance: "ein Ding'", Service: "é\" \\", Plan: "\U0010FFFF %s ?"}
+	entry.IsOwnID, entry.Try, entry.Tries, entry.First = false, 2, 5, id(77)
+	entry.Organization, entry.Space, entry.Identity = "organization '", "space ☃", "cloudfoundry eyJ1c2VyIjogIjEifQ=="
+	entry.Body = json.RawMessage(`{ "parameters": {"x":[1, 2.0,"\u0000"],"a":null} , "context":{}}`)
+	entry.Operation, entry.Since, entry.SentUntil, entry.PolledSince = &operation, past(1), past(2), past(3)
+	entry.Removal, entry.HasLast, entry.Due, entry.Unchanged = platform.RemovedWhole, true, past(4), 6
+	entry.DueSince = past(3)
+	entry.Lease = platform.Lease{Worker: "worker.1", Until: past(5), Claim: id(78).String()}
+	entry.Last, entry.Failure = reason, platform.Reason{At: past(8), Kind: "poll"}
+	entry.Passing, entry.After = true, 90*time.Second
+	entry.Dashboard, entry.Because = "https://example.com/?a=b&c='", "nobody needs it"
+	for _, column := range append(platform.Columns(&entry.OrderTexts), platform.Columns(&entry.EntryTexts)...) {
+		if *column.Text == "" {
+			*column.Text = "the 'é' of " + column.Name
+		}
+	}
+	entry.Metadata = json.RawMessage(`{"labels":{"a": "b"} }`)
+	if key.IsBinding {
+		entry.Names.Binding, entry.Credentials = "eine Bindung", []byte{0, 255, 1, '\'', 0}
+	}
+	return entry
+}
+
+// in is a row in a state, which rests.
+func in(t *testing.T, key platform.Key, state platform.State) platform.Entry {
+	t.Helper()
+	entry := order(key)
+	entry.State, entry.Due = state, time.Time{}
+	if state != platform.Ordered && state != platform.Withdrawn {
+		entry.Record, entry.IsSent = record(t, key, state), true
+	}
+	return entry
+}
+
+// record is one in a state. That of a row that is abandoned is cleaning.
+func record(t *testing.T, key platform.Key, state platform.State) osb.Record {
+	t.Helper()
+	wanted, sent := osb.Create(key.Instance, service, plan, true)
+	if key.IsBinding {
+		ready, err := wanted.Answer(sent.Attempt, osb.Answer{Status: 201, Body: osb.BodyEmpty})
+		check(t, err)
+		wanted, _, err = ready.CreateBinding(key.Binding, true)
+		check(t, err)
+	}
+	if state == platform.Wanted {
+		return wanted
+	}
+	statuses := map[platform.State]uint16{
+		platform.Polling: 202, platform.Ready: 201, platform.Gone: 400, platform.Unsettled: 409,
+	}
+	if status, ok := statuses[state]; ok {
+		return answer(t, key, wanted, status)
+	}
+	cleaning, err := wanted.Timeout(1)
+	check(t, err)
+	if state != platform.CleaningPolling {
+		return cleaning
+	}
+	cleaning, _, err = cleaning.Send(key.ID())
+	check(t, err)
+	return answer(t, key, cleaning, 202)
+}
+
+// answer is a record after an answer with this status and an empty object.
+func answer(t *testing.T, key platform.Key, record osb.Record, status uint16) osb.Record {
+	t.Helper()
+	answer := osb.Answer{Status: status, Body: osb.BodyEmpty}
+	take := record.Answer
+	if key.IsBinding {
+		take = func(attempt uint64, answer osb.Answer) (osb.Record, error) {
+			return record.AnswerBinding(attempt, answer, true)
+		}
+	}
+	next, err := take(record.Attempt(), answer)
+	check(t, err)
+	return next
+}
+
+// check ends the test at an error.
+func check(t testing.TB, err error) {
+	t.Helper()
+	if err != nil {
+		t.Fatal(err)
+	}
+}
+
+// brokerOf is a broker of a name.
+func brokerOf(name string) platform.Broker { return platform.Broker{Name: name, URL: "http://" + name} }
+
+// addBroker adds a broker, unless it is there.
+func addBroker(t *testing.T, store platform.Store, name string) {
+	t.Helper()
+	if err := store.AddBroker(background, brokerOf(name)); err != nil && !errors.Is(err, platform.ErrUsed) {
+		t.Fatalf("AddBroker of %s: got %v, want no error", name, err)
+	}
+}
+
+// insert writes rows, and their brokers if they aren't there.
+func insert(t *testing.T, store platform.Store, entries ...platform.Entry) {
+	t.Helper()
+	known := map[string]bool{}
+	for _, entry := range entries {
+		if !known[entry.Broker] {
+			addBroker(t, store, entry.Broker)
+			known[entry.Broker] = true
+		}
+		if err := store.Insert(background, entry, accept); err != nil {
+			t.Fatalf("Insert of %v: got %v, want no error", entry.Key, err)
+		}
+	}
+}
+
+func accept(platform.Snapshot) error { return nil }
+
+// due is a row with another due time.
+func due(entry platform.Entry, at time.Time) platform.Entry {
+	entry.Due = at
+	return entry
+}
+
+// withLease is a row with a lease.
+func withLease(entry platform.Entry, worker string, until time.Time) platform.Entry {
+	entry.Lease = platform.Lease{Worker: worker, Until: until, Claim: "the claim of " + worker}
+	return entry
+}
+
+func read(t *testing.T, store platform.Store, key platform.Key) platform.Entry {
+	t.Helper()
+	entry, err := store.Read(background, key)
+	if err != nil {
+		t.Fatalf("Read of %v: got %v, want no error", key, err)
+	}
+	return entry
+}
+
+// wantEntry compares what is read with what was written. Times count to the millisecond.
+func wantEntry(t *testing.T, what string, got, want platform.Entry) {
+	t.Helper()
+	diff.Check(t, toMilliseconds(got), toMilliseconds(want), "%s", what)
+}
+
+func toMilliseconds(entry platform.Entry) platform.Entry {
+	for _, at := range []*time.Time{
+		&entry.Since, &entry.SentUntil, &entry.PolledSince, &entry.Due, &entry.DueSince, &entry.Lease.Until,
+		&entry.Last.At, &entry.Failure.At,
+	} {
+		*at = milliseconds(*at)
+	}
+	return entry
+}
+
+func milliseconds(at time.Time) time.Time {
+	if at.IsZero() {
+		return time.Time{}
+	}
+	return time.UnixMilli(at.UnixMilli()).UTC()
+}
+
+// wantKeys compares the keys of rows, in their order.
+func wantKeys(t *testing.T, what string, got []platform.Entry, want ...platform.Key) {
+	t.Helper()
+	keys := []platform.Key{}
+	for _, entry := range got {
+		keys = append(keys, entry.Key)
+	}
+	diff.Check(t, keys, append([]platform.Key{}, want...), "%s", what)
+}
+
+// change changes a row, whose step must succeed.
+func change(t *testing.T, store platform.Store, key platform.Key, with func(*platform.Change)) {
+	t.Helper()
+	err := store.Change(background, key, func(_ time.Time, snapshot platform.Snapshot) (*platform.Change, error) {
+		change := platform.Change{Entry: snapshot.Entry}
+		with(&change)
+		return &change, nil
+	})
+	if err != nil {
+		t.Fatalf("Change of %v: got %v, want no error", key, err)
+	}
+}
+
+// changeError is the error of a Change. A panic of the step counts as one, if Change lets it through.
+func changeError(store platform.Store, key platform.Key, step platform.Step) (err error) {
+	defer func() {
+		if what := recover(); what != nil {
+			err = fmt.Errorf("panic: %v\n%s", what, debug.Stack())
+		}
+	}()
+	return store.Change(background, key, step)
+}
+
+func testEmpty(t *testing.T, open opener) {
+	store := openStore(t, open)
+	for _, key := range []platform.Key{instance(1), binding(2, 1)} {
+		if _, err := store.Read(background, key); !errors.Is(err, platform.ErrUnknown) {
+			t.Errorf("Read of %v: got %v, want %v", key, err, platform.ErrUnknown)
+		}
+		err := store.Change(background, key, func(time.Time, platform.Snapshot) (*platform.Change, error) {
+			t.Errorf("%v: got a step, want none", key)
+			return nil, nil
+		})
+		if !errors.Is(err, platform.ErrUnknown) {
+			t.Errorf("Change of %v: got %v, want %v", key, err, platform.ErrUnknown)
+		}
+		if life, err := store.Life(background, key); err != nil || len(life) != 0 {
+			t.Errorf("the life of %v: got %v, %v, want none", key, life, err)
+		}
+	}
+	if rows, err := store.List(background, platform.Filter{}); err != nil || len(rows) != 0 {
+		t.Errorf("List: got %v, %v, want none", rows, err)
+	}
+	if counts, err := store.Counts(background); err != nil || len(counts) != 0 {
+		t.Errorf("Counts: got %v, %v, want none", counts, err)
+	}
+	if rows, err := store.InFlight(background, 10); err != nil || len(rows) != 0 {
+		t.Errorf("InFlight: got %v, %v, want none", rows, err)
+	}
+	if all, err := store.Brokers(background); err != nil || len(all) != 0 {
+		t.Errorf("Brokers: got %v, %v, want none", all, err)
+	}
+	claimed, err := store.Claim(background, brokers, 10, func(time.Time, platform.Snapshot) (*platform.Change, error) {
+		t.Error("an empty store: got a step, want none")
+		return nil, nil
+	})
+	if err != nil || len(claimed) != 0 {
+		t.Errorf("Claim: got %v, %v, want none", claimed, err)
+	}
+}
+
+// What Insert and Change have written, Read, List and a step of another store read.
+func testWritten(t *testing.T, open opener) {
+	first, second := openStore(t, open), openStore(t, open)
+	insert(t, first, order(instance(1)))
+	for _, key := range []platform.Key{instance(3), binding(1, 1), binding(3, 1)} {
+		insert(t, first, full(t, key))
+		wantRead(t, second, full(t, key))
+	}
+	for _, key := range []platform.Key{instance(2), binding(2, 1), binding(1, 3)} {
+		insert(t, first, order(key))
+		wantRead(t, second, order(key))
+		with := full(t, key)
+		with.Order = order(key).Order
+		gone, wanted := in(t, key, platform.Gone), in(t, key, platform.Wanted)
+		for _, want := range []platform.Entry{with, gone, wanted, order(key)} {
+			want := want
+			change(t, first, key, func(it *platform.Change) { it.Entry = want })
+			wantRead(t, second, want)
+		}
+	}
+	wantRead(t, second, order(instance(1)))
+}
+
+// wantRead reads a row in each way that there is.
+func wantRead(t *testing.T, store platform.Store, want platform.Entry) {
+	t.Helper()
+	wantEntry(t, "Read of "+want.Key.String(), read(t, store, want.Key), want)
+	err := store.Change(background, want.Key, func(_ time.Time, snapshot platform.Snapshot) (*platform.Change, error) {
+		wantEntry(t, "in a step of "+want.Key.String(), snapshot.Entry, want)
+		if (snapshot.Instance != nil) != want.Key.IsBinding || (snapshot.AllGone != nil) == want.Key.IsBinding {
+			t.Errorf("the snapshot of %v: got %+v, want what its kind needs", want.Key, snapshot)
+		}
+		return nil, nil
+	})
+	if err != nil {
+		t.Errorf("Change of %v: got %v, want no error", want.Key, err)
+	}
+	rows, err := store.List(background, platform.Filter{States: []platform.State{want.State}})
+	if err != nil {
+		t.Errorf("List: got %v, want no error", err)
+	}
+	for _, row := range rows {
+		if row.Key == want.Key {
+			wantEntry(t, "in a list, "+want.Key.String(), row, want)
+			return
+		}
+	}
+	t.Errorf("List: got no %v, want it", want.Key)
+}
+
+// A text that the database can't have must not keep a row from being written. All else of the row is written exactly.
+func testTexts(t *testing.T, open opener) {
+	store := openStore(t, open)
+	insert(t, store, order(instance(1)), order(binding(2, 1)))
+	for _, key := range []platform.Key{instance(1), binding(2, 1)} {
+		for _, test := range []struct {
+			text    string
+			isExact bool
+		}{
+			{"'; DROP TABLE osb_instances; -- \" \\ \r\n\t \x01 é 😀 \U0010FFFF \u2028 ", true},
+			{"with \x00 in it", false},
+			{"not UTF-8: \xff\xc3 \xed\xa0\x80", false},
+		} {
+			want := full(t, key)
+			want.Order = order(key).Order
+			setTexts(&want, test.text)
+			change(t, store, key, func(change *platform.Change) { change.Entry = want })
+			got := read(t, store, key)
+			if test.isExact {
+				wantEntry(t, test.text, got, want)
+				continue
+			}
+			for _, text := range textsOf(&got) {
+				if *text != test.text && !utf8.ValidString(*text) {
+					t.Errorf("%q: got %q, want it in UTF-8", test.text, *text)
+				}
+			}
+			setTexts(&got, test.text)
+			wantEntry(t, test.text, got, want)
+		}
+	}
+}
+
+// textsOf are the texts in a row that others choose.
+func textsOf(entry *platform.Entry) []*string {
+	return []*string{
+		&entry.Last.Error, &entry.Last.Description, &entry.Last.Lost, &entry.Failure.Description,
+		entry.Operation, &entry.Dashboard, &entry.Because,
+	}
+}
+
+func setTexts(entry *platform.Entry, text string) {
+	operation := ""
+	entry.Operation = &operation
+	for _, secret := range textsOf(entry) {
+		*secret = text
+	}
+}
+
+func testUsed(t *testing.T, open opener) {
+	first, second := openStore(t, open), openStore(t, open)
+	before := []platform.Entry{full(t, instance(1)), in(t, binding(2, 1), platform.Gone)}
+	insert(t, first, before...)
+	for _, entry := range before {
+		again := order(entry.Key)
+		again.Broker = "another"
+		addBroker(t, first, again.Broker)
+		for _, store := range []platform.Store{first, second} {
+			if err := store.Insert(background, again, accept); !errors.Is(err, platform.ErrUsed) {
+				t.Errorf("Insert of %v: got %v, want %v", entry.Key, err, platform.ErrUsed)
+			}
+			wantRead(t, store, entry)
+		}
+	}
+	insert(t, second, order(instance(2)), order(binding(1, 1)), order(binding(2, 2))) // other keys with these numbers
+	if err := first.Insert(background, order(binding(2, 3)), accept); !errors.Is(err, platform.ErrUnknown) {
+		t.Errorf("a binding of an unknown instance: got %v, want %v", err, platform.ErrUnknown)
+	}
+	if _, err := first.Read(background, binding(2, 3)); !errors.Is(err, platform.ErrUnknown) {
+		t.Errorf("Read of the binding: got %v, want %v", err, platform.ErrUnknown)
+	}
+}
+
+func testCheck(t *testing.T, open opener) {
+	store := openStore(t, open)
+	of := full(t, instance(1))
+	insert(t, store, of)
+	addBroker(t, store, "one")
+	for _, key := range []platform.Key{instance(2), binding(3, 1)} {
+		key := key
+		isSeen := false
+		check := func(with error) func(platform.Snapshot) error {
+			return func(snapshot platform.Snapshot) error {
+				isSeen = true
+				if key.IsBinding && snapshot.Instance == nil {
+					t.Error("got no instance, want that of the binding")
+				} else if key.IsBinding {
+					wantEntry(t, "the instance", *snapshot.Instance, of)
+				}
+				return with
+			}
+		}
+		if err := store.Insert(background, order(key), check(errWrong)); key.IsBinding && !errors.Is(err, errWrong) {
+			t.Errorf("Insert of %v: got %v, want %v", key, err, errWrong)
+		} else if err == nil {
+			continue // check needs no call for an instance
+		}
+		if _, err := store.Read(background, key); !errors.Is(err, platform.ErrUnknown) {
+			t.Errorf("Read of %v: got %v, want %v", key, err, platform.ErrUnknown)
+		}
+		if err := store.Insert(background, order(key), check(nil)); err != nil || !isSeen {
+			t.Errorf("Insert of %v: got %v and a check %t, want no error and one", key, err, isSeen)
+		}
+		wantEntry(t, key.String(), read(t, store, key), order(key))
+	}
+	wantEntry(t, "the instance", read(t, store, instance(1)), of)
+}
+
+// Of many that insert a key at once, one does.
+func testInsertedOnce(t *testing.T, open opener) {
+	stores := []platform.Store{openStore(t, open), openStore(t, open)}
+	insert(t, stores[0], order(instance(1)))
+	for _, key := range []platform.Key{instance(2), binding(2, 1)} {
+		const goroutines = 10
+		errs := make(chan error, goroutines)
+		for n := 0; n < goroutines; n++ {
+			go func(store platform.Store, entry platform.Entry) {
+				errs <- store.Insert(background, entry, accept)
+			}(stores[n%2], order(key))
+		}
+		inserted := 0
+		for n := 0; n < goroutines; n++ {
+			if err := <-errs; err == nil {
+				inserted++
+			} else if !errors.Is(err, platform.ErrUsed) {
+				t.Errorf("Insert of %v: got %v, want %v", key, err, platform.ErrUsed)
+			}
+		}
+		if inserted != 1 {
+			t.Errorf("%v: got %d insertions, want 1", key, inserted)
+		}
+	}
+}
+
+// A call whose context is cancelled fails, and writes nothing.
+func testCancelled(t *testing.T, open opener) {
+	store := openStore(t, open)
+	before := order(instance(1))
+	insert(t, store, before, order(instance(3)))
+	ctx, cancel := context.WithCancel(background)
+	cancel()
+	step := func(_ time.Time, snapshot platform.Snapshot) (*platform.Change, error) {
+		snapshot.Entry.Unchanged++
+		return &platform.Change{Entry: snapshot.Entry}, nil
+	}
+	calls := map[string]func() error{
+		"Insert": func() error { return store.Insert(ctx, order(instance(2)), accept) },
+		"Change": func() error { return store.Change(ctx, instance(1), step) },
+		"Claim": func() error {
+			_, err := store.Claim(ctx, brokers, 10, step)
+			return err
+		},
+		"AddBroker": func() error { return store.AddBroker(ctx, platform.Broker{Name: "two", URL: "http://two"}) },
+		"ChangeBroker": func() error {
+			return store.ChangeBroker(ctx, "one", func(broker platform.Broker) (*platform.Broker, error) {
+				broker.URL = "http://other"
+				return &broker, nil
+			})
+		},
+	}
+	for name, call := range calls {
+		if err := call(); !errors.Is(err, context.Canceled) {
+			t.Errorf("%s: got %v, want context.Canceled", name, err)
+		}
+	}
+	wantEntry(t, "the row", read(t, store, instance(1)), before)
+	if _, err := store.Read(background, instance(2)); !errors.Is(err, platform.ErrUnknown) {
+		t.Errorf("Read of what wasn't inserted: got %v, want %v", err, platform.ErrUnknown)
+	}
+	wantBrokers(t, store, brokerOf("one"))
+	insert(t, store, order(instance(2))) // the store goes on
+}
+
+func testReady(t *testing.T, open opener) {
+	store := openStore(t, open)
+	for n := 0; n < 2; n++ {
+		if err := store.Ready(background); err != nil {
+			t.Errorf("Ready: got %v, want no error", err)
+		}
+	}
+	if rows, err := store.List(background, platform.Filter{}); err != nil || len(rows) != 0 {
+		t.Errorf("List: got %v, %v, want none", rows, err)
+	}
+}
+
+// Close waits for a Change that has begun, and no other begins afterwards.
+func testClose(t *testing.T, open opener) {
+	store, other := open(t), openStore(t, open)
+	insert(t, store, order(instance(1)), order(instance(2)))
+	gate, closed, changed := NewGate(), make(chan error, 1), make(chan error, 1)
+	defer gate.Open()
+	written := in(t, instance(1), platform.Ready)
+	go func() {
+		changed <- store.Change(background, instance(1), func(time.Time, platform.Snapshot) (*platform.Change, error) {
+			gate.Pass()
+			return &platform.Change{Entry: written}, nil
+		})
+	}()
+	gate.Await(t, changed)
+	go func() { closed <- store.Close() }()
+	select {
+	case err := <-closed:
+		t.Error("got an end of Close before that of the Change, want it to wait")
+		closed <- err
+	case <-time.After(soon):
+	}
+	gate.Open()
+	if err := <-changed; err != nil {
+		t.Errorf("the Change: got %v, want no error", err)
+	}
+	if err := <-closed; err != nil {
+		t.Errorf("Close: got %v, want no error", err)
+	}
+	wantEntry(t, "after Close", read(t, other, instance(1)), written)
+	err := store.Change(background, instance(2), func(time.Time, platform.Snapshot) (*platform.Change, error) {
+		return &platform.Change{Entry: written}, nil
+	})
+	if err == nil {
+		t.Error("a Change after Close: got no error, want one")
+	}
+	if _, err := store.Read(background, instance(1)); err == nil {
+		t.Error("a Read after Close: got no error, want one")
+	}
+}
+
+func testFingerprint(t *testing.T, open opener) {
+	first, second := openStore(t, open), openStore(t, open)
+	for _, test := range []struct {
+		store       platform.Store
+		given, want string
+	}{
+		{first, "a print", "a print"}, {second, "another", "a print"},
+		{first, "another", "a print"}, {second, "a print", "a print"},
+	} {
+		if got, err := test.store.Fingerprint(background, test.given); err != nil || got != test.want {
+			t.Errorf("%q: got %q, %v, want %q", test.given, got, err, test.want)
+		}
+	}
+}
+
+// A fingerprint is replaced by whoever knows the one that is written. Before the first one there is none to replace.
+func testReplaceFingerprint(t *testing.T, open opener) {
+	first, second := openStore(t, open), openStore(t, open)
+	for _, before := range []string{"a print", ""} {
+		if err := first.ReplaceFingerprint(background, before, "another"); !errors.Is(err, platform.ErrUnknown) {
+			t.Errorf("%q before there was any: got %v, want %v", before, err, platform.ErrUnknown)
+		}
+	}
+	if got, err := first.Fingerprint(background, "a print"); err != nil || got != "a print" {
+		t.Errorf("got %q, %v, want a print", got, err)
+	}
+	check(t, second.ReplaceFingerprint(background, "a print", "another"))
+	if err := first.ReplaceFingerprint(background, "a print", "a third"); !errors.Is(err, platform.ErrUnknown) {
+		t.Errorf("a fingerprint that isn't written: got %v, want %v", err, platform.ErrUnknown)
+	}
+	if got, err := first.Fingerprint(background, "a print"); err != nil || got != "another" {
+		t.Errorf("got %q, %v, want another", got, err)
+	}
+}
+
+// Whether there are workers is known to every process.
+func testHasWorkers(t *testing.T, open opener) {
+	first, second := openStore(t, open), openStore(t, open)
+	want := func(want bool, when string) {
+		t.Helper()
+		for _, store := range []platform.Store{first, second} {
+			got, err := store.HasWorkers(background)
+			// Other tests may have workers in the same database meanwhile.
+			for late := time.Now().Add(deadline); !want && got && err == nil && time.Now().Before(late); {
+				time.Sleep(soon)
+				got, err = store.HasWorkers(background)
+			}
+			if err != nil || got != want {
+				t.Errorf("%s: got %v, %v, want %v", when, got, err, want)
+			}
+		}
+	}
+	want(false, "without a worker")
+	var ends []func()
+	for _, text := range []string{NameOf(t) + "one", NameOf(t) + "two"} {
+		end, _, err := first.Only(background, text)
+		check(t, err)
+		if end == nil {
+			t.Fatalf("the name %s: got another worker, want none", text)
+		}
+		ends = append(ends, end)
+		want(true, "with "+text)
+	}
+	ends[0]()
+	want(true, "with the second worker")
+	ends[1]()
+	want(false, "after the last worker")
+}
+
+func testBrokers(t *testing.T, open opener) {
+	first, second := openStore(t, open), openStore(t, open)
+	hold, pace := 300*time.Second, 1500*time.Millisecond
+	zero := time.Duration(0)
+	all := []platform.Broker{
+		{
+			Name: "a-1", URL: "https://broker.example/postgres?'",
+			User: "platform \"é", Password: []byte{1, 0, 255, '\''},
+			Settings:  platform.Settings{Hold: &zero, FirstPace: &pace, LongestPace: &hold, LongestPoll: &hold},
+			Catalogue: json.RawMessage(`{ "services": ["\u0000", 1.0 ]}`), CatalogueAt: past(1),
+			Reason: platform.Reason{At: past(2), Kind: "catalog", Status: 500, Error: "e", Description: "d", Lost: "l"},
+		},
+		{Name: "b", URL: "http://b", PasswordFile: "/run/secret's", Store: "8d5f7a3e-0000-4000-8000-000000000001"},
+		{Name: "c", URL: "http://c", User: "c"},
+	}
+	for _, n := range []int{1, 0, 2} {
+		check(t, first.AddBroker(background, all[n]))
+	}
+	wantBrokers(t, second, all...)
+	other := platform.Broker{Name: "b", URL: "http://other"}
+	if err := second.AddBroker(background, other); !errors.Is(err, platform.ErrUsed) {
+		t.Errorf("the name of a broker: got %v, want %v", err, platform.ErrUsed)
+	}
+	err := second.ChangeBroker(background, "d", func(platform.Broker) (*platform.Broker, error) {
+		t.Error("a broker that isn't there: got a change, want none")
+		return nil, nil
+	})
+	if !errors.Is(err, platform.ErrUnknown) {
+		t.Errorf("a name that no broker has: got %v, want %v", err, platform.ErrUnknown)
+	}
+	wantBrokers(t, first, all...)
+	all[0], all[1] = platform.Broker{Name: "a-1", URL: "http://a"}, all[0]
+	all[1].Name = "b"
+	for n, broker := range all[:2] {
+		it := broker
+		it.Name = []string{"a-1", "an order would lose it"}[n] // the name stays
+		name := all[n].Name
+		set := func(platform.Broker) (*platform.Broker, error) { return &it, nil }
+		check(t, second.ChangeBroker(background, name, set))
+	}
+	wantBrokers(t, first, all...)
+	check(t, first.DropBroker(background, "b"))
+	if err := first.DropBroker(background, "b"); !errors.Is(err, platform.ErrUnknown) {
+		t.Errorf("a broker that was dropped: got %v, want %v", err, platform.ErrUnknown)
+	}
+	wantBrokers(t, second, all[0], all[2])
+}
+
+func wantBrokers(t *testing.T, store platform.Store, want ...platform.Broker) {
+	t.Helper()
+	got, err := store.Brokers(background)
+	if err != nil || len(got) != len(want) {
+		t.Fatalf("Brokers: got %+v, %v, want all", got, err)
+	}
+	for n := range want {
+		if one, other := textOf(t, got[n]), textOf(t, want[n]); one != other {
+			t.Errorf("got %s, want %s", one, other)
+		}
+	}
+}
+
+// textOf is a text with all of a broker. Times count to the millisecond.
+func textOf(t *testing.T, broker platform.Broker) string {
+	t.Helper()
+	broker.CatalogueAt, broker.Reason.At = milliseconds(broker.CatalogueAt), milliseconds(broker.Reason.At)
+	catalogue := string(broker.Catalogue)
+	broker.Catalogue = nil
+	text, err := json.Marshal(broker)
+	check(t, err)
+	return string(text) + catalogue
+}
+
+// A broker of which something was ever ordered stays.
+func testBrokerWithOrders(t *testing.T, open opener) {
+	store := openStore(t, open)
+	insert(t, store, in(t, instance(1), platform.Gone)) // of the broker one
+	for n, name := range []string{"one", "two", "three"} {
+		addBroker(t, store, name)
+		if n == 1 {
+			entry := order(binding(2, 1))
+			entry.Broker = name
+			insert(t, store, entry)
+		}
+	}
+	for _, name := range []string{"one", "two"} {
+		if err := store.DropBroker(background, name); !errors.Is(err, platform.ErrUsed) {
+			t.Errorf("%s: got %v, want ErrUsed", name, err)
+		}
+	}
+	if err := store.DropBroker(background, "three"); err != nil {
+		t.Errorf("three: got %v, want no error", err)
+	}
+	if all, err := store.Brokers(background); err != nil || len(all) != 2 {
+		t.Errorf("Brokers: got %v, %v, want 2", all, err)
+	}
+}
+
+// An order isn't inserted without its broker, whether that was dropped or never was.
+func testUnknownBroker(t *testing.T, open opener) {
+	first, second := openStore(t, open), openStore(t, open)
+	insert(t, first, order(instance(1)))
+	addBroker(t, first, "two")
+	check(t, second.DropBroker(background, "two"))
+	for _, name := range []string{"two", "three"} {
+		for _, key := range []platform.Key{instance(2), binding(1, 1)} {
+			entry := order(key)
+			entry.Broker = name
+			if err := first.Insert(background, entry, accept); !errors.Is(err, platform.ErrUnknown) {
+				t.Errorf("%v of %s: got %v, want %v", key, name, err, platform.ErrUnknown)
+			}
+			if _, err := first.Read(background, key); !errors.Is(err, platform.ErrUnknown) {
+				t.Errorf("Read of %v of %s: got %v, want %v", key, name, err, platform.ErrUnknown)
+			}
+		}
+	}
+}
+
+// A broker is dropped while an order of it is inserted: the order is written, and the broker stays. The other way
+// round, the broker is dropped, and the order is rejected (testUnknownBroker, testInsertsAndDrops).
+func testInsertBesideDrop(t *testing.T, open opener) {
+	first, second := openStore(t, open), openStore(t, open)
+	insert(t, first, order(instance(1)))
+	for n, key := range []platform.Key{instance(2), binding(2, 1)} {
+		entry := order(key)
+		entry.Broker = fmt.Sprint("new-", n)
+		addBroker(t, first, entry.Broker)
+		insertBesideDrop(t, first, second, entry)
+		wantNoOrphans(t, second)
+	}
+}
+
+func insertBesideDrop(t *testing.T, first, second platform.Store, entry platform.Entry) {
+	t.Helper()
+	gate, inserted, dropped := NewGate(), make(chan error, 1), make(chan error, 1)
+	defer gate.Open()
+	go func() {
+		inserted <- first.Insert(background, entry, func(platform.Snapshot) error {
+			gate.Pass()
+			return nil
+		})
+	}()
+	gate.Await(t, inserted)
+	go func() { dropped <- second.DropBroker(background, entry.Broker) }()
+	select {
+	case err := <-dropped:
+		dropped <- err // it didn't wait
+	case <-time.After(soon):
+	}
+	gate.Open()
+	if err := <-inserted; err != nil {
+		t.Errorf("Insert of %v: got %v, want no error", entry.Key, err)
+	}
+	if err := <-dropped; !errors.Is(err, platform.ErrUsed) {
+		t.Errorf("DropBroker with %v: got %v, want %v", entry.Key, err, platform.ErrUsed)
+	}
+}
+
+// wantNoOrphans fails if there is an order without its broker.
+func wantNoOrphans(t *testing.T, store platform.Store) {
+	t.Helper()
+	all, err := store.Brokers(background)
+	check(t, err)
+	known := map[string]bool{}
+	for _, broker := range all {
+		known[broker.Name] = true
+	}
+	rows, err := store.List(background, platform.Filter{})
+	check(t, err)
+	for _, row := range rows {
+		if !known[row.Broker] {
+			t.Errorf("%v: got it without its broker %s, want it with one", row.Key, row.Broker)
+		}
+	}
+}
+
+// Of an order and of the end of its broker, which happen at once, one succeeds.
+func testInsertsAndDrops(t *testing.T, open opener) {
+	first, second := openStore(t, open), openStore(t, open)
+	const rounds = 30
+	for n := 0; n < rounds; n++ {
+		entry := order(instance(n))
+		entry.Broker = fmt.Sprint("b-", n)
+		addBroker(t, first, entry.Broker)
+		begin, inserted := make(chan struct{}), make(chan error, 1)
+		go func() {
+			<-begin
+			inserted <- first.Insert(background, entry, accept)
+		}()
+		close(begin)
+		dropped := second.DropBroker(background, entry.Broker)
+		switch err := <-inserted; {
+		case err == nil && errors.Is(dropped, platform.ErrUsed):
+		case errors.Is(err, platform.ErrUnknown) && dropped == nil:
+		default:
+			t.Errorf("got Insert %v and DropBroker %v, want one of them to fail", err, dropped)
+		}
+	}
+	wantNoOrphans(t, first)
+}
+
+// A change that fails, or that is none, writes nothing.
+func testFailingBroker(t *testing.T, open opener) {
+	store := openStore(t, open)
+	addBroker(t, store, "one")
+	for _, want := range []error{errWrong, nil} {
+		err := store.ChangeBroker(background, "one", func(broker platform.Broker) (*platform.Broker, error) {
+			broker.URL = "http://other"
+			if want == nil {
+				return nil, nil
+			}
+			return &broker, want
+		})
+		if !errors.Is(err, want) {
+			t.Errorf("ChangeBroker: got %v, want %v", err, want)
+		}
+		wantBrokers(t, store, brokerOf("one"))
+	}
+}
+
+// Two that change a broker at once lose nothing of each other.
+func testBrokerCounter(t *testing.T, open opener) {
+	stores := []platform.Store{openStore(t, open), openStore(t, open)}
+	addBroker(t, stores[0], "one")
+	const goroutines, each = 6, 10
+	var all sync.WaitGroup
+	for n := 0; n < goroutines; n++ {
+		all.Add(1)
+		go func(store platform.Store, isUser bool) {
+			defer all.Done()
+			for n := 0; n < each; n++ {
+				if err := store.ChangeBroker(background, "one", counting(isUser)); err != nil {
+					t.Errorf("ChangeBroker: got %v, want no error", err)
+				}
+			}
+		}(stores[n%2], n%3 == 0)
+	}
+	all.Wait()
+	got, err := stores[1].Brokers(background)
+	check(t, err)
+	if users, statuses := len(got[0].User), got[0].Reason.Status; users != 2*each || statuses != 4*each {
+		t.Errorf("got %d users and %d statuses, want %d and %d", users, statuses, 2*each, 4*each)
+	}
+}
+
+// counting is a change of a broker: a part of it grows by one.
+func counting(isUser bool) func(platform.Broker) (*platform.Broker, error) {
+	return func(broker platform.Broker) (*platform.Broker, error) {
+		if isUser {
+			broker.User += "u"
+		} else {
+			broker.Reason.Status++
+		}
+		return &broker, nil
+	}
+}

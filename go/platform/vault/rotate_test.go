@@ -2,8 +2,10 @@ package vault
 
 import (
 	"context"
+	"database/sql"
 	"errors"
 	"fmt"
+	"os"
 	"path/filepath"
 	"sync"
 	"testing"
@@ -54,7 +56,8 @@ func newRig(t *testing.T, by *Vault, bindings int) *rig {
 	return r
 }
 
-func check(t *testing.T, err error) {
+// check ends the test at an error.
+func check(t testing.TB, err error) {
 	t.Helper()
 	if err != nil {
 		t.Fatal(err)
@@ -73,12 +76,12 @@ func (r *rig) insert(t *testing.T, key platform.Key, sealed []byte) {
 		Key: key, Broker: "shop", Names: platform.Names{
 			Instance: key.Instance.String(), Binding: key.Binding.String(), Service: "s", Plan: "p",
 		},
-		Organization: "o", Space: "s", Body: []byte("{}"), Try: 1, Tries: 1, First: key.ID(),
+		OrderTexts: platform.OrderTexts{Organization: "o", Space: "s"}, Body: []byte("{}"), Try: 1, Tries: 1, First: key.ID(),
 	}, State: platform.Ready, Since: now, Credentials: sealed}
-	check(t, r.Insert(background, entry, func(platform.Held) error { return nil }))
-	check(t, r.Change(background, key, func(_ time.Time, held platform.Held) (*platform.Change, error) {
-		held.Entry.Credentials = sealed
-		return &platform.Change{Entry: held.Entry}, nil
+	check(t, r.Insert(background, entry, func(platform.Snapshot) error { return nil }))
+	check(t, r.Change(background, key, func(_ time.Time, snapshot platform.Snapshot) (*platform.Change, error) {
+		snapshot.Entry.Credentials = sealed
+		return &platform.Change{Entry: snapshot.Entry}, nil
 	}))
 }
 
@@ -95,9 +98,9 @@ func (r *rig) opens(t *testing.T, v *Vault) (opened int) {
 	}
 	brokers, err := r.Brokers(background)
 	check(t, err)
-	for _, it := range brokers {
-		plain, err := v.Open(it.Password, platform.PasswordContext(it))
-		if it.Name == "shop" && err == nil && string(plain) == "hunter2" {
+	for _, broker := range brokers {
+		plain, err := v.Open(broker.Password, platform.PasswordContext(broker))
+		if broker.Name == "shop" && err == nil && string(plain) == "hunter2" {
 			opened++
 		}
 	}
@@ -116,22 +119,42 @@ func TestRotate(t *testing.T) {
 	before, both, after := newVault(t, one), newVault(t, other, one), newVault(t, other)
 	r := newRig(t, before, page+3)
 	done, err := both.Rotate(background, r)
-	if want := (Rotated{page + 3, 1}); err != nil || done != want {
-		t.Fatalf("%+v, %v", done, err)
+	if want := (Rotation{page + 3, 1}); err != nil || done != want {
+		t.Fatalf("got %+v, %v, want %+v", done, err, want)
 	}
 	if old, fresh := r.opens(t, before), r.opens(t, after); old != 0 || fresh != page+4 {
-		t.Errorf("the old key opens %d, and the new one %d", old, fresh)
+		t.Errorf("got %d of the old key, and %d of the new one, want none and all", old, fresh)
 	}
 	if written := r.fingerprint(t); written != after.Fingerprint() || after.Fits(written) != nil ||
 		!errors.Is(before.Fits(written), ErrStoreKey) {
-		t.Error(written)
+		t.Errorf("got the fingerprint %s, want that of the new key alone", written)
 	}
 	brokers, err := r.Brokers(background)
 	if err != nil || brokers[0].Name != "filed" || brokers[0].Password != nil || brokers[0].PasswordFile != "/p" {
-		t.Errorf("%+v, %v", brokers, err)
+		t.Errorf("got %+v, %v, want the broker filed with its file and without a password", brokers, err)
 	}
-	if done, err = both.Rotate(background, r); err != nil || done != (Rotated{}) {
-		t.Errorf("the second time: %+v, %v", done, err)
+	if done, err = both.Rotate(background, r); err != nil || done != (Rotation{}) {
+		t.Errorf("the second time: got %+v, %v, want nothing done", done, err)
+	}
+}
+
+// A dropping store has a broker that is dropped once it was listed.
+type dropping struct{ platform.Store }
+
+func (d dropping) Brokers(ctx context.Context) ([]platform.Broker, error) {
+	found, err := d.Store.Brokers(ctx)
+	return append(found, platform.Broker{Name: "dropped", Password: []byte("sealed")}), err
+}
+
+// A broker that is dropped meanwhile keeps neither a rotation nor a renewal from its end.
+func TestBrokerThatIsDropped(t *testing.T) {
+	r := newRig(t, newVault(t, one), 1)
+	if done, err := newVault(t, other, one).Rotate(background, dropping{r}); err != nil || done != (Rotation{1, 1}) {
+		t.Errorf("Rotate: got %+v, %v, want one of each", done, err)
+	}
+	store, _ := storeOf03(t)
+	if _, err := newVault(t, one).Renew(background, dropping{store}); err != nil || writtenIn(t, store) != now {
+		t.Errorf("Renew: got %v and the fingerprint %q, want %q", err, writtenIn(t, store), now)
 	}
 }
 
@@ -162,11 +185,11 @@ func (secretive) ReplaceFingerprint(context.Context, string, string) error { ret
 func TestRotateThatCanNotBegin(t *testing.T) {
 	before, both := newVault(t, one), newVault(t, other, one)
 	r := newRig(t, before, 3)
-	if done, err := both.Rotate(background, secretive{r}); !errors.Is(err, errFailing) || done != (Rotated{}) {
+	if done, err := both.Rotate(background, secretive{r}); !errors.Is(err, errFailing) || done != (Rotation{}) {
 		t.Errorf("got %+v, %v, want %v", done, err, errFailing)
 	}
 	if opened := r.opens(t, before); opened != 4 {
-		t.Errorf("the old key opens %d, want 4", opened)
+		t.Errorf("the old key: got %d, want 4", opened)
 	}
 }
 
@@ -247,13 +270,13 @@ func TestRotateOverAStoreThatFails(t *testing.T) {
 		store := &failingOnce{Store: r, left: n}
 		_, err := both.Rotate(background, store)
 		if failed = store.failed; failed != errors.Is(err, errFailing) {
-			t.Errorf("call %d of the store has failed: got %v", n, err)
+			t.Errorf("call %d of the store has failed: got %v, want %v", n, err, errFailing)
 		}
 		if opened := r.opens(t, both); opened != 3 {
-			t.Errorf("call %d of the store has failed: both keys open %d, want 3", n, opened)
+			t.Errorf("call %d of the store has failed: got %d of both keys, want 3", n, opened)
 		}
 		if _, err := both.Rotate(background, r); err != nil || r.opens(t, after) != 3 {
-			t.Errorf("after call %d of the store has failed: got %v", n, err)
+			t.Errorf("after call %d of the store has failed: got %v, want it done", n, err)
 		}
 	}
 }
@@ -267,10 +290,10 @@ func TestRotateInTheMiddle(t *testing.T) {
 		left <- struct{}{}
 	}
 	if done, err := both.Rotate(background, failing{r, left}); !errors.Is(err, errFailing) || done.Credentials != 20 {
-		t.Fatalf("%+v, %v", done, err)
+		t.Fatalf("got %+v, %v, want 20 credentials, %v", done, err, errFailing)
 	}
 	written := r.fingerprint(t)
-	for name, it := range map[string]struct {
+	for name, test := range map[string]struct {
 		vault *Vault
 		want  error
 	}{
@@ -278,21 +301,23 @@ func TestRotateInTheMiddle(t *testing.T) {
 		"both, and the old one seals": {newVault(t, one, other), ErrRotating},
 		"others":                      {newVault(t, third), ErrRotating},
 	} {
-		if err := it.vault.Fits(written); !errors.Is(err, it.want) {
-			t.Errorf("%s: %v", name, err)
-		}
+		t.Run(name, func(t *testing.T) {
+			if err := test.vault.Fits(written); !errors.Is(err, test.want) {
+				t.Errorf("got %v, want %v", err, test.want)
+			}
+		})
 	}
 	if old, fresh, all := r.opens(t, before), r.opens(t, after), r.opens(t, both); old != 30 || fresh != 21 || all != 51 {
-		t.Errorf("the old key opens %d, the new one %d, and both %d", old, fresh, all)
+		t.Errorf("got %d of the old key, %d of the new one and %d of both, want 30, 21 and 51", old, fresh, all)
 	}
 	if _, err := newVault(t, third, one).Rotate(background, r); !errors.Is(err, ErrRotating) {
-		t.Errorf("to a third key, without the second: %v", err)
+		t.Errorf("to a third key, without the second: got %v, want %v", err, ErrRotating)
 	}
 	if done, err := both.Rotate(background, r); err != nil || done.Credentials != 30 || r.opens(t, after) != 51 {
-		t.Errorf("%+v, %v", done, err)
+		t.Errorf("got %+v, %v, want 30 credentials, and 51 secrets that the new key opens", done, err)
 	}
 	if written := r.fingerprint(t); written != after.Fingerprint() {
-		t.Error(written)
+		t.Errorf("got the fingerprint %s, want that of the new key", written)
 	}
 }
 
@@ -303,11 +328,12 @@ func TestRotateFurther(t *testing.T) {
 	if !errors.Is(err, errFailing) {
 		t.Fatal(err)
 	}
-	if done, err := newVault(t, third, other, one).Rotate(background, r); err != nil || done != (Rotated{9, 1}) {
-		t.Errorf("%+v, %v", done, err)
+	if done, err := newVault(t, third, other, one).Rotate(background, r); err != nil || done != (Rotation{9, 1}) {
+		t.Errorf("got %+v, %v, want %+v", done, err, Rotation{9, 1})
 	}
 	if last := newVault(t, third); r.opens(t, last) != 10 || r.fingerprint(t) != last.Fingerprint() {
-		t.Error(r.opens(t, last), r.fingerprint(t))
+		t.Errorf("got %d secrets that the last key opens and the fingerprint %s, want 10 and its own",
+			r.opens(t, last), r.fingerprint(t))
 	}
 }
 
@@ -315,25 +341,27 @@ func TestRotateFurther(t *testing.T) {
 func TestRotateRejected(t *testing.T) {
 	before := newVault(t, one)
 	r := newRig(t, before, 3)
-	for name, it := range map[string]struct {
+	for name, test := range map[string]struct {
 		vault *Vault
 		want  error
 	}{
 		"a wrong key": {newVault(t, other, third), ErrStoreKey}, "the same key": {newVault(t, one, one), ErrSameKey},
 		"one key": {before, ErrSameKey},
 	} {
-		if done, err := it.vault.Rotate(background, r); !errors.Is(err, it.want) || done != (Rotated{}) {
-			t.Errorf("%s: %+v, %v", name, done, err)
-		}
+		t.Run(name, func(t *testing.T) {
+			if done, err := test.vault.Rotate(background, r); !errors.Is(err, test.want) || done != (Rotation{}) {
+				t.Errorf("got %+v, %v, want nothing, %v", done, err, test.want)
+			}
+		})
 	}
 	end, _, err := r.Only(background, "one")
 	check(t, err)
-	if done, err := newVault(t, other, one).Rotate(background, r); !errors.Is(err, ErrWorkers) || done != (Rotated{}) {
-		t.Errorf("with a worker: %+v, %v", done, err)
+	if done, err := newVault(t, other, one).Rotate(background, r); !errors.Is(err, ErrWorkers) || done != (Rotation{}) {
+		t.Errorf("with a worker: got %+v, %v, want nothing done and %v", done, err, ErrWorkers)
 	}
 	end()
 	if r.opens(t, before) != 4 || r.fingerprint(t) != before.Fingerprint() {
-		t.Error("something was changed")
+		t.Error("got something changed, want nothing")
 	}
 }
 
@@ -353,10 +381,10 @@ func TestRotateBesideStart(t *testing.T) {
 	before := newVault(t, one)
 	r := newRig(t, before, 3)
 	if done, err := newVault(t, other, one).Rotate(background, starting{r}); !errors.Is(err, ErrWorkers) {
-		t.Errorf("%+v, %v", done, err)
+		t.Errorf("got %+v, %v, want %v", done, err, ErrWorkers)
 	}
 	if r.opens(t, before) != 4 || r.fingerprint(t) != before.Fingerprint() {
-		t.Error("something was changed")
+		t.Error("got something changed, want nothing")
 	}
 }
 
@@ -367,23 +395,24 @@ func TestRotateUnopened(t *testing.T) {
 	lost := bindingKey(2)
 	foreign, err := newVault(t, third).Seal([]byte(secretOf(lost)), lost.String())
 	check(t, err)
-	check(t, r.Change(background, lost, func(_ time.Time, held platform.Held) (*platform.Change, error) {
-		held.Entry.Credentials = foreign
-		return &platform.Change{Entry: held.Entry}, nil
+	check(t, r.Change(background, lost, func(_ time.Time, snapshot platform.Snapshot) (*platform.Change, error) {
+		snapshot.Entry.Credentials = foreign
+		return &platform.Change{Entry: snapshot.Entry}, nil
 	}))
 	done, err := both.Rotate(background, r)
 	want := ErrUnopened.Error() + ": the credentials of the binding " + lost.String() + " (" + ErrOtherKey.Error() + ")"
-	if !errors.Is(err, ErrUnopened) || err.Error() != want || done != (Rotated{3, 1}) {
-		t.Errorf("%+v, %v", done, err)
+	if !errors.Is(err, ErrUnopened) || err.Error() != want || done != (Rotation{3, 1}) {
+		t.Errorf("got %+v, %v, want %+v, %s", done, err, Rotation{3, 1}, want)
 	}
 	if written := r.fingerprint(t); after.Fits(written) == nil || both.Fits(written) != nil || r.opens(t, after) != 4 {
-		t.Error(written)
+		t.Errorf("got the fingerprint %s, want one that fits both keys but not the new one, which opens 4 secrets", written)
 	}
-	if done, err := newVault(t, other, third, one).Rotate(background, r); err != nil || done != (Rotated{1, 0}) {
-		t.Errorf("%+v, %v", done, err)
+	if done, err := newVault(t, other, third, one).Rotate(background, r); err != nil || done != (Rotation{1, 0}) {
+		t.Errorf("got %+v, %v, want %+v", done, err, Rotation{1, 0})
 	}
 	if r.opens(t, after) != 5 || r.fingerprint(t) != after.Fingerprint() {
-		t.Error(r.opens(t, after), r.fingerprint(t))
+		t.Errorf("got %d secrets that the new key opens and the fingerprint %s, want 5 and its own",
+			r.opens(t, after), r.fingerprint(t))
 	}
 }
 
@@ -392,11 +421,318 @@ func TestRotateUnused(t *testing.T) {
 	store, err := sqlite.Open(background, filepath.Join(t.TempDir(), "store"))
 	check(t, err)
 	defer store.Close()
-	if done, err := newVault(t, other, one).Rotate(background, store); err != nil || done != (Rotated{}) {
-		t.Errorf("%+v, %v", done, err)
+	if done, err := newVault(t, other, one).Rotate(background, store); err != nil || done != (Rotation{}) {
+		t.Errorf("got %+v, %v, want nothing", done, err)
 	}
 	want := newVault(t, other).Fingerprint()
 	if written, err := store.Fingerprint(background, "x"); err != nil || written != want {
-		t.Errorf("%s, %v", written, err)
+		t.Errorf("got %s, %v, want %s", written, err, want)
+	}
+}
+
+// storeOf03 is a store that version 0.3 has written, and its path.
+func storeOf03(t *testing.T) (platform.Store, string) {
+	t.Helper()
+	dump, err := os.ReadFile("testdata/store-0.3.sql")
+	check(t, err)
+	path := filepath.Join(t.TempDir(), "store")
+	execute(t, path, string(dump))
+	store, err := sqlite.Open(background, path)
+	check(t, err)
+	t.Cleanup(func() { check(t, store.Close()) })
+	return store, path
+}
+
+func execute(t *testing.T, path, statements string) {
+	t.Helper()
+	db, err := sql.Open("sqlite3", path)
+	check(t, err)
+	_, err = db.Exec(statements)
+	check(t, err)
+	check(t, db.Close())
+}
+
+// passwords are the passwords that a vault opens, by broker.
+func passwords(t *testing.T, store platform.Store, v *Vault) map[string]string {
+	t.Helper()
+	brokers, err := store.Brokers(background)
+	check(t, err)
+	found := map[string]string{}
+	for _, broker := range brokers {
+		if plain, err := v.Open(broker.Password, platform.PasswordContext(broker)); err == nil {
+			found[broker.Name] = string(plain)
+		}
+	}
+	return found
+}
+
+func writtenIn(t *testing.T, store platform.Store) string {
+	t.Helper()
+	found, err := store.Fingerprint(background, "never written")
+	check(t, err)
+	return found
+}
+
+// The fingerprints of the first key, of version 0.3 and of this one: HKDF-SHA256 by the package hmac of Python.
+const (
+	former = "222467f16c1f06c92e12220847c420e6"
+	now    = "d5eeb89b0b7b533d08b1d78365894caf"
+)
+
+// Each password is sealed again for its URL and its user, once.
+func TestRenew(t *testing.T) {
+	store, _ := storeOf03(t)
+	v := newVault(t, one)
+	if got := writtenIn(t, store); got != former || !errors.Is(v.Fits(got), ErrOldPasswords) {
+		t.Fatalf("the text of version 0.3: got %q, %v, want it with %v", got, v.Fits(got), ErrOldPasswords)
+	}
+	done, err := v.Renew(background, store)
+	if err != nil || len(done.Brokers) != 2 || done.Brokers[0].Name != "other" || done.Brokers[1].Name != "shop" ||
+		done.Brokers[1].URL != "http://127.0.0.1:1/v" || len(done.Unopened) != 0 {
+		t.Errorf("got %+v, %v, want both brokers done", done, err)
+	}
+	if got := passwords(t, store, v); len(got) != 2 || got["shop"] != "hunter2" || got["other"] != "other" {
+		t.Errorf("the passwords: got %v, want both", got)
+	}
+	if got := writtenIn(t, store); got != now || v.Fits(got) != nil {
+		t.Errorf("the fingerprint: got %q, want %q", got, now)
+	}
+	if done, err = v.Renew(background, store); err != nil || len(done.Brokers) != 0 {
+		t.Errorf("the second time: got %+v, %v, want nothing done", done, err)
+	}
+}
+
+// What version 0.3 has sealed isn't accepted any more: neither written back, nor at another URL, nor by a further Renew.
+func TestRenewOnce(t *testing.T) {
+	store, path := storeOf03(t)
+	brokers, err := store.Brokers(background)
+	check(t, err)
+	v := newVault(t, one)
+	_, err = v.Renew(background, store)
+	check(t, err)
+	for _, url := range []string{"http://127.0.0.1:1/v", "http://127.0.0.1:2/evil"} {
+		check(t, store.ChangeBroker(background, "shop", func(b platform.Broker) (*platform.Broker, error) {
+			b.Password, b.URL = brokers[2].Password, url
+			return &b, nil
+		}))
+		done, err := v.Renew(background, store)
+		if err != nil || len(done.Brokers) != 0 {
+			t.Errorf("%s: got %+v, %v, want nothing encrypted again", url, done, err)
+		}
+		if got := passwords(t, store, v); got["shop"] != "" || got["other"] != "other" {
+			t.Errorf("%s: the passwords: got %v, want that of other alone", url, got)
+		}
+	}
+	// with another key, even the fingerprint of version 0.3 doesn't help
+	_, err = newVault(t, other, one).Rotate(background, store)
+	if !errors.Is(err, ErrUnopened) { // that of shop
+		t.Error(err)
+	}
+	execute(t, path, "UPDATE osb_store SET fingerprint = '"+former+"'")
+	if _, err := newVault(t, other).Renew(background, store); !errors.Is(err, ErrStoreKey) {
+		t.Errorf("with the new key alone: got %v, want %v", err, ErrStoreKey)
+	}
+}
+
+// A fingerprint of version 0.3 that is written back has no password accepted again, as long as one of this version is
+// there.
+func TestRenewWrittenBack(t *testing.T) {
+	store, path := storeOf03(t)
+	brokers, err := store.Brokers(background)
+	check(t, err)
+	v := newVault(t, one)
+	_, err = v.Renew(background, store)
+	check(t, err)
+	check(t, store.ChangeBroker(background, "shop", func(b platform.Broker) (*platform.Broker, error) {
+		b.Password, b.URL = brokers[2].Password, "http://127.0.0.1:2/evil"
+		return &b, nil
+	}))
+	execute(t, path, "UPDATE osb_store SET fingerprint = '"+former+"'")
+	done, err := v.Renew(background, store)
+	if !errors.Is(err, ErrWrittenBack) || len(done.Brokers) != 0 || writtenIn(t, store) != former {
+		t.Errorf("got %+v, %v, want %v", done, err, ErrWrittenBack)
+	}
+	if got := passwords(t, store, v); got["shop"] != "" {
+		t.Errorf("the passwords: got %v, want none of shop", got)
+	}
+	execute(t, path, "UPDATE osb_store SET fingerprint = NULL")
+	if _, err := v.Renew(background, store); err != nil || writtenIn(t, store) != now {
+		t.Errorf("without a fingerprint: got %v and %q, want no error and %q", err, writtenIn(t, store), now)
+	}
+	if got := passwords(t, store, v); got["shop"] != "" {
+		t.Errorf("without a fingerprint: got the passwords %v, want none of shop", got)
+	}
+}
+
+// A password that doesn't open stays as it is, and the others are sealed again. A URL that was changed before is the one
+// that the password is sealed for: nobody can know it.
+func TestRenewUnopened(t *testing.T) {
+	store, path := storeOf03(t)
+	execute(t, path, "UPDATE osb_brokers SET password = (SELECT password FROM osb_brokers WHERE name = 'shop') "+
+		"WHERE name = 'other'")
+	v := newVault(t, one)
+	done, err := v.Renew(background, store)
+	if err != nil || len(done.Brokers) != 1 || len(done.Unopened) != 1 || done.Unopened[0].Name != "other" {
+		t.Errorf("got %+v, %v, want one done, and other unopened", done, err)
+	}
+	if got := passwords(t, store, v); len(got) != 1 || got["shop"] != "hunter2" {
+		t.Errorf("the passwords: got %v, want that of shop", got)
+	}
+}
+
+// A wrong key, and a worker that runs: nothing is changed.
+func TestRenewRejected(t *testing.T) {
+	store, _ := storeOf03(t)
+	if _, err := newVault(t, other).Renew(background, store); !errors.Is(err, ErrStoreKey) {
+		t.Errorf("a wrong key: got %v, want %v", err, ErrStoreKey)
+	}
+	end, _, err := store.Only(background, "of version 0.3")
+	check(t, err)
+	v := newVault(t, one)
+	if _, err := v.Renew(background, store); !errors.Is(err, ErrWorkers) || writtenIn(t, store) != former {
+		t.Errorf("with a worker: got %v and %q, want %v and %q", err, writtenIn(t, store), ErrWorkers, former)
+	}
+	end()
+	if got := passwords(t, store, v); len(got) != 0 {
+		t.Errorf("got %v encrypted again, want none", got)
+	}
+}
+
+// A breaking is a store whose calls of one kind fail after so many.
+type breaking struct {
+	platform.Store
+	changes, marks int
+}
+
+func (b *breaking) ChangeBroker(
+	ctx context.Context, name string, change func(platform.Broker) (*platform.Broker, error),
+) error {
+	if b.changes--; b.changes < 0 {
+		return errFailing
+	}
+	return b.Store.ChangeBroker(ctx, name, change)
+}
+
+func (b *breaking) ReplaceFingerprint(ctx context.Context, before, after string) error {
+	if b.marks--; b.marks < 0 {
+		return errFailing
+	}
+	return b.Store.ReplaceFingerprint(ctx, before, after)
+}
+
+// Wherever it ends in the middle, the next one finishes it, and version 0.3 rejects the store from the first write on.
+func TestRenewInTheMiddle(t *testing.T) {
+	for _, fault := range []breaking{{changes: 0, marks: 0}, {changes: 0, marks: 1}, {changes: 2, marks: 1}, {changes: 3, marks: 1}} {
+		store, _ := storeOf03(t)
+		fault.Store = store
+		marks := fault.marks
+		v := newVault(t, one)
+		if _, err := v.Renew(background, &fault); !errors.Is(err, errFailing) {
+			t.Errorf("the end: got %v, want %v", err, errFailing)
+		}
+		if got := writtenIn(t, store); marks > 0 && got != now+" "+former || !errors.Is(v.Fits(got), ErrOldPasswords) {
+			t.Errorf("the fingerprint: got %q, want both with %v", got, ErrOldPasswords)
+		}
+		end, _, err := store.Only(background, "of version 0.3")
+		check(t, err)
+		if _, err := v.Renew(background, store); !errors.Is(err, ErrWorkers) {
+			t.Errorf("with a worker: got %v, want %v", err, ErrWorkers)
+		}
+		end()
+		if _, err := v.Renew(background, store); err != nil || writtenIn(t, store) != now {
+			t.Errorf("the next one: got %v, want it done", err)
+		}
+		if got := passwords(t, store, v); len(got) != 2 || got["shop"] != "hunter2" {
+			t.Errorf("the passwords: got %v, want both", got)
+		}
+	}
+}
+
+// A store that fails at any one call ends a Renew with the error, and the next one ends the work.
+func TestRenewOverAStoreThatFails(t *testing.T) {
+	for n, failed := 1, true; failed; n++ {
+		whole, _ := storeOf03(t)
+		store, v := &failingOnce{Store: whole, left: n}, newVault(t, one)
+		_, err := v.Renew(background, store)
+		if failed = store.failed; failed != errors.Is(err, errFailing) {
+			t.Errorf("call %d of the store has failed: got %v, want %v", n, err, errFailing)
+		}
+		if _, err := v.Renew(background, whole); err != nil || writtenIn(t, whole) != now {
+			t.Errorf("after call %d has failed: got %v and the fingerprint %q, want %q", n, err, writtenIn(t, whole), now)
+		}
+		if got := passwords(t, whole, v); len(got) != 2 || got["shop"] != "hunter2" {
+			t.Errorf("after call %d has failed: got the passwords %v, want both", n, got)
+		}
+	}
+}
+
+// A worker that starts beside a Renew ends it before anything is sealed again, and version 0.3 can go on.
+func TestRenewBesideStart(t *testing.T) {
+	store, _ := storeOf03(t)
+	v := newVault(t, one)
+	if _, err := v.Renew(background, starting{store}); !errors.Is(err, ErrWorkers) {
+		t.Errorf("got %v, want %v", err, ErrWorkers)
+	}
+	if got := writtenIn(t, store); got != former || len(passwords(t, store, v)) != 0 {
+		t.Errorf("got the fingerprint %q and the passwords %v, want %q and none", got, passwords(t, store, v), former)
+	}
+}
+
+// A contested store has another fingerprint whenever one is to be replaced: other processes renew it, too.
+type contested struct{ platform.Store }
+
+func (contested) ReplaceFingerprint(context.Context, string, string) error {
+	return platform.ErrUnknown
+}
+
+// A Renew ends, even if others are at the store each time.
+func TestRenewContested(t *testing.T) {
+	store, _ := storeOf03(t)
+	v := newVault(t, one)
+	if _, err := v.Renew(background, contested{store}); !errors.Is(err, ErrRotating) || len(passwords(t, store, v)) != 0 {
+		t.Errorf("got %v and the passwords %v, want %v and none", err, passwords(t, store, v), ErrRotating)
+	}
+}
+
+// Any number of processes bring a store up to date at once.
+func TestRenewAtOnce(t *testing.T) {
+	store, path := storeOf03(t)
+	var all sync.WaitGroup
+	for n := 0; n < 4; n++ {
+		own, err := sqlite.Open(background, path)
+		check(t, err)
+		all.Add(1)
+		go func() {
+			defer all.Done()
+			if _, err := newVault(t, one).Renew(background, own); err != nil {
+				t.Error(err)
+			}
+			if err := own.Close(); err != nil {
+				t.Error(err)
+			}
+		}()
+	}
+	all.Wait()
+	if got := passwords(t, store, newVault(t, one)); len(got) != 2 || writtenIn(t, store) != now {
+		t.Errorf("got the passwords %v and the fingerprint %q, want both and the new one", got, writtenIn(t, store))
+	}
+}
+
+// A rotation that version 0.3 has begun goes on, and begins anew with the passwords of this version.
+func TestRenewDuringRotation(t *testing.T) {
+	store, _ := storeOf03(t)
+	both := newVault(t, other, one)
+	check(t, store.ReplaceFingerprint(background, former, both.keys[0].former+" "+former))
+	if _, err := newVault(t, one).Renew(background, store); !errors.Is(err, ErrRotating) {
+		t.Errorf("with the old key alone: got %v, want %v", err, ErrRotating)
+	}
+	if _, err := both.Renew(background, store); err != nil || !errors.Is(newVault(t, one).Fits(writtenIn(t, store)), ErrRotating) {
+		t.Errorf("got %v and the fingerprints %q, want both of them", err, writtenIn(t, store))
+	}
+	if done, err := both.Rotate(background, store); err != nil || done.Passwords != 2 {
+		t.Errorf("got %+v, %v, want 2 passwords", done, err)
+	}
+	if got := passwords(t, store, newVault(t, other)); len(got) != 2 {
+		t.Errorf("the new key: got %v, want 2", got)
 	}
 }

@@ -16,12 +16,15 @@ package vault
 import (
 	"crypto/aes"
 	"crypto/cipher"
+	"crypto/hmac"
 	"crypto/rand"
+	"crypto/sha256"
 	"encoding/hex"
 	"errors"
 	"fmt"
 	"io"
 
+	"pippinterm/internal/secrets"
 	"pippinterm/platform"
 )
 
@@ -135,12 +138,12 @@ func (v *Vault) open(sealed []byte, context string) (plain []byte, by key, err e
 	}
 	nonce, rest := sealed[headSize:headSize+nonceSize], sealed[headSize+nonceSize:]
 	failed := ErrOtherKey
-	for _, it := range v.keys {
-		if string(it.id[:]) != string(sealed[1:headSize]) {
+	for _, key := range v.keys {
+		if string(key.id[:]) != string(sealed[1:headSize]) {
 			continue
 		}
-		if plain, err := it.aead.Open(nil, nonce, rest, additional(sealed[:headSize], context)); err == nil {
-			return plain, it, nil
+		if plain, err := key.aead.Open(nil, nonce, rest, additional(sealed[:headSize], context)); err == nil {
+			return plain, key, nil
 		}
 		failed = ErrChanged
 	}
@@ -170,8 +173,8 @@ func (v *Vault) Fingerprint() string { return v.keys[0].fingerprint }
 // Knows returns whether one of the keys has this fingerprint. While a key is replaced, a store still has that of the
 // old one.
 func (v *Vault) Knows(fingerprint string) bool {
-	for _, it := range v.keys {
-		if it.fingerprint == fingerprint {
+	for _, key := range v.keys {
+		if key.fingerprint == fingerprint {
 			return true
 		}
 	}
@@ -181,4 +184,49 @@ func (v *Vault) Knows(fingerprint string) bool {
 // additional is the additional data: the head, whose length is fixed, and the context.
 func additional(head []byte, context string) []byte {
 	return append(append(make([]byte, 0, len(head)+len(context)), head...), context...)
+}
+
+// salt separates what is derived here from what else might be derived of the same key.
+const salt = "osb-platform vault 1"
+
+// extract is HKDF-Extract with SHA-256 (RFC 5869, section 2.2).
+func extract(secret []byte) []byte { return mac([]byte(salt), secret) }
+
+// expand is the first block of HKDF-Expand with SHA-256 (RFC 5869, section 2.3): 32 bytes for a purpose.
+func expand(extracted []byte, purpose string) []byte {
+	return mac(extracted, append([]byte(purpose), 1))
+}
+
+func mac(key, text []byte) []byte {
+	made := hmac.New(sha256.New, key)
+	made.Write(text) // never fails
+	return made.Sum(nil)
+}
+
+// FromFiles makes a vault with the keys that stand in files, the one that seals first. A file has its key on one line
+// of UTF-8 without control characters, at least ShortestKey bytes long, such as one that `openssl rand -hex 32` writes.
+// The last line feed is dropped.
+//
+// The warnings are for the log: there is one for each file whose mode is beyond 0600.
+//
+// Errors: a name is empty; those of secrets.Secret for a file; those of New.
+func FromFiles(files ...string) (v *Vault, warnings []string, err error) {
+	var keys [][]byte
+	for _, file := range files {
+		if file == "" {
+			return nil, nil, errors.New("the file of a key has no name")
+		}
+		secret, warning, err := secrets.Secret("", file)
+		if err != nil {
+			return nil, nil, err
+		}
+		if warning != "" {
+			warnings = append(warnings, warning)
+		}
+		keys = append(keys, []byte(secret))
+	}
+	if v, err = New(keys...); err != nil {
+		return nil, nil, err
+	}
+	return v, warnings, nil
 }

@@ -20,18 +20,14 @@ const here, there = "an instance/a binding", "an instance/another"
 func newVault(t *testing.T, keys ...[]byte) *Vault {
 	t.Helper()
 	v, err := New(keys...)
-	if err != nil {
-		t.Fatal(err)
-	}
+	check(t, err)
 	return v
 }
 
 func sealedBy(t *testing.T, v *Vault, plain string) []byte {
 	t.Helper()
 	sealed, err := v.Seal([]byte(plain), here)
-	if err != nil {
-		t.Fatal(err)
-	}
+	check(t, err)
 	return sealed
 }
 
@@ -42,10 +38,10 @@ func TestSealed(t *testing.T) {
 		sealed := sealedBy(t, v, plain)
 		opened, err := v.Open(sealed, here)
 		if err != nil || string(opened) != plain {
-			t.Errorf("%.20q: %.20q, %v", plain, opened, err)
+			t.Errorf("%.20q: got %.20q, %v, want the same", plain, opened, err)
 		}
 		if len(sealed) != leastSize+len(plain) || len(plain) > 9 && bytes.Contains(sealed, []byte(plain[:9])) {
-			t.Errorf("%.20q: sealed as %d bytes", plain, len(sealed))
+			t.Errorf("%.20q: got %d bytes, want them encrypted", plain, len(sealed))
 		}
 	}
 }
@@ -59,7 +55,7 @@ func TestSealedTwice(t *testing.T) {
 		seen[string(sealed[headSize+nonceSize:])] = true
 	}
 	if len(seen) != 2000 {
-		t.Errorf("%d of 2000 differ", len(seen))
+		t.Errorf("got %d that differ, want 2000", len(seen))
 	}
 }
 
@@ -84,9 +80,11 @@ func TestNotOpened(t *testing.T) {
 		"twice":              {v, append(append([]byte(nil), sealed...), sealed...), here, ErrChanged},
 		"the secret of none": {v, make([]byte, 99), here, ErrMalformed},
 	} {
-		if plain, err := row.by.Open(row.sealed, row.context); !errors.Is(err, row.failed) || plain != nil {
-			t.Errorf("%s: %q, %v", what, plain, err)
-		}
+		t.Run(what, func(t *testing.T) {
+			if plain, err := row.by.Open(row.sealed, row.context); !errors.Is(err, row.failed) || plain != nil {
+				t.Errorf("got %q, %v, want %v", plain, err, row.failed)
+			}
+		})
 	}
 }
 
@@ -98,7 +96,7 @@ func TestFlippedBits(t *testing.T) {
 		flipped := append([]byte(nil), sealed...)
 		flipped[at/8] ^= 1 << (at % 8)
 		if plain, err := v.Open(flipped, here); err == nil || plain != nil {
-			t.Errorf("bit %d: %q", at, plain)
+			t.Errorf("bit %d: got %q, want an error", at, plain)
 		}
 	}
 }
@@ -109,10 +107,10 @@ func TestTruncated(t *testing.T) {
 	sealed := sealedBy(t, v, "a secret")
 	for length := range sealed {
 		if plain, err := v.Open(sealed[:length], here); err == nil || plain != nil {
-			t.Errorf("%d bytes: %q", length, plain)
+			t.Errorf("%d bytes: got %q, want an error", length, plain)
 		}
 		if plain, err := v.Open(sealed[len(sealed)-length:], here); err == nil || plain != nil {
-			t.Errorf("the last %d bytes: %q", length, plain)
+			t.Errorf("the last %d bytes: got %q, want an error", length, plain)
 		}
 	}
 }
@@ -121,17 +119,15 @@ func TestTruncated(t *testing.T) {
 func TestUnchanged(t *testing.T) {
 	v, plain := newVault(t, one), []byte("a secret")
 	sealed, err := v.Seal(plain, here)
-	if err != nil {
-		t.Fatal(err)
-	}
+	check(t, err)
 	before := append([]byte(nil), sealed...)
 	for range [2]int{} {
 		if opened, err := v.Open(sealed, here); err != nil || string(opened) != "a secret" {
-			t.Errorf("%q, %v", opened, err)
+			t.Errorf("got %q, %v, want a secret", opened, err)
 		}
 	}
 	if !bytes.Equal(before, sealed) || string(plain) != "a secret" {
-		t.Errorf("%x is now %x", before, sealed)
+		t.Errorf("got %[2]x, want %[1]x", before, sealed)
 	}
 }
 
@@ -139,11 +135,11 @@ func TestUnchanged(t *testing.T) {
 func TestKeys(t *testing.T) {
 	for _, keys := range [][][]byte{{one[:31]}, {{}}, {nil}, {one, one[:31]}} {
 		if _, err := New(keys...); !errors.Is(err, ErrShortKey) {
-			t.Errorf("%d keys: %v", len(keys), err)
+			t.Errorf("%d keys: got %v, want %v", len(keys), err, ErrShortKey)
 		}
 	}
 	if _, err := New(); err == nil {
-		t.Error("a vault without a key was made")
+		t.Error("a vault without a key: got no error, want one")
 	}
 	newVault(t, one[:32])
 }
@@ -153,21 +149,21 @@ func TestRotated(t *testing.T) {
 	before, during, after := newVault(t, one), newVault(t, other, one), newVault(t, other)
 	old := sealedBy(t, before, "a secret")
 	if plain, err := during.Open(old, here); err != nil || string(plain) != "a secret" {
-		t.Errorf("%q, %v", plain, err)
+		t.Errorf("got %q, %v, want a secret", plain, err)
 	}
 	if plain, err := after.Open(sealedBy(t, during, "a secret"), here); err != nil || string(plain) != "a secret" {
-		t.Errorf("%q, %v", plain, err)
+		t.Errorf("got %q, %v, want a secret", plain, err)
 	}
 	again, isChanged, err := during.Rekey(old, here)
 	if err != nil || !isChanged {
-		t.Fatal(isChanged, err)
+		t.Fatalf("got a change: %t, and the error %v, want a change", isChanged, err)
 	}
 	if plain, err := after.Open(again, here); err != nil || string(plain) != "a secret" {
-		t.Errorf("%q, %v", plain, err)
+		t.Errorf("got %q, %v, want a secret", plain, err)
 	}
 	same, isChanged, err := during.Rekey(again, here)
 	if err != nil || isChanged || !bytes.Equal(same, again) {
-		t.Errorf("%x, %v, %v", same, isChanged, err)
+		t.Errorf("got %x, changed: %v, %v, want no change", same, isChanged, err)
 	}
 	if _, _, err := during.Rekey(old, there); !errors.Is(err, ErrChanged) {
 		t.Error(err)
@@ -181,18 +177,19 @@ func TestRotated(t *testing.T) {
 func TestFingerprint(t *testing.T) {
 	first, second, both := newVault(t, one), newVault(t, other), newVault(t, one, other)
 	if first.Fingerprint() != both.Fingerprint() || first.Fingerprint() == second.Fingerprint() {
-		t.Error(first.Fingerprint(), second.Fingerprint(), both.Fingerprint())
+		t.Errorf("got %s, %s and %s, want the last like the first, and another in between",
+			first.Fingerprint(), second.Fingerprint(), both.Fingerprint())
 	}
 	if !both.Knows(first.Fingerprint()) || !both.Knows(second.Fingerprint()) || first.Knows(second.Fingerprint()) ||
 		first.Knows("") {
-		t.Error("other fingerprints are known than those of the keys")
+		t.Error("got other fingerprints that are known, want those of the keys")
 	}
 	sealed := sealedBy(t, first, "a secret")
 	id, extracted := hex.EncodeToString(sealed[1:headSize]), extract(one)
 	seals := hex.EncodeToString(expand(extracted, "seal"))
 	if strings.Contains(seals, id) || strings.Contains(seals, first.Fingerprint()) ||
 		strings.Contains(first.Fingerprint(), id) {
-		t.Error("the fingerprint or the id is a part of the key that seals")
+		t.Error("got the fingerprint or the id in the key that encrypts, want neither")
 	}
 }
 
@@ -206,15 +203,13 @@ const (
 // The layout and the derivation stay, so that what was sealed before can be opened.
 func TestStaysReadable(t *testing.T) {
 	sealed, err := hex.DecodeString(written)
-	if err != nil {
-		t.Fatal(err)
-	}
+	check(t, err)
 	v := newVault(t, one)
 	if plain, err := v.Open(sealed, here); err != nil || string(plain) != "a secret" {
-		t.Errorf("%q, %v", plain, err)
+		t.Errorf("got %q, %v, want a secret", plain, err)
 	}
 	if v.Fingerprint() != now {
-		t.Errorf("the fingerprint is %q, want %q", v.Fingerprint(), now)
+		t.Errorf("the fingerprint: got %q, want %q", v.Fingerprint(), now)
 	}
 }
 
@@ -225,7 +220,7 @@ func TestDerivation(t *testing.T) {
 	info, _ := hex.DecodeString("f0f1f2f3f4f5f6f7f8f9")
 	const wanted = "3cb25f25faacd57a90434f64d0362f2a2d2d0a90cf1a5a4c5db02d56ecc4c5bf"
 	if got := hex.EncodeToString(expand(mac(salt, secret), string(info))); got != wanted {
-		t.Error(got)
+		t.Errorf("got %s, want %s", got, wanted)
 	}
 }
 
@@ -234,7 +229,7 @@ func TestNoRandomBytes(t *testing.T) {
 	v := newVault(t, one)
 	v.random = strings.NewReader("short")
 	if sealed, err := v.Seal([]byte("a secret"), here); err == nil || sealed != nil {
-		t.Errorf("%x", sealed)
+		t.Errorf("got %x, %v, want only an error", sealed, err)
 	}
 }
 
@@ -242,25 +237,21 @@ func TestNoRandomBytes(t *testing.T) {
 func TestFromFiles(t *testing.T) {
 	write := func(text string, mode os.FileMode) string {
 		name := filepath.Join(t.TempDir(), "key")
-		if err := os.WriteFile(name, []byte(text), 0o600); err != nil {
-			t.Fatal(err)
-		}
-		if err := os.Chmod(name, mode); err != nil {
-			t.Fatal(err)
-		}
+		check(t, os.WriteFile(name, []byte(text), 0o600))
+		check(t, os.Chmod(name, mode))
 		return name
 	}
 	long := string(one) + "\n"
 	v, warnings, err := FromFiles(write(string(other)+"\n", 0o600), write(long, 0o644))
 	if err != nil || len(warnings) != 1 {
-		t.Fatal(warnings, err)
+		t.Fatalf("got the warnings %q and the error %v, want one warning", warnings, err)
 	}
 	sealed := sealedBy(t, newVault(t, one), "a secret")
 	if plain, err := v.Open(sealed, here); err != nil || string(plain) != "a secret" {
-		t.Errorf("%q, %v", plain, err)
+		t.Errorf("got %q, %v, want a secret", plain, err)
 	}
 	if v.Fingerprint() != newVault(t, other).Fingerprint() {
-		t.Error("the first file's key doesn't seal")
+		t.Error("got another key that encrypts, want the first file's")
 	}
 	for what, files := range map[string][]string{
 		"none": {}, "no name": {""}, "no file": {"nowhere"}, "short": {write("short", 0o600)},
@@ -268,8 +259,10 @@ func TestFromFiles(t *testing.T) {
 		"two lines": {write(long+long, 0o600)}, "no text": {write("\x00\xff"+long, 0o600)},
 		"the second": {write(long, 0o600), write("short", 0o600)},
 	} {
-		if _, _, err := FromFiles(files...); err == nil || strings.Contains(err.Error(), string(one)) {
-			t.Errorf("%s: %v", what, err)
-		}
+		t.Run(what, func(t *testing.T) {
+			if _, _, err := FromFiles(files...); err == nil || strings.Contains(err.Error(), string(one)) {
+				t.Errorf("got %v, want an error without the key", err)
+			}
+		})
 	}
 }

@@ -85,7 +85,7 @@ func (r *Runner) canBind() bool {
 	return r.existing != ""
 }
 
-// repeatedBinds repeats a Bind, and returns the first answer that had the credentials.
+// repeatedBinds repeats a Bind, and returns the first answer with the credentials.
 func (r *Runner) repeatedBinds(k key, first *exchange) *exchange {
 	x := r.put(k, r.bind(k, nil))
 	r.judge("bind-repeated", x, x.want(200))
@@ -134,9 +134,9 @@ func (r *Runner) fetch(k key) *exchange {
 }
 
 func (r *Runner) unbinds(k key) {
-	for _, it := range r.lackingPairs("unbind") {
-		x := r.send(deletion(k, it.pair, true)) // CleanUp deletes it, whatever the answer says
-		r.judge(it.name, x, x.want(400))
+	for _, pair := range r.lackingPairs("unbind") {
+		x := r.send(deletion(k, pair.pair, true)) // CleanUp deletes it, whatever the answer says
+		r.judge(pair.name, x, x.want(400))
 		if x.is(400) {
 			continue
 		}
@@ -171,10 +171,10 @@ var rejectedBindingCases = scenario{
 		if !r.canBind() {
 			return
 		}
-		for _, it := range r.lackingPairs("bind") {
+		for _, pair := range r.lackingPairs("bind") {
 			k := key{r.existing, r.id()}
-			x := r.put(k, r.bind(k, without(it.member)))
-			r.judge(it.name, x, x.want(400))
+			x := r.put(k, r.bind(k, without(pair.member)))
+			r.judge(pair.name, x, x.want(400))
 		}
 		k := key{r.existing, r.id()}
 		sent := r.bind(k, nil)

@@ -43,11 +43,11 @@ func brokerAt(t *testing.T, rules broker.Rules) string {
 		t.Fatal(err)
 	}
 	t.Cleanup(func() { expectNothing(t, filepath.Join(top, "folders")) })
-	return served(t, broker.NewService(catalogue, store, backend, backend.Locks(), rules, silent))
+	return serve(t, broker.NewService(catalogue, store, backend, backend.Locks(), rules, silent))
 }
 
-// served serves over HTTP, with a sweeper that runs.
-func served(t *testing.T, service *broker.Service) string {
+// serve serves over HTTP, with a sweeper that runs.
+func serve(t *testing.T, service *broker.Service) string {
 	t.Helper()
 	ctx, silent := context.Background(), broker.Silent{}
 	sweeper := broker.NewSweeper(service, silent)
@@ -83,7 +83,7 @@ func expectNothing(t *testing.T, top string) {
 		}
 		for _, name := range names {
 			if base := filepath.Base(name); pattern != "*" || base[0] != '.' {
-				t.Errorf("%s is left", name)
+				t.Errorf("got %s left, want nothing", name)
 			}
 		}
 	}
@@ -107,20 +107,20 @@ func TestOurBroker(t *testing.T) {
 			if err != nil {
 				t.Fatal(err)
 			}
-			// Without the rule of the first Poll, an instance may exist before the Bind comes.
+			// Without the rule of the first Poll, an instance may exist before the Bind arrives.
 			isAsync := plan == "later" || plan == "make-later"
-			for _, it := range report.Results {
-				wanted := it.Name == again || it.Name == bind && isAsync
-				if failed := it.Verdict == conform.Fail; failed && !wanted || wanted && firstPoll && !failed {
-					t.Errorf("%s, first Poll %v: %+v", plan, firstPoll, it)
+			for _, result := range report.Results {
+				wanted := result.Name == again || result.Name == bind && isAsync
+				if failed := result.Verdict == conform.Fail; failed && !wanted || wanted && firstPoll && !failed {
+					t.Errorf("%s, first Poll %v: got %+v, want the verdict of the page", plan, firstPoll, result)
 				}
 			}
 			if passed := report.Count(conform.Must, conform.Pass); passed < 50 {
-				t.Errorf("%s: only %d MUSTs passed", plan, passed)
+				t.Errorf("%s: got only %d MUSTs that passed, want at least 50", plan, passed)
 			}
 			within, cancel := context.WithTimeout(context.Background(), time.Minute)
 			if left := r.CleanUp(within); len(left) > 0 {
-				t.Errorf("%s: %v are left", plan, left)
+				t.Errorf("%s: got %v left, want none", plan, left)
 			}
 			cancel()
 		}

@@ -49,8 +49,8 @@ type object = map[string]any
 // listOf returns a value that is a list of objects.
 func listOf(value any) (objects []object, is bool) {
 	list, is := value.([]any)
-	for _, it := range list {
-		one, isObject := it.(object)
+	for _, element := range list {
+		one, isObject := element.(object)
 		if !isObject {
 			return nil, false
 		}
@@ -72,14 +72,14 @@ func textIn(from object, member string) string {
 }
 
 func checkServices(services []object) string {
-	for at, it := range services {
-		if missing := missingText(it); missing != "" {
+	for at, service := range services {
+		if missing := missingText(service); missing != "" {
 			return fmt.Sprintf("service %d has no %s that is a non-empty string", at+1, missing)
 		}
-		if _, is := it["bindable"].(bool); !is {
+		if _, is := service["bindable"].(bool); !is {
 			return fmt.Sprintf("service %d has no boolean bindable", at+1)
 		}
-		if len(plansOf(it)) == 0 {
+		if len(plansOf(service)) == 0 {
 			return fmt.Sprintf("service %d has no plan", at+1)
 		}
 	}
@@ -88,8 +88,8 @@ func checkServices(services []object) string {
 
 func checkPlans(services []object) string {
 	for _, service := range services {
-		for at, it := range plansOf(service) {
-			if missing := missingText(it); missing != "" {
+		for at, object := range plansOf(service) {
+			if missing := missingText(object); missing != "" {
 				return fmt.Sprintf("plan %d of service %q has no %s that is a non-empty string",
 					at+1, textIn(service, "name"), missing)
 			}
@@ -108,7 +108,7 @@ func missingText(of object) string {
 }
 
 func checkIDs(services []object) string {
-	ofServices, ofPlans := seen{}, seen{}
+	ofServices, ofPlans := stringSet{}, stringSet{}
 	for _, service := range services {
 		if ofServices.again(service["id"]) {
 			return fmt.Sprintf("two services have the id %v", service["id"])
@@ -123,12 +123,12 @@ func checkIDs(services []object) string {
 }
 
 func checkNames(services []object) string {
-	ofServices := seen{}
+	ofServices := stringSet{}
 	for _, service := range services {
 		if ofServices.again(service["name"]) {
 			return fmt.Sprintf("two services have the name %v", service["name"])
 		}
-		ofPlans := seen{}
+		ofPlans := stringSet{}
 		for _, plan := range plansOf(service) {
 			if ofPlans.again(plan["name"]) {
 				return fmt.Sprintf("two plans of a service have the name %v", plan["name"])
@@ -138,11 +138,11 @@ func checkNames(services []object) string {
 	return ""
 }
 
-// seen are the strings that have been met.
-type seen map[string]bool
+// stringSet are the strings that have been met.
+type stringSet map[string]bool
 
 // again returns whether a value is a string that has been met before.
-func (s seen) again(value any) bool {
+func (s stringSet) again(value any) bool {
 	text, is := value.(string)
 	before := s[text]
 	s[text] = true
@@ -195,8 +195,8 @@ func wrongType(of object, flags []string) string {
 
 func isTexts(value any) bool {
 	list, is := value.([]any)
-	for _, it := range list {
-		if _, isText := it.(string); !isText {
+	for _, element := range list {
+		if _, isText := element.(string); !isText {
 			return false
 		}
 	}
@@ -212,11 +212,11 @@ func isWhole(value any) bool {
 func checkRequires(services []object) string {
 	for _, service := range services {
 		list, _ := service["requires"].([]any)
-		for _, it := range list {
-			switch it {
+		for _, permission := range list {
+			switch permission {
 			case "syslog_drain", "route_forwarding", "volume_mount":
 			default:
-				return fmt.Sprintf("service %q requires %v", textIn(service, "name"), it)
+				return fmt.Sprintf("service %q requires %v", textIn(service, "name"), permission)
 			}
 		}
 	}
@@ -225,8 +225,8 @@ func checkRequires(services []object) string {
 
 func checkForCLI(services []object) string {
 	for _, service := range services {
-		for _, it := range append([]object{service}, plansOf(service)...) {
-			name := textIn(it, "name")
+		for _, named := range append([]object{service}, plansOf(service)...) {
+			name := textIn(named, "name")
 			if strings.Trim(strings.ToLower(name), "abcdefghijklmnopqrstuvwxyz0123456789.-_") != "" {
 				return fmt.Sprintf("the name %q has another character", name)
 			}
@@ -261,10 +261,10 @@ func (r *Runner) choose() error {
 		return fmt.Errorf("%w: service %q, plan %q", ErrNoPlan, r.config.Service, r.config.Plan)
 	}
 	r.target = all[at]
-	for _, it := range all {
-		if it.plan != r.target.plan && (r.target.other.plan == "" || it.service == r.target.service) {
-			r.target.other = it.pair
-			if it.service == r.target.service {
+	for _, target := range all {
+		if target.plan != r.target.plan && (r.target.other.plan == "" || target.service == r.target.service) {
+			r.target.other = target.pair
+			if target.service == r.target.service {
 				break
 			}
 		}
@@ -275,16 +275,16 @@ func (r *Runner) choose() error {
 // find returns the place of the plan that the Config names, or -1.
 func (r *Runner) find(all []target) int {
 	if r.config.Plan == "" {
-		for at, it := range all {
-			if it.bindable {
+		for at, target := range all {
+			if target.bindable {
 				return at
 			}
 		}
 		return 0
 	}
-	for at, it := range all {
-		ofService := r.config.Service == it.serviceName || r.config.Service == it.service
-		if ofService && (r.config.Plan == it.planName || r.config.Plan == it.plan) {
+	for at, target := range all {
+		ofService := r.config.Service == target.serviceName || r.config.Service == target.service
+		if ofService && (r.config.Plan == target.planName || r.config.Plan == target.plan) {
 			return at
 		}
 	}

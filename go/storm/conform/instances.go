@@ -50,8 +50,8 @@ func unknown(member string) func(*Runner, object) {
 
 var rejectedCases = scenario{
 	cases: func() (cases []Case) {
-		for _, it := range rejected {
-			cases = append(cases, Case{it.name, sectionProvision, it.level, it.expected})
+		for _, test := range rejected {
+			cases = append(cases, Case{test.name, sectionProvision, test.level, test.expected})
 		}
 		return cases
 	}(),
@@ -59,19 +59,19 @@ var rejectedCases = scenario{
 		if !r.hasPlan() {
 			return
 		}
-		for _, it := range rejected {
+		for _, test := range rejected {
 			k, body := key{instance: r.id()}, object{}
 			sent := r.provision(k.instance, func(of object) {
-				if it.change != nil {
-					it.change(r, of)
+				if test.change != nil {
+					test.change(r, of)
 				}
 				body = of
 			})
-			if it.change == nil {
+			if test.change == nil {
 				sent.body = sent.body[:len(sent.body)-1]
 			}
 			x := r.create(k, pair{textIn(body, "service_id"), textIn(body, "plan_id")}, sent)
-			r.judge(it.name, x, x.want(400))
+			r.judge(test.name, x, x.want(400))
 		}
 	},
 }
@@ -203,13 +203,13 @@ var deletionCases = scenario{
 	},
 	run: func(r *Runner) {
 		id := r.ready()
-		for _, it := range r.lackingPairs("deprovision") {
+		for _, pair := range r.lackingPairs("deprovision") {
 			if id == "" {
 				return
 			}
 			k := key{instance: id}
-			x := r.send(deletion(k, it.pair, true)) // CleanUp deletes it, whatever the answer says
-			r.judge(it.name, x, x.want(400))
+			x := r.send(deletion(k, pair.pair, true)) // CleanUp deletes it, whatever the answer says
+			r.judge(pair.name, x, x.want(400))
 			if !x.is(400) { // it may be gone
 				id = r.ready()
 			}
@@ -253,26 +253,152 @@ var acceptedCases = scenario{
 		if !r.hasPlan() {
 			return
 		}
-		r.accepted("unknown-fields", r.id(), with("x-osb-storm-unknown", []int{1}), nil)
-		r.accepted("content-type-missing", r.id(), nil, map[string]string{"Content-Type": ""})
-		r.accepted("originating-identity", r.id(), nil, map[string]string{
+		r.judgeAcceptance("unknown-fields", r.id(), with("x-osb-storm-unknown", []int{1}), nil)
+		r.judgeAcceptance("content-type-missing", r.id(), nil, map[string]string{"Content-Type": ""})
+		r.judgeAcceptance("originating-identity", r.id(), nil, map[string]string{
 			// {"user_id":"osb-storm"}
 			"X-Broker-API-Originating-Identity": "cloudfoundry eyJ1c2VyX2lkIjoib3NiLXN0b3JtIn0=",
 		})
 		identity := r.id()
-		x := r.accepted("request-identity", r.id(), nil, map[string]string{"X-Broker-API-Request-Identity": identity})
+		x := r.judgeAcceptance("request-identity", r.id(), nil, map[string]string{"X-Broker-API-Request-Identity": identity})
 		if x.err == nil && x.header.Get("X-Broker-API-Request-Identity") != identity {
 			r.judge("request-identity", x, "the answer has no such header")
 		}
-		r.accepted("id-percent-encoded", r.id()+" %2é", nil, nil)
+		r.judgeAcceptance("id-percent-encoded", r.id()+" %2é", nil, nil)
 	},
 }
 
-// accepted judges a case whose Provision has to be accepted.
-func (r *Runner) accepted(name, id string, change func(object), headers map[string]string) *exchange {
+// judgeAcceptance judges a case whose Provision has to be accepted.
+func (r *Runner) judgeAcceptance(name, id string, change func(object), headers map[string]string) *exchange {
 	sent := r.provision(id, change)
 	sent.headers = headers
 	x := r.put(key{instance: id}, sent)
 	r.judge(name, x, x.want(201, 202))
 	return x
+}
+
+var asyncCases = scenario{
+	cases: []Case{
+		{"async-required", sectionProvision, Must,
+			"422 AsyncRequired without accepts_incomplete=true, or 201 if the instance is created before the answer"},
+		{"async-repeated", sectionProvision, Must,
+			"202 with the same operation to the same Provision while it is in progress"},
+		{"async-conflict", sectionProvision, Must,
+			"409 to a Provision with another plan while the first one is in progress"},
+		{"async-bind-during-provision", sectionBlocking, Must,
+			"422 ConcurrencyError to a Bind while the instance is being created, or success"},
+		{"async-fetch-during-provision", sectionFetch, Must, "404 while the instance is being created"},
+		{"async-deprovision-during-provision", sectionBlocking, Must,
+			"422 ConcurrencyError, or 200 or 202 if the creation is halted"},
+	},
+	run: func(r *Runner) {
+		if !r.isAsync {
+			r.because = "the plan is provisioned synchronously, or can't be provisioned"
+			return
+		}
+		k := key{instance: r.id()}
+		x := r.put(k, notAsync(r.provision(k.instance, nil)))
+		problem := x.wantError("AsyncRequired")
+		if x.is(201) {
+			problem = ""
+		}
+		r.judge("async-required", x, problem)
+		k = key{instance: r.id()}
+		if first := r.put(k, r.provision(k.instance, nil)); first.is(202) {
+			r.duringProvision(k, first)
+		}
+	},
+}
+
+func (r *Runner) duringProvision(k key, first *exchange) {
+	operation := first.string("operation")
+	x := r.put(k, r.provision(k.instance, nil))
+	r.judgeDuring("async-repeated", k, operation, x, repeats(first, x))
+	if other := r.target.other; other.plan != "" {
+		x = r.create(k, other, r.provision(k.instance, func(body object) {
+			body["service_id"], body["plan_id"] = other.service, other.plan
+		}))
+		r.judge("async-conflict", x, x.want(409))
+	}
+	r.skip(reasonOnePlan, "async-conflict")
+	if r.target.instancesRetrievable {
+		x = r.send(request{method: "GET", path: pathOf(k), query: namesOf(r.target.pair)})
+		r.judgeDuring("async-fetch-during-provision", k, operation, x, x.want(404))
+	}
+	r.skip(reasonNotFetched, "async-fetch-during-provision")
+	if r.target.bindable {
+		binding := key{k.instance, r.id()}
+		x = r.put(binding, r.bind(binding, nil))
+		r.judgeDuring("async-bind-during-provision", k, operation, x, blockProblem(x))
+	}
+	r.skip(reasonNotBindable, "async-bind-during-provision")
+	x = r.delete(k)
+	r.judgeDuring("async-deprovision-during-provision", k, operation, x, blockProblem(x))
+}
+
+// blockProblem returns a problem unless a request was accepted, or rejected because of another operation.
+func blockProblem(x *exchange) string {
+	if x.is(200, 201, 202) {
+		return ""
+	}
+	return x.wantError("ConcurrencyError")
+}
+
+var asyncDeletionCases = scenario{
+	cases: []Case{
+		{"async-deprovision-required", sectionDeprovision, Must,
+			"422 AsyncRequired without accepts_incomplete=true, or 200 if the instance is deleted before the answer"},
+		{"async-deprovision-repeated", sectionDeprovision, Must,
+			"202 with the same operation to the same Deprovision while it is in progress"},
+		{"async-deprovision-ends", sectionLastOperation, Must,
+			"polls of the deletion end with 410, or 200 and succeeded"},
+		{"async-last-operation-gone", sectionLastOperation, Should, "410 once the instance is deleted"},
+		{"async-deprovision-gone", sectionDeprovision, Must, "410 once the instance is deleted"},
+	},
+	run: func(r *Runner) {
+		if !r.isAsync {
+			r.because = "the plan is provisioned synchronously, or can't be provisioned"
+			return
+		}
+		id := r.ready()
+		if id == "" {
+			return
+		}
+		k := key{instance: id}
+		x := r.deleteBy(k, deletion(k, r.target.pair, false))
+		r.judge("async-deprovision-required", x, asyncRequiredToDelete(x))
+		if !x.is(422) {
+			return
+		}
+		first := r.delete(k)
+		if !first.is(202) {
+			r.because = "the Deprovision isn't asynchronous"
+			return
+		}
+		x = r.delete(k)
+		r.judgeDuring("async-deprovision-repeated", k, first.string("operation"), x, repeats(first, x))
+		state, last := r.await(k, first.string("operation"))
+		r.judge("async-deprovision-ends", last, notDeleted(state))
+		if notDeleted(state) != "" {
+			return
+		}
+		x = r.send(poll(k, r.target.pair, first.string("operation")))
+		r.judge("async-last-operation-gone", x, x.want(410))
+		x = r.delete(k)
+		r.judge("async-deprovision-gone", x, x.want(410))
+	},
+}
+
+func asyncRequiredToDelete(x *exchange) string {
+	if x.is(200) {
+		return ""
+	}
+	return x.wantError("AsyncRequired")
+}
+
+func notDeleted(state string) string {
+	if state == "gone" || state == "succeeded" {
+		return ""
+	}
+	return "the deletion doesn't succeed within the time for operations"
 }

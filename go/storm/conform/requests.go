@@ -1,8 +1,18 @@
 package conform
 
 import (
+	"context"
+	"encoding/json"
+	"errors"
+	"fmt"
+	"io"
+	"net/http"
 	"net/url"
+	"strconv"
+	"strings"
+	"sync"
 	"time"
+	"unicode"
 )
 
 // provision is a valid Provision of the target that accepts an asynchronous operation. change may change its body.
@@ -56,7 +66,7 @@ func (r *Runner) delete(k key) *exchange { return r.deleteBy(k, deletion(k, r.ta
 func (r *Runner) deleteBy(k key, sent request) *exchange {
 	x := r.send(sent)
 	if x.is(200, 410) {
-		r.ledger.gone(k)
+		r.ledger.forget(k)
 	}
 	return x
 }
@@ -171,4 +181,455 @@ func (r *Runner) lackingPairs(kind string) []lackingPair {
 		{kind + "-without-service-id", "service_id", pair{"", r.target.plan}},
 		{kind + "-without-plan-id", "plan_id", pair{r.target.service, ""}},
 	}
+}
+
+// longestBody is how much of an answer is read, in bytes.
+const longestBody = 1 << 20
+
+// A request is what is sent. The client adds the version, the user and the password.
+type request struct {
+	method, path string // the path after the URL of the broker, with escapes
+	query        url.Values
+	body         string            // JSON, or empty
+	headers      map[string]string // in place of the usual ones; one that is empty isn't sent
+}
+
+// An exchange is a request with its answer, or with the reason why there is none.
+type exchange struct {
+	request
+	status int // 0 if there is no answer
+	header http.Header
+	text   string
+	object map[string]any // nil if the body isn't a JSON object
+	err    error          // why there is no answer
+	hide   Hider          // of what people see
+	unsent bool           // the request wasn't sent
+}
+
+// A client sends requests to one broker.
+type client struct {
+	base, user, password string
+	within               time.Duration
+	http                 *http.Client
+	mutex                sync.Mutex
+	hide                 Hider           // by hider
+	known                map[string]bool // the secrets of credentials that hide has
+}
+
+func newClient(c Config) (*client, error) {
+	base, err := url.Parse(c.URL)
+	if err != nil {
+		return nil, errors.New("the URL of the broker can't be read") // the text could have a password
+	}
+	if base.Scheme != "http" && base.Scheme != "https" || base.Host == "" {
+		return nil, errors.New("the URL of the broker must begin with http:// or https:// and have a host")
+	}
+	if base.User != nil || base.RawQuery != "" || base.Fragment != "" {
+		return nil, errors.New("the URL of the broker must have no user, query or fragment")
+	}
+	var transport http.RoundTripper = &http.Transport{
+		MaxResponseHeaderBytes: 64 << 10, DisableCompression: true, IdleConnTimeout: time.Second,
+	}
+	if c.Transport != nil {
+		transport = c.Transport(transport)
+	}
+	return &client{
+		base: strings.TrimRight(base.String(), "/"), user: c.User, password: c.Password, within: c.RequestTime,
+		hide:  NewHider(c.User, c.Password).And(strings.TrimRight(basic(c.User, wrong(c.Password)), "=")),
+		known: map[string]bool{},
+		http: &http.Client{
+			Transport:     transport,
+			CheckRedirect: func(*http.Request, []*http.Request) error { return http.ErrUseLastResponse },
+		},
+	}, nil
+}
+
+// send sends a request and reads its answer.
+func (c *client) send(ctx context.Context, r request) *exchange {
+	x := &exchange{request: r, hide: c.hider()}
+	ctx, cancel := context.WithTimeout(ctx, c.within)
+	defer cancel()
+	made, err := c.request(ctx, r)
+	if err != nil {
+		x.err, x.unsent = err, true
+		return x
+	}
+	answer, err := c.http.Do(made)
+	if err != nil {
+		x.err = cause(err)
+		return x
+	}
+	defer answer.Body.Close()
+	text, err := io.ReadAll(io.LimitReader(answer.Body, longestBody+1))
+	if err == nil && len(text) > longestBody {
+		err = fmt.Errorf("the body is longer than %d bytes", longestBody)
+	}
+	if err != nil {
+		x.err = cause(err)
+		return x
+	}
+	x.status, x.header, x.text = answer.StatusCode, answer.Header, string(text)
+	if json.Unmarshal(text, &x.object) != nil {
+		x.object = nil
+	}
+	c.learn(x.object["credentials"])
+	x.hide = c.hider()
+	return x
+}
+
+// hider returns a Hider of the login, and of all credentials that were received.
+func (c *client) hider() Hider {
+	c.mutex.Lock()
+	defer c.mutex.Unlock()
+	return c.hide
+}
+
+// learn has the secrets of credentials left out from now on.
+func (c *client) learn(credentials any) {
+	c.mutex.Lock()
+	defer c.mutex.Unlock()
+	for _, secret := range SecretsIn(credentials) {
+		if !c.known[secret] {
+			c.known[secret] = true
+			c.hide = c.hide.And(secret)
+		}
+	}
+}
+
+func (c *client) request(ctx context.Context, r request) (*http.Request, error) {
+	target := c.base + r.path
+	if len(r.query) > 0 {
+		target += "?" + r.query.Encode()
+	}
+	made, err := http.NewRequestWithContext(ctx, r.method, target, strings.NewReader(r.body))
+	if err != nil {
+		return nil, err
+	}
+	made.SetBasicAuth(c.user, c.password)
+	made.Header.Set("X-Broker-API-Version", "2.17")
+	made.Header.Set("User-Agent", "osb-storm")
+	if r.body != "" {
+		made.Header.Set("Content-Type", "application/json")
+	}
+	for name, value := range r.headers {
+		made.Header.Del(name)
+		if value != "" {
+			made.Header.Set(name, value)
+		}
+	}
+	return made, nil
+}
+
+// cause returns an error of net/http without the method and the URL.
+func cause(err error) error {
+	var of *url.Error
+	if errors.As(err, &of) {
+		err = of.Err
+	}
+	if errors.Is(err, context.DeadlineExceeded) {
+		return errors.New("no answer in time")
+	}
+	return err
+}
+
+// longestShown is how much of a body a report has, in characters.
+const longestShown = 300
+
+// is returns whether the answer has one of these statuses.
+func (x *exchange) is(statuses ...int) bool {
+	for _, status := range statuses {
+		if x.status == status {
+			return true
+		}
+	}
+	return false
+}
+
+// want returns a problem unless the answer has one of these statuses.
+func (x *exchange) want(statuses ...int) string {
+	if x.is(statuses...) {
+		return ""
+	}
+	return fmt.Sprintf("the status is %d", x.status)
+}
+
+// wantError returns a problem unless the answer is 422 with this error code.
+func (x *exchange) wantError(code string) string {
+	if problem := x.want(422); problem != "" {
+		return problem
+	}
+	if x.string("error") != code {
+		return fmt.Sprintf("the member error isn't %q", code)
+	}
+	return ""
+}
+
+// hasError returns whether the answer is 422 with this error code.
+func (x *exchange) hasError(code string) bool { return x.wantError(code) == "" }
+
+// string returns a member of the body that is a string, or "".
+func (x *exchange) string(member string) string {
+	text, _ := x.object[member].(string)
+	return text
+}
+
+// requestLine returns the request as a line for people, without secrets.
+func (x *exchange) requestLine() string {
+	line := x.method + " " + x.path
+	if len(x.query) > 0 {
+		line += "?" + x.query.Encode()
+	}
+	if x.body != "" {
+		line += " " + x.body
+	}
+	return printable(x.hide.In(line))
+}
+
+// came returns the answer as a line for people. The values of credentials and other secrets are left out.
+func (x *exchange) came() string {
+	if x.err != nil {
+		return printable(x.hide.In(x.err.Error()))
+	}
+	text := x.text
+	if _, has := x.object["credentials"]; has {
+		shown := map[string]any{}
+		for name, value := range x.object {
+			shown[name] = value
+		}
+		shown["credentials"] = Hidden
+		if bytes, err := json.Marshal(shown); err == nil {
+			text = string(bytes)
+		}
+	} else if x.object == nil && strings.Contains(text, "credentials") {
+		text = "(left out: a body with credentials that isn't an object)"
+	}
+	return printable(fmt.Sprintf("%d %s", x.status, x.hide.In(text)))
+}
+
+// printable returns a text as one line of limited length that a terminal can show.
+func printable(text string) string {
+	var line strings.Builder
+	count := 0
+	for _, r := range strings.Join(strings.Fields(text), " ") {
+		if count++; count > longestShown {
+			line.WriteString("..")
+			break
+		}
+		if unicode.IsPrint(r) {
+			line.WriteRune(r)
+			continue
+		}
+		line.WriteString(strings.Trim(strconv.QuoteRuneToASCII(r), "'"))
+	}
+	return line.String()
+}
+
+// This file has what osb-storm uses besides the cases: a storm asks a broker, judges answers that a proxy has seen, and
+// deletes what it has created, with the same code as the cases.
+
+// A Target is the plan that is ordered.
+type Target struct {
+	Service, Plan         string // the ids
+	ServiceName, PlanName string
+	Bindable              bool
+	InstancesRetrievable  bool
+	BindingsRetrievable   bool
+	Catalogue             []byte      // the body of the answer
+	CatalogueHeader       http.Header // its header but the request's identity, if it could be read
+	HasCatalogue          bool        // whether the catalogue could be read
+}
+
+// Open asks for the catalogue, and chooses the plan to order, as Run does.
+//
+// Errors: those of Run.
+func (r *Runner) Open(ctx context.Context) (Target, error) {
+	r.ctx = ctx
+	if err := r.open(); err != nil {
+		return Target{}, err
+	}
+	target := Target{
+		Service: r.target.service, Plan: r.target.plan, ServiceName: r.target.serviceName, PlanName: r.target.planName,
+		Bindable: r.target.bindable, InstancesRetrievable: r.target.instancesRetrievable,
+		BindingsRetrievable: r.target.bindingsRetrieved, Catalogue: []byte(r.fetched.text),
+		HasCatalogue: r.hasCatalogue(),
+	}
+	if target.HasCatalogue {
+		target.CatalogueHeader = r.fetched.header.Clone()
+		target.CatalogueHeader.Del("X-Broker-API-Request-Identity") // it is that of this request
+	}
+	return target, nil
+}
+
+// hasCatalogue returns whether the catalogue could be read.
+func (r *Runner) hasCatalogue() bool {
+	_, isList := listOf(r.fetched.object["services"])
+	return r.fetched.is(200) && isList
+}
+
+// An Answer is what a broker has answered.
+type Answer struct {
+	Status int // 0 if there is no answer
+	Object map[string]any
+	Sent   string // the request, as a line for people
+	Came   string // the answer, or why there is none, as a line for people, without credentials and the password
+}
+
+// Text returns a member of the body that is a string, or "".
+func (a Answer) Text(member string) string {
+	text, _ := a.Object[member].(string)
+	return text
+}
+
+// Ask sends a request about an instance, or about a binding of it. path follows the path of the instance or the
+// binding, such as /last_operation. It judges nothing, and is sent even if Run has ended.
+func (r *Runner) Ask(ctx context.Context, method, instance, binding, path string, query url.Values) Answer {
+	x := r.client.send(ctx, request{method: method, path: pathOf(key{instance, binding}) + path, query: query})
+	return Answer{x.status, x.object, x.requestLine(), x.came()}
+}
+
+// Provision asks for an instance of the target. CleanUp deletes it.
+func (r *Runner) Provision(ctx context.Context, instance string) Answer {
+	k := key{instance: instance}
+	r.ledger.sending(k, r.target.pair)
+	x := r.client.send(ctx, r.provision(instance, nil))
+	r.ledger.noteCreation(k, x)
+	return Answer{x.status, x.object, x.requestLine(), x.came()}
+}
+
+// Bind asks for a binding of the target. CleanUp deletes it.
+func (r *Runner) Bind(ctx context.Context, instance, binding string) Answer {
+	k := key{instance, binding}
+	r.ledger.sending(k, r.target.pair)
+	x := r.client.send(ctx, r.bind(k, nil))
+	r.ledger.noteCreation(k, x)
+	return Answer{x.status, x.object, x.requestLine(), x.came()}
+}
+
+// A Debt is an instance or a binding of the target that somebody else has asked for.
+type Debt struct {
+	Instance, Binding string // Binding is empty for an instance
+	Rejected          bool   // every creation was answered with 4xx, other than 408, or none was sent
+	Unanswered        bool   // a creation wasn't answered, and may still arrive
+}
+
+// Owe has CleanUp delete an instance or a binding.
+func (r *Runner) Owe(it Debt) {
+	k := key{it.Instance, it.Binding}
+	r.ledger.sending(k, r.target.pair)
+	owed := r.ledger.entry(k)
+	owed.rejected, owed.unanswered = it.Rejected, it.Unanswered
+}
+
+// An Observation is a request about an instance or a binding that was observed on its way to a broker, with its answer.
+type Observation struct {
+	Method, Target string // Target is the path with the query
+	Sent           []byte // the body
+	Status         int
+	Header         http.Header
+	Came           []byte // the body
+	Hide           Hider  // of what people see
+}
+
+// Operation returns the operation that the answer names, or "".
+func (s Observation) Operation() string { return s.exchange().string("operation") }
+
+// State returns the state in the answer to a Poll, "gone" for 410, and "" for every other answer.
+func (s Observation) State() string { return stateOf(s.exchange()) }
+
+// Fail returns the result of a case that an answer fails.
+//
+// It panics if there is no such case.
+func (s Observation) Fail(name, reason string) Result {
+	for _, test := range Cases() {
+		if test.Name == name {
+			x := s.exchange()
+			return Result{Case: test, Verdict: Fail, Reason: reason, Sent: x.requestLine(), Came: x.came()}
+		}
+	}
+	panic("there is no case " + name)
+}
+
+func (s Observation) exchange() *exchange {
+	path, query, _ := strings.Cut(s.Target, "?")
+	values, err := url.ParseQuery(query)
+	if err != nil {
+		values = nil
+	}
+	x := &exchange{
+		request: request{method: s.Method, path: path, query: values, body: string(s.Sent)},
+		status:  s.Status, header: s.Header, text: string(s.Came), hide: s.Hide,
+	}
+	if json.Unmarshal(s.Came, &x.object) != nil {
+		x.object = nil
+	}
+	return x
+}
+
+// Judge returns the cases that an answer fails by itself, whatever was answered before.
+func (s Observation) Judge() (failed []Result) {
+	x := s.exchange()
+	if x.header == nil {
+		x.header = http.Header{}
+	}
+	var g general
+	g.judge(x)
+	isPoll := strings.HasSuffix(x.path, "/last_operation")
+	for _, test := range []struct {
+		name, problem string
+		fails         bool
+	}{
+		{"answers-are-objects", "the body isn't a JSON object", g.noObject != nil},
+		{"answers-content-type", "the Content-Type isn't application/json", g.noType != nil},
+		{"errors-have-strings", "error or description isn't a non-empty string", g.noStrings != nil},
+		{"retry-after", wrongRetry, g.noRetry != nil},
+		{s.fieldsCase(), wrongFields(x, s.texts(), objectsOfBinding), s.Method == http.MethodPut},
+		{s.lastOperationFieldsCase(), wrongLastOperation(x), isPoll},
+		{s.lastOperationCase(), "the answer isn't one of these states", isPoll && x.is(200) && stateOf(x) == ""},
+	} {
+		if test.fails && test.problem != "" {
+			failed = append(failed, s.Fail(test.name, test.problem))
+		}
+	}
+	return failed
+}
+
+func (s Observation) isBinding() bool { return strings.Contains(s.Target, "/service_bindings/") }
+
+func (s Observation) fieldsCase() string {
+	if s.isBinding() {
+		return "bind-fields"
+	}
+	return "provision-fields"
+}
+
+func (s Observation) texts() []string {
+	if s.isBinding() {
+		return textsOfBinding
+	}
+	return []string{"operation", "dashboard_url"}
+}
+
+func (s Observation) lastOperationCase() string { return lastOperationOf(s.key()) }
+
+func (s Observation) lastOperationFieldsCase() string { return lastOperationFieldsOf(s.key()) }
+
+// key is one of a binding if the request is about a binding.
+func (s Observation) key() key {
+	if s.isBinding() {
+		return key{"instance", "binding"}
+	}
+	return key{instance: "instance"}
+}
+
+// Printable returns a text as one line of limited length that a terminal can show.
+func Printable(text string) string { return printable(text) }
+
+// Describe returns the answer as a line for people. The values of credentials and other secrets are left out.
+func (s Observation) Describe() string { return s.exchange().came() }
+
+// NewID returns a new GUID that begins with the prefix. Its second part is a number in decimal digits, so that people
+// find the number in the id.
+func (r *Runner) NewID(number int) string {
+	id := r.id()
+	return fmt.Sprintf("%s-%04d%s", id[:8], number%10000, id[13:])
 }

@@ -1,3 +1,12 @@
+// Package conform checks a broker against the Open Service Broker API 2.17 without faults: it sends requests, and
+// judges each answer by a case. A case names the section of the standard that it is from, and whether that section
+// says MUST, SHOULD or MAY.
+//
+// A Runner creates instances and bindings under ids of its own, never more than Config.Instances, and deletes
+// everything that it may have created.
+//
+// The package reads HTTP and JSON with Go's standard library. It doesn't use this project's library, because it judges
+// brokers that do.
 package conform
 
 import (
@@ -7,6 +16,7 @@ import (
 	"errors"
 	"fmt"
 	"net/http"
+	"net/url"
 	"time"
 )
 
@@ -74,8 +84,8 @@ func New(c Config) (*Runner, error) {
 		return nil, err
 	}
 	r := &Runner{config: c, client: made, results: map[string]*Result{}}
-	for _, it := range Cases() {
-		r.results[it.Name] = &Result{Case: it, Verdict: NotRun}
+	for _, test := range Cases() {
+		r.results[test.Name] = &Result{Case: test, Verdict: NotRun}
 	}
 	if r.prefix, err = random(4); err != nil {
 		return nil, err
@@ -96,10 +106,10 @@ func (r *Runner) Run(ctx context.Context) (*Report, error) {
 	if err := r.open(); err != nil {
 		return r.report(), err
 	}
-	for _, it := range scenarios() {
+	for _, scenario := range scenarios() {
 		r.because = "an earlier answer makes it impossible"
-		it.run(r)
-		for _, one := range it.cases {
+		scenario.run(r)
+		for _, one := range scenario.cases {
 			r.skip(r.because, one.Name)
 		}
 	}
@@ -118,8 +128,8 @@ func (r *Runner) open() error {
 	return r.client.hider().Error(r.choose())
 }
 
-// stopped returns why no further request may be sent, or nil.
-func (r *Runner) stopped() (err error) {
+// stopReason returns why no further request may be sent, or nil.
+func (r *Runner) stopReason() (err error) {
 	switch {
 	case r.ctx.Err() != nil:
 		err = errors.New("the run was ended before")
@@ -135,7 +145,7 @@ func (r *Runner) stopped() (err error) {
 // send sends a request, unless the run has to end. A request in flight isn't broken off by the end of the run: its
 // answer says what has to be deleted.
 func (r *Runner) send(sent request) *exchange {
-	if err := r.stopped(); err != nil {
+	if err := r.stopReason(); err != nil {
 		return &exchange{request: sent, err: err, unsent: true}
 	}
 	x := r.client.send(context.Background(), sent)
@@ -155,13 +165,13 @@ func (r *Runner) create(k key, p pair, sent request) *exchange {
 		r.ended = err.Error()
 		return &exchange{request: sent, err: err, unsent: true}
 	}
-	if err := r.stopped(); err != nil {
+	if err := r.stopReason(); err != nil {
 		return &exchange{request: sent, err: err, unsent: true}
 	}
 	r.ledger.sending(k, r.target.pair)
 	r.ledger.sending(k, p)
 	x := r.send(sent)
-	r.ledger.created(k, x)
+	r.ledger.noteCreation(k, x)
 	return x
 }
 
@@ -184,7 +194,7 @@ func (r *Runner) judge(name string, x *exchange, problem string) {
 	if problem != "" {
 		result.Verdict = Fail
 	}
-	result.Sent, result.Came = x.sent(), x.came()
+	result.Sent, result.Came = x.requestLine(), x.came()
 }
 
 // skip sets why a case isn't run, unless it has been judged.
@@ -228,4 +238,414 @@ func random(count int) (string, error) {
 		return "", fmt.Errorf("no random number: %w", err)
 	}
 	return hex.EncodeToString(bytes), nil
+}
+
+// A Level is how much the standard wants something.
+type Level string
+
+// The levels of the standard (RFC 2119).
+const (
+	Must   Level = "MUST"
+	Should Level = "SHOULD"
+	May    Level = "MAY"
+)
+
+// A Case is one thing that the standard says about the answers of a broker.
+type Case struct {
+	Name     string `json:"name"`
+	Section  string `json:"section"` // the heading in spec.md
+	Level    Level  `json:"level"`
+	Expected string `json:"expected"`
+}
+
+// A Verdict is the result of a case.
+type Verdict string
+
+// The verdicts. NotRun is a case that doesn't concern this broker or plan, or that an earlier answer has made
+// impossible: its reason says which.
+const (
+	Pass   Verdict = "pass"
+	Fail   Verdict = "FAIL"
+	NotRun Verdict = "not run"
+)
+
+// A Result is a case with its verdict.
+type Result struct {
+	Case
+	Verdict Verdict `json:"verdict"`
+	Reason  string  `json:"reason,omitempty"` // of a case that failed or wasn't run
+	Sent    string  `json:"sent,omitempty"`   // the request; no password
+	Came    string  `json:"came,omitempty"`   // the status and the body; no credentials
+}
+
+// A scenario is a few cases that share their requests.
+type scenario struct {
+	cases []Case
+	run   func(*Runner)
+}
+
+// scenarios are all scenarios, in the order in which they run.
+func scenarios() []scenario {
+	return []scenario{
+		catalogCases, accessCases, rejectedCases, lifeCases, deletionCases, acceptedCases, asyncCases,
+		asyncDeletionCases, bindingCases, rejectedBindingCases, asyncBindingCases, answerCases,
+	}
+}
+
+// Cases returns all cases, in the order of a report.
+func Cases() []Case {
+	var all []Case
+	for _, scenario := range scenarios() {
+		all = append(all, scenario.cases...)
+	}
+	return all
+}
+
+// A Leftover is an instance or a binding that may exist, and that couldn't be deleted.
+type Leftover struct {
+	Instance string `json:"instance"`
+	Binding  string `json:"binding,omitempty"` // empty if it is an instance
+	Reason   string `json:"reason"`
+}
+
+// mostTries is how often a deletion is sent that the broker rejects or doesn't answer. A 422 ConcurrencyError doesn't
+// count.
+const mostTries = 5
+
+// quietTime is how long a request, or CleanUp in all its passes so far, takes before it reports that deletions take
+// long.
+const quietTime = 2 * time.Second
+
+// The reasons for a leftover while its deletion goes on.
+const (
+	reasonTime    = "the time for deletions was over"
+	reasonArrives = "a creation that wasn't answered may still arrive"
+	reasonRuns    = "the deletion is still in progress"
+)
+
+// CleanUp deletes everything that Run may have created, bindings before their instances. It returns what couldn't be
+// deleted. When ctx is done, it stops, and returns the rest. It may be called again.
+//
+// CleanUp first sends each deletion once. Then it polls asynchronous deletions, and repeats those that were rejected or
+// not answered. If a creation wasn't answered, it may still arrive: CleanUp repeats its deletion for twice the time of
+// a request. If it has to wait, it reports once for what, and until when.
+func (r *Runner) CleanUp(ctx context.Context) []Leftover {
+	c := &cleaning{Runner: r, begun: time.Now(), tell: r.config.Tell, bindings: map[string][]*removal{}}
+	c.late = c.begun.Add(2 * r.config.RequestTime)
+	for _, entry := range r.ledger.rest() {
+		made := &removal{entry: entry, reason: reasonTime}
+		c.all = append(c.all, made)
+		if entry.binding != "" {
+			c.bindings[entry.instance] = append(c.bindings[entry.instance], made)
+		}
+	}
+	for c.pass(ctx); ctx.Err() == nil && c.isOpen(); c.pass(ctx) {
+		r.pause(ctx)
+	}
+	left := []Leftover{}
+	for _, removal := range c.all {
+		if removal.state != removed {
+			left = append(left, Leftover{Instance: removal.instance, Binding: removal.binding, Reason: removal.reason})
+		}
+	}
+	return left
+}
+
+// A removal is the deletion of an entry.
+type removal struct {
+	*entry
+	state     removalState
+	reason    string    // why it isn't deleted, or not yet
+	until     time.Time // when its time is over; zero before its first request
+	sent      time.Time // the last deletion
+	at        int       // the pair of the next request
+	tries     int       // deletions that were rejected or not answered
+	isPolled  bool      // an asynchronous deletion is in progress
+	operation string    // of this deletion
+	silent    int       // polls of it without a state
+}
+
+// A removalState is how far a removal is.
+type removalState int
+
+const (
+	pending removalState = iota
+	gone                 // a deletion has succeeded, and a creation may still arrive
+	removed
+	failed // it was tried for long enough
+)
+
+// A cleaning is one run of CleanUp.
+type cleaning struct {
+	*Runner
+	all         []*removal
+	bindings    map[string][]*removal // of each instance
+	begun, late time.Time             // until late, a creation that wasn't answered may arrive
+	tell        func(string)          // nil once it was called
+}
+
+// pass sends one request for each removal that isn't over. An instance waits until its bindings are gone.
+func (c *cleaning) pass(ctx context.Context) {
+	for _, removal := range c.all {
+		if ctx.Err() == nil && (removal.state == gone || removal.state == pending && !c.hasPending(removal)) {
+			begun := time.Now()
+			c.step(ctx, removal)
+			c.announce(ctx, false, time.Since(begun) > quietTime)
+		}
+	}
+	c.announce(ctx, true, time.Since(c.begun) > quietTime)
+}
+
+// hasPending returns whether a binding of an instance isn't deleted yet.
+func (c *cleaning) hasPending(of *removal) bool {
+	if of.binding != "" {
+		return false
+	}
+	for _, binding := range c.bindings[of.instance] {
+		if binding.state == pending {
+			return true
+		}
+	}
+	return false
+}
+
+func (c *cleaning) isOpen() bool { return c.count(pending)+c.count(gone) > 0 }
+
+func (c *cleaning) count(state removalState) (count int) {
+	for _, removal := range c.all {
+		if removal.state == state {
+			count++
+		}
+	}
+	return count
+}
+
+// step sends the next request for a removal.
+func (c *cleaning) step(ctx context.Context, it *removal) {
+	if it.until.IsZero() {
+		it.until = time.Now().Add(c.config.OperationTime + 2*c.config.RequestTime)
+	}
+	one, cancel := context.WithDeadline(ctx, it.until)
+	defer cancel()
+	if it.isPolled {
+		c.pollDeletion(one, it)
+	} else {
+		c.sendDeletion(one, it)
+	}
+	if it.state == pending && (it.tries == mostTries || !time.Now().Before(it.until)) {
+		it.state = failed
+	}
+}
+
+// sendDeletion sends a deletion.
+func (c *cleaning) sendDeletion(ctx context.Context, it *removal) {
+	it.sent = time.Now()
+	x := c.client.send(ctx, deletion(it.key, it.pairs[it.at], true))
+	for x.is(400) && !it.rejected && it.at+1 < len(it.pairs) {
+		it.at++
+		x = c.client.send(ctx, deletion(it.key, it.pairs[it.at], true))
+	}
+	switch {
+	case x.err != nil && ctx.Err() != nil: // it was broken off, which says nothing
+	case x.err != nil:
+		it.fails("the deletion has no answer: " + x.came())
+	case x.is(200, 410), it.rejected && x.is(400, 401, 403, 404, 405): // if it was rejected, it was never created
+		c.noteDeletion(it)
+	case x.is(202):
+		it.isPolled, it.operation, it.silent, it.reason = true, x.string("operation"), 0, reasonRuns
+	case x.hasError("ConcurrencyError"):
+		it.reason = "the deletion was answered with " + x.came()
+		// Some brokers go on with an operation only once they are polled.
+		c.client.send(ctx, poll(it.key, it.pairs[it.at], ""))
+	default:
+		it.fails("the deletion was answered with " + x.came())
+	}
+}
+
+// pollDeletion polls an asynchronous deletion.
+func (c *cleaning) pollDeletion(ctx context.Context, it *removal) {
+	x := c.client.send(ctx, poll(it.key, it.pairs[it.at], it.operation))
+	state := x.string("state")
+	switch {
+	case x.is(410), x.is(200) && state == "succeeded":
+		c.noteDeletion(it)
+	case x.is(200) && state == "failed":
+		it.fails("the deletion has failed: " + x.came())
+	case !x.is(200) && ctx.Err() == nil:
+		it.reason = "the last operation was answered with " + x.came()
+		if it.silent++; it.silent == mostTries {
+			it.fails(it.reason)
+		}
+	}
+}
+
+// noteDeletion notes that a deletion has succeeded. If a creation may still arrive, the deletion is repeated.
+func (c *cleaning) noteDeletion(it *removal) {
+	it.isPolled, it.tries = false, 0
+	if it.unanswered && it.sent.Before(c.late) {
+		it.state, it.reason = gone, reasonArrives
+		it.until = c.late.Add(c.config.OperationTime + 2*c.config.RequestTime)
+		return
+	}
+	it.state, it.unanswered = removed, false
+	c.ledger.forget(it.key)
+}
+
+// fails notes why a deletion hasn't succeeded. It is sent again.
+func (it *removal) fails(reason string) {
+	it.state, it.isPolled, it.reason = pending, false, reason
+	it.tries++
+}
+
+// announce reports once for what CleanUp waits, and until when: creations that may still arrive after the first pass,
+// and deletions that take long. isWhole is whether a pass has ended, and isLong whether it, or else one request, took
+// long.
+func (c *cleaning) announce(ctx context.Context, isWhole, isLong bool) {
+	if c.tell == nil || ctx.Err() != nil || !isWhole && !isLong {
+		return
+	}
+	open, arriving := c.count(pending), c.count(gone)
+	if open+arriving == 0 || arriving == 0 && !isLong {
+		return
+	}
+	end := func(until time.Time) string {
+		if bound, has := ctx.Deadline(); has && bound.Before(until) {
+			until = bound
+		}
+		return until.Format("15:04:05")
+	}
+	line := fmt.Sprintf("%d of %d instances and bindings are deleted.", c.count(removed)+arriving, len(c.all))
+	if arriving > 0 {
+		line += fmt.Sprintf(" Creations that weren't answered: %d. They may still arrive, so their deletions are repeated until %s.",
+			arriving, end(c.late))
+	}
+	if open > 0 {
+		line += fmt.Sprintf(" Deletions that haven't succeeded yet: %d. They go on until %s at the latest.",
+			open, end(time.Now().Add(c.config.OperationTime+2*c.config.RequestTime)))
+	}
+	c.tell(line)
+	c.tell = nil
+}
+
+func deletion(k key, p pair, async bool) request {
+	query := namesOf(p)
+	if async {
+		query.Set("accepts_incomplete", "true")
+	}
+	return request{method: "DELETE", path: pathOf(k), query: query}
+}
+
+func poll(k key, p pair, operation string) request {
+	query := namesOf(p)
+	if operation != "" {
+		query.Set("operation", operation)
+	}
+	return request{method: "GET", path: pathOf(k) + "/last_operation", query: query}
+}
+
+func namesOf(p pair) url.Values {
+	query := url.Values{}
+	if p.service != "" {
+		query.Set("service_id", p.service)
+	}
+	if p.plan != "" {
+		query.Set("plan_id", p.plan)
+	}
+	return query
+}
+
+func pathOf(k key) string {
+	path := "/v2/service_instances/" + url.PathEscape(k.instance)
+	if k.binding != "" {
+		path += "/service_bindings/" + url.PathEscape(k.binding)
+	}
+	return path
+}
+
+// String returns the leftover as a line.
+func (l Leftover) String() string {
+	if l.Binding != "" {
+		return fmt.Sprintf("binding %s of instance %s: %s", l.Binding, l.Instance, l.Reason)
+	}
+	return fmt.Sprintf("instance %s: %s", l.Instance, l.Reason)
+}
+
+// A key names an instance, or a binding of it.
+type key struct{ instance, binding string }
+
+// A pair is the service and the plan of a request.
+type pair struct{ service, plan string }
+
+// An entry is an instance or a binding that a broker may have created.
+type entry struct {
+	key
+	pairs      []pair // under which it was asked for
+	rejected   bool   // every creation was answered with 4xx, other than 408
+	unanswered bool   // a creation wasn't answered, and may still arrive
+}
+
+// A ledger is what may have been created, in the order in which it was first asked for.
+type ledger struct {
+	entries []*entry
+	all     map[string]bool // the ids of all instances that were ever asked for
+}
+
+// sending notes that a creation is about to be sent.
+func (l *ledger) sending(k key, p pair) {
+	if l.all == nil {
+		l.all = map[string]bool{}
+	}
+	l.all[k.instance] = true
+	it := l.entry(k)
+	if it == nil {
+		it = &entry{key: k, rejected: true}
+		l.entries = append(l.entries, it)
+	}
+	for _, known := range it.pairs {
+		if known == p || p.service == "" || p.plan == "" {
+			return
+		}
+	}
+	it.pairs = append(it.pairs, p)
+}
+
+// noteCreation notes the answer to a creation.
+func (l *ledger) noteCreation(k key, x *exchange) {
+	it := l.entry(k)
+	if x.status < 400 || x.status > 499 || x.status == 408 {
+		it.rejected = false
+	}
+	it.unanswered = it.unanswered || x.err != nil
+}
+
+// forget forgets what was deleted, unless a creation may still arrive.
+func (l *ledger) forget(k key) {
+	for at, entry := range l.entries {
+		if entry.key == k && !entry.unanswered {
+			l.entries = append(l.entries[:at:at], l.entries[at+1:]...)
+			return
+		}
+	}
+}
+
+func (l *ledger) entry(k key) *entry {
+	for _, entry := range l.entries {
+		if entry.key == k {
+			return entry
+		}
+	}
+	return nil
+}
+
+// rest returns what has to be deleted: bindings before instances.
+func (l *ledger) rest() []*entry {
+	var bindings, instances []*entry
+	for _, entry := range l.entries {
+		if entry.binding != "" {
+			bindings = append(bindings, entry)
+		} else {
+			instances = append(instances, entry)
+		}
+	}
+	return append(bindings, instances...)
 }

@@ -1,9 +1,17 @@
+// Package fault is a proxy between a platform and a broker that loses, delays, repeats and garbles requests and
+// answers.
+//
+// Which fault befalls a request is decided by a seed and the Number of the request, or by a list of faults that an
+// earlier run has written. Minimize finds the shortest part of such a list that still has an effect.
 package fault
 
 import (
 	"bufio"
+	"bytes"
 	"context"
+	"crypto/tls"
 	"errors"
+	"fmt"
 	"io"
 	"net"
 	"net/http"
@@ -73,8 +81,8 @@ func Listen(config Config) (*Proxy, error) {
 		return nil, err
 	}
 	p := &Proxy{Config: config, listener: listener, connections: map[net.Conn]bool{}}
-	for _, it := range append([]*url.URL{config.Broker}, config.Others...) {
-		p.upstreams = append(p.upstreams, upstream{broker: it, within: config.AnswerTime})
+	for _, address := range append([]*url.URL{config.Broker}, config.Others...) {
+		p.upstreams = append(p.upstreams, upstream{broker: address, within: config.AnswerTime})
 	}
 	p.ctx, p.cancel = context.WithCancel(context.Background())
 	p.group.Add(1)
@@ -108,8 +116,8 @@ func (p *Proxy) Close() {
 	p.cancel()
 	_ = p.listener.Close()
 	p.mutex.Lock()
-	for it := range p.connections {
-		_ = it.Close()
+	for connection := range p.connections {
+		_ = connection.Close()
 	}
 	p.mutex.Unlock()
 	p.group.Wait()
@@ -251,8 +259,8 @@ func read(connection net.Conn) (*http.Request, []byte, error) {
 func idsOf(of *url.URL) (instance, binding string) {
 	parts := strings.Split(of.EscapedPath(), "/")
 	after := func(name string) string {
-		for at, it := range parts[:len(parts)-1] {
-			if it == name {
+		for at, part := range parts[:len(parts)-1] {
+			if part == name {
 				id, _ := url.PathUnescape(parts[at+1])
 				return id
 			}
@@ -260,4 +268,439 @@ func idsOf(of *url.URL) (instance, binding string) {
 		return ""
 	}
 	return after("service_instances"), after("service_bindings")
+}
+
+// A carriage is one request on its way through a Proxy.
+type carriage struct {
+	*Proxy
+	connection net.Conn
+	request    *http.Request
+	body       []byte
+	fault      Fault
+	exchange   *Exchange
+}
+
+var (
+	gotCut    = Got{Words: "a cut connection"}
+	gotNobody = Got{Words: "no answer"}
+)
+
+// carry carries the request, and returns what the platform got.
+func (c *carriage) carry() Got {
+	switch c.fault.Kind {
+	case RequestLost:
+		return gotCut
+	case RequestSwallowed:
+		c.untilEnd()
+		return gotNobody
+	case RequestLate:
+		c.later()
+		c.untilEnd()
+		return gotNobody
+	case RequestCut, RequestGarbled, HangUp:
+		_, _ = c.deliver(c.context(), c.fault.Kind)
+		return gotCut
+	case GatewayBefore:
+		return c.give(page(gateway(c.fault)))
+	}
+	return c.answer()
+}
+
+// answer has the broker answer, and gives the platform what the fault leaves of that.
+func (c *carriage) answer() Got {
+	if c.fault.Kind == RepeatedLate {
+		c.later()
+	}
+	restarted := make(chan struct{})
+	go func() {
+		defer close(restarted)
+		if c.fault.Kind == RestartDuring && c.wait(time.Duration(c.fault.Share*float64(50*time.Millisecond))) {
+			c.restart()
+		}
+	}()
+	answer, err := c.deliver(c.context(), c.fault.Kind)
+	if err == nil && (c.fault.Kind == Repeated || c.fault.Kind == RepeatedUnread) {
+		if second, again := c.deliver(c.context(), None); again == nil {
+			answer = second
+		}
+	}
+	<-restarted
+	if err != nil {
+		return gotCut
+	}
+	got := c.come(answer)
+	if c.fault.Kind == RestartAfter {
+		c.restart()
+	}
+	return got
+}
+
+// come gives the platform what the fault leaves of an answer.
+func (c *carriage) come(answer *answer) Got {
+	whole := answer.bytes()
+	switch c.fault.Kind {
+	case AnswerLost:
+		return gotCut
+	case AnswerLate, RepeatedUnread:
+		if !c.waitForEnd(c.delay()) {
+			return gotNobody
+		}
+	case AnswerSlow:
+		return c.giveSlowly(whole)
+	case AnswerGarbled:
+		if len(answer.body) > 0 {
+			garbled := append([]byte{0}, answer.body[1:]...)
+			whole = answer.with(garbled).bytes()
+		}
+	case AnswerBodyCut:
+		return c.give(whole[:len(whole)-(len(answer.body)+1)/2])
+	case AnswerHeadCut:
+		return c.give(whole[:1+c.fault.Pick%40])
+	case GatewayAfter:
+		return c.give(page(gateway(c.fault)))
+	case PageAfter:
+		return c.give(page([]int{http.StatusNotFound, http.StatusTooManyRequests}[c.fault.Pick%2]))
+	}
+	return c.give(whole)
+}
+
+// later sends a copy of the request later. Nobody gets its answer.
+func (c *carriage) later() {
+	done := c.carrying()
+	c.group.Add(1)
+	go func() {
+		defer c.group.Done()
+		defer done()
+		if c.wait(c.delay()) {
+			_, _ = c.deliver(c.context(), None)
+		}
+	}()
+}
+
+// delay is how late something is. It is within the bound, and if the bound allows it, the platform has given up.
+func (c *carriage) delay() time.Duration {
+	least := c.RequestTime + c.RequestTime/10
+	if least > c.Late {
+		least = c.Late / 2
+	}
+	return least + time.Duration(c.fault.Share*float64(c.Late-least))
+}
+
+// context is the context of a delivery. The broker's answer counts whatever happens to the Proxy.
+func (c *carriage) context() context.Context { return context.Background() }
+
+// deliver sends the request to the broker, as far as the kind says, and notes the answer.
+func (c *carriage) deliver(ctx context.Context, kind Kind) (*answer, error) {
+	at := c.Journal.deliver(c.exchange)
+	answer, err := c.upstream(at).send(ctx, c.request, c.body, kind, c.fault.Share)
+	c.Journal.noteDelivery(c.exchange, at, answer, err)
+	return answer, err
+}
+
+// upstream returns which broker a copy reaches, counted from 0.
+func (c *carriage) upstream(at int) upstream {
+	const bits = 4 // of Pick, for each copy
+	return c.upstreams[(c.fault.Pick>>(bits*at))%len(c.upstreams)]
+}
+
+// give writes bytes to the platform, and returns what that is.
+func (c *carriage) give(text []byte) Got {
+	_ = c.connection.SetWriteDeadline(time.Now().Add(c.AnswerTime))
+	if _, err := c.connection.Write(text); err != nil {
+		return gotNobody
+	}
+	return gotOf(text)
+}
+
+// gotOf returns what a platform got that got these bytes.
+func gotOf(text []byte) Got {
+	const before, head = len("HTTP/1.1 "), len("HTTP/1.1 200")
+	if len(text) < head {
+		return Got{Words: "a few bytes of the answer"}
+	}
+	got := Got{Words: fmt.Sprintf("status %s, %d bytes", text[before:head], len(text))}
+	response, err := http.ReadResponse(bufio.NewReader(bytes.NewReader(text)), nil)
+	if err != nil { // the head was cut
+		return got
+	}
+	defer response.Body.Close()
+	got.Status = response.StatusCode
+	got.Body, err = io.ReadAll(response.Body)
+	got.IsWhole = err == nil
+	return got
+}
+
+// giveSlowly writes bytes to the platform in pieces. The whole takes at most as long as the bound of delays.
+func (c *carriage) giveSlowly(text []byte) Got {
+	const pieces = 10
+	pause := time.Duration(c.fault.Share * float64(c.Late) / pieces)
+	for at := 0; at < pieces; at++ {
+		from, to := bounds(len(text), pieces, at)
+		if _, err := c.connection.Write(text[from:to]); err != nil || !c.wait(pause) {
+			got := gotOf(text[:from])
+			got.Words = "a part of the answer"
+			return got
+		}
+	}
+	got := gotOf(text)
+	got.Words += ", slowly"
+	return got
+}
+
+// untilEnd waits until the platform has given up.
+func (c *carriage) untilEnd() { c.waitForEnd(c.AnswerTime) }
+
+// waitForEnd waits for a time, and returns false at once if the platform has given up, or the Proxy is closed.
+func (c *carriage) waitForEnd(rest time.Duration) bool {
+	_ = c.connection.SetReadDeadline(time.Now().Add(rest))
+	_, err := c.connection.Read(make([]byte, 1))
+	var timeout net.Error
+	return !errors.Is(err, io.EOF) && errors.As(err, &timeout) && timeout.Timeout()
+}
+
+var errCut = errors.New("the proxy has cut the connection")
+
+// An upstream sends requests to a broker. Each has a connection of its own, so that none is sent twice.
+type upstream struct {
+	broker *url.URL
+	within time.Duration
+}
+
+// send sends a request, as far as the kind of fault says, and returns the whole answer.
+func (u upstream) send(
+	ctx context.Context, request *http.Request, body []byte, kind Kind, share float64,
+) (*answer, error) {
+	ctx, cancel := context.WithTimeout(ctx, u.within)
+	defer cancel()
+	connection, err := u.dial(ctx)
+	if err != nil {
+		return nil, err
+	}
+	defer connection.Close()
+	_ = connection.SetDeadline(time.Now().Add(u.within))
+	if kind == RequestGarbled && len(body) > 0 {
+		body = append([]byte{0}, body[1:]...)
+	}
+	text, err := u.bytes(request, body)
+	if err != nil {
+		return nil, err
+	}
+	if kind == RequestCut || kind == RequestGarbled && len(body) == 0 {
+		text = text[:len(text)-(len(body)+2)/2-1]
+	}
+	if err := write(ctx, connection, text, kind, share); err != nil {
+		return nil, err
+	}
+	switch kind {
+	case RequestCut, RequestGarbled, HangUp:
+		time.Sleep(time.Duration(share * float64(20*time.Millisecond)))
+		return nil, errCut
+	}
+	return readAnswer(connection, request)
+}
+
+func (u upstream) dial(ctx context.Context) (net.Conn, error) {
+	host, port := u.broker.Hostname(), u.broker.Port()
+	if u.broker.Scheme == "https" {
+		if port == "" {
+			port = "443"
+		}
+		return (&tls.Dialer{}).DialContext(ctx, "tcp", net.JoinHostPort(host, port))
+	}
+	if port == "" {
+		port = "80"
+	}
+	return (&net.Dialer{}).DialContext(ctx, "tcp", net.JoinHostPort(host, port))
+}
+
+// bytes are a request as the broker gets it.
+func (u upstream) bytes(request *http.Request, body []byte) ([]byte, error) {
+	target, err := url.Parse(strings.TrimRight(u.broker.String(), "/") + request.URL.RequestURI())
+	if err != nil {
+		return nil, err
+	}
+	sent := &http.Request{
+		Method: request.Method, URL: target, Host: u.broker.Host, Header: request.Header.Clone(), Close: true,
+		Body: io.NopCloser(bytes.NewReader(body)), ContentLength: int64(len(body)),
+	}
+	if len(body) == 0 {
+		sent.Body = http.NoBody
+	}
+	var text bytes.Buffer
+	if err := sent.Write(&text); err != nil {
+		return nil, err
+	}
+	return text.Bytes(), nil
+}
+
+// write writes a request: in pieces with pauses if it is slow, which takes a second at most.
+func write(ctx context.Context, connection net.Conn, text []byte, kind Kind, share float64) error {
+	pieces, pause := 1, time.Duration(0)
+	if kind == RequestSlow {
+		pieces, pause = 10, time.Duration(share*float64(100*time.Millisecond))
+	}
+	for at := 0; at < pieces && ctx.Err() == nil; at++ {
+		from, to := bounds(len(text), pieces, at)
+		if _, err := connection.Write(text[from:to]); err != nil {
+			return err
+		}
+		time.Sleep(pause)
+	}
+	return ctx.Err()
+}
+
+func readAnswer(connection net.Conn, request *http.Request) (*answer, error) {
+	response, err := http.ReadResponse(bufio.NewReader(connection), request)
+	if err != nil {
+		return nil, err
+	}
+	defer response.Body.Close()
+	body, err := io.ReadAll(io.LimitReader(response.Body, longestBody+1))
+	if err == nil && len(body) > longestBody {
+		err = fmt.Errorf("the body of the answer is longer than %d bytes", longestBody)
+	}
+	if err != nil {
+		return nil, err
+	}
+	return &answer{status: response.StatusCode, header: response.Header, body: body}, nil
+}
+
+// An answer is a whole answer of a broker.
+type answer struct {
+	status int
+	header http.Header
+	body   []byte
+}
+
+// with returns the answer with another body.
+func (a *answer) with(body []byte) *answer { return &answer{a.status, a.header, body} }
+
+// bytes are the answer as the platform gets it. Its connection carries nothing else.
+func (a *answer) bytes() []byte {
+	header := a.header.Clone()
+	for _, name := range []string{"Connection", "Transfer-Encoding", "Trailer"} {
+		header.Del(name)
+	}
+	header.Set("Content-Length", fmt.Sprint(len(a.body)))
+	header.Set("Connection", "close")
+	var text bytes.Buffer
+	fmt.Fprintf(&text, "HTTP/1.1 %d %s\r\n", a.status, http.StatusText(a.status))
+	_ = header.Write(&text) // a bytes.Buffer takes everything
+	text.WriteString("\r\n")
+	text.Write(a.body)
+	return text.Bytes()
+}
+
+func jsonHeader() http.Header { return http.Header{"Content-Type": {"application/json"}} }
+
+// page is the answer of a gateway.
+func page(status int) []byte {
+	header := http.Header{"Content-Type": {"text/html"}}
+	return (&answer{status, header, []byte("<html></html>")}).bytes()
+}
+
+func gateway(fault Fault) int {
+	return []int{http.StatusBadGateway, http.StatusServiceUnavailable, http.StatusGatewayTimeout}[fault.Pick%3]
+}
+
+// Sleep waits for a time, and returns false at once if ctx is done.
+func Sleep(ctx context.Context, rest time.Duration) bool {
+	timer := time.NewTimer(rest)
+	defer timer.Stop()
+	select {
+	case <-ctx.Done():
+		return false
+	case <-timer.C:
+		return ctx.Err() == nil
+	}
+}
+
+// An Exchange is a request of the platform, with what has become of it.
+type Exchange struct {
+	Number            Number
+	Fault             Kind
+	Instance, Binding string      // the ids; Binding is empty for an instance
+	Method, Target    string      // Target is the path with the query
+	Header            http.Header // without Authorization
+	Body              []byte
+	Begun, Ended      time.Duration // since the start of the Journal; Ended is 0 until the platform has what it gets
+	Deliveries        []Delivery
+	Got               Got // what the platform got
+}
+
+// A Got is what a platform got in answer to a request.
+type Got struct {
+	Status  int // 0 if there was no status
+	Body    []byte
+	IsWhole bool // all of an answer arrived
+	Words   string
+}
+
+// A Delivery is a copy of a request that was sent to the broker.
+type Delivery struct {
+	Begun, Ended time.Duration // Ended is 0 until there is an answer, or until there won't be one
+	Status       int           // 0 if there is no answer
+	Header       http.Header
+	Body         []byte
+	Lost         string // why there is no answer
+}
+
+// A Journal keeps the exchanges of a run. Any number of goroutines use it.
+type Journal struct {
+	start time.Time
+	mutex sync.Mutex
+	all   []*Exchange
+}
+
+// NewJournal returns an empty Journal that starts now.
+func NewJournal() *Journal { return &Journal{start: time.Now()} }
+
+// Now returns the time since the start.
+func (j *Journal) Now() time.Duration { return time.Since(j.start) }
+
+// Exchanges returns a copy of all exchanges, in the order in which they began.
+func (j *Journal) Exchanges() []Exchange {
+	j.mutex.Lock()
+	defer j.mutex.Unlock()
+	all := make([]Exchange, 0, len(j.all))
+	for _, exchange := range j.all {
+		one := *exchange
+		one.Deliveries = append([]Delivery(nil), exchange.Deliveries...)
+		all = append(all, one)
+	}
+	return all
+}
+
+func (j *Journal) begin(x Exchange) *Exchange {
+	j.mutex.Lock()
+	defer j.mutex.Unlock()
+	x.Begun = j.Now()
+	j.all = append(j.all, &x)
+	return &x
+}
+
+func (j *Journal) end(x *Exchange, got Got) {
+	j.mutex.Lock()
+	defer j.mutex.Unlock()
+	x.Ended, x.Got = j.Now(), got
+}
+
+// deliver notes that a copy is being sent. It returns the place of the delivery.
+func (j *Journal) deliver(x *Exchange) int {
+	j.mutex.Lock()
+	defer j.mutex.Unlock()
+	x.Deliveries = append(x.Deliveries, Delivery{Begun: j.Now()})
+	return len(x.Deliveries) - 1
+}
+
+func (j *Journal) noteDelivery(x *Exchange, at int, answer *answer, err error) {
+	j.mutex.Lock()
+	defer j.mutex.Unlock()
+	it := &x.Deliveries[at]
+	it.Ended = j.Now()
+	if err != nil {
+		it.Lost = err.Error()
+		return
+	}
+	it.Status, it.Header, it.Body = answer.status, answer.header, answer.body
 }

@@ -1,3 +1,5 @@
+// Package report has what the reports of all storms have in common: the lives of instances and bindings, what was
+// found of them, a picture of that, and the page of HTML.
 package report
 
 import (
@@ -6,6 +8,7 @@ import (
 	"io"
 	"sort"
 	"strings"
+	"time"
 
 	"pippinterm/storm/conform"
 	"pippinterm/storm/fault"
@@ -20,8 +23,8 @@ type Finding struct {
 	Life     []Line `json:"life"`
 }
 
-// A Found is what becomes a Finding.
-type Found struct {
+// A Discovery is what becomes a Finding.
+type Discovery struct {
 	Key  Key
 	What string
 }
@@ -35,22 +38,22 @@ type Run struct {
 }
 
 // Findings returns what was found, each instance or binding once, with their lives.
-func (r Run) Findings(found []Found) []Finding {
+func (r Run) Findings(found []Discovery) []Finding {
 	all, at := []Finding{}, map[Key]int{}
-	for _, it := range found {
-		if known, is := at[it.Key]; is {
-			if !strings.Contains(all[known].What, it.What) {
-				all[known].What += "; " + it.What
+	for _, discovery := range found {
+		if known, is := at[discovery.Key]; is {
+			if !strings.Contains(all[known].What, discovery.What) {
+				all[known].What += "; " + discovery.What
 			}
 			continue
 		}
 		number := "?"
-		if place, is := r.Place(it.Key.Instance, it.Key.Binding); is {
+		if place, is := r.Place(discovery.Key.Instance, discovery.Key.Binding); is {
 			number = place.String()
 		}
-		at[it.Key] = len(all)
-		life := LifeOf(it.Key, r.Exchanges, r.Events, r.Hide)
-		all = append(all, Finding{number, it.Key.Instance, it.Key.Binding, it.What, life})
+		at[discovery.Key] = len(all)
+		life := LifeOf(discovery.Key, r.Exchanges, r.Events, r.Hide)
+		all = append(all, Finding{number, discovery.Key.Instance, discovery.Key.Binding, discovery.What, life})
 	}
 	return all
 }
@@ -65,16 +68,16 @@ func (f Finding) Name() string {
 
 // WriteFindings writes findings for people, each with its life.
 func WriteFindings(w io.Writer, title string, all []Finding) {
-	for _, it := range all {
-		fmt.Fprintf(w, "\n%s: %s: %s\n", title, it.Name(), it.What)
-		for _, line := range it.Life {
+	for _, finding := range all {
+		fmt.Fprintf(w, "\n%s: %s: %s\n", title, finding.Name(), finding.What)
+		for _, line := range finding.Life {
 			fmt.Fprintf(w, "  %s\n", line)
 		}
 	}
 }
 
-// A Broken is a rule of the standard that a request or an answer breaks.
-type Broken struct {
+// A Violation is a rule of the standard that a request or an answer breaks.
+type Violation struct {
 	conform.Result
 	Number  string   `json:"number"`  // of the first such request
 	Count   int      `json:"count"`   // how many break the same rule
@@ -92,7 +95,7 @@ type Breach struct {
 
 // Breaches collects what breaks the standard. The zero value is ready to use.
 type Breaches struct {
-	all   []Broken
+	all   []Violation
 	at    map[string]int     // of each rule
 	known map[[2]string]bool // rules with the numbers of requests
 }
@@ -108,7 +111,7 @@ func (b *Breaches) Add(failed conform.Result, number, first string) {
 	at, isKnown := b.at[failed.Name]
 	if !isKnown {
 		at, b.at[failed.Name] = len(b.all), len(b.all)
-		b.all = append(b.all, Broken{Result: failed, Number: first, Numbers: []string{}})
+		b.all = append(b.all, Violation{Result: failed, Number: first, Numbers: []string{}})
 	}
 	it := &b.all[at]
 	it.Count++
@@ -120,23 +123,25 @@ func (b *Breaches) Add(failed conform.Result, number, first string) {
 }
 
 // All returns each rule that is broken once, in the order in which they were first broken.
-func (b *Breaches) All() []Broken { return b.all }
+func (b *Breaches) All() []Violation { return b.all }
 
-// Hidden returns the Broken without secrets.
-func (b Broken) Hidden(hide Hider) Broken {
+// WithoutSecrets returns the Violation without secrets.
+func (b Violation) WithoutSecrets(hide Hider) Violation {
 	b.Sent, b.Came, b.Reason = hide.In(b.Sent), hide.In(b.Came), hide.In(b.Reason)
 	each := make([]Breach, 0, len(b.Each))
-	for _, it := range b.Each {
-		each = append(each, Breach{hide.In(it.Number), hide.In(it.Reason), hide.In(it.Sent), hide.In(it.Came)})
+	for _, breach := range b.Each {
+		each = append(each, Breach{
+			hide.In(breach.Number), hide.In(breach.Reason), hide.In(breach.Sent), hide.In(breach.Came),
+		})
 	}
 	b.Each = each
 	return b
 }
 
 // BreaksMust returns whether something broke what the standard demands.
-func BreaksMust(all []Broken) bool {
-	for _, it := range all {
-		if it.Level == conform.Must {
+func BreaksMust(all []Violation) bool {
+	for _, violation := range all {
+		if violation.Level == conform.Must {
 			return true
 		}
 	}
@@ -144,16 +149,17 @@ func BreaksMust(all []Broken) bool {
 }
 
 // WriteBroken writes for people what breaks the standard. what is what breaks it, such as answer.
-func WriteBroken(w io.Writer, what string, all []Broken) {
-	for _, it := range all {
+func WriteBroken(w io.Writer, what string, all []Violation) {
+	for _, violation := range all {
 		fmt.Fprintf(w, "\nBREAKS THE STANDARD: %s (%s, section %s), %s, the first one %s: %s\n"+
 			"  expected: %s\n  sent:     %s\n  came:     %s\n",
-			it.Name, it.Level, it.Section, Counted(it.Count, what), it.Number, it.Reason, it.Expected, it.Sent, it.Came)
+			violation.Name, violation.Level, violation.Section, Quantity(violation.Count, what), violation.Number,
+			violation.Reason, violation.Expected, violation.Sent, violation.Came)
 	}
 }
 
-// Counted returns a number with a noun. plural is its plural, if that isn't the noun with an s.
-func Counted(count int, noun string, plural ...string) string {
+// Quantity returns a number with a noun. plural is its plural, if that isn't the noun with an s.
+func Quantity(count int, noun string, plural ...string) string {
 	switch {
 	case count == 1:
 		return "1 " + noun
@@ -172,9 +178,9 @@ type KindCount struct {
 // CountKinds counts the faults of some exchanges.
 func CountKinds(exchanges []fault.Exchange) []KindCount {
 	counts := map[fault.Kind]int{}
-	for _, it := range exchanges {
-		if it.Fault != fault.None {
-			counts[it.Fault]++
+	for _, exchange := range exchanges {
+		if exchange.Fault != fault.None {
+			counts[exchange.Fault]++
 		}
 	}
 	all := []KindCount{}
@@ -187,8 +193,8 @@ func CountKinds(exchanges []fault.Exchange) []KindCount {
 
 // KindLines returns the counts for people.
 func KindLines(all []KindCount) (lines []string) {
-	for _, it := range all {
-		lines = append(lines, fmt.Sprintf("%d %s", it.Count, it.Kind))
+	for _, kindCount := range all {
+		lines = append(lines, fmt.Sprintf("%d %s", kindCount.Count, kindCount.Kind))
 	}
 	return lines
 }
@@ -201,17 +207,17 @@ func WriteKinds(w io.Writer, all []KindCount) {
 }
 
 // ListLines returns the lines of a list of faults.
-func ListLines(list []fault.Numbered) []string {
+func ListLines(list []fault.Entry) []string {
 	all := make([]string, 0, len(list))
-	for _, it := range list {
-		all = append(all, it.String())
+	for _, entry := range list {
+		all = append(all, entry.String())
 	}
 	return all
 }
 
-// Untried returns what a run with some faults hasn't tried, for people: nothing if a request had a fault, or none was
+// Omissions returns what a run with some faults hasn't tried, for people: nothing if a request had a fault, or none was
 // wanted. more says how a run gets more requests.
-func Untried(given []fault.Numbered, share float64, list []fault.Numbered, more string) []string {
+func Omissions(given []fault.Entry, share float64, list []fault.Entry, more string) []string {
 	switch {
 	case len(given) > 0 || !fault.WantsFaults(share, list):
 		return []string{}
@@ -234,7 +240,7 @@ func UnmetLines(unmet []string) []string {
 	if len(unmet) > mostUnmet {
 		shown, more = unmet[:mostUnmet], ", .."
 	}
-	return []string{fmt.Sprintf("%s of the list met no request: %s%s", Counted(len(unmet), "fault"),
+	return []string{fmt.Sprintf("%s of the list met no request: %s%s", Quantity(len(unmet), "fault"),
 		strings.Join(shown, ", "), more)}
 }
 
@@ -244,4 +250,139 @@ func WriteJSON(w io.Writer, report any) error {
 	encoder.SetEscapeHTML(false)
 	encoder.SetIndent("", "  ")
 	return encoder.Encode(report)
+}
+
+// A Key names an instance, or a binding of it if Binding isn't empty, by their ids.
+type Key struct{ Instance, Binding string }
+
+// InstanceKey returns the key of the instance.
+func (k Key) InstanceKey() Key { return Key{Instance: k.Instance} }
+
+// An Event is something that has happened to an instance or a binding, besides its requests.
+type Event struct {
+	At   time.Duration // since the start of the run
+	Key  Key           // empty if it isn't about one of them, such as a kill
+	Who  string        // operator, record, platform, broker or osb-storm
+	What string
+}
+
+// The programs that are killed and started again.
+const (
+	WhoBroker   = "broker"
+	WhoPlatform = "platform"
+)
+
+// A Line is one thing in the life of an instance or a binding.
+type Line struct {
+	Seconds float64 `json:"seconds"`           // since the start of the run
+	Until   float64 `json:"until,omitempty"`   // of a request: when the platform had its answer
+	Number  string  `json:"request,omitempty"` // the number of the request, or empty
+	Who     string  `json:"who"`               // operator, record, platform, request, proxy, broker or osb-storm
+	What    string  `json:"what"`
+	Fault   string  `json:"fault,omitempty"`
+
+	isOfAll bool // it isn't about one instance, such as a kill
+}
+
+// LifeOf returns the life of an instance with its bindings, or of a binding with its instance.
+func LifeOf(key Key, exchanges []fault.Exchange, events []Event, hide Hider) []Line {
+	var life []Line
+	for _, event := range events {
+		if event.Key == (Key{}) || event.Key == key || event.Key == key.InstanceKey() {
+			life = append(life, Line{
+				Seconds: seconds(event.At), Who: event.Who, What: conform.Printable(hide.In(event.What)), isOfAll: event.Key == (Key{}),
+			})
+		}
+	}
+	for _, x := range exchanges {
+		if its := (Key{x.Instance, x.Binding}); its == key || its == key.InstanceKey() {
+			life = append(life, linesOf(x, hide)...)
+		}
+	}
+	sort.SliceStable(life, func(one, other int) bool { return life[one].Seconds < life[other].Seconds })
+	for len(life) > 0 && life[0].isOfAll { // a kill before it was created
+		life = life[1:]
+	}
+	return life
+}
+
+// linesOf returns the lines of a request.
+func linesOf(x fault.Exchange, hide Hider) []Line {
+	number := x.Number.String()
+	line := func(at time.Duration, who, what string) Line {
+		return Line{Seconds: seconds(at), Number: number, Who: who, What: conform.Printable(hide.In(what))}
+	}
+	request := line(x.Begun, "request", x.Method+" "+x.Target)
+	if x.Fault != fault.None {
+		request.Fault = string(x.Fault)
+	}
+	request.Until = seconds(x.Ended)
+	all := []Line{request}
+	for at, d := range x.Deliveries {
+		which := "the request"
+		switch {
+		case at > 0:
+			which = "the request once more"
+		case x.Fault == fault.RequestCut:
+			which = "half of the request"
+		case x.Fault == fault.RequestGarbled:
+			which = "the request with a body that isn't JSON"
+		}
+		all = append(all, line(d.Begun, WhoBroker, "gets "+which), line(d.Ended, WhoBroker, answerOf(x, d, hide)))
+	}
+	if len(x.Deliveries) == 0 {
+		all = append(all, line(x.Begun, WhoBroker, "doesn't get the request"))
+	}
+	if x.Ended == 0 { // it is still in flight
+		return all
+	}
+	return append(all, line(x.Ended, "proxy", "gives the platform "+x.Got.Words))
+}
+
+func answerOf(x fault.Exchange, d fault.Delivery, hide Hider) string {
+	if d.Status == 0 {
+		return "no answer: " + d.Lost
+	}
+	seen := conform.Observation{
+		Method: x.Method, Target: x.Target, Status: d.Status, Header: d.Header, Came: d.Body, Hide: hide,
+	}
+	return "answers " + seen.Describe()
+}
+
+func seconds(of time.Duration) float64 { return float64(of.Milliseconds()) / 1000 }
+
+// String returns the line for people.
+func (l Line) String() string {
+	text := fmt.Sprintf("%8.3f s  %-9s  %-9s  %s", l.Seconds, l.Number, l.Who, l.What)
+	if l.Fault != "" {
+		text += "   FAULT: " + l.Fault
+	}
+	return text
+}
+
+// Hidden is written in place of a secret.
+const Hidden = conform.Hidden
+
+// A Hider leaves out secrets.
+type Hider = conform.Hider
+
+// NewHider returns a Hider of a login, and of the credentials in the answers to some exchanges.
+func NewHider(user, password string, exchanges []fault.Exchange) Hider {
+	var secrets []string
+	known := map[string]bool{}
+	for _, x := range exchanges {
+		for _, d := range x.Deliveries {
+			var object struct{ Credentials any }
+			if x.Binding == "" || json.Unmarshal(d.Body, &object) != nil {
+				continue
+			}
+			for _, secret := range conform.SecretsIn(object.Credentials) {
+				if !known[secret] {
+					known[secret] = true
+					secrets = append(secrets, secret)
+				}
+			}
+		}
+	}
+	return conform.NewHider(user, password).And(secrets...)
 }

@@ -1,8 +1,15 @@
 package report
 
 import (
+	_ "embed"
 	"fmt"
+	"html/template"
+	"io"
 	"math"
+	"sort"
+
+	"pippinterm/storm/conform"
+	"pippinterm/storm/fault"
 )
 
 // The sizes of a picture, in the units of its SVG.
@@ -26,7 +33,7 @@ type picture struct {
 type lane struct {
 	Label  string
 	Y      float64
-	Spans  []span // requests, each until the platform had what it got
+	Spans  []span // requests, each until the platform had its answer
 	Points []mark // answers of the broker, and changes of the record
 }
 
@@ -45,8 +52,8 @@ type tick struct {
 	Label string
 }
 
-// drawn draws a picture of findings, with the kills that came between their first and their last request.
-func drawn(findings []Finding, kills []Line) *picture {
+// draw draws a picture of findings, with the kills between their first and their last request.
+func draw(findings []Finding, kills []Line) *picture {
 	first, last := bounds(findings)
 	x := func(at float64) float64 {
 		return leftMargin + (at-first)/(last-first)*(pictureWidth-leftMargin-rightMargin)
@@ -59,8 +66,8 @@ func drawn(findings []Finding, kills []Line) *picture {
 	for at := math.Ceil(first/step) * step; at <= last; at += step {
 		p.Ticks = append(p.Ticks, tick{x(at), fmt.Sprintf("%g s", math.Round(at*1000)/1000)})
 	}
-	for at, it := range findings {
-		p.Lanes = append(p.Lanes, laneOf(it, topMargin+laneHeight*float64(at), x))
+	for at, finding := range findings {
+		p.Lanes = append(p.Lanes, laneOf(finding, topMargin+laneHeight*float64(at), x))
 	}
 	for _, line := range kills {
 		if line.Seconds >= first && line.Seconds <= last {
@@ -73,8 +80,8 @@ func drawn(findings []Finding, kills []Line) *picture {
 // bounds returns when the first and the last thing of some findings happened.
 func bounds(findings []Finding) (first, last float64) {
 	first = math.Inf(1)
-	for _, it := range findings {
-		for _, line := range it.Life {
+	for _, finding := range findings {
+		for _, line := range finding.Life {
 			if line.Number != "" || line.Who == "record" || line.Who == "operator" {
 				first = math.Min(first, line.Seconds)
 				last = math.Max(last, math.Max(line.Seconds, line.Until))
@@ -90,9 +97,9 @@ func bounds(findings []Finding) (first, last float64) {
 // stepOf returns the time between two ticks: 1, 2 or 5 times a power of ten, so that there are about ten.
 func stepOf(length float64) float64 {
 	power := math.Pow(10, math.Floor(math.Log10(length/10)))
-	for _, it := range []float64{1, 2, 5} {
-		if length/(it*power) <= 12 {
-			return it * power
+	for _, factor := range []float64{1, 2, 5} {
+		if length/(factor*power) <= 12 {
+			return factor * power
 		}
 	}
 	return 10 * power
@@ -118,4 +125,126 @@ func laneOf(it Finding, y float64, x func(float64) float64) lane {
 		}
 	}
 	return drawn
+}
+
+//go:embed report.html
+var pageText string
+
+// A Page is a report as a page of HTML.
+type Page struct {
+	Title        string // for example Storm against a URL
+	Summary      string
+	Rows         []Row
+	Minimal      []string // the list of faults to which those of the run were shrunk, or nil
+	MinimalTitle string
+	Sections     []Section
+	// Course is what is drawn if there are no findings, and Kills what happened to the programs meanwhile.
+	Course []Finding
+	Kills  []Line
+	Noun   string // what breaks the standard: answer or request
+	Broken []Violation
+	Given  []string // all faults
+}
+
+// A Row is a line of the table of facts.
+type Row struct{ Name, Value string }
+
+// A Section is findings of one kind.
+type Section struct {
+	Title    string
+	Findings []Finding
+	Kills    []Line // what happened to the programs in the same run
+}
+
+// Add adds a row for each value.
+func (p *Page) Add(name string, values ...string) {
+	for _, value := range values {
+		p.Rows = append(p.Rows, Row{name, value})
+	}
+}
+
+// Write writes the page. It needs nothing else: no script, no font, and nothing from a network.
+func (p *Page) Write(w io.Writer) error {
+	page, err := template.New("report").Parse(pageText)
+	if err != nil {
+		return err
+	}
+	type drawnSection struct {
+		Section
+		Picture *picture
+	}
+	var sections []drawnSection
+	for _, section := range p.Sections {
+		if len(section.Findings) > 0 {
+			sections = append(sections, drawnSection{section, draw(section.Findings, section.Kills)})
+		}
+	}
+	var course *picture
+	if len(sections) == 0 && len(p.Course) > 0 {
+		course = draw(p.Course, p.Kills)
+	}
+	return page.Execute(w, map[string]any{"Page": p, "Sections": sections, "Course": course})
+}
+
+// mostLanes is how many lives are drawn of a run in which nothing was found.
+const mostLanes = 12
+
+// Course returns the lives of the instances and bindings whose requests have had the most faults, in the order of their
+// places. They are drawn if nothing was found.
+func (r Run) Course() []Finding {
+	all := r.countFaults()
+	sort.SliceStable(all, func(one, other int) bool { return all[one].faults > all[other].faults })
+	if len(all) > mostLanes {
+		all = all[:mostLanes]
+	}
+	sort.SliceStable(all, func(one, other int) bool {
+		a, b := all[one].place, all[other].place
+		return a.Instance < b.Instance || a.Instance == b.Instance && a.Binding < b.Binding
+	})
+	course := make([]Finding, 0, len(all))
+	for _, faulty := range all {
+		life := LifeOf(faulty.key, r.Exchanges, r.Events, r.Hide)
+		course = append(course, Finding{
+			Number: faulty.place.String(), Instance: faulty.key.Instance, Binding: faulty.key.Binding, Life: life,
+		})
+	}
+	return course
+}
+
+// A faulty is how many faults an instance or a binding has had.
+type faulty struct {
+	key    Key
+	place  fault.Place
+	faults int
+}
+
+// countFaults counts the faults of each instance and binding that has a place, in the order of their first requests.
+func (r Run) countFaults() (all []*faulty) {
+	of := map[Key]*faulty{}
+	for _, x := range r.Exchanges {
+		key := Key{x.Instance, x.Binding}
+		if of[key] == nil {
+			place, is := r.Place(x.Instance, x.Binding)
+			if !is {
+				continue
+			}
+			of[key] = &faulty{key: key, place: place}
+			all = append(all, of[key])
+		}
+		if x.Fault != fault.None {
+			of[key].faults++
+		}
+	}
+	return all
+}
+
+// Kills returns what happened to the programs: how they were killed, paused and started again.
+func (r Run) Kills() (lines []Line) {
+	for _, event := range r.Events {
+		if event.Key == (Key{}) && (event.Who == WhoBroker || event.Who == WhoPlatform) {
+			what := conform.Printable(r.Hide.In(event.What))
+			lines = append(lines, Line{Seconds: seconds(event.At), Who: event.Who, What: what, isOfAll: true})
+		}
+	}
+	return lines
 }

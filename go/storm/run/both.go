@@ -14,10 +14,14 @@ import (
 	"os/exec"
 	"path/filepath"
 	"strings"
+	"sync"
 	"time"
 
 	"pippinterm/internal/cli"
+	"pippinterm/internal/crash"
 	"pippinterm/platform"
+	"pippinterm/platform/postgres"
+	"pippinterm/platform/sqlite"
 	"pippinterm/storm/conform"
 	"pippinterm/storm/fault"
 	"pippinterm/storm/run/audit"
@@ -27,25 +31,18 @@ import (
 
 // A BothConfig says which programs a storm of both is about, and within which limits.
 type BothConfig struct {
-	Broker, Platform  string // the programs osb-broker and osb-platform
-	Workers, Brokers  int    // how many workers the platform has, and how many brokers serve over one store
-	Store, Backend    string // InFiles and AsFolders, or InPostgreSQL
-	PostgreSQL        string // the URL of a server for them, unless the server is the storm's own
-	KillDatabase      int    // how often a server of the storm's own is killed, and how often it is paused; 0 for no such server
-	HAProxy           bool   // HAProxy stands in front of the brokers
-	Unruly            bool   // a second client creates and deletes bindings, and keeps no rules
-	Calm              bool   // nothing is killed or paused, and the operator does nothing besides the lives
-	Without           string // a part of the design that is taken out, or empty
-	Instances         int    // how many a round creates; there is one, unless something isn't done after it
-	Seed              int64
-	Share             float64          // how many of all requests have a fault, from 0 to 1
-	List              []fault.Numbered // the faults of the run, in place of those by the seed; or nil
-	RequestTime, Late time.Duration
-	Time, SettleTime  time.Duration
-	CrashPoints       string        // AllPoints, SomePoints, or empty for none
-	Journal           string        // the folder of both programs' journals, or empty for none
-	MinimizeTime      time.Duration // for the runs that shrink the list of faults; 0 for none
-	Folder            string        // in which the folder of the run is created; empty for the system's
+	Config
+	Broker, Platform string // the programs osb-broker and osb-platform
+	Workers, Brokers int    // how many workers the platform has, and how many brokers serve over one store
+	Store, Backend   string // InFiles and AsFolders, or InPostgreSQL
+	PostgreSQL       string // the URL of a server for them, unless the server is the storm's own
+	KillDatabase     int    // how often a server of the storm's own is killed, and how often it is paused; 0 for no such server
+	HAProxy          bool   // HAProxy stands in front of the brokers
+	Unruly           bool   // a second client creates and deletes bindings, and keeps no rules
+	Calm             bool   // nothing is killed or paused, and the operator does nothing besides the lives
+	Without          string // a part of the design that is taken out, or empty
+	Instances        int    // how many a round creates; there is one, unless something isn't done after it
+	CrashPoints      string // AllPoints, SomePoints, or empty for none
 
 	only     map[int]bool // the instances whose lives are lived; nil for all
 	password string       // of the broker; empty for a new one
@@ -67,18 +64,12 @@ func (c BothConfig) check() error {
 		return fmt.Errorf("without %s, the broker has to sell folders", c.Without)
 	case c.Calm && (c.Unruly || c.CrashPoints != ""):
 		return errors.New("a calm storm has no second client, and visits no crash points")
-	case c.Share < 0 || c.Share > 1:
-		return errors.New("the share of requests with a fault is between 0 and 1")
-	case c.RequestTime <= 0 || c.Late <= 0 || c.Time <= 0 || c.SettleTime <= 0:
-		return errors.New("every limit must be above 0")
 	}
-	for _, it := range c.List {
-		if it.Kind.IsRestart() {
-			return errors.New("the list of faults has a restart: both programs are killed at random moments")
-		}
+	if err := c.Config.Check("both programs are killed at random moments"); err != nil {
+		return err
 	}
-	for _, it := range []string{c.Broker, c.Platform} {
-		if _, err := exec.LookPath(it); err != nil {
+	for _, program := range []string{c.Broker, c.Platform} {
+		if _, err := exec.LookPath(program); err != nil {
 			return fmt.Errorf("the program can't be run: %w", err)
 		}
 	}
@@ -171,10 +162,9 @@ func (b *Both) open(ctx context.Context) (err error) {
 	}
 	b.keys = newKeys(b.ids.NewID)
 	b.events = &events{now: b.journal.Now, keyOf: keyOf}
-	b.source = fault.BySeed(b.config.Seed, b.config.share(), b.config.weights())
-	if b.config.List != nil {
-		b.source = fault.ByList(b.config.Seed, b.config.List)
-	}
+	faults := b.config.Config
+	faults.Share = b.config.share()
+	b.source = faults.Source(b.config.weights())
 	if b.places, err = openPlaces(ctx, b.config, b.folder, b.ids.Prefix()); err != nil {
 		return err
 	}
@@ -242,8 +232,8 @@ func (b *Both) startHAProxy(ctx context.Context) (*url.URL, error) {
 		return nil, err
 	}
 	var hosts []string
-	for _, it := range b.addresses {
-		hosts = append(hosts, it.Host)
+	for _, address := range b.addresses {
+		hosts = append(hosts, address.Host)
 	}
 	b.haproxy, err = servers.StartHAProxy(ctx, b.folder, entrances[0].Host, hosts)
 	return entrances[0], err
@@ -308,8 +298,8 @@ func (b *Both) records(ctx context.Context) (map[Key]audit.Record, error) {
 		return nil, err
 	}
 	all := map[Key]audit.Record{}
-	for _, it := range entries {
-		all[Key{Instance: it.Names.Instance, Binding: it.Names.Binding}] = audit.RecordOf(it)
+	for _, entry := range entries {
+		all[Key{Instance: entry.Names.Instance, Binding: entry.Names.Binding}] = audit.RecordOf(entry)
 	}
 	return all, nil
 }
@@ -351,4 +341,280 @@ func (b *Both) Close() error {
 		all = append(all, b.places.close(isOurs))
 	}
 	return either(append(all, os.RemoveAll(b.folder))...)
+}
+
+// platformLine is the program osb-platform with the options of its store.
+func (b *Both) platformLine() []string {
+	return []string{b.config.Platform, "--store", b.places.storeName, "--key-file", b.file("key")}
+}
+
+// tries is how many ids the order of an instance, or of a binding of it, may use up: one, or three.
+func (b *Both) tries(key Key) int {
+	place, _ := b.keys.Place(key.Instance, "")
+	return 1 + 2*(place.Instance/len(plans)%2)
+}
+
+// plans are those of the instances of a storm.
+var plans = []string{goods.AtOnce, goods.Later, goods.LaterWithBinds, goods.OnlyBindsLater}
+
+// plan chooses the plan of an instance.
+func (b *Both) plan(key Key) string {
+	place, _ := b.keys.Place(key.Instance, "")
+	return plans[place.Instance%len(plans)]
+}
+
+// prepare says how both programs are started.
+func (b *Both) prepare() error {
+	for number, address := range b.addresses {
+		words := []string{
+			b.config.Broker, "serve", "--listen", address.Host, "--catalog", b.file("catalogue.json"), "--sweep-seconds", "0.5",
+			"--wait-for-poll", "2", "--workers", "8", "--stop-seconds", "20",
+		}
+		if isUsualBroker(b.config.Without) { // it has no such rule
+			words = append(words, "--first-poll=false")
+		}
+		named := programNumber(number, b.config.Brokers)
+		made, err := b.victim(whoBroker, named, append(words, b.places.brokerWords...), "OSB_BROKER_PASSWORD="+b.password)
+		if err != nil {
+			return err
+		}
+		b.brokers = append(b.brokers, made)
+	}
+	for number := 0; number < b.config.Workers; number++ {
+		words := append(b.platformLine(), "run", "--worker", fmt.Sprintf("storm-%d", number+1), "--seconds",
+			fmt.Sprint(b.config.RequestTime.Seconds()), "--look-seconds", "0.2", "--stop-seconds", "5")
+		named := programNumber(number, b.config.Workers) // a lease ends soon, with the tag storm
+		made, err := b.victim(whoPlatform, named, words, "OSB_MARGIN=1s", "OSB_PLATFORM_PASSWORD="+b.password)
+		if err != nil {
+			return err
+		}
+		b.workers = append(b.workers, made)
+	}
+	if b.config.CrashPoints != "" && !isUsualBroker(b.config.Without) { // such a broker doesn't reach them
+		b.share(b.brokers, crash.Points())
+	}
+	if b.config.CrashPoints != "" {
+		b.share(b.workers, workerPoints())
+	}
+	return nil
+}
+
+// journalOptions returns the options with which a side writes its journal, and makes the folder of the journal.
+func (b *Both) journalOptions(side string) ([]string, error) {
+	if b.config.Journal == "" {
+		return nil, nil
+	}
+	folder := filepath.Join(b.config.Journal, side)
+	return []string{"--journal", folder}, os.MkdirAll(folder, 0o700)
+}
+
+// programNumber returns the number of a program, from 1, or 0 if there is no other one of its kind.
+func programNumber(place, count int) int {
+	if count == 1 {
+		return 0
+	}
+	return place + 1
+}
+
+// share gives each of some programs its share of the crash points to visit.
+func (b *Both) share(among []*victim, points []string) {
+	chance := fault.Chance(b.config.Seed, "points", among[0].name)
+	for at, point := range shuffle(chance, points) {
+		to := among[at%len(among)]
+		to.open = append(to.open, point)
+	}
+}
+
+// programs are the brokers and the workers.
+func (b *Both) programs() []*victim { return append(append([]*victim{}, b.brokers...), b.workers...) }
+
+// victim returns a program that is to be killed. With PostgreSQL, its store may be away.
+func (b *Both) victim(name string, number int, line []string, environment ...string) (*victim, error) {
+	journal, err := b.journalOptions(name)
+	if err != nil {
+		return nil, err
+	}
+	file := fmt.Sprintf("%s-%d.log", name, number)
+	made := &victim{
+		process: process{
+			name: name, number: number, line: append(line, journal...), log: b.file(file),
+			environment: append(append([]string{}, b.places.environment...), environment...),
+		},
+		chance: fault.Chance(b.config.Seed, "kills", file), events: b.events, times: usualTimes(),
+	}
+	made.environment = append(made.environment, b.config.withoutOf(name)...)
+	if b.config.needsPostgreSQL() {
+		made.accepted = []int{cli.StatusUnavailable}
+	}
+	return made, nil
+}
+
+// workerPoints are the crash points of the platform's worker. The others are those of its orders, which osb-storm
+// writes itself.
+func workerPoints() (points []string) {
+	for _, point := range platform.Points {
+		if !strings.HasPrefix(point, "order-") {
+			points = append(points, point)
+		}
+	}
+	return points
+}
+
+// together calls for each program at once, and returns once all calls have returned.
+func together(all []*victim, call func(*victim)) {
+	var group sync.WaitGroup
+	for _, victim := range all {
+		it := victim
+		group.Add(1)
+		go func() {
+			defer group.Done()
+			call(it)
+		}()
+	}
+	group.Wait()
+}
+
+// lastOf returns the end of a log.
+func lastOf(log string) string {
+	text, err := os.ReadFile(log)
+	if err != nil {
+		return err.Error()
+	}
+	const most = 1000
+	if len(text) > most {
+		text = text[len(text)-most:]
+	}
+	return string(text)
+}
+
+// checkPoints returns an error if crash points are to be visited, and a program was built without them. A program with
+// crash points doesn't start if it is to be killed at one that it doesn't have.
+func (b *Both) checkPoints(ctx context.Context) error {
+	if b.config.CrashPoints == "" {
+		return nil
+	}
+	for _, program := range []*victim{b.brokers[0], b.workers[0]} {
+		if err := b.probe(ctx, program, program.environment, "no-such-point", "crashpoints"); err != nil {
+			return err
+		}
+	}
+	return nil
+}
+
+// The places of records, holdings and resources.
+const (
+	InFiles      = "sqlite"     // a store
+	AsFolders    = "folders"    // a backend
+	InPostgreSQL = "postgresql" // both
+)
+
+// A places is where the records, the broker's rows and the resources of a storm are.
+type places struct {
+	server   *servers.Postgres // of the storm's own, or nil
+	database *servers.Database // of the storm's own, or nil
+	state    string            // the folder of the brokers
+
+	storeName   string   // what --store says to osb-platform
+	brokerWords []string // the options of the brokers
+	environment []string // of all programs
+
+	holdings  audit.Holdings
+	resources audit.Resources
+}
+
+// backendKey is what the passwords of the databases are derived from that a storm sells.
+const backendKey = "the key of a storm's passwords, of which nobody has any use"
+
+// openPlaces makes new places, with nothing in them.
+func openPlaces(ctx context.Context, c BothConfig, folder, prefix string) (*places, error) {
+	p := &places{
+		state: filepath.Join(folder, "broker"), storeName: filepath.Join(folder, "instances.sqlite"),
+		environment: append(os.Environ(), "OSB_BACKEND_KEY="+backendKey),
+	}
+	p.brokerWords = []string{"--state", p.state}
+	p.holdings = audit.File(filepath.Join(p.state, "holdings.sqlite"))
+	p.resources = audit.Folders{Top: filepath.Join(p.state, "instances")}
+	if !c.needsPostgreSQL() {
+		return p, nil
+	}
+	if err := p.openDatabase(ctx, c, "storm_"+prefix); err != nil {
+		return nil, either(err, p.close(nil))
+	}
+	p.useDatabase(c)
+	return p, nil
+}
+
+// openDatabase creates the database, on a server of the storm's own if that is to be killed.
+func (p *places) openDatabase(ctx context.Context, c BothConfig, name string) (err error) {
+	address := c.PostgreSQL
+	if c.KillDatabase > 0 {
+		if p.server, err = servers.StartPostgres(ctx, c.Folder); err != nil {
+			return err
+		}
+		address = p.server.URL("postgres")
+	}
+	p.database, err = servers.Create(ctx, address, name)
+	return err
+}
+
+// useDatabase has the database be the store and the backend, as the configuration says.
+func (p *places) useDatabase(c BothConfig) {
+	named, environment := p.database.ForPrograms()
+	p.environment = append(p.environment, environment...)
+	if c.Store == InPostgreSQL {
+		p.storeName, p.holdings = named, audit.Tables{DB: p.database.DB()}
+		p.brokerWords = append(p.brokerWords, "--store", named)
+	}
+	if c.Backend == InPostgreSQL {
+		p.brokerWords = append(p.brokerWords, "--backend", named)
+		p.resources = audit.Databases{
+			DB: p.database.DB(), Server: p.database.URL(), Secret: []byte(backendKey),
+		}
+	}
+}
+
+// openStore opens the store of the platform, which exists.
+func (p *places) openStore(ctx context.Context, c BothConfig) (store platform.Store, err error) {
+	if c.Store == InPostgreSQL {
+		const connections = 8
+		store, err = postgres.Open(ctx, p.database.URL(), connections)
+	} else {
+		store, err = sqlite.Open(ctx, p.storeName)
+	}
+	if err != nil {
+		return nil, fmt.Errorf("the store of the platform: %w", err)
+	}
+	return store, nil
+}
+
+// describe says where the audit looks.
+func (c BothConfig) describe() string {
+	where := map[string]string{
+		AsFolders: "the folders of the broker", InPostgreSQL: "the databases and the roles of PostgreSQL",
+	}
+	return where[c.Backend] + " were read, and the rows of the broker and the platform"
+}
+
+// together returns the keys at which two have worked at once, as far as a broker with the tag storm sees it.
+func (p *places) together() []string {
+	text, err := os.ReadFile(filepath.Join(p.state, "together"))
+	if err != nil {
+		return nil
+	}
+	return strings.Fields(string(text))
+}
+
+// close deletes what the storm has created. isOurs is whether an instance is one of the storm's; it may be nil if none
+// was created.
+func (p *places) close(isOurs func(string) bool) (err error) {
+	if isOurs != nil && p.server == nil {
+		err = p.resources.Clear(context.Background(), isOurs)
+	}
+	if p.database != nil && p.server == nil {
+		err = either(err, p.database.Close())
+	}
+	if p.server != nil { // everything ends with it
+		err = either(err, p.server.Close())
+	}
+	return err
 }

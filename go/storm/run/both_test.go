@@ -2,16 +2,25 @@ package run
 
 import (
 	"context"
+	"encoding/json"
+	"errors"
 	"fmt"
+	"net/http"
+	"net/http/httptest"
 	"os"
 	"path/filepath"
 	"strconv"
 	"strings"
+	"sync"
 	"testing"
 	"time"
 
 	"pippinterm/internal/crash"
+	"pippinterm/osb"
+	"pippinterm/platform"
 	"pippinterm/storm/fault"
+	"pippinterm/storm/run/audit"
+	"pippinterm/storm/run/goods"
 )
 
 func pidOf(v *victim) string { return strconv.Itoa(v.running.Process.Pid) }
@@ -20,14 +29,16 @@ func pidOf(v *victim) string { return strconv.Itoa(v.running.Process.Pid) }
 func TestComparePartial(t *testing.T) {
 	key := Key{Instance: "one"}
 	for state, wanted := range map[string]string{stateGone: "[0]", stateReady: "[1]"} {
-		var kinds []DifferenceKind
-		records := map[Key]Record{key: {State: state, Rests: true, Known: true}}
-		for _, it := range compare(records, Sight{Of: map[Key]Existence{key: Partial}}) {
-			kinds = append(kinds, it.Kind)
-		}
-		if fmt.Sprint(kinds) != wanted {
-			t.Errorf("%s: %v", state, kinds)
-		}
+		t.Run(state, func(t *testing.T) {
+			var kinds []DifferenceKind
+			records := map[Key]Record{key: {State: state, Rests: true, Known: true}}
+			for _, difference := range compare(records, Sight{Of: map[Key]Existence{key: Partial}}) {
+				kinds = append(kinds, difference.Kind)
+			}
+			if fmt.Sprint(kinds) != wanted {
+				t.Errorf("%s: got %v, want %s", state, kinds, wanted)
+			}
+		})
 	}
 }
 
@@ -36,12 +47,12 @@ func fakes(t *testing.T) BothConfig {
 	t.Helper()
 	script := filepath.Join(t.TempDir(), "program")
 	text := "#!/bin/sh\n[ \"$1\" != key ] || echo 0123456789012345678901234567890123456789012\n"
-	if err := os.WriteFile(script, []byte(text), 0o700); err != nil {
-		t.Fatal(err)
-	}
+	check(t, os.WriteFile(script, []byte(text), 0o700))
 	return BothConfig{
-		Broker: script, Platform: script, Brokers: 1, Workers: 1, Store: InFiles, Backend: AsFolders, Instances: 1, RequestTime: time.Second, Late: time.Second, Time: time.Second,
-		SettleTime: time.Second, Folder: t.TempDir(),
+		Config: Config{
+			RequestTime: time.Second, Late: time.Second, Time: time.Second, SettleTime: time.Second, Folder: t.TempDir(),
+		},
+		Broker: script, Platform: script, Brokers: 1, Workers: 1, Store: InFiles, Backend: AsFolders, Instances: 1,
 	}
 }
 
@@ -51,23 +62,23 @@ func TestJournal(t *testing.T) {
 		config := fakes(t)
 		config.Journal = folder
 		b, err := NewBoth(context.Background(), config)
-		if err != nil {
-			t.Fatal(err)
-		}
+		check(t, err)
 		for name, line := range map[string][]string{"broker": b.brokers[0].line, "platform": b.workers[0].line} {
-			text, wanted := strings.Join(line, " "), " --journal "+filepath.Join(folder, name)
-			if strings.HasSuffix(text, wanted) != (folder != "") || strings.Contains(text, "--journal") != (folder != "") {
-				t.Errorf("%q: %s", folder, text)
-			}
-			if _, err := os.Stat(filepath.Join(folder, name)); folder != "" && err != nil {
-				t.Error(err)
-			}
+			t.Run(name, func(t *testing.T) {
+				text, wanted := strings.Join(line, " "), " --journal "+filepath.Join(folder, name)
+				if strings.HasSuffix(text, wanted) != (folder != "") || strings.Contains(text, "--journal") != (folder != "") {
+					t.Errorf("%q: got %s, want that it ends with %q only if there is a folder", folder, text, wanted)
+				}
+				if _, err := os.Stat(filepath.Join(folder, name)); folder != "" && err != nil {
+					t.Error(err)
+				}
+			})
 		}
 		if err := b.Close(); err != nil {
 			t.Error(err)
 		}
 		if files, err := os.ReadDir(config.Folder); err != nil || len(files) > 0 {
-			t.Errorf("%v %v are left", err, files)
+			t.Errorf("got %v %v left, want none", err, files)
 		}
 	}
 }
@@ -77,32 +88,30 @@ func TestSeveralPrograms(t *testing.T) {
 	config := fakes(t)
 	config.Brokers, config.Workers, config.CrashPoints = 3, 2, AllPoints
 	b, err := NewBoth(context.Background(), config)
-	if err != nil {
-		t.Fatal(err)
-	}
+	check(t, err)
 	defer b.Close()
 	seen, logs, open := map[string]int{}, map[string]bool{}, 0
-	for _, it := range b.programs() {
-		line := strings.Join(it.line, " ")
+	for _, program := range b.programs() {
+		line := strings.Join(program.line, " ")
 		for _, word := range []string{"--state " + b.places.state, "--listen 127.0.0.1:", "--worker storm-1 ", "--worker storm-2 "} {
 			seen[strings.TrimPrefix(word, "--state "+b.folder)] += strings.Count(line, word)
 		}
 		seen[after(line, "--listen ")]++
-		logs[it.log], open = true, open+len(it.open)
-		if it.number == 0 || len(it.open) == 0 {
-			t.Errorf("%s has %d crash points", it, len(it.open))
+		logs[program.log], open = true, open+len(program.open)
+		if program.number == 0 || len(program.open) == 0 {
+			t.Errorf("%s: got %d crash points, want some", program, len(program.open))
 		}
 	}
 	if seen["/broker"] != 3 || seen["--worker storm-1 "] != 1 || seen["--worker storm-2 "] != 1 || len(logs) != 5 {
-		t.Errorf("%v, logs %v", seen, logs)
+		t.Errorf("got %v and the logs %v, want 3 brokers, 2 workers and 5 logs", seen, logs)
 	}
-	for _, it := range b.addresses {
-		if seen[it.Host] != 1 {
-			t.Errorf("%d brokers listen at %s", seen[it.Host], it)
+	for _, address := range b.addresses {
+		if seen[address.Host] != 1 {
+			t.Errorf("got %d brokers at %s, want 1", seen[address.Host], address)
 		}
 	}
-	if wanted := len(crash.Places()) + len(workerPoints()); open != wanted || len(b.unvisited()) != wanted+2 {
-		t.Errorf("%d crash points are to be visited", open)
+	if wanted := len(crash.Points()) + len(workerPoints()); open != wanted || len(b.remainingPoints()) != wanted+2 {
+		t.Errorf("got %d crash points to be visited, want %d", open, wanted)
 	}
 }
 
@@ -118,25 +127,23 @@ func TestUntried(t *testing.T) {
 	config := fakes(t)
 	config.Share, config.CrashPoints = 0.4, SomePoints
 	b, err := NewBoth(context.Background(), config)
-	if err != nil {
-		t.Fatal(err)
-	}
+	check(t, err)
 	defer b.Close()
-	all := strings.Join(b.untried(), "\n")
-	for _, it := range []string{
+	all := strings.Join(b.omissions(), "\n")
+	for _, part := range []string{
 		"instances that are ready were compared 0 times", "bindings that are gone were compared 0 times",
 		"no request had the fault hang-up", "the broker was killed 0 times and paused 0 times", "the platform was killed",
 	} {
-		if !strings.Contains(all, it) {
-			t.Errorf("%q isn't in %s", it, all)
+		if !strings.Contains(all, part) {
+			t.Errorf("got %[2]s, want %[1]q in it", part, all)
 		}
 	}
 	if strings.Contains(all, "crash points") {
-		t.Error(all)
+		t.Errorf("got %q, want no \"crash points\" in it", all)
 	}
 	b.config.CrashPoints, b.config.Share = AllPoints, 0
-	if all := strings.Join(b.untried(), "\n"); !strings.Contains(all, "order-next") || strings.Contains(all, "the fault") {
-		t.Error(all)
+	if all := strings.Join(b.omissions(), "\n"); !strings.Contains(all, "order-next") || strings.Contains(all, "the fault") {
+		t.Errorf("got %s, want the order that is left out, and no fault", all)
 	}
 }
 
@@ -145,27 +152,27 @@ func TestPlaceOrNew(t *testing.T) {
 	k := newKeys(func(n int) string { return fmt.Sprint("own-", n) })
 	own := k.instance(3)
 	var found []string
-	for _, it := range [][2]string{{own.Instance}, {"x"}, {"y", "b"}, {"x", "b"}, {"y", "b"}, {own.Instance, "c"}, {}} {
-		place, is := k.placeOrNew(it[0], it[1])
+	for _, ids := range [][2]string{{own.Instance}, {"x"}, {"y", "b"}, {"x", "b"}, {"y", "b"}, {own.Instance, "c"}, {}} {
+		place, is := k.placeOrNew(ids[0], ids[1])
 		found = append(found, fmt.Sprintf("%s %v", place, is))
 	}
 	wanted := "3 true 1000001 true 1000002/1 true 1000001/1 true 1000002/1 true 3/1 true 0 false"
 	if text := strings.Join(found, " "); text != wanted {
-		t.Error(text)
+		t.Errorf("got %v, want %v", text, wanted)
 	}
 }
 
 // The rounds of a storm have other instances.
 func TestRounds(t *testing.T) {
-	b := &Both{config: BothConfig{Instances: 20, Time: time.Second}}
+	b := &Both{config: BothConfig{Instances: 20, Config: Config{Time: time.Second}}}
 	seen := map[int]bool{}
 	for round := 0; round < 3; round++ {
-		for _, it := range b.lives(round) {
-			seen[it.number] = true
+		for _, life := range b.lives(round) {
+			seen[life.number] = true
 		}
 	}
 	if len(seen) != 60 || !seen[1] || !seen[60] {
-		t.Errorf("%d instances", len(seen))
+		t.Errorf("got %d instances, want the 60", len(seen))
 	}
 }
 
@@ -176,7 +183,7 @@ func TestBothRejected(t *testing.T) {
 		"brokers":   func(c *BothConfig) { c.Brokers = 0 },
 		"share":     func(c *BothConfig) { c.Share = -0.1 },
 		"time":      func(c *BothConfig) { c.Late = 0 },
-		"restart":   func(c *BothConfig) { c.List = []fault.Numbered{{Kind: fault.RestartAfter}} },
+		"restart":   func(c *BothConfig) { c.List = []fault.Entry{{Kind: fault.RestartAfter}} },
 		"broker":    func(c *BothConfig) { c.Broker += "-none" },
 		"no part":   func(c *BothConfig) { c.Without = "everything" },
 		"databases": func(c *BothConfig) { c.Without, c.Backend, c.KillDatabase = "work", InPostgreSQL, 1 },
@@ -186,39 +193,360 @@ func TestBothRejected(t *testing.T) {
 		"platform":  func(c *BothConfig) { c.Platform = "/" },
 		"key":       func(c *BothConfig) { c.Platform = "/bin/false" },
 	} {
-		config := fakes(t)
-		change(&config)
-		if _, err := NewBoth(context.Background(), config); err == nil {
-			t.Errorf("%s is accepted", name)
-		}
-		if files, err := os.ReadDir(config.Folder); err != nil || len(files) > 0 {
-			t.Errorf("%s: %v %v are left", name, err, files)
-		}
+		t.Run(name, func(t *testing.T) {
+			config := fakes(t)
+			change(&config)
+			if _, err := NewBoth(context.Background(), config); err == nil {
+				t.Errorf("%s: got no error, want one", name)
+			}
+			if files, err := os.ReadDir(config.Folder); err != nil || len(files) > 0 {
+				t.Errorf("%s: got %v %v left, want none", name, err, files)
+			}
+		})
 	}
 }
 
 // A crash point that wasn't visited, or an end that nobody had a hand in, isn't clean, and is in the reports.
 func TestProgramsInReport(t *testing.T) {
-	for name, it := range map[string]*Programs{
+	for name, programs := range map[string]*Programs{
 		"": {BrokerKills: 2, PlatformPauses: 1, Visited: []string{"a"}},
 		"NOT TRIED: the broker was killed 0 times": {Untried: []string{"the broker was killed 0 times"}},
 		"TWO WORKERS AT ONCE: at one/two":          {Together: []string{"one/two"}},
 		"ODD: broker: it has ended by itself":      {Odd: []string{"broker: it has ended by itself"}},
 	} {
+		t.Run(name, func(t *testing.T) {
+			report := emptyReport()
+			report.Converged, report.Programs = true, programs
+			if report.IsClean() != (name == "") {
+				t.Errorf("%q: got clean %v, want %v", name, report.IsClean(), name == "")
+			}
+			for form, text := range reports(t, report) {
+				if form != "JSON" && !strings.Contains(text, name) {
+					t.Errorf("%s: got no %q, want it", form, name)
+				}
+			}
+			if text := textOf(t, report); name == "" && !strings.Contains(text,
+				"the broker was killed 2 times and paused 0 times, the platform was killed 0 times and paused once\n"+
+					"1 crash point visited, commands were killed 0 times\n") {
+				t.Errorf("got\n%s\nwant the kills and pauses of both", text)
+			}
+		})
+	}
+}
+
+// A site is a platform with one binding, and a resource that lets its credentials in or not.
+type site struct {
+	state  platform.State
+	object string
+	letsIn bool
+	away   error
+}
+
+func (s *site) keyring() *keyring {
+	return &keyring{
+		read: func(context.Context, Key) (json.RawMessage, error) {
+			if s.state != audit.Ready || s.object == "" {
+				return nil, nil
+			}
+			return json.RawMessage(s.object), nil
+		},
+		records: func(context.Context) (map[Key]audit.Record, error) {
+			return map[Key]audit.Record{{Instance: "one", Binding: "two"}: {State: s.state}}, nil
+		},
+		works: func(_ context.Context, _ Key, given json.RawMessage) (bool, error) {
+			return s.letsIn && string(given) == `{"token":"t"}`, s.away
+		},
+		keep: func(Difference) {}, given: map[Key]json.RawMessage{},
+	}
+}
+
+// The credentials of each binding that is ready are read and tried, and those of what is gone give no access.
+func TestKeyring(t *testing.T) {
+	t.Parallel()
+	const object = `{"credentials":{"token":"t"}}`
+	for name, test := range map[string]struct {
+		first, then site
+		wrong       string
+	}{
+		"right":       {site{"ready", object, true, nil}, site{"ready", object, true, nil}, ""},
+		"gone":        {site{"ready", object, true, nil}, site{"gone", object, false, nil}, ""},
+		"never ready": {site{"polling", object, true, nil}, site{"gone", object, true, nil}, ""},
+		"no access":   {site{"ready", object, false, nil}, site{"gone", object, false, nil}, "give no access"},
+		"at the end":  {site{"polling", object, false, nil}, site{"ready", object, false, nil}, "give no access"},
+		"not printed": {site{"polling", "", true, nil}, site{"ready", "", true, nil}, "prints no credentials"},
+		"changed": {site{"ready", object, true, nil}, site{"ready", `{"credentials":{"token":"t"},"x":1}`, true, nil},
+			"or other ones than before"},
+		"gone, and give access": {site{"ready", object, true, nil}, site{"gone", object, true, nil},
+			"its record says gone, and its credentials give access"},
+	} {
+		t.Run(name, func(t *testing.T) {
+			s := test.first
+			k := s.keyring()
+			ctx, cancel := context.WithTimeout(context.Background(), credentialsEach+100*time.Millisecond)
+			k.run(ctx)
+			cancel()
+			s = test.then
+			if err := k.finish(context.Background()); err != nil {
+				t.Errorf("%s: got the error %v, want none", name, err)
+			}
+			var found []string
+			for _, difference := range k.differences() {
+				found = append(found, difference.What)
+			}
+			if text := strings.Join(found, "; "); !strings.Contains(text, test.wrong) || (text == "") != (test.wrong == "") {
+				t.Errorf("%s: got %q, want %q", name, text, test.wrong)
+			}
+		})
+	}
+	s := site{"ready", object, false, errors.New("away")}
+	k := s.keyring()
+	if err := k.finish(context.Background()); err == nil || len(k.differences()) > 0 {
+		t.Errorf("a server that is away: got %v and %v, want an error and no difference", err, k.differences())
+	}
+}
+
+// fixedPlace has one instance that is ready, of which nothing exists.
+type fixedPlace struct{ audit.Resources }
+
+func (fixedPlace) Read(context.Context) (map[Key]audit.Row, error) { return nil, nil }
+
+func (fixedPlace) Look(context.Context, func(string) bool) (audit.There, error) {
+	return audit.There{}, nil
+}
+
+// The looks count what they compare, and what is found stays, once.
+func TestAuditor(t *testing.T) {
+	t.Parallel()
+	ready, kept := map[Key]audit.Record{{Instance: "one"}: {State: audit.Ready, Rests: true}}, 0
+	a := newAuditor(audit.Place{
+		Records:  func(context.Context) (map[Key]audit.Record, error) { return ready, nil },
+		Holdings: fixedPlace{}, Resources: fixedPlace{}, IsOurs: func(string) bool { return true },
+		Given: func() map[Key]json.RawMessage { return nil }, Foreign: func() map[Key]bool { return nil },
+	}, func(Difference) { kept++ })
+	for look := 0; look < 3; look++ {
+		a.look(context.Background())
+	}
+	all, err := a.end(context.Background())
+	counts := a.counts()
+	if err != nil || kept != 1 || len(all) != 2 || counts["instances that are ready"] != 3 || len(counts) != 4 {
+		t.Errorf("got %v, %d kept, %v and %v, want the counts of what is kept", err, kept, all, counts)
+	}
+	if all[0].What != "during the storm, its record says ready, and it doesn't exist, or not as a whole" ||
+		all[1].What != strings.TrimPrefix(all[0].What, "during the storm, ") || all[0].Kind != False {
+		t.Errorf("got %v, want a false record, first during the storm and then in the end", all)
+	}
+}
+
+// A part is taken out of the program that has it, and of no other.
+func TestWithout(t *testing.T) {
+	for name, wanted := range map[string]string{
+		"": "", "work": whoBroker, "held": whoBroker, "attempts": whoPlatform,
+		"broker": whoBroker, "platform": whoPlatform,
+	} {
+		t.Run(name, func(t *testing.T) {
+			config := fakes(t)
+			config.Without, config.Share = name, 0.4
+			b, err := NewBoth(context.Background(), config)
+			check(t, err)
+			defer b.Close()
+			for _, program := range b.programs() {
+				has := strings.HasSuffix(strings.Join(program.environment, "\n"), "\nOSB_WITHOUT="+name)
+				if has != (program.name == wanted) {
+					t.Errorf("%q: got a variable in the environment of %s: %v, want one of %s alone", name, program, has, wanted)
+				}
+				if killed := name != "attempts" || program.name == whoBroker; b.isKilled(program) != killed {
+					t.Errorf("%q: %s: got it killed %v, want the opposite", name, program, !killed)
+				}
+			}
+			if isUnruly := b.unruly != nil; isUnruly != (name == "held") {
+				t.Errorf("%q: got unruly %v, want %v", name, isUnruly, name == "held")
+			}
+			usual := BothConfig{}.weights()
+			slow := b.config.share() > 0.4 && b.config.weights()[1] != usual[1] && usual[1].Kind == fault.RequestSwallowed
+			if slow != (name == "attempts") {
+				t.Errorf("%q: got the faults %v with the share %v, want slow ones for attempts only", name, b.config.weights(),
+					b.config.share())
+			}
+		})
+	}
+}
+
+// A program that was built without the tag storm can't run without a part, and one with it ends at one that it lacks.
+func TestCheckTag(t *testing.T) {
+	script := filepath.Join(t.TempDir(), "program")
+	const text = "#!/bin/sh\n[ \"$1\" != key ] || echo 0123456789012345678901234567890123456789012\n" +
+		"case $OSB_WITHOUT in no-such-part) exit 2;; esac\n[ \"$1\" != serve ] || exec sleep 60\n"
+	for content, wanted := range map[string]string{text: "", strings.Replace(text, "no-such", "any", 1): "without the tag storm"} {
+		t.Run(content, func(t *testing.T) {
+			check(t, os.WriteFile(script, []byte(content), 0o700))
+			config := fakes(t)
+			config.Broker, config.Platform, config.Without = script, script, "work"
+			b, err := NewBoth(context.Background(), config)
+			check(t, err)
+			defer b.Close()
+			b.brokers[0].times.point, b.workers[0].times.point = 300*time.Millisecond, 300*time.Millisecond
+			got := ""
+			if err := b.checkTag(context.Background()); err != nil {
+				got = err.Error()
+			}
+			if !strings.Contains(got, wanted) || (got == "") != (wanted == "") {
+				t.Errorf("got %q, want %q", got, wanted)
+			}
+		})
+	}
+}
+
+// Without a part, a storm is clean if it has found something.
+func TestReportWithout(t *testing.T) {
+	for _, isFound := range []bool{false, true} {
 		report := emptyReport()
-		report.Converged, report.Programs = true, it
-		if report.IsClean() != (name == "") {
-			t.Errorf("%q: clean is %v", name, report.IsClean())
+		report.Programs = &Programs{Without: "work"}
+		words := "without work the storm has FOUND NOTHING that is left behind"
+		if isFound {
+			report.Lost = append(report.Lost, Finding{What: "it exists"})
+			words = "without work the storm has found what is left behind"
 		}
-		for form, text := range reports(t, report) {
-			if form != "JSON" && !strings.Contains(text, name) {
-				t.Errorf("%s doesn't have %q", form, name)
+		if report.IsClean() != isFound || !strings.Contains(textOf(t, report), words) {
+			t.Errorf("got clean %v, want it with %[3]q:\n%[2]s", report.IsClean(), textOf(t, report), words)
+		}
+	}
+}
+
+// In a storm with both as they are usually written, each program is. Only the broker reaches no crash points.
+func TestWithoutBoth(t *testing.T) {
+	config := fakes(t)
+	config.Without, config.CrashPoints = withoutBoth, SomePoints
+	b, err := NewBoth(context.Background(), config)
+	check(t, err)
+	defer b.Close()
+	for _, program := range b.programs() {
+		if !strings.HasSuffix(strings.Join(program.environment, "\n"), "\nOSB_WITHOUT="+program.name) {
+			t.Errorf("got the environment of %s %v, want its own name in it", program, program.environment)
+		}
+		if (len(program.open) == 0) != (program.name == whoBroker) {
+			t.Errorf("got crash points of %s %v, want none of the broker alone", program, program.open)
+		}
+	}
+	if words := strings.Join(b.brokers[0].line, " "); !strings.Contains(words, "--first-poll=false") {
+		t.Errorf("got %q, want \"--first-poll=false\" in it", words)
+	}
+}
+
+// A leaving broker holds what was bound until it was unbound twice.
+type leaving struct {
+	mutex sync.Mutex
+	left  map[Key]int
+	polls int
+	bad   []string
+}
+
+func (l *leaving) ServeHTTP(w http.ResponseWriter, r *http.Request) {
+	l.mutex.Lock()
+	defer l.mutex.Unlock()
+	parts := strings.Split(r.URL.Path, "/")
+	key := Key{Instance: parts[3], Binding: parts[5]}
+	user, password, _ := r.BasicAuth()
+	if user != "platform" || password != "secret" || r.Header.Get("X-Broker-API-Version") == "" {
+		l.bad = append(l.bad, "the login")
+	}
+	switch r.Method {
+	case http.MethodGet:
+		l.polls++
+	case http.MethodPut:
+		var body map[string]string
+		if json.NewDecoder(r.Body).Decode(&body) != nil || body["service_id"] != goods.Service ||
+			body["plan_id"] != r.URL.Query().Get("plan_id") {
+			l.bad = append(l.bad, fmt.Sprint(body))
+		}
+		l.left[key] = 2
+		w.WriteHeader(http.StatusAccepted)
+	case http.MethodDelete:
+		if l.left[key] > 0 {
+			l.left[key]--
+		}
+		w.WriteHeader(http.StatusServiceUnavailable)
+	}
+}
+
+// holdings is what the broker holds.
+func (l *leaving) holdings(t *testing.T) map[Key]audit.Row {
+	const ready = `{"attributes":"%064d","row":{"phase":"ready","plan":"%s","service":"%s"},"tombstone":false,` +
+		`"version":2,"work":null}`
+	var holding osb.Holding
+	if err := holding.UnmarshalJSON([]byte(fmt.Sprintf(ready, 0, goods.AtOnce, goods.Service))); err != nil {
+		t.Error(err)
+	}
+	l.mutex.Lock()
+	defer l.mutex.Unlock()
+	all := map[Key]audit.Row{}
+	for key, left := range l.left {
+		all[key] = audit.Row{}
+		if left > 0 {
+			all[key] = audit.Row{Holding: holding}
+		}
+	}
+	return all
+}
+
+// The unruly client binds whatever exists, and unbinds all that the broker holds once it is calm.
+func TestUnruly(t *testing.T) {
+	t.Parallel()
+	broker := &leaving{left: map[Key]int{}}
+	server := httptest.NewServer(broker)
+	defer server.Close()
+	plan, err := osb.IDOfText(goods.Later)
+	check(t, err)
+	made, states := 0, map[string]platform.State{
+		"cleaning": platform.Cleaning, "withdrawn": platform.Withdrawn, "gone": platform.Gone, "ordered": platform.Ordered,
+	}
+	u := &unruly{
+		url: server.URL, password: "secret", perSecond: 400, client: http.Client{Timeout: time.Second},
+		held: func(context.Context) (map[Key]audit.Row, error) { return broker.holdings(t), nil },
+		records: func(context.Context) (map[Key]audit.Record, error) {
+			all := map[Key]audit.Record{}
+			for id, state := range states {
+				all[Key{Instance: id}] = audit.Record{State: state, Plan: plan}
+			}
+			return all, nil
+		},
+		newID: func() string { made++; return fmt.Sprint("made-", made) }, chance: fault.Chance(4, "test"),
+		bound: map[Key]bool{}, sending: map[Key]bool{},
+	}
+	ctx, cancel := context.WithCancel(context.Background())
+	ended := make(chan struct{})
+	go func() {
+		defer close(ended)
+		u.run(ctx)
+	}()
+	await := func(what string, is func() bool) {
+		for end := time.Now().Add(20 * time.Second); !is(); time.Sleep(5 * time.Millisecond) {
+			if time.Now().After(end) {
+				t.Fatalf("got no end in time, want it: %s", what)
 			}
 		}
-		if text := textOf(t, report); name == "" && !strings.Contains(text,
-			"the broker was killed 2 times and paused 0 times, the platform was killed 0 times and paused once\n"+
-				"1 crash point visited, commands were killed 0 times\n") {
-			t.Error(text)
+	}
+	await("nothing is bound", func() bool { return len(broker.holdings(t)) >= 24 })
+	u.calm()
+	await("something is held", func() bool { return u.isDone(ctx) })
+	bound := len(u.all())
+	cancel()
+	<-ended
+	if len(u.all()) != bound || len(broker.bad) > 0 || broker.polls == 0 {
+		t.Errorf("got %d and then %d bound, %d polls and bad %v, want as many, some and none", bound, len(u.all()),
+			broker.polls, broker.bad)
+	}
+	known, unknown := 0, 0
+	for key := range u.all() {
+		switch {
+		case key.Instance == "cleaning":
+			known++
+		case strings.HasPrefix(key.Instance, "made-"):
+			unknown++
+		default:
+			t.Errorf("%s: got a binding, want none", key.Instance)
 		}
+	}
+	if known <= unknown || unknown == 0 {
+		t.Errorf("got %d of an instance that is known, and %d of others, want more of the first", known, unknown)
 	}
 }

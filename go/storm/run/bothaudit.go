@@ -4,11 +4,13 @@ import (
 	"context"
 	"encoding/json"
 	"fmt"
+	"strings"
 	"sync"
 	"time"
 
 	"pippinterm/platform"
 	"pippinterm/storm/fault"
+	"pippinterm/storm/report"
 	"pippinterm/storm/run/audit"
 )
 
@@ -61,13 +63,13 @@ func (a *auditor) look(ctx context.Context) {
 	}
 	a.mutex.Lock()
 	defer a.mutex.Unlock()
-	for _, it := range comparedKinds {
-		a.compared[it.name] += len(sight.Compared(it.state, it.isBinding))
+	for _, kind := range comparedKinds {
+		a.compared[kind.name] += len(sight.SteadyKeys(kind.state, kind.isBinding))
 	}
-	for _, it := range sight.Wrong() {
-		if !a.known[it.Key] {
-			a.known[it.Key] = true
-			difference := Difference{Key: it.Key, Kind: kinds[it.Kind], What: "during the storm, " + it.What}
+	for _, wrong := range sight.Wrong() {
+		if !a.known[wrong.Key] {
+			a.known[wrong.Key] = true
+			difference := Difference{Key: wrong.Key, Kind: kinds[wrong.Kind], What: "during the storm, " + wrong.What}
 			a.found = append(a.found, difference)
 			a.keep(difference)
 		}
@@ -84,8 +86,8 @@ func (a *auditor) end(ctx context.Context) (all []Difference, failed error) {
 		return all, fmt.Errorf("the records, the rows and what exists can't be compared: %w", err)
 	}
 	left, err := sight.Left(ctx, a.place.Resources)
-	for _, it := range left {
-		all = append(all, Difference{Key: it.Key, Kind: kinds[it.Kind], What: it.What})
+	for _, wrong := range left {
+		all = append(all, Difference{Key: wrong.Key, Kind: kinds[wrong.Kind], What: wrong.What})
 	}
 	if err != nil {
 		err = fmt.Errorf("a resource can't be tried: %w", err)
@@ -105,8 +107,8 @@ func (a *auditor) counts() map[string]int {
 	a.mutex.Lock()
 	defer a.mutex.Unlock()
 	all := map[string]int{}
-	for _, it := range comparedKinds {
-		all[it.name] = a.compared[it.name]
+	for _, kind := range comparedKinds {
+		all[kind.name] = a.compared[kind.name]
 	}
 	return all
 }
@@ -133,33 +135,33 @@ func (k *keyring) run(ctx context.Context) {
 		if err != nil {
 			continue
 		}
-		for key, it := range records {
-			if key.Binding != "" && it.State == audit.Ready && !k.has(key) && ctx.Err() == nil {
+		for key, record := range records {
+			if key.Binding != "" && record.State == audit.Ready && !k.has(key) && ctx.Err() == nil {
 				_ = k.try(ctx, key)
 			}
 		}
 	}
 }
 
-// finish reads and tries the credentials of all bindings that are ready at the end. Those of bindings that are gone must
-// give no access.
+// finish reads and tries the credentials of all bindings that are ready at the end. Those of bindings that are gone
+// must give no access.
 func (k *keyring) finish(ctx context.Context) error {
 	records, err := k.records(ctx)
 	if err != nil {
 		return err
 	}
 	before := k.all()
-	for key, it := range records {
+	for key, record := range records {
 		if key.Binding == "" {
 			continue
 		}
-		if it.State == audit.Ready {
+		if record.State == audit.Ready {
 			if err := k.again(ctx, key, before[key]); err != nil {
 				return err
 			}
 		}
 		object, isGiven := before[key]
-		if !isGiven || it.State != audit.Gone {
+		if !isGiven || record.State != audit.Gone {
 			continue
 		}
 		works, err := k.works(ctx, key, audit.CredentialsOf(object))
@@ -229,8 +231,8 @@ func (k *keyring) all() map[Key]json.RawMessage {
 	k.mutex.Lock()
 	defer k.mutex.Unlock()
 	all := make(map[Key]json.RawMessage, len(k.given))
-	for key, it := range k.given {
-		all[key] = it
+	for key, object := range k.given {
+		all[key] = object
 	}
 	return all
 }
@@ -240,4 +242,155 @@ func (k *keyring) differences() []Difference {
 	k.mutex.Lock()
 	defer k.mutex.Unlock()
 	return append([]Difference(nil), k.wrong...)
+}
+
+// Programs are what a storm of both programs did to them, and what is wrong with the storm itself.
+type Programs struct {
+	Brokers        int            `json:"brokers"`
+	Workers        int            `json:"workers"`
+	Store          string         `json:"store"`
+	Backend        string         `json:"backend"`
+	HAProxy        bool           `json:"haproxy"`
+	BrokerKills    int            `json:"broker_kills"`
+	BrokerPauses   int            `json:"broker_pauses"`
+	PlatformKills  int            `json:"platform_kills"`
+	PlatformPauses int            `json:"platform_pauses"`
+	CommandKills   int            `json:"command_kills"`
+	DatabaseKills  int            `json:"database_kills"`
+	DatabasePauses int            `json:"database_pauses"`
+	Ends           int            `json:"ends"` // how often a program has ended by itself because its store was away
+	Visited        []string       `json:"visited_crash_points"`
+	Unvisited      []string       `json:"unvisited_crash_points"`
+	Compared       map[string]int `json:"compared"`          // how many records of each kind were compared during the storm
+	Credentials    int            `json:"credentials"`       // of how many bindings they were tried
+	Together       []string       `json:"together"`          // the keys at which two have worked at once
+	Without        string         `json:"without,omitempty"` // the part of the design that was taken out
+	UnrulyBindings int            `json:"unruly_bindings"`   // of the client that keeps no rules
+	Untried        []string       `json:"untried"`           // what has to happen in every storm, and hasn't
+	Odd            []string       `json:"odd"`               // ends that nobody had a hand in, and errors that a program didn't expect
+}
+
+// newReport returns the report of a storm of both.
+func (b *Both) newReport() *Report {
+	report := NewReport(b.proxy.URL(), b.config.Seed, "platform", b.password)
+	report.Prefix, report.Service, report.Plan = b.ids.Prefix(), "osb-storm", "all plans"
+	report.Inventory = b.config.describe()
+	report.Programs = &Programs{
+		Brokers: len(b.brokers), Workers: len(b.workers), Store: b.config.Store, Backend: b.config.Backend,
+		HAProxy: b.config.HAProxy, Visited: []string{}, Unvisited: []string{}, Together: []string{}, Untried: []string{},
+		Odd: []string{},
+	}
+	return report
+}
+
+// add adds what the storm has done to the programs.
+func (b *Both) add(report *Report, found *Result) {
+	p, hide := report.Programs, report.hider(found)
+	for _, test := range []struct {
+		of            []*victim
+		kills, pauses *int
+	}{{b.brokers, &p.BrokerKills, &p.BrokerPauses}, {b.workers, &p.PlatformKills, &p.PlatformPauses}} {
+		for _, v := range test.of {
+			kills, pauses, visited, odd := v.counts()
+			*test.kills, *test.pauses = *test.kills+kills, *test.pauses+pauses
+			p.Ends += v.endsByItself()
+			p.Visited = append(p.Visited, visited...)
+			for _, line := range append(odd, cries(v.log)...) {
+				p.Odd = append(p.Odd, hide.In(fmt.Sprintf("%s: %.1000s", v, line)))
+			}
+		}
+	}
+	kills, visited, _ := b.commands.points()
+	p.CommandKills, p.Visited = kills, append(p.Visited, visited...)
+	p.Unvisited = append(p.Unvisited, b.remainingPoints()...)
+	for _, line := range b.commands.odd() {
+		p.Odd = append(p.Odd, hide.In(line))
+	}
+	if b.places.server != nil {
+		p.DatabaseKills, p.DatabasePauses = b.places.server.Counts()
+	}
+	p.Compared, p.Credentials = b.auditor.counts(), len(b.keyring.all())
+	p.Together = append(p.Together, b.places.together()...)
+	p.Without = b.config.Without
+	if b.unruly != nil {
+		p.UnrulyBindings = len(b.unruly.all())
+	}
+	report.Instances, report.Bindings = b.commands.counts()
+	if report.Ended == "" && p.Without == "" {
+		p.Untried = append(p.Untried, b.omissions()...)
+		report.Untried = p.Untried
+	}
+	report.Restarts = p.BrokerKills
+}
+
+// lines returns the facts for people.
+func (p *Programs) lines() []string {
+	lines := []string{
+		fmt.Sprintf("%s killed %s and paused %s, %s killed %s and paused %s",
+			many("the broker was", p.Brokers, "the %d brokers were"), times(p.BrokerKills), times(p.BrokerPauses),
+			many("the platform was", p.Workers, "the %d workers of the platform were"), times(p.PlatformKills),
+			times(p.PlatformPauses)),
+	}
+	if p.DatabaseKills+p.DatabasePauses > 0 {
+		lines = append(lines, fmt.Sprintf("PostgreSQL was killed %s and paused %s", times(p.DatabaseKills),
+			times(p.DatabasePauses)))
+	}
+	if p.Ends > 0 {
+		lines = append(lines, fmt.Sprintf("programs have ended by themselves %s because their store was away", times(p.Ends)))
+	}
+	if all := len(p.Visited) + len(p.Unvisited); all > 0 {
+		lines = append(lines, fmt.Sprintf("%s visited, commands were killed %s",
+			report.Quantity(len(p.Visited), "crash point"), times(p.CommandKills)))
+	}
+	if p.UnrulyBindings > 0 {
+		lines = append(lines, fmt.Sprintf("the client that keeps no rules has created %s",
+			report.Quantity(p.UnrulyBindings, "binding")))
+	}
+	return append(lines, p.looks())
+}
+
+// looks says what was compared, for people.
+func (p *Programs) looks() string {
+	var compared []string
+	for _, kind := range comparedKinds {
+		compared = append(compared, fmt.Sprintf("%d %s", p.Compared[kind.name], kind.name))
+	}
+	return fmt.Sprintf("records compared during the storm: %s; credentials of %s tried", strings.Join(compared, ", "),
+		report.Quantity(p.Credentials, "binding"))
+}
+
+// many returns the words for one, or those for several with their number in it.
+func many(one string, count int, several string) string {
+	if count <= 1 {
+		return one
+	}
+	return fmt.Sprintf(several, count)
+}
+
+func times(count int) string {
+	if count == 1 {
+		return "once"
+	}
+	return fmt.Sprintf("%d times", count)
+}
+
+// mostTogether is how many keys at which two have worked at once are listed.
+const mostTogether = 5
+
+// problems returns what went wrong with the programs and with the storm, for people.
+func (p *Programs) problems() (lines []string) {
+	for at, key := range p.Together {
+		if at == mostTogether {
+			lines = append(lines, fmt.Sprintf("TWO WORKERS AT ONCE: %s more", times(len(p.Together)-at)))
+			break
+		}
+		lines = append(lines, "TWO WORKERS AT ONCE: at "+key)
+	}
+	for _, omission := range p.Untried {
+		lines = append(lines, "NOT TRIED: "+omission)
+	}
+	for _, oddity := range p.Odd {
+		lines = append(lines, "ODD: "+oddity)
+	}
+	return lines
 }

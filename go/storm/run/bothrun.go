@@ -3,35 +3,39 @@ package run
 import (
 	"context"
 	"fmt"
+	"math/rand"
+	"strings"
+	"sync"
 	"time"
 
+	"pippinterm/platform"
 	"pippinterm/storm/fault"
-	stormreport "pippinterm/storm/report"
+	"pippinterm/storm/report"
 )
 
 // Run runs the storm, and returns what was lost. If ctx is done, it ends at once.
 //
 // Errors: a program can't be started, or, if crash points are to be visited, was built without them.
 func (b *Both) Run(ctx context.Context) (*Report, error) {
-	report := b.newReport()
-	found, err := b.once(ctx)
-	if err != nil {
-		return report, err
+	into := b.newReport()
+	once := func(ctx context.Context, of *report.Candidate) (*Result, error) {
+		if of == nil {
+			return b.once(ctx)
+		}
+		return b.again(ctx, *of)
 	}
-	b.take(report, found)
-	if b.config.MinimizeTime > 0 && found.isLoser() && ctx.Err() == nil {
-		b.minimize(ctx, found, report)
+	add := func(found *Result) { b.add(into, found) }
+	err := Core{Config: b.config.Config, Report: into, Once: once, Add: add}.Run(ctx)
+	if hasShrunk := into.MinimizeRuns > 0 || into.MinimizeEnded != ""; hasShrunk && into.Minimal == nil {
+		into.Notes = append(into.Notes, "--minimize: nothing was killed or paused in these runs")
 	}
-	if ctx.Err() != nil {
-		report.Ended = "the run was ended before"
-	}
-	return report, nil
+	return into, err
 }
 
 // once is one run.
-func (b *Both) once(ctx context.Context) (*result, error) {
+func (b *Both) once(ctx context.Context) (*Result, error) {
 	if err := b.begin(ctx); err != nil {
-		return &result{keys: b.keys}, err
+		return &Result{Keys: b.keys}, err
 	}
 	b.commands.kill(b.config.CrashPoints != "")
 	found := b.course(ctx)
@@ -41,25 +45,17 @@ func (b *Both) once(ctx context.Context) (*result, error) {
 	return found, nil
 }
 
-// minimize shrinks the list of faults to the shortest one with which something is lost in a calm storm, and writes it
-// into the report.
-func (b *Both) minimize(ctx context.Context, found *result, report *Report) {
-	limited, cancel := context.WithTimeout(ctx, b.config.MinimizeTime)
-	defer cancel()
-	report.shrink(limited, candidates(found), func(ctx context.Context, it stormreport.Candidate) (*result, error) {
-		config := b.config
-		config.Calm, config.CrashPoints, config.Unruly, config.password = true, "", false, b.password
-		config.List, config.only = append([]fault.Numbered{}, it.List...), it.Only
-		trial, err := NewBoth(ctx, config)
-		if err != nil {
-			return nil, err
-		}
-		again, err := trial.once(ctx)
-		return again, either(err, trial.Close())
-	})
-	if report.Minimal == nil {
-		report.Notes = append(report.Notes, "--minimize: nothing was killed or paused in these runs")
+// again is a further run, which is calm, with the faults of a candidate.
+func (b *Both) again(ctx context.Context, of report.Candidate) (*Result, error) {
+	config := b.config
+	config.Calm, config.CrashPoints, config.Unruly, config.password = true, "", false, b.password
+	config.List, config.only = append([]fault.Entry{}, of.List...), of.Only
+	trial, err := NewBoth(ctx, config)
+	if err != nil {
+		return nil, err
 	}
+	again, err := trial.once(ctx)
+	return again, either(err, trial.Close())
 }
 
 // begin starts the brokers and a worker once without faults, until the platform has the catalogue.
@@ -72,15 +68,15 @@ func (b *Both) begin(ctx context.Context) error {
 		end = (*victim).end
 	}
 	defer together(first, end)
-	for _, it := range first {
-		if !it.start("") {
-			return fmt.Errorf("a program can't be started: %v", it.odd)
+	for _, victim := range first {
+		if !victim.start("") {
+			return fmt.Errorf("a program can't be started: %v", victim.odd)
 		}
 	}
 	within, cancel := context.WithTimeout(ctx, 30*time.Second)
 	defer cancel()
-	for at, it := range b.addresses {
-		if err := awaitBroker(within, it); err != nil {
+	for at, address := range b.addresses {
+		if err := awaitBroker(within, address); err != nil {
 			return fmt.Errorf("%w. Its log: %.1000s", err, lastOf(b.brokers[at].log))
 		}
 	}
@@ -125,10 +121,10 @@ func (b *Both) livesOf(round int, only map[int]bool) []life {
 	return all
 }
 
-// unvisited returns the crash points that are still to be visited.
-func (b *Both) unvisited() (points []string) {
-	for _, it := range b.programs() {
-		points = append(points, it.unvisited()...)
+// remainingPoints returns the crash points that are still to be visited.
+func (b *Both) remainingPoints() (points []string) {
+	for _, program := range b.programs() {
+		points = append(points, program.remainingPoints()...)
 	}
 	if b.config.CrashPoints != "" {
 		_, _, ofCommands := b.commands.points()
@@ -138,7 +134,7 @@ func (b *Both) unvisited() (points []string) {
 }
 
 // course lets the lives and the kills go on, waits until everything has converged, and compares at the end.
-func (b *Both) course(ctx context.Context) *result {
+func (b *Both) course(ctx context.Context) *Result {
 	endUnruly := b.runUnruly(ctx)
 	troubles := b.trouble(ctx)
 	begun := b.journal.Now()
@@ -155,17 +151,17 @@ func (b *Both) course(ctx context.Context) *result {
 			if since < b.config.Time || b.auditor.hasFound() {
 				return since >= b.config.Time
 			}
-			return b.config.Without != "" && since >= 2*b.config.Time || b.config.Without == "" && len(b.untried()) == 0
+			return b.config.Without != "" && since >= 2*b.config.Time || b.config.Without == "" && len(b.omissions()) == 0
 		},
 		endsWhenDone: !b.config.Calm, calm: func() { b.calm(ctx, troubles) },
 	}
-	found := &result{keys: b.keys}
-	found.converged, found.took = c.run(ctx)
+	found := &Result{Keys: b.keys}
+	found.Converged, found.Took = c.run(ctx)
 	endUnruly()
 	b.compare(ctx, found)
-	found.exchanges, found.events, found.given = b.journal.Exchanges(), b.events.list(), b.source.Given()
-	hide := stormreport.NewHider("platform", b.password, found.exchanges)
-	found.broken, found.unmet = judge(found.exchanges, found.differences, hide), b.source.Unmet()
+	found.Exchanges, found.Events, found.Given = b.journal.Exchanges(), b.events.list(), b.source.Faults()
+	hide := report.NewHider("platform", b.password, found.Exchanges)
+	found.Broken, found.Unmet = judge(found.Exchanges, found.Differences, hide), b.source.Unmet()
 	return found
 }
 
@@ -187,51 +183,51 @@ func (b *Both) runUnruly(ctx context.Context) (end func()) {
 }
 
 // compare compares everything at the end, unless ctx is done: then only what was found before counts.
-func (b *Both) compare(ctx context.Context, found *result) {
+func (b *Both) compare(ctx context.Context, found *Result) {
 	isWhole := ctx.Err() == nil
 	ctx = context.Background()
 	if isWhole {
 		if err := b.keyring.finish(ctx); err != nil {
-			found.failed = append(found.failed, err.Error())
+			found.Failed = append(found.Failed, err.Error())
 		}
 	}
 	ofAudit, err := b.auditor.end(ctx)
 	if err != nil {
-		found.failed = append(found.failed, err.Error())
+		found.Failed = append(found.Failed, err.Error())
 	}
-	found.differences = append(append(found.differences, b.keyring.differences()...), ofAudit...)
+	found.Differences = append(append(found.Differences, b.keyring.differences()...), ofAudit...)
 	if !isWhole {
-		found.differences = differences(found.differences).without(Stuck)
+		found.LeaveOut(Stuck)
 		return
 	}
 	records, err := b.commands.Records(ctx)
 	if err != nil {
-		found.failed = append(found.failed, err.Error())
+		found.Failed = append(found.Failed, err.Error())
 		return
 	}
-	found.differences = append(found.differences, b.commands.undone(records)...)
-	if found.converged {
+	found.Differences = append(found.Differences, b.commands.undone(records)...)
+	if found.Converged {
 		b.comparePrinted(ctx, records)
 	}
 }
 
 // comparePrinted compares what osb-platform prints with its records.
 func (b *Both) comparePrinted(ctx context.Context, records map[Key]Record) {
-	listed, err := b.commands.Listed(ctx)
+	listed, err := b.commands.ListStates(ctx)
 	if err != nil {
 		b.commands.note(err.Error())
 	}
 	shown := 0
-	for key, it := range records {
-		if listed[ofKey(key)] != it.State {
-			b.commands.note(fmt.Sprintf("osb-platform list prints %q for %s, which is %s", listed[ofKey(key)], ofKey(key), it.State))
+	for key, record := range records {
+		if listed[ofKey(key)] != record.State {
+			b.commands.note(fmt.Sprintf("osb-platform list prints %q for %s, which is %s", listed[ofKey(key)], ofKey(key), record.State))
 			return
 		}
 		if shown++; shown > shownRows {
 			continue
 		}
-		if state, err := b.commands.Shown(ctx, key); err != nil || state != it.State {
-			b.commands.note(fmt.Sprintf("osb-platform show prints %q for %s, which is %s", state, ofKey(key), it.State))
+		if state, err := b.commands.ShowState(ctx, key); err != nil || state != record.State {
+			b.commands.note(fmt.Sprintf("osb-platform show prints %q for %s, which is %s", state, ofKey(key), record.State))
 		}
 	}
 	if len(listed) != len(records) {
@@ -241,3 +237,280 @@ func (b *Both) comparePrinted(ctx context.Context, records map[Key]Record) {
 
 // shownRows is for how many rows the output of `show` is compared.
 const shownRows = 3
+
+// troubles are what goes on until the faults end: kills and pauses, and what the operator does besides the lives.
+type troubles struct {
+	cancel func()
+	group  sync.WaitGroup
+}
+
+// trouble begins all of it.
+func (b *Both) trouble(ctx context.Context) *troubles {
+	ctx, cancel := context.WithCancel(ctx)
+	t := &troubles{cancel: cancel}
+	calls := []func(context.Context){b.keyring.run}
+	if !b.config.Calm {
+		calls = append(calls, b.meddle)
+	}
+	for _, program := range b.programs() {
+		if b.isKilled(program) {
+			calls = append(calls, program.run)
+		} else {
+			program.startCalmly()
+		}
+	}
+	if b.places.database != nil && !b.config.Calm {
+		calls = append(calls, b.endSessions)
+	}
+	if b.places.server != nil && !b.config.Calm {
+		calls = append(calls, b.strike)
+	}
+	for _, call := range calls {
+		it := call
+		t.group.Add(1)
+		go func() {
+			defer t.group.Done()
+			it(ctx)
+		}()
+	}
+	return t
+}
+
+// calm ends the troubles, and starts all programs for the last time, unless ctx is done.
+func (b *Both) calm(ctx context.Context, t *troubles) {
+	t.cancel()
+	t.group.Wait()
+	b.commands.kill(false)
+	if ctx.Err() != nil {
+		return
+	}
+	if b.unruly != nil {
+		b.unruly.calm()
+	}
+	var killed []*victim
+	for _, program := range b.programs() {
+		if b.isKilled(program) {
+			killed = append(killed, program)
+		}
+	}
+	together(killed, (*victim).startCalmly)
+}
+
+// endSessions ends a session with PostgreSQL every few seconds.
+func (b *Both) endSessions(ctx context.Context) {
+	chance := fault.Chance(b.config.Seed, "sessions")
+	for fault.Sleep(ctx, between(chance, 500*time.Millisecond, 3*time.Second)) {
+		if isEnded, err := b.places.database.EndSession(ctx); err == nil && isEnded {
+			b.events.add(Key{}, "osb-storm", "ends a session with PostgreSQL")
+		}
+	}
+}
+
+func between(chance *rand.Rand, least, most time.Duration) time.Duration {
+	return least + time.Duration(chance.Float64()*float64(most-least))
+}
+
+// strike kills PostgreSQL as often as the configuration says, and starts it again after some seconds. It pauses it as
+// often, for longer than a request lasts.
+func (b *Both) strike(ctx context.Context) {
+	begun, chance, count := time.Now(), fault.Chance(b.config.Seed, "database"), b.config.KillDatabase
+	at := func(number int, least, most float64) time.Duration {
+		share := (float64(number) + least + chance.Float64()*(most-least)) / float64(count)
+		return time.Duration(share*float64(b.config.Time)) - time.Since(begun)
+	}
+	for number := 0; number < count; number++ {
+		if !fault.Sleep(ctx, at(number, 0.3, 0.4)) {
+			return
+		}
+		b.events.add(Key{}, "osb-storm", "kills PostgreSQL")
+		if err := b.places.server.Kill(ctx, between(chance, time.Second, 4*time.Second)); err != nil {
+			b.commands.note(err.Error())
+			return
+		}
+		b.events.add(Key{}, "osb-storm", "has started PostgreSQL again")
+		if !fault.Sleep(ctx, at(number, 0.7, 0.8)) {
+			return
+		}
+		rest := between(chance, usualTimes().pause[0], usualTimes().pause[1])
+		b.events.add(Key{}, "osb-storm", fmt.Sprintf("pauses PostgreSQL for %.1f s", rest.Seconds()))
+		b.places.server.Pause(ctx, rest)
+	}
+}
+
+// meddleEach is the time between two turns of what the operator does besides the lives.
+const meddleEach = 300 * time.Millisecond
+
+// The share of the records in a state that are removed, retried or abandoned at each turn.
+var (
+	isRemoved = map[string]float64{
+		string(platform.Ready): 0.01, string(platform.Polling): 0.02, string(platform.Unsettled): 0.1,
+		string(platform.Wanted): 0.02, string(platform.Ordered): 0.02,
+	}
+	isRetried = map[string]float64{
+		string(platform.Polling): 0.01, string(platform.Cleaning): 0.02, string(platform.CleaningPolling): 0.02,
+	}
+	isAbandoned = map[string]float64{string(platform.Cleaning): 0.005, string(platform.CleaningPolling): 0.005}
+)
+
+// meddle removes, retries and abandons by chance.
+func (b *Both) meddle(ctx context.Context) {
+	chance := fault.Chance(b.config.Seed, "operator")
+	for fault.Sleep(ctx, meddleEach) {
+		records, err := b.commands.Records(ctx)
+		if err != nil {
+			continue
+		}
+		var all differences
+		for key, record := range records {
+			all = append(all, Difference{Key: key, Record: record})
+		}
+		sortDifferences(all)
+		for _, difference := range all {
+			b.meddleWith(ctx, chance, difference.Key, difference.Record)
+		}
+		b.bindOne(ctx, chance, all)
+	}
+}
+
+// bindOne now and then creates a binding of an instance that is ready: half as many as there are instances.
+func (b *Both) bindOne(ctx context.Context, chance *rand.Rand, all differences) {
+	if chance.Float64() > float64(b.config.Instances)/2*float64(meddleEach)/float64(b.config.Time) {
+		return
+	}
+	var ready []Key
+	for _, difference := range all {
+		if difference.Key.Binding == "" && difference.Record.State == stateReady {
+			ready = append(ready, difference.Key)
+		}
+	}
+	if len(ready) == 0 {
+		return
+	}
+	operator := &operator{events: b.events}
+	key := b.keys.binding(ready[chance.Intn(len(ready))])
+	operator.do(ctx, key, "creates the binding", func() error { return b.commands.Bind(ctx, key) })
+}
+
+// meddleWith does one of these things with a record, or nothing. One instance in eight stays, so that some are left at
+// the end.
+func (b *Both) meddleWith(ctx context.Context, chance *rand.Rand, key Key, record Record) {
+	do := func(what string, call func() error) {
+		operator := &operator{events: b.events}
+		operator.do(ctx, key, what, call)
+	}
+	place, _ := b.keys.placeOrNew(key.Instance, key.Binding)
+	removed, retried, abandoned := chance.Float64(), chance.Float64(), chance.Float64()
+	switch {
+	case removed < isRemoved[record.State] && (place.Instance+place.Binding)%8 != 0:
+		withBindings := chance.Float64() < 0.7
+		do("removes it", func() error { return b.commands.Remove(ctx, key, withBindings && key.Binding == "") })
+	case retried < isRetried[record.State]:
+		do("retries it", func() error { return b.commands.Retry(ctx, key) })
+	case key.Binding == "" && abandoned < isAbandoned[record.State]:
+		do("abandons it", func() error { return b.commands.Abandon(ctx, key) })
+	}
+}
+
+// leastCompared is how many records of each kind a storm compares at least.
+const leastCompared = 20
+
+// omissions returns what has to happen in every storm that isn't calm, and hasn't yet, or too seldom.
+func (b *Both) omissions() (all []string) {
+	if b.config.Calm {
+		return nil
+	}
+	compared := b.auditor.counts()
+	for _, kind := range comparedKinds {
+		if compared[kind.name] < leastCompared {
+			all = append(all, fmt.Sprintf("%s were compared %s", kind.name, times(compared[kind.name])))
+		}
+	}
+	all = append(all, b.unmetFaults()...)
+	if b.unruly != nil && len(b.unruly.all()) == 0 {
+		all = append(all, "the client that keeps no rules has created no binding")
+	}
+	for _, program := range b.programs() {
+		if kills, pauses, _, _ := program.counts(); b.isKilled(program) && (kills < 2 || pauses < 1) {
+			all = append(all, fmt.Sprintf("the %s was killed %s and paused %s", program, times(kills), times(pauses)))
+		}
+	}
+	if b.places.server != nil {
+		if kills, pauses := b.places.server.Counts(); kills < b.config.KillDatabase || pauses < b.config.KillDatabase {
+			all = append(all, fmt.Sprintf("PostgreSQL was killed %s and paused %s", times(kills), times(pauses)))
+		}
+	}
+	if b.config.CrashPoints == AllPoints {
+		if points := b.remainingPoints(); len(points) > 0 {
+			all = append(all, "crash points that weren't visited: "+strings.Join(points, ", "))
+		}
+	}
+	return all
+}
+
+// unmetFaults returns the kinds of faults that no request has met.
+func (b *Both) unmetFaults() (all []string) {
+	if b.config.List != nil || b.config.Share == 0 {
+		return nil
+	}
+	met := map[fault.Kind]bool{}
+	for _, entry := range b.source.Faults() {
+		met[entry.Kind] = true
+	}
+	for _, weight := range fault.StandardWeights(false) {
+		if !met[weight.Kind] {
+			all = append(all, fmt.Sprintf("no request had the fault %s", weight.Kind))
+		}
+	}
+	return all
+}
+
+// A notedBook is a book that notes how the records change.
+type notedBook struct {
+	book
+	*stateNotes
+}
+
+// stateNotes note how records change. Any number of goroutines use them.
+type stateNotes struct {
+	events *events
+	mutex  sync.Mutex
+	states map[Key]string
+}
+
+// Record returns the record of a key.
+func (n *notedBook) Record(ctx context.Context, key Key) (Record, error) {
+	record, err := n.book.Record(ctx, key)
+	if err == nil {
+		n.note(key, record)
+	}
+	return record, err
+}
+
+// Records returns all records.
+func (n *notedBook) Records(ctx context.Context) (map[Key]Record, error) {
+	records, err := n.book.Records(ctx)
+	for key, record := range records {
+		n.note(key, record)
+	}
+	return records, err
+}
+
+func (n *stateNotes) note(key Key, record Record) {
+	n.mutex.Lock()
+	defer n.mutex.Unlock()
+	before := n.states[key]
+	if before == record.State || !record.Known {
+		return
+	}
+	n.states[key] = record.State
+	what := record.State
+	if before != "" {
+		what = before + " -> " + what
+	}
+	n.events.add(key, "record", what)
+}
+
+func shuffle(chance *rand.Rand, all []string) []string {
+	chance.Shuffle(len(all), func(one, other int) { all[one], all[other] = all[other], all[one] })
+	return all
+}

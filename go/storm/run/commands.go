@@ -52,7 +52,7 @@ type commands struct {
 	wrong   []string
 }
 
-// deeds are what the operator has had done, by the keys. Each must be seen in the records at the end.
+// deeds are what the operator has ordered, by the keys. Each must be seen in the records at the end.
 type deeds struct{ ordered, removed, abandoned map[Key]bool }
 
 var _ Orders = (*commands)(nil)
@@ -186,8 +186,8 @@ func (c *commands) Credentials(ctx context.Context, key Key) (json.RawMessage, e
 	return json.RawMessage(ended.out), nil
 }
 
-// Listed returns the state of each row, as `list` prints it.
-func (c *commands) Listed(ctx context.Context) (map[string]string, error) {
+// ListStates returns the state of each row, as `list` prints it.
+func (c *commands) ListStates(ctx context.Context) (map[string]string, error) {
 	ended, err := c.call(ctx, "list", "--bindings", "--json")
 	if err != nil {
 		return nil, err
@@ -203,8 +203,8 @@ func (c *commands) Listed(ctx context.Context) (map[string]string, error) {
 	return states, nil
 }
 
-// Shown returns the state of a row, as `show` prints it.
-func (c *commands) Shown(ctx context.Context, key Key) (string, error) {
+// ShowState returns the state of a row, as `show` prints it.
+func (c *commands) ShowState(ctx context.Context, key Key) (string, error) {
 	ended, err := c.call(ctx, "show", ofKey(key), "--json")
 	if err != nil {
 		return "", err
@@ -348,12 +348,12 @@ func (c *commands) visit(point string) {
 func (c *commands) points() (kills int, visited, unvisited []string) {
 	c.turn.Lock()
 	defer c.turn.Unlock()
-	for _, it := range []string{orderNext, orderWritten} {
-		kills += c.visited[it]
-		if c.visited[it] > 0 {
-			visited = append(visited, it)
+	for _, point := range []string{orderNext, orderWritten} {
+		kills += c.visited[point]
+		if c.visited[point] > 0 {
+			visited = append(visited, point)
 		} else {
-			unvisited = append(unvisited, it)
+			unvisited = append(unvisited, point)
 		}
 	}
 	return kills, visited, unvisited
@@ -370,4 +370,145 @@ func (c *commands) odd() []string {
 	c.turn.Lock()
 	defer c.turn.Unlock()
 	return append([]string{}, c.wrong...)
+}
+
+// A Record is what a platform says about an instance or a binding.
+type Record struct {
+	State string
+	Since time.Time
+	Rests bool // nothing is to be done until somebody asks
+	Known bool // the platform has a record
+}
+
+// The states of a record that the operator and the audit tell apart.
+const (
+	stateReady     = "ready"
+	stateGone      = "gone"
+	stateWithdrawn = "withdrawn"
+	stateUnsettled = "unsettled"
+)
+
+// isEnded returns whether a record says that nothing exists.
+func (r Record) isEnded() bool { return !r.Known || r.State == stateGone || r.State == stateWithdrawn }
+
+// Orders are what an operator can do at a platform.
+type Orders interface {
+	Create(ctx context.Context, key Key) error
+	Bind(ctx context.Context, key Key) error
+	Remove(ctx context.Context, key Key, withBindings bool) error
+	Record(ctx context.Context, key Key) (Record, error)
+	Records(ctx context.Context) (map[Key]Record, error)
+}
+
+// An operator creates, binds, unbinds and removes, as the lives say.
+type operator struct {
+	orders Orders
+	keys   *keys
+	events *events
+	look   time.Duration // how often a record is read while the operator waits for it
+}
+
+// run lives all lives, until ctx is done.
+func (o *operator) run(ctx context.Context, all []life) {
+	var group sync.WaitGroup
+	for _, life := range all {
+		it := life
+		group.Add(1)
+		go func() {
+			defer group.Done()
+			o.live(ctx, it)
+		}()
+	}
+	group.Wait()
+}
+
+func (o *operator) live(ctx context.Context, l life) {
+	if !fault.Sleep(ctx, l.begin) {
+		return
+	}
+	key := o.keys.instance(l.number)
+	if !o.do(ctx, key, "creates the instance", func() error { return o.orders.Create(ctx, key) }) {
+		return
+	}
+	if l.early {
+		_ = fault.Sleep(ctx, l.pause) && o.remove(ctx, key, true)
+		return
+	}
+	if o.rest(ctx, key).State != stateReady {
+		return
+	}
+	bindings := o.bind(ctx, key, l)
+	if l.stays || !fault.Sleep(ctx, l.pause) {
+		return
+	}
+	for _, binding := range bindings {
+		if !l.whole && o.remove(ctx, binding, false) {
+			o.rest(ctx, binding)
+		}
+	}
+	o.remove(ctx, key, true)
+}
+
+// bind creates the bindings of a life, and waits for them.
+func (o *operator) bind(ctx context.Context, of Key, l life) (bindings []Key) {
+	for count := 0; count < l.bindings; count++ {
+		key := o.keys.binding(of)
+		if o.do(ctx, key, "creates the binding", func() error { return o.orders.Bind(ctx, key) }) {
+			bindings = append(bindings, key)
+			o.rest(ctx, key)
+		}
+	}
+	return bindings
+}
+
+func (o *operator) remove(ctx context.Context, key Key, withBindings bool) bool {
+	what := "removes the instance"
+	if key.Binding != "" {
+		what = "removes the binding"
+	}
+	return o.do(ctx, key, what, func() error { return o.orders.Remove(ctx, key, withBindings && key.Binding == "") })
+}
+
+// do does something, and notes it. It returns whether it was done.
+func (o *operator) do(ctx context.Context, key Key, what string, call func() error) bool {
+	if ctx.Err() != nil {
+		return false
+	}
+	o.events.add(key, "operator", what)
+	if err := call(); err != nil {
+		o.events.add(key, "operator", "the platform rejects that: "+err.Error())
+		return false
+	}
+	return true
+}
+
+// rest waits until a record rests, or ctx is done.
+func (o *operator) rest(ctx context.Context, key Key) Record {
+	for {
+		record, err := o.orders.Record(ctx, key)
+		if err == nil && record.Rests || !fault.Sleep(ctx, o.look) {
+			return record
+		}
+	}
+}
+
+// settle waits until every record rests and nothing is in flight any more. It removes what waits for an operator. It
+// returns whether that was reached before ctx was done.
+func (o *operator) settle(ctx context.Context, isQuiet func() bool) bool {
+	for {
+		records, err := o.orders.Records(ctx)
+		rests := err == nil && isQuiet()
+		for key, record := range records {
+			if record.State == stateUnsettled && record.Rests {
+				rests = !o.remove(ctx, key, true) && rests
+			}
+			rests = rests && record.Rests
+		}
+		if rests {
+			return true
+		}
+		if !fault.Sleep(ctx, o.look) {
+			return false
+		}
+	}
 }

@@ -2,13 +2,16 @@ package run
 
 import (
 	"context"
+	"errors"
 	"fmt"
 	"os"
 	"path/filepath"
 	"strings"
+	"sync"
 	"testing"
 	"time"
 
+	"pippinterm/internal/diff"
 	"pippinterm/platform"
 	"pippinterm/platform/sqlite"
 	"pippinterm/storm/fault"
@@ -21,9 +24,7 @@ func commandsOver(t *testing.T, script string) (c *commands, one Key, folder str
 	t.Helper()
 	folder = t.TempDir()
 	store, err := sqlite.Open(context.Background(), filepath.Join(folder, "store"))
-	if err != nil {
-		t.Fatal(err)
-	}
+	check(t, err)
 	t.Cleanup(func() { _ = store.Close() })
 	book := book{
 		service: goods.Service, plan: func(Key) string { return goods.AtOnce }, store: store,
@@ -32,18 +33,12 @@ func commandsOver(t *testing.T, script string) (c *commands, one Key, folder str
 	broker := platform.Broker{
 		Name: brokerName, URL: "http://127.0.0.1:1", User: "platform", Catalogue: goods.Document(), CatalogueAt: time.Now(),
 	}
-	if err := store.AddBroker(context.Background(), broker); err != nil {
-		t.Fatal(err)
-	}
+	check(t, store.AddBroker(context.Background(), broker))
 	one = Key{Instance: "00000000-0000-4000-8000-000000000001"}
-	if err := book.Create(context.Background(), one); err != nil {
-		t.Fatal(err)
-	}
+	check(t, book.Create(context.Background(), one))
 	program := filepath.Join(folder, "program")
 	text := "#!/bin/sh\ncd " + folder + "\necho \"$*\" >>calls\n" + script + "\n"
-	if err := os.WriteFile(program, []byte(text), 0o700); err != nil {
-		t.Fatal(err)
-	}
+	check(t, os.WriteFile(program, []byte(text), 0o700))
 	events := &events{now: func() time.Duration { return 0 }, keyOf: keyOf}
 	noted := &notedBook{book: book, stateNotes: &stateNotes{events: events, states: map[Key]string{}}}
 	return newCommands(noted, fault.Chance(1, "test"), []string{program}, []string{"--journal", "j"}, os.Environ()), one, folder
@@ -65,7 +60,7 @@ func TestCommandLines(t *testing.T) {
 		}
 	}
 	if err := c.Bind(ctx, bound); err == nil { // the script writes no order
-		t.Error("the binding is ordered")
+		t.Error("the binding: got no error, want one")
 	}
 	text, err := os.ReadFile(filepath.Join(folder, "calls"))
 	i, b := one.Instance, bound.Binding
@@ -73,7 +68,7 @@ func TestCommandLines(t *testing.T) {
 		"retry %s --journal j\nbind %s --id %s --parameters {\"role\": \"reader\"} --tries 3\n", i, goods.Service,
 		goods.AtOnce, i, i, i, b, i, i, b)
 	if err != nil || string(text) != wanted {
-		t.Errorf("%v\n%s", err, text)
+		t.Errorf("got the error %v and %s, want %s", err, text, wanted)
 	}
 }
 
@@ -81,7 +76,7 @@ func TestCommandLines(t *testing.T) {
 func TestCommandsThatLie(t *testing.T) {
 	t.Parallel()
 	ctx, other := context.Background(), Key{Instance: "00000000-0000-4000-8000-000000000009"}
-	for script, it := range map[string]struct {
+	for script, test := range map[string]struct {
 		call  func(*commands, Key) error
 		fails bool
 		wrong string
@@ -98,12 +93,14 @@ func TestCommandsThatLie(t *testing.T) {
 		"[ -e away ] || { touch away; exit 75; }; exit 1": {
 			func(c *commands, one Key) error { return c.Create(ctx, one) }, false, ""}, // the first call may have written it
 	} {
-		c, one, _ := commandsOver(t, script)
-		err := it.call(c, one)
-		if odd := strings.Join(c.odd(), "\n"); (err != nil) != it.fails || !strings.Contains(odd, it.wrong) ||
-			(odd == "") != (it.wrong == "") {
-			t.Errorf("%s: %v, odd: %q", script, err, odd)
-		}
+		t.Run(script, func(t *testing.T) {
+			c, one, _ := commandsOver(t, script)
+			err := test.call(c, one)
+			if odd := strings.Join(c.odd(), "\n"); (err != nil) != test.fails || !strings.Contains(odd, test.wrong) ||
+				(odd == "") != (test.wrong == "") {
+				t.Errorf("%s: got %v and odd %q, want %q", script, err, odd, test.wrong)
+			}
+		})
 	}
 }
 
@@ -114,7 +111,7 @@ func TestCommandsAreKilled(t *testing.T) {
 	c, one, _ := commandsOver(t, `[ -z "$OSB_CRASH_AT" ] || kill -9 $$
 exit 1`)
 	if _, _, unvisited := c.points(); len(unvisited) != 2 {
-		t.Errorf("%v are to be visited", unvisited)
+		t.Errorf("got %v to be visited, want 2", unvisited)
 	}
 	c.kill(true)
 	for try := 0; try < 60; try++ {
@@ -122,7 +119,7 @@ exit 1`)
 	}
 	kills, visited, unvisited := c.points()
 	if kills < 3 || kills > 20 || len(visited) != 2 || len(unvisited) != 0 {
-		t.Errorf("%d kills, visited %v", kills, visited)
+		t.Errorf("got %d kills, and %v visited, want 3 to 20, and 2", kills, visited)
 	}
 	c, one, _ = commandsOver(t, `[ "$OSB_CRASH_AT" != order-written ] || kill -9 $$
 exit 0`)
@@ -131,11 +128,11 @@ exit 0`)
 		_ = c.Create(context.Background(), one)
 	}
 	if odd := c.odd(); len(odd) == 0 || !strings.Contains(odd[0], "an id was used twice: create") {
-		t.Errorf("%v", odd)
+		t.Errorf("got %v, want that an id was used twice", odd)
 	}
 }
 
-// What the operator has had done is seen in the records at the end.
+// What the operator has ordered is seen in the records at the end.
 func TestUndone(t *testing.T) {
 	t.Parallel()
 	key := func(n int) Key { return Key{Instance: fmt.Sprint(n)} }
@@ -148,12 +145,160 @@ func TestUndone(t *testing.T) {
 	c.deeds.ordered[key(0)], c.deeds.ordered[key(9)] = true, true
 	c.deeds.abandoned[key(3)], c.deeds.abandoned[key(4)] = true, true
 	var found []string
-	for _, it := range c.undone(records) {
-		found = append(found, it.Key.Instance+" "+it.What)
+	for _, difference := range c.undone(records) {
+		found = append(found, difference.Key.Instance+" "+difference.What)
 	}
 	wanted := "0 it was to be removed, and its record says ready; 4 it was to be removed, and its record says cleaning; " +
 		"4 it was abandoned, and its record says cleaning; 9 it was ordered, and the platform has no record"
 	if text := strings.Join(found, "; "); text != wanted {
-		t.Error(text)
+		t.Errorf("got %v, want %v", text, wanted)
 	}
 }
+
+// memory is an Orders whose records rest at once: what is created in the state created, and what is removed as gone.
+type memory struct {
+	created string
+	rejects bool
+
+	mutex   sync.Mutex
+	records map[Key]Record
+	calls   []string
+}
+
+func (m *memory) set(call string, key Key, state string) error {
+	m.mutex.Lock()
+	defer m.mutex.Unlock()
+	m.calls = append(m.calls, strings.TrimRight(fmt.Sprintf("%s %s/%s", call, key.Instance, key.Binding), "/"))
+	if m.rejects {
+		return errors.New("no")
+	}
+	if m.records == nil {
+		m.records = map[Key]Record{}
+	}
+	m.records[key] = recordIn(state)
+	return nil
+}
+
+func (m *memory) Create(_ context.Context, key Key) error { return m.set("create", key, m.created) }
+func (m *memory) Bind(_ context.Context, key Key) error   { return m.set("bind", key, stateReady) }
+
+func (m *memory) Remove(_ context.Context, key Key, withBindings bool) error {
+	if withBindings {
+		return m.set("remove whole", key, stateGone)
+	}
+	return m.set("remove", key, stateGone)
+}
+
+func (m *memory) Record(_ context.Context, key Key) (Record, error) {
+	m.mutex.Lock()
+	defer m.mutex.Unlock()
+	return m.records[key], nil
+}
+
+func (m *memory) Records(context.Context) (map[Key]Record, error) {
+	m.mutex.Lock()
+	defer m.mutex.Unlock()
+	all := map[Key]Record{}
+	for key, record := range m.records {
+		all[key] = record
+	}
+	return all, nil
+}
+
+func operatorOf(m *memory) *operator {
+	return &operator{
+		orders: m, keys: newKeys(func(number int) string { return fmt.Sprint(number) }),
+		events: &events{now: func() time.Duration { return 0 }}, look: time.Millisecond,
+	}
+}
+
+// The operator does what a life says.
+func TestLive(t *testing.T) {
+	for _, test := range []struct {
+		name    string
+		life    life
+		created string
+		wanted  []string
+	}{
+		{"removed with its bindings", life{number: 7, bindings: 2, whole: true}, stateReady,
+			[]string{"create 7", "bind 7/1", "bind 7/2", "remove whole 7"}},
+		{"removed after its bindings", life{number: 7, bindings: 1}, stateReady,
+			[]string{"create 7", "bind 7/1", "remove 7/1", "remove whole 7"}},
+		{"stays", life{number: 7, bindings: 1, stays: true}, stateReady, []string{"create 7", "bind 7/1"}},
+		{"removed early", life{number: 7, bindings: 1, early: true}, stateReady, []string{"create 7", "remove whole 7"}},
+		{"not ready", life{number: 7, bindings: 1}, stateGone, []string{"create 7"}},
+	} {
+		t.Run(test.name, func(t *testing.T) {
+			m := &memory{created: test.created}
+			operatorOf(m).run(context.Background(), []life{test.life})
+			diff.Check(t, m.calls, test.wanted, "the calls")
+		})
+	}
+	rejecting := &memory{rejects: true}
+	o := operatorOf(rejecting)
+	o.run(context.Background(), []life{{number: 7, bindings: 1}})
+	if len(rejecting.calls) != 1 || len(o.events.list()) != 2 {
+		t.Errorf("got the calls %q and the events %+v, want one call and two events", rejecting.calls, o.events.list())
+	}
+	ended, end := context.WithCancel(context.Background())
+	end()
+	m := &memory{created: stateReady}
+	operatorOf(m).run(ended, []life{{number: 7}})
+	if operatorOf(m).remove(ended, one, false) {
+		t.Error("after the end: got something removed, want nothing")
+	}
+	if len(m.calls) > 0 {
+		t.Errorf("after the end: got %q, want none", m.calls)
+	}
+}
+
+// Everything has converged if each record rests, none waits for an operator, and no request is on its way.
+func TestSettle(t *testing.T) {
+	quiet, loud := func() bool { return true }, func() bool { return false }
+	working := Record{State: "cleaning", Known: true}
+	for _, test := range []struct {
+		name    string
+		record  Record
+		isQuiet func() bool
+		wanted  bool
+		calls   int
+	}{
+		{"ready", recordIn("ready"), quiet, true, 0},
+		{"on its way", recordIn("ready"), loud, false, 0},
+		{"working", working, quiet, false, 0},
+		{"unsettled", recordIn("unsettled"), quiet, true, 1},
+	} {
+		t.Run(test.name, func(t *testing.T) {
+			m := &memory{records: map[Key]Record{one: test.record}}
+			ctx, cancel := context.WithTimeout(context.Background(), 30*time.Millisecond)
+			if converged := operatorOf(m).settle(ctx, test.isQuiet); converged != test.wanted || len(m.calls) != test.calls {
+				t.Errorf("%s: got converged %v after the calls %q, want %v after %d",
+					test.name, converged, m.calls, test.wanted, test.calls)
+			}
+			cancel()
+		})
+	}
+}
+
+// The faults end once nothing has to happen any more, although lives would still begin.
+func TestCourseEndsWhenDone(t *testing.T) {
+	t.Parallel()
+	begun, ends := time.Now(), make(chan struct{}, 1)
+	k, e := newKeys(func(n int) string { return fmt.Sprint(n) }), &events{now: func() time.Duration { return 0 }, keyOf: keyOf}
+	c := &course{
+		orders: &memory{created: stateReady}, keys: k, events: e, source: fault.BySeed(1, 0, nil), watch: never{},
+		now: func() time.Duration { return time.Since(begun) }, isQuiet: func() bool { return true }, lookEach: time.Hour,
+		lives: func(int) []life { return []life{{number: 1}, {number: 2, begin: time.Hour}} }, endsWhenDone: true,
+		isDone: func() bool { return time.Since(begun) > doneEach/2 }, calm: func() { ends <- struct{}{} },
+		time: time.Hour, settleTime: time.Second,
+	}
+	converged, _ := c.run(context.Background())
+	if took := time.Since(begun); !converged || took > time.Minute || len(ends) != 1 || len(k.All()) != 1 {
+		t.Errorf("got converged %v after %s and %d instances, want true within a minute and 1", converged, took, len(k.All()))
+	}
+}
+
+// never looks at nothing.
+type never struct{}
+
+func (never) run(ctx context.Context, _ time.Duration) { <-ctx.Done() }

@@ -44,7 +44,7 @@ func (j *journals) open(worker string) (*journalfile.Writer, error) {
 		return nil, nil
 	}
 	return journalfile.Open(journalfile.Options{
-		Path: j.folder, Side: whoPlatform, Most: 64 << 20, Started: journal.Started(cli.Version(), worker),
+		Path: j.folder, Side: whoPlatform, Most: 64 << 20, Started: journal.StartMembers(cli.Version(), worker),
 		Failed: func(err error) { j.fail("lines of the journal are lost: " + err.Error()) },
 	})
 }

@@ -1,70 +1,73 @@
 package run
 
 import (
+	"context"
+	"fmt"
 	"math"
 	"net/http"
 	"net/url"
 	"sort"
 	"strings"
+	"sync"
 	"time"
 
+	"pippinterm/platform"
 	"pippinterm/storm/conform"
 	"pippinterm/storm/fault"
 	"pippinterm/storm/report"
 )
 
 // judge returns the first answer that breaks each rule, with the numbers of all requests whose answers break it, in the
-// order in which they came. differences are what was found
-// in the end.
+// order in which they arrived. differences are what was found in the end.
 //
 // A 410 to a deletion breaks a rule only if the thing exists in the end. Else the broker may have carried out this very
 // deletion before it answered: another of its workers has taken it up, and the request has found nothing any more.
-func judge(exchanges []fault.Exchange, differences []Difference, hide report.Hider) []Broken {
+func judge(exchanges []fault.Exchange, differences []Difference, hide report.Hider) []Violation {
 	var found report.Breaches
 	lost := map[Key]bool{}
-	for _, it := range differences {
-		lost[it.Key] = lost[it.Key] || it.Kind == Lost
+	for _, difference := range differences {
+		lost[difference.Key] = lost[difference.Key] || difference.Kind == Lost
 	}
-	for _, it := range deliveriesOf(exchanges) {
-		it.Hide = hide
-		for _, failed := range it.judge(lost[it.key]) {
-			found.Add(failed, it.number.String(), "")
+	for _, delivery := range deliveriesOf(exchanges) {
+		delivery.Hide = hide
+		for _, failed := range delivery.judge(lost[delivery.key]) {
+			found.Add(failed, delivery.number.String(), "")
 		}
 	}
 	return found.All()
 }
 
-// A sent is a delivery, with what was known before of the instance or the binding.
-type sent struct {
-	conform.Seen
+// A delivery is a request that has reached the broker, with what was known before of the instance or the binding.
+type delivery struct {
+	conform.Observation
 	number       fault.Number
 	key          Key
 	begun, ended time.Duration
 	isAnswered   bool
-	before       known
-	first        conform.Seen // the creation that is in progress, if before is creating
+	before       knowledge
+	first        conform.Observation // the creation that is in progress, if before is creating
 }
 
-// A known is what the answers have shown of an instance or a binding. Whatever isn't certain is unknown.
-type known int
+// A knowledge is what the answers have shown of an instance or a binding. Whatever isn't certain is unknown.
+type knowledge int
 
 const (
-	unknown  known = iota
-	fresh          // nothing was sent before
-	creating       // a creation was answered with 202, and nothing that could end it was sent
+	unknown  knowledge = iota
+	fresh              // nothing was sent before
+	creating           // a creation was answered with 202, and nothing that could end it was sent
 	exists
 	deleting
 	gone
 )
 
 // deliveriesOf returns the deliveries, in the order in which they were answered.
-func deliveriesOf(exchanges []fault.Exchange) []*sent {
-	byKey := map[Key][]*sent{}
-	var all []*sent
+func deliveriesOf(exchanges []fault.Exchange) []*delivery {
+	byKey := map[Key][]*delivery{}
+	var all []*delivery
 	for _, x := range exchanges {
 		for _, d := range x.Deliveries {
-			it := &sent{
-				Seen: conform.Seen{
+			it := &delivery{
+				Observation: conform.Observation{
 					Method: x.Method, Target: x.Target, Sent: x.Body, Status: d.Status, Header: d.Header, Came: d.Body,
 				},
 				number: x.Number, key: Key{Instance: x.Instance, Binding: x.Binding}, begun: d.Begun, ended: d.Ended,
@@ -86,11 +89,11 @@ func deliveriesOf(exchanges []fault.Exchange) []*sent {
 }
 
 // firstDeletion returns when a deletion was first with the broker.
-func firstDeletion(all []*sent) (begun time.Duration) {
+func firstDeletion(all []*delivery) (begun time.Duration) {
 	begun = math.MaxInt64
-	for _, it := range all {
-		if it.Method == http.MethodDelete && it.begun < begun {
-			begun = it.begun
+	for _, delivery := range all {
+		if delivery.Method == http.MethodDelete && delivery.begun < begun {
+			begun = delivery.begun
 		}
 	}
 	return begun
@@ -98,34 +101,34 @@ func firstDeletion(all []*sent) (begun time.Duration) {
 
 // learn sets what was known before each delivery of one key. Of a binding, nothing is known any more once its instance
 // may be deleted: the broker may first end the binding.
-func learn(all []*sent, deleted time.Duration) {
+func learn(all []*delivery, deleted time.Duration) {
 	sort.SliceStable(all, func(one, other int) bool { return all[one].ended < all[other].ended })
-	state, first := fresh, conform.Seen{}
-	for at, it := range all {
-		if it.ended >= deleted {
+	state, first := fresh, conform.Observation{}
+	for at, delivery := range all {
+		if delivery.ended >= deleted {
 			state = unknown
 		}
 		if overlaps(all, at) {
 			state = unknown
-			if it.changes() {
+			if delivery.changes() {
 				continue
 			}
 		}
-		it.before, it.first = state, first
-		state = it.after(state)
-		if it.Method == http.MethodPut && state == creating && it.before != creating {
-			first = it.Seen
+		delivery.before, delivery.first = state, first
+		state = delivery.after(state)
+		if delivery.Method == http.MethodPut && state == creating && delivery.before != creating {
+			first = delivery.Observation
 		}
 	}
 }
 
 // overlaps returns whether a request that changes something was with the broker at the same time as a delivery. Nobody
 // knows until when the broker works on a request that it doesn't answer.
-func overlaps(all []*sent, at int) bool {
-	for other, it := range all {
-		isOpen := !it.isAnswered && it.begun <= all[at].ended
-		isAtOnce := it.begun < all[at].ended && all[at].begun < it.ended
-		if other != at && it.changes() && (isOpen || isAtOnce) {
+func overlaps(all []*delivery, at int) bool {
+	for other, delivery := range all {
+		isOpen := !delivery.isAnswered && delivery.begun <= all[at].ended
+		isAtOnce := delivery.begun < all[at].ended && all[at].begun < delivery.ended
+		if other != at && delivery.changes() && (isOpen || isAtOnce) {
 			return true
 		}
 	}
@@ -133,10 +136,10 @@ func overlaps(all []*sent, at int) bool {
 }
 
 // changes returns whether a request may change what exists.
-func (s *sent) changes() bool { return s.Method == http.MethodPut || s.Method == http.MethodDelete }
+func (s *delivery) changes() bool { return s.Method == http.MethodPut || s.Method == http.MethodDelete }
 
 // after returns what is known after the answer.
-func (s *sent) after(before known) known {
+func (s *delivery) after(before knowledge) knowledge {
 	switch {
 	case !s.isAnswered:
 		return unknown
@@ -158,7 +161,7 @@ func (s *sent) after(before known) known {
 	return before
 }
 
-func (s *sent) afterPut(before known) known {
+func (s *delivery) afterPut(before knowledge) knowledge {
 	switch {
 	case s.Status == http.StatusOK || s.Status == http.StatusCreated:
 		return exists
@@ -170,7 +173,7 @@ func (s *sent) afterPut(before known) known {
 	return unknown
 }
 
-func (s *sent) afterPoll(before known) known {
+func (s *delivery) afterPoll(before knowledge) knowledge {
 	switch state := s.State(); {
 	case state == "in progress":
 		return before
@@ -184,13 +187,13 @@ func (s *sent) afterPoll(before known) known {
 	return unknown
 }
 
-func (s *sent) isPoll() bool {
+func (s *delivery) isPoll() bool {
 	path, _, _ := strings.Cut(s.Target, "?")
 	return s.Method == http.MethodGet && strings.HasSuffix(path, "/last_operation")
 }
 
-// polled returns the operation that a Poll names, or "".
-func (s *sent) polled() string {
+// pollOperation returns the operation that a Poll names, or "".
+func (s *delivery) pollOperation() string {
 	_, query, _ := strings.Cut(s.Target, "?")
 	values, err := url.ParseQuery(query)
 	if err != nil {
@@ -201,7 +204,7 @@ func (s *sent) polled() string {
 
 // judge returns the cases that the answer fails, by itself and by what was known before. isLost is whether the thing
 // exists in the end though its record says otherwise.
-func (s *sent) judge(isLost bool) []conform.Result {
+func (s *delivery) judge(isLost bool) []conform.Result {
 	if !s.isAnswered {
 		return nil
 	}
@@ -217,7 +220,7 @@ func (s *sent) judge(isLost bool) []conform.Result {
 type rule struct {
 	method  string
 	isPoll  bool
-	before  known
+	before  knowledge
 	status  int
 	of      string // the case of an instance
 	binding string // that of a binding, or empty for none
@@ -243,22 +246,357 @@ var rules = []rule{
 }
 
 // breaks returns the case that the answer fails by what was known before, and why, or nothing.
-func (s *sent) breaks() (name, reason string) {
+func (s *delivery) breaks() (name, reason string) {
 	if s.before == creating && s.Method == http.MethodPut && s.Status == http.StatusAccepted &&
 		s.key.Binding == "" && s.Operation() != s.first.Operation() {
 		return "async-repeated", "the operation isn't that of the first answer"
 	}
-	for _, it := range rules {
-		if it.method != s.Method || it.before != s.before || it.status != s.Status || it.isPoll != s.isPoll() {
+	for _, rule := range rules {
+		if rule.method != s.Method || rule.before != s.before || rule.status != s.Status || rule.isPoll != s.isPoll() {
 			continue
 		}
-		if it.isPoll && s.polled() != s.first.Operation() { // it doesn't name the operation
+		if rule.isPoll && s.pollOperation() != s.first.Operation() { // it doesn't name the operation
 			continue
 		}
 		if s.key.Binding != "" {
-			return it.binding, it.reason
+			return rule.binding, rule.reason
 		}
-		return it.of, it.reason
+		return rule.of, rule.reason
 	}
 	return "", ""
+}
+
+// A Difference is what a record and what exists disagree in, or what somebody has to compare.
+type Difference struct {
+	Key    Key
+	Kind   DifferenceKind
+	What   string // in words
+	Record Record
+}
+
+// A DifferenceKind is the kind of a difference.
+type DifferenceKind int
+
+// The kinds of differences.
+const (
+	Lost     DifferenceKind = iota // it exists, and the platform has no record, or one that says that nothing exists
+	False                          // the record says ready, and it doesn't exist
+	Stuck                          // the record hasn't converged
+	Disagree                       // the platform's record, the broker's row and what exists disagree in something else
+	Present                        // it exists, and by its requests the platform has it
+)
+
+// compare returns what records and what exists disagree in at the end, in the order of the ids.
+func compare(records map[Key]Record, sight Sight) (all differences) {
+	for key, existence := range sight.Of {
+		if record := records[key]; (existence == Exists || existence == Partial) && record.isEnded() {
+			all = append(all, Difference{key, Lost, lostBecause(record), record})
+		}
+	}
+	for _, key := range sight.Twice {
+		all = append(all, Difference{key, Lost, "it exists twice, and the platform knows one of them", records[key]})
+	}
+	for key, record := range records {
+		switch {
+		case !record.Rests:
+			all = append(all, Difference{key, Stuck, stuckBecause(record), record})
+		case record.State == stateReady && (sight.Of[key] == Missing || sight.Of[key] == Partial):
+			all = append(all, Difference{key, False, "its record says ready, and it doesn't exist", record})
+		}
+	}
+	sortDifferences(all)
+	return all
+}
+
+func stuckBecause(record Record) string {
+	if record.isEnded() { // only its last deletion is still sent
+		return "its last deletion isn't answered yet"
+	}
+	return "its record is still " + record.State
+}
+
+func lostBecause(record Record) string {
+	if !record.Known {
+		return "it exists, and the platform has no record"
+	}
+	return "it exists, and its record says " + record.State
+}
+
+// differences are some, in the order of the ids.
+type differences []Difference
+
+// without returns the differences of all other kinds.
+func (d differences) without(kind DifferenceKind) (rest differences) {
+	for _, difference := range d {
+		if difference.Kind != kind {
+			rest = append(rest, difference)
+		}
+	}
+	return rest
+}
+
+// compareSteady returns the false records of those that were the same before and after the look.
+func compareSteady(before, after map[Key]Record, sight Sight) (all []Difference) {
+	for _, difference := range compare(before, sight) {
+		same := after[difference.Key] == difference.Record && difference.Record.Known
+		if same && difference.Kind == Lost {
+			difference.What = "during the storm, " + difference.What
+		}
+		if same && difference.Kind == False {
+			difference.What = "during the storm, its record said ready, and it didn't exist"
+		}
+		if same && difference.Kind != Stuck {
+			all = append(all, difference)
+		}
+	}
+	return all
+}
+
+func sortDifferences(all []Difference) {
+	sort.SliceStable(all, func(one, other int) bool {
+		a, b := all[one].Key, all[other].Key
+		return a.Instance < b.Instance || a.Instance == b.Instance && a.Binding < b.Binding
+	})
+}
+
+// standard asks the broker itself for each instance and binding, without faults: by a fetch if the catalogue promises
+// that, and otherwise by the last operation. The answers for an instance that exists and for one that was deleted have
+// textsOf what an answer means.
+type standard struct {
+	broker *conform.Runner
+	target conform.Target
+	// existing and deleted are the answers to the last operation of such instances. They are empty if the two answers
+	// are the same, and then the last operation says nothing.
+	existing, deleted string
+}
+
+// Look asks for each key.
+func (s *standard) Look(ctx context.Context, keys []Key) (Sight, error) {
+	sight := Sight{Of: map[Key]Existence{}}
+	for _, key := range keys {
+		if ctx.Err() != nil {
+			return sight, ctx.Err()
+		}
+		sight.Of[key] = s.of(ctx, key)
+	}
+	return sight, nil
+}
+
+func (s *standard) of(ctx context.Context, key Key) Existence {
+	switch {
+	case key.Binding != "" && s.target.BindingsRetrievable, key.Binding == "" && s.target.InstancesRetrievable:
+		return byFetch(s.broker.Ask(ctx, http.MethodGet, key.Instance, key.Binding, "", s.names()).Status)
+	case key.Binding == "" && s.existing != "":
+		switch s.lastOperation(ctx, key) {
+		case s.existing:
+			return Exists
+		case s.deleted:
+			return Missing
+		}
+	}
+	return Unknown
+}
+
+func byFetch(status int) Existence {
+	switch status {
+	case http.StatusOK:
+		return Exists
+	case http.StatusNotFound, http.StatusGone:
+		return Missing
+	}
+	return Unknown
+}
+
+// lastOperation returns the status and the state of the last operation.
+func (s *standard) lastOperation(ctx context.Context, key Key) string {
+	answer := s.broker.Ask(ctx, http.MethodGet, key.Instance, key.Binding, "/last_operation", s.names())
+	if answer.Status != http.StatusOK {
+		return fmt.Sprint(answer.Status)
+	}
+	return fmt.Sprint(answer.Status, " ", answer.Text("state"))
+}
+
+// names are the parameters of a request with the service and the plan.
+func (s *standard) names() url.Values {
+	return url.Values{"service_id": {s.target.Service}, "plan_id": {s.target.Plan}}
+}
+
+// describe says how the Inventory finds out what exists.
+func (s *standard) describe() string {
+	switch {
+	case s.target.InstancesRetrievable:
+		return "the broker was asked for each instance (instances_retrievable)"
+	case s.existing != "":
+		return "the broker was asked for the last operation of each instance"
+	}
+	return "only a deletion shows what exists: the last operation is the same for what exists and what was deleted"
+}
+
+// A watch compares, while a storm goes on, the records that say ready or gone with what exists.
+type watch struct {
+	orders    Orders
+	inventory Inventory
+	isCheap   bool // one look is enough for all keys, so each look is about all
+	keep      func(Difference)
+
+	mutex sync.Mutex
+	seen  map[Key]Record // what was looked at, unless all are looked at each time
+	looks int
+	found []Difference
+	known map[Key]bool
+}
+
+// run looks until ctx is done.
+func (w *watch) run(ctx context.Context, each time.Duration) {
+	for fault.Sleep(ctx, each) {
+		w.look(ctx)
+	}
+}
+
+// look looks once. A look that fails, such as while the broker is away, says nothing.
+func (w *watch) look(ctx context.Context) {
+	before, err := w.orders.Records(ctx)
+	if err != nil {
+		return
+	}
+	keys := w.due(before)
+	if len(keys) == 0 {
+		return
+	}
+	sight, err := w.inventory.Look(ctx, keys)
+	if err != nil {
+		return
+	}
+	after, err := w.orders.Records(ctx)
+	if err != nil {
+		return
+	}
+	for key, existence := range sight.Of {
+		if existence != Unknown {
+			w.seen[key] = before[key]
+		}
+	}
+	sight.Twice = nil // one may be about to be deleted
+	w.mutex.Lock()
+	defer w.mutex.Unlock()
+	w.looks++
+	for _, difference := range compareSteady(before, after, sight) {
+		if !w.known[difference.Key] {
+			w.known[difference.Key] = true
+			w.found = append(w.found, difference)
+			w.keep(difference)
+		}
+	}
+}
+
+// due returns the keys to look at.
+func (w *watch) due(records map[Key]Record) (keys []Key) {
+	for key, record := range records {
+		if (record.State == stateReady || record.isEnded()) && (w.isCheap || w.seen[key] != record) {
+			keys = append(keys, key)
+		}
+	}
+	return keys
+}
+
+func (w *watch) differences() []Difference {
+	w.mutex.Lock()
+	defer w.mutex.Unlock()
+	return append([]Difference(nil), w.found...)
+}
+
+// An ending is what exists at the end, and what the records and what exists disagree in.
+type ending struct {
+	last        Sight
+	differences []Difference
+	failed      []string // what went wrong with the comparison
+}
+
+// end compares at the end, and adds what was found before. isWhole is whether the run has waited until the records
+// converged.
+func (w *watch) end(ctx context.Context, isWhole bool) (e ending) {
+	e.differences = w.differences()
+	records, err := w.orders.Records(context.Background())
+	if err != nil {
+		e.failed = append(e.failed, "the records can't be read: "+err.Error())
+		return e
+	}
+	keys := make([]Key, 0, len(records))
+	for key := range records {
+		keys = append(keys, key)
+	}
+	if e.last, err = w.inventory.Look(ctx, keys); err != nil && ctx.Err() == nil {
+		e.failed = append(e.failed, "what exists can't be asked for: "+err.Error())
+	}
+	found := compare(records, e.last)
+	if !isWhole {
+		found = found.without(Stuck)
+	}
+	e.differences = append(e.differences, found...)
+	return e
+}
+
+// events are those of a run. Any number of goroutines use them.
+type events struct {
+	platform.Silent
+	now   func() time.Duration
+	keyOf func(platform.Key) Key
+	mutex sync.Mutex
+	all   []Event
+	found []Event // the last deletion has found what was recorded as gone
+}
+
+func (e *events) add(key Key, who, what string) {
+	e.mutex.Lock()
+	defer e.mutex.Unlock()
+	e.all = append(e.all, Event{At: e.now(), Key: key, Who: who, What: what})
+}
+
+// list returns all events, in their order.
+func (e *events) list() []Event {
+	e.mutex.Lock()
+	defer e.mutex.Unlock()
+	return append([]Event(nil), e.all...)
+}
+
+// foundGone returns the events of instances and bindings that existed though they were recorded as gone.
+func (e *events) foundGone() []Event {
+	e.mutex.Lock()
+	defer e.mutex.Unlock()
+	return append([]Event(nil), e.found...)
+}
+
+// OnChange notes that a record is in another state now.
+func (e *events) OnChange(key platform.Key, before, after platform.State) {
+	e.add(e.keyOf(key), "record", fmt.Sprintf("%s -> %s", before, after))
+}
+
+// OnAnswer notes why an answer wasn't taken.
+func (e *events) OnAnswer(x platform.Exchange) {
+	if x.Lost != nil {
+		e.add(e.keyOf(x.Key), "platform", fmt.Sprintf("takes no answer to its %s: %v", x.Kind, x.Lost))
+	}
+}
+
+// OnFailure notes what went wrong.
+func (e *events) OnFailure(f platform.Failure) {
+	key := Key{}
+	if f.IsNamed {
+		key = e.keyOf(f.Key)
+	}
+	e.add(key, "platform", fmt.Sprintf("%s: %v", f.Event, f.Err))
+}
+
+// OnOrphan notes what the last deletion has found.
+func (e *events) OnOrphan(key platform.Key, status int, isFound bool) {
+	if !isFound {
+		return
+	}
+	found := Event{
+		At: e.now(), Key: e.keyOf(key), Who: "platform",
+		What: fmt.Sprintf("it existed though its record says gone: the last deletion was answered with %d", status),
+	}
+	e.mutex.Lock()
+	defer e.mutex.Unlock()
+	e.all, e.found = append(e.all, found), append(e.found, found)
 }

@@ -1,7 +1,9 @@
 package run
 
 import (
+	"context"
 	"encoding/json"
+	"errors"
 	"fmt"
 	"net/http"
 	"strings"
@@ -9,14 +11,14 @@ import (
 	"time"
 
 	"pippinterm/storm/fault"
-	stormreport "pippinterm/storm/report"
+	"pippinterm/storm/report"
 )
 
 // answers are exchanges about one instance, one after another: each is a method, a status, and a body.
 func answers(of ...[3]any) (all []fault.Exchange) {
-	for at, it := range of {
+	for at, request := range of {
 		begun := time.Duration(at) * time.Second
-		all = append(all, exchange(it[0].(string), it[1].(int), it[2].(string), begun, begun+time.Millisecond))
+		all = append(all, exchange(request[0].(string), request[1].(int), request[2].(string), begun, begun+time.Millisecond))
 		all[at].Number.Request = at + 1
 	}
 	return all
@@ -36,10 +38,10 @@ func exchange(method string, status int, body string, begun, ended time.Duration
 	}
 }
 
-func namesOf(all []Broken) string {
+func namesOf(all []Violation) string {
 	var names []string
-	for _, it := range all {
-		names = append(names, it.Name)
+	for _, violation := range all {
+		names = append(names, violation.Name)
 	}
 	return strings.Join(names, " ")
 }
@@ -49,7 +51,7 @@ const operation = `{"operation": "1"}`
 // An answer breaks a rule by itself, or by what the broker has answered before.
 func TestJudge(t *testing.T) {
 	type x = [3]any
-	for _, it := range []struct {
+	for _, test := range []struct {
 		name   string
 		all    []fault.Exchange
 		wanted string
@@ -81,30 +83,36 @@ func TestJudge(t *testing.T) {
 		{"no answer to a creation", answers(x{"PUT", 0, ``}, x{"PUT", 201, `{}`}, x{"PUT", 201, `{}`}), ""},
 		{"an error of the broker", answers(x{"PUT", 201, `{}`}, x{"DELETE", 500, `{}`}, x{"DELETE", 410, `{}`}), ""},
 	} {
-		if found := namesOf(judge(it.all, []Difference{{Key: Key{Instance: "one"}, Kind: Lost}}, stormreport.Hider{})); found != it.wanted {
-			t.Errorf("%s: %q", it.name, found)
-		}
+		t.Run(test.name, func(t *testing.T) {
+			differences := []Difference{{Key: Key{Instance: "one"}, Kind: Lost}}
+			if found := namesOf(judge(test.all, differences, report.Hider{})); found != test.wanted {
+				t.Errorf("%s: got %q, want %q", test.name, found, test.wanted)
+			}
+		})
 	}
 }
 
-// A 410 to a deletion breaks no rule if the instance doesn't exist in the end: perhaps this very deletion was carried out.
+// A 410 to a deletion breaks no rule if the instance doesn't exist in the end: perhaps this very deletion was carried
+// out.
 func TestJudgeDeletionThatFindsNothing(t *testing.T) {
 	type x = [3]any
 	for name, all := range map[string][]fault.Exchange{
 		"created": answers(x{"PUT", 202, operation}, x{"DELETE", 410, `{}`}),
 		"exists":  answers(x{"PUT", 201, `{}`}, x{"DELETE", 410, `{}`}),
 	} {
-		for _, differences := range [][]Difference{
-			nil, {{Key: Key{Instance: "one"}, Kind: Stuck}}, {{Key: Key{Instance: "another"}, Kind: Lost}},
-		} {
-			if found := judge(all, differences, stormreport.Hider{}); len(found) > 0 {
-				t.Errorf("%s, %v: %+v", name, differences, found)
+		t.Run(name, func(t *testing.T) {
+			for _, differences := range [][]Difference{
+				nil, {{Key: Key{Instance: "one"}, Kind: Stuck}}, {{Key: Key{Instance: "another"}, Kind: Lost}},
+			} {
+				if found := judge(all, differences, report.Hider{}); len(found) > 0 {
+					t.Errorf("%s, %v: got %+v, want nothing", name, differences, found)
+				}
 			}
-		}
+		})
 	}
 }
 
-// If two requests are with the broker at once, nobody knows which came first.
+// If two requests are with the broker at once, nobody knows which arrived first.
 func TestJudgeAtOnce(t *testing.T) {
 	const ms = time.Millisecond
 	atOnce := []fault.Exchange{
@@ -112,19 +120,19 @@ func TestJudgeAtOnce(t *testing.T) {
 		exchange("DELETE", 410, `{}`, 20*ms, 25*ms), exchange("PUT", 201, `{}`, 40*ms, 50*ms),
 		exchange("PUT", 201, `{}`, 45*ms, 55*ms),
 	}
-	if found := judge(atOnce, nil, stormreport.Hider{}); len(found) > 0 {
-		t.Errorf("%+v", found)
+	if found := judge(atOnce, nil, report.Hider{}); len(found) > 0 {
+		t.Errorf("got %+v, want nothing", found)
 	}
 	after := append(atOnce, exchange("PUT", 201, `{}`, 60*ms, 65*ms), exchange("PUT", 201, `{}`, 70*ms, 75*ms))
-	if found := judge(after, nil, stormreport.Hider{}); namesOf(found) != "provision-repeated" || found[0].Count != 1 {
-		t.Errorf("%+v", found)
+	if found := judge(after, nil, report.Hider{}); namesOf(found) != "provision-repeated" || found[0].Count != 1 {
+		t.Errorf("got %+v, want provision-repeated once", found)
 	}
 }
 
 // A binding may be ended by the broker once its instance is to be deleted.
 func TestJudgeBindingOfADeletedInstance(t *testing.T) {
 	type x = [3]any
-	for _, it := range []struct {
+	for _, test := range []struct {
 		name   string
 		all    []fault.Exchange
 		wanted string
@@ -137,9 +145,11 @@ func TestJudgeBindingOfADeletedInstance(t *testing.T) {
 			ofBinding(answers(x{"PUT", 202, operation}, x{"POLL", 410, `{}`}, x{"DELETE", 422, `{}`}), 0, 1),
 			"binding-last-operation-state"},
 	} {
-		if found := namesOf(judge(it.all, nil, stormreport.Hider{})); found != it.wanted {
-			t.Errorf("%s: %q", it.name, found)
-		}
+		t.Run(test.name, func(t *testing.T) {
+			if found := namesOf(judge(test.all, nil, report.Hider{})); found != test.wanted {
+				t.Errorf("%s: got %q, want %q", test.name, found, test.wanted)
+			}
+		})
 	}
 }
 
@@ -157,25 +167,23 @@ func ofBinding(all []fault.Exchange, these ...int) []fault.Exchange {
 func TestNumbers(t *testing.T) {
 	type x = [3]any
 	all := answers(x{"PUT", 201, `{}`}, x{"PUT", 201, `{}`}, x{"PUT", 200, `{}`}, x{"PUT", 201, `{}`}, x{"PUT", 201, `[]`})
-	report := emptyReport()
-	report.takeRun(&result{keys: newKeys(nil), exchanges: all, broken: judge(all, nil, stormreport.Hider{})})
-	written := reports(t, report)
+	whole := emptyReport()
+	whole.take(&Result{Keys: newKeys(nil), Exchanges: all, Broken: judge(all, nil, report.Hider{})})
+	written := reports(t, whole)
 	var read struct {
 		Broken []struct {
 			Name    string
 			Count   int
 			Numbers []string
 			Section string
-			Each    []stormreport.Breach
+			Each    []report.Breach
 		}
 	}
-	if err := json.Unmarshal([]byte(written["JSON"]), &read); err != nil {
-		t.Fatal(err)
-	}
+	check(t, json.Unmarshal([]byte(written["JSON"]), &read))
 	got := ""
-	for _, it := range read.Broken {
-		got += fmt.Sprintf("%s, section %s: %d %v\n", it.Name, it.Section, it.Count, it.Numbers)
-		for _, one := range it.Each {
+	for _, violation := range read.Broken {
+		got += fmt.Sprintf("%s, section %s: %d %v\n", violation.Name, violation.Section, violation.Count, violation.Numbers)
+		for _, one := range violation.Each {
 			got += fmt.Sprintf("  %s %.3s, %s\n", one.Number, one.Sent, one.Came)
 		}
 	}
@@ -187,10 +195,160 @@ answers-are-objects, section Body: 1 [1.5]
   1.5 PUT, 201 []
 `
 	if got != wanted {
-		t.Error(got)
+		t.Errorf("got %v, want %v", got, wanted)
 	}
 	text := written["text"]
 	if !strings.Contains(text, "3 answers, the first one 1.2: ") || strings.Contains(text, "1.4") {
-		t.Error(text)
+		t.Errorf("got %s, want 3 answers, the first one 1.2", text)
+	}
+}
+
+var (
+	one     = Key{Instance: "one"}
+	binding = Key{Instance: "one", Binding: "b"}
+	since   = time.Unix(1000, 0)
+)
+
+func recordIn(state string) Record {
+	return Record{State: state, Since: since, Rests: true, Known: true}
+}
+
+// textsOf are differences as texts.
+func textsOf(all []Difference) string {
+	var texts []string
+	for _, difference := range all {
+		texts = append(texts, fmt.Sprintf("%d %s/%s: %s", difference.Kind, difference.Key.Instance, difference.Key.Binding, difference.What))
+	}
+	return strings.Join(texts, "\n")
+}
+
+// Each kind of difference is found at the end, and nothing else.
+func TestCompare(t *testing.T) {
+	working := Record{State: "cleaning", Since: since, Known: true}
+	lastOfGone := Record{State: "gone", Since: since, Known: true}
+	lastOfWithdrawn := Record{State: "withdrawn", Since: since, Known: true}
+	for _, test := range []struct {
+		name   string
+		record *Record
+		of     Existence
+		wanted string
+	}{
+		{"ready and exists", point(recordIn("ready")), Exists, ""},
+		{"ready and missing", point(recordIn("ready")), Missing, "1 one/: its record says ready, and it doesn't exist"},
+		{"ready and unknown", point(recordIn("ready")), Unknown, ""},
+		{"gone and missing", point(recordIn("gone")), Missing, ""},
+		{"gone and exists", point(recordIn("gone")), Exists, "0 one/: it exists, and its record says gone"},
+		{"gone and unknown", point(recordIn("gone")), Unknown, ""},
+		{"withdrawn and exists", point(recordIn("withdrawn")), Exists, "0 one/: it exists, and its record says withdrawn"},
+		{"no record and exists", nil, Exists, "0 one/: it exists, and the platform has no record"},
+		{"no record and missing", nil, Missing, ""},
+		{"unsettled and exists", point(recordIn("unsettled")), Exists, ""},
+		{"working and exists", &working, Exists, "2 one/: its record is still cleaning"},
+		{"working and missing", &working, Missing, "2 one/: its record is still cleaning"},
+		{"last deletion of gone", &lastOfGone, Missing, "2 one/: its last deletion isn't answered yet"},
+		{"last deletion of withdrawn", &lastOfWithdrawn, Unknown, "2 one/: its last deletion isn't answered yet"},
+	} {
+		t.Run(test.name, func(t *testing.T) {
+			records := map[Key]Record{}
+			if test.record != nil {
+				records[one] = *test.record
+			}
+			if found := textsOf(compare(records, Sight{Of: map[Key]Existence{one: test.of}})); found != test.wanted {
+				t.Errorf("%s: got %q, want %q", test.name, found, test.wanted)
+			}
+		})
+	}
+	twice := Sight{Of: map[Key]Existence{one: Exists}, Twice: []Key{one}}
+	found := textsOf(compare(map[Key]Record{one: recordIn("ready")}, twice))
+	if found != "0 one/: it exists twice, and the platform knows one of them" {
+		t.Errorf("twice: got %q, want \"0 one/: it exists twice, and the platform knows one of them\"", found)
+	}
+	bound := Sight{Of: map[Key]Existence{one: Exists, binding: Exists}}
+	found = textsOf(compare(map[Key]Record{one: recordIn("ready"), binding: recordIn("gone")}, bound))
+	if found != "0 one/b: it exists, and its record says gone" {
+		t.Errorf("a binding: got %q, want \"0 one/b: it exists, and its record says gone\"", found)
+	}
+}
+
+func point(r Record) *Record { return &r }
+
+// stub is an Orders and an Inventory.
+type stub struct {
+	Orders
+	records []map[Key]Record // of one call after another
+	sight   Sight
+	err     error
+	asked   [][]Key
+}
+
+func (f *stub) Records(context.Context) (map[Key]Record, error) {
+	next := f.records[0]
+	if len(f.records) > 1 {
+		f.records = f.records[1:]
+	}
+	return next, nil
+}
+
+func (f *stub) Look(_ context.Context, keys []Key) (Sight, error) {
+	f.asked = append(f.asked, keys)
+	return f.sight, f.err
+}
+
+func watchOf(f *stub, isCheap bool) *watch {
+	return &watch{
+		orders: f, inventory: f, isCheap: isCheap, seen: map[Key]Record{}, known: map[Key]bool{}, keep: func(Difference) {},
+	}
+}
+
+// Only a record that is the same before and after the look is compared, and each is found once.
+func TestWatch(t *testing.T) {
+	ready, gone := map[Key]Record{one: recordIn("ready")}, map[Key]Record{one: recordIn("gone")}
+	again := map[Key]Record{one: {State: "ready", Since: since.Add(1), Rests: true, Known: true}}
+	for _, test := range []struct {
+		name          string
+		before, after map[Key]Record
+		of            Existence
+		wanted        string
+	}{
+		{"ready and missing", ready, ready, Missing, "1 one/: during the storm, its record said ready, and it didn't exist"},
+		{"gone and exists", gone, gone, Exists, "0 one/: during the storm, it exists, and its record says gone"},
+		{"ready and exists", ready, ready, Exists, ""},
+		{"changes meanwhile", ready, gone, Missing, ""},
+		{"changes twice meanwhile", ready, again, Missing, ""},
+		{"comes meanwhile", map[Key]Record{binding: recordIn("ready")}, gone, Exists, ""},
+	} {
+		t.Run(test.name, func(t *testing.T) {
+			f := &stub{records: []map[Key]Record{test.before, test.after}, sight: Sight{Of: map[Key]Existence{one: test.of}}}
+			w := watchOf(f, true)
+			w.look(context.Background())
+			if test.wanted != "" {
+				w.look(context.Background())
+			}
+			if found := textsOf(w.differences()); found != test.wanted {
+				t.Errorf("%s: got %q, want %q", test.name, found, test.wanted)
+			}
+		})
+	}
+	failing := &stub{records: []map[Key]Record{ready}, sight: Sight{Of: map[Key]Existence{one: Missing}}}
+	failing.err = errors.New("away")
+	w := watchOf(failing, true)
+	if w.look(context.Background()); len(w.differences()) > 0 {
+		t.Errorf("a look that failed: got %q, want nothing", textsOf(w.differences()))
+	}
+}
+
+// If each key costs a request, it is asked for once for each state of its record.
+func TestWatchAsksOnce(t *testing.T) {
+	ready, gone := map[Key]Record{one: recordIn("ready")}, map[Key]Record{one: recordIn("gone")}
+	f := &stub{
+		records: []map[Key]Record{ready, ready, ready, gone, gone, gone},
+		sight:   Sight{Of: map[Key]Existence{one: Exists}},
+	}
+	w := watchOf(f, false)
+	for count := 0; count < 5; count++ {
+		w.look(context.Background())
+	}
+	if len(f.asked) != 2 {
+		t.Errorf("asked: got %v, want 2", f.asked)
 	}
 }

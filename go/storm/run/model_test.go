@@ -50,6 +50,7 @@ type model struct {
 	mutex    sync.Mutex
 	rows     map[Key]*row
 	requests int
+	making   sync.WaitGroup // the creations in the background
 }
 
 // newModel returns a model that runs until the end of the test, and its URL.
@@ -59,22 +60,21 @@ func newModel(t *testing.T, isAsync bool, wrong mistakes) (*model, string) {
 	if isAsync {
 		m.takes = 250 * time.Millisecond
 	}
-	for _, it := range []string{"instances", "bindings"} {
-		if err := os.Mkdir(filepath.Join(m.folder, it), 0o700); err != nil {
-			t.Fatal(err)
-		}
+	for _, name := range []string{"instances", "bindings"} {
+		check(t, os.Mkdir(filepath.Join(m.folder, name), 0o700))
 	}
 	server := httptest.NewServer(m)
+	t.Cleanup(m.making.Wait) // before the folder is removed
 	t.Cleanup(server.Close)
 	return m, server.URL
 }
 
 // commands are the commands that list what exists.
 func (m *model) commands() Commands {
-	return Commands{
+	return Commands{Lists: Lists{
 		List:         "ls " + m.folder + "/instances | sed 's/~.*//'",
 		ListBindings: "ls " + m.folder + "/bindings | tr _ ' '",
-	}
+	}}
 }
 
 // file is the file of what exists.
@@ -88,11 +88,9 @@ func (m *model) file(k Key) string {
 // left returns the names of all files.
 func (m *model) left(t *testing.T) (names []string) {
 	t.Helper()
-	for _, it := range []string{"instances", "bindings"} {
-		files, err := os.ReadDir(filepath.Join(m.folder, it))
-		if err != nil {
-			t.Fatal(err)
-		}
+	for _, name := range []string{"instances", "bindings"} {
+		files, err := os.ReadDir(filepath.Join(m.folder, name))
+		check(t, err)
 		for _, file := range files {
 			names = append(names, file.Name())
 		}
@@ -171,14 +169,14 @@ func (m *model) forget() {
 	if os.Remove(filepath.Join(m.folder, "restart")) != nil {
 		return
 	}
-	for key, it := range m.rows {
-		if it.isMaking {
+	for key, row := range m.rows {
+		if row.isMaking {
 			delete(m.rows, key)
 		}
 	}
 }
 
-func (m *model) given(k Key) object {
+func (m *model) bodyOf(k Key) object {
 	if k.Binding == "" {
 		return object{}
 	}
@@ -196,7 +194,7 @@ func (m *model) put(r *http.Request, k Key) (int, any) {
 			m.create(k)
 			return 201, object{}
 		}
-		return 200, m.given(k)
+		return 200, m.bodyOf(k)
 	}
 	if k.Binding != "" {
 		if of := m.rows[k.InstanceKey()]; of == nil || of.isMaking {
@@ -204,16 +202,19 @@ func (m *model) put(r *http.Request, k Key) (int, any) {
 		}
 		m.create(k)
 		m.rows[k] = &row{}
-		return 201, m.given(k)
+		return 201, m.bodyOf(k)
 	}
 	if m.isAsync {
 		it := &row{isMaking: true}
 		m.rows[k] = it
+		m.making.Add(1)
 		go m.make(k, it)
 		return 202, object{"operation": operationOf(k)}
 	}
 	if m.unreadLater && m.isUnread(r) {
+		m.making.Add(1)
 		time.AfterFunc(4*time.Second, func() {
+			defer m.making.Done()
 			m.mutex.Lock()
 			defer m.mutex.Unlock()
 			m.create(k)
@@ -245,6 +246,7 @@ func operationOf(k Key) string { return "operation " + k.Instance }
 
 // make creates an instance in the background.
 func (m *model) make(k Key, it *row) {
+	defer m.making.Done()
 	time.Sleep(m.takes)
 	if m.tooEarly {
 		m.mutex.Lock()
@@ -294,5 +296,5 @@ func (m *model) fetch(k Key) (int, any) {
 	if _, err := os.Stat(m.file(k)); err != nil {
 		return 404, object{}
 	}
-	return 200, m.given(k)
+	return 200, m.bodyOf(k)
 }

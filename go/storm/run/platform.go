@@ -5,11 +5,16 @@ import (
 	"crypto/rand"
 	"errors"
 	"fmt"
+	"net/http"
+	"os"
 	"path/filepath"
+	"sort"
+	"sync"
 	"time"
 
 	"pippinterm/internal/journalfile"
 	sqlitefile "pippinterm/internal/sqlitefile"
+	"pippinterm/osb"
 	"pippinterm/platform"
 	"pippinterm/platform/client"
 	"pippinterm/platform/journal"
@@ -17,6 +22,7 @@ import (
 	"pippinterm/platform/vault"
 	"pippinterm/storm/conform"
 	"pippinterm/storm/fault"
+	"pippinterm/storm/report"
 )
 
 // The names of the worker and the broker in the store.
@@ -38,10 +44,10 @@ type platformRig struct {
 
 var _ Orders = (*platformRig)(nil)
 
-// startPlatform starts a platform whose broker is at a URL. If writer isn't nil, the platform writes its journal to it, and
-// closes it in the end.
+// startPlatform starts a platform whose broker is at a URL. If writer isn't nil, the platform writes its journal to it,
+// and closes it in the end.
 func startPlatform(
-	ctx context.Context, c Config, folder, url string, target conform.Target, observer platform.Observer,
+	ctx context.Context, c BrokerConfig, folder, url string, target conform.Target, observer platform.Observer,
 	writer *journalfile.Writer,
 ) (*platformRig, error) {
 	rig := &platformRig{book: bookOf(target), writer: writer, ended: make(chan error, 1)}
@@ -56,7 +62,7 @@ func startPlatform(
 }
 
 // open opens the store, adds the broker, and makes the engine.
-func (p *platformRig) open(ctx context.Context, c Config, folder, url string, observer platform.Observer) error {
+func (p *platformRig) open(ctx context.Context, c BrokerConfig, folder, url string, observer platform.Observer) error {
 	sealing, err := newVault()
 	if err != nil {
 		return err
@@ -88,7 +94,7 @@ func (p *platformRig) open(ctx context.Context, c Config, folder, url string, ob
 
 // optionsOf are the options of the engine. What is late has arrived before a deletion is sent (Hold), as the platform
 // assumes it of every network.
-func optionsOf(c Config) platform.Options {
+func optionsOf(c BrokerConfig) platform.Options {
 	return platform.Options{
 		Worker: workerName, Exchange: c.RequestTime, Margin: time.Second, Look: 50 * time.Millisecond,
 		FirstPace: c.Broker.Pause, LongestPace: 4 * c.Broker.Pause, LongestPoll: c.Broker.OperationTime,
@@ -165,12 +171,367 @@ func (p *platformRig) closeFiles() (err error) {
 	return err
 }
 
-// either returns the first error that isn't nil.
-func either(all ...error) error {
-	for _, it := range all {
-		if it != nil {
-			return it
+// ErrTrial is the error of Run if the broker can't create and delete an instance without faults.
+var ErrTrial = errors.New("the broker can't create and delete an instance without faults")
+
+// try creates an instance and deletes it, without faults. It learns what the broker answers about an instance that
+// exists, and about one that was deleted, and whether a repeated deletion is answered with 410. While the instance
+// exists, the commands must list it.
+func (s *Storm) try(running, ctx context.Context) error {
+	keys, remove, problem := s.trial(ctx)
+	if problem != "" {
+		return fmt.Errorf("%w: %s", ErrTrial, problem)
+	}
+	key := keys[0]
+	wrong := s.tryLists(running, ctx, keys)
+	existing := s.standard.lastOperation(ctx, key)
+	if s.inventory == Inventory(s.standard) && s.target.InstancesRetrievable && s.standard.of(ctx, key) != Exists {
+		s.target.InstancesRetrievable, s.standard.target.InstancesRetrievable = false, false
+	}
+	problem = remove()
+	if left := s.broker.CleanUp(ctx); problem == "" && len(left) > 0 {
+		problem = left[0].String()
+	}
+	switch {
+	case problem != "":
+		return fmt.Errorf("%w: %s", ErrTrial, problem)
+	case wrong != nil:
+		return wrong
+	}
+	deleted := s.standard.lastOperation(ctx, key)
+	if existing == "200 succeeded" && deleted != existing && deleted != "0" {
+		s.standard.existing, s.standard.deleted = existing, deleted
+	}
+	again := s.broker.Ask(ctx, http.MethodDelete, key.Instance, "", "", s.deletion())
+	s.deletionsTell = again.Status == http.StatusGone
+	return nil
+}
+
+// trial creates an instance, and a binding of it if bindings are listed and the broker creates one. It returns their
+// keys, what begins their deletion and ends the trial, and what is wrong, or "". With a journal, the platform creates
+// and deletes them, so that its journal has that.
+func (s *Storm) trial(ctx context.Context) (keys []Key, remove func() string, problem string) {
+	if s.journals != nil {
+		return s.trialByPlatform(ctx)
+	}
+	key, remove := Key{Instance: s.broker.NewID(0)}, func() string { return "" }
+	if problem := s.ends(ctx, key, s.broker.Provision(ctx, key.Instance)); problem != "" {
+		return nil, remove, problem
+	}
+	keys = []Key{key}
+	if s.listsBindings() {
+		binding := Key{Instance: key.Instance, Binding: s.broker.NewID(0)}
+		if s.ends(ctx, binding, s.broker.Bind(ctx, binding.Instance, binding.Binding)) == "" {
+			keys = append(keys, binding)
 		}
+	}
+	return keys, remove, ""
+}
+
+// listsBindings returns whether there is a command that lists bindings, and a plan that has some.
+func (s *Storm) listsBindings() bool {
+	return s.config.Commands.ListBindings != "" && s.target.Bindable && s.target.HasCatalogue
+}
+
+// ends waits for the end of a creation, and returns what is wrong with it, or "".
+func (s *Storm) ends(ctx context.Context, key Key, answer conform.Answer) string {
+	switch answer.Status {
+	case http.StatusOK, http.StatusCreated:
+		return ""
+	case http.StatusAccepted:
+		return s.await(ctx, key, answer.Text("operation"))
+	}
+	return "the creation was answered with " + answer.Came
+}
+
+// trialByPlatform is trial by the platform of a run without faults.
+func (s *Storm) trialByPlatform(ctx context.Context) (keys []Key, remove func() string, problem string) {
+	folder, err := os.MkdirTemp(s.config.Folder, "osb-storm-")
+	if err != nil {
+		return nil, nil, err.Error()
+	}
+	r, err := s.startRun(ctx, ctx, folder, fault.ByList(s.config.Seed, []fault.Entry{}))
+	if err != nil {
+		_ = os.RemoveAll(folder)
+		return nil, nil, err.Error()
+	}
+	end := func(problem string) string {
+		if err := r.platform.close(); err != nil && problem == "" {
+			problem = err.Error()
+		}
+		r.proxy.Close()
+		_ = os.RemoveAll(folder)
+		return problem
+	}
+	key := r.keys.instance(0)
+	s.broker.Owe(conform.Debt{Instance: key.Instance})
+	operator := &operator{orders: r.platform, keys: r.keys, events: r.events, look: readEach}
+	wait := func(wanted string, isAccepted bool) string {
+		if state := operator.rest(ctx, key).State; !isAccepted || state != wanted {
+			return fmt.Sprintf("the platform records %s, and not %s. A storm without --journal shows the answer", state, wanted)
+		}
+		return ""
+	}
+	creates := func() error { return r.platform.Create(ctx, key) }
+	if problem := wait(stateReady, operator.do(ctx, key, "creates the instance", creates)); problem != "" {
+		return nil, nil, end(problem)
+	}
+	keys = []Key{key}
+	if s.listsBindings() {
+		keys = append(keys, s.bindByPlatform(ctx, operator, key)...)
+	}
+	return keys, func() string { return end(wait(stateGone, operator.remove(ctx, key, true))) }, ""
+}
+
+// bindByPlatform has the platform create a binding, and returns its key if the binding is ready.
+func (s *Storm) bindByPlatform(ctx context.Context, o *operator, of Key) []Key {
+	key := o.keys.binding(of)
+	s.broker.Owe(conform.Debt{Instance: key.Instance, Binding: key.Binding})
+	binds := func() error { return o.orders.Bind(ctx, key) }
+	if o.do(ctx, key, "creates the binding", binds) && o.rest(ctx, key).State == stateReady {
+		return []Key{key}
 	}
 	return nil
 }
+
+// await polls until a creation has ended, and returns what is wrong, or "".
+func (s *Storm) await(ctx context.Context, key Key, operation string) string {
+	ctx, cancel := context.WithTimeout(ctx, s.config.Broker.OperationTime)
+	defer cancel()
+	for {
+		names := s.standard.names()
+		if operation != "" {
+			names.Set("operation", operation)
+		}
+		answer := s.broker.Ask(ctx, http.MethodGet, key.Instance, key.Binding, "/last_operation", names)
+		switch state := answer.Text("state"); {
+		case answer.Status == http.StatusOK && state == "succeeded":
+			return ""
+		case answer.Status != http.StatusOK || state != "in progress":
+			return "the last operation was answered with " + answer.Came
+		}
+		if !fault.Sleep(ctx, s.config.Broker.Pause) {
+			return "the creation took too long"
+		}
+	}
+}
+
+// deletionsOf asks for the deletion of each key, and returns what existed by the answers. Bindings come first.
+func (s *Storm) deletionsOf(ctx context.Context, keys []Key) map[Key]Existence {
+	found := map[Key]Existence{}
+	if !s.deletionsTell {
+		return found
+	}
+	for _, isBinding := range []bool{true, false} {
+		for _, key := range keys {
+			if (key.Binding != "") != isBinding || ctx.Err() != nil {
+				continue
+			}
+			answer := s.broker.Ask(ctx, http.MethodDelete, key.Instance, key.Binding, "", s.deletion())
+			if it := byDeletion(answer.Status); it != Unknown {
+				found[key] = it
+			}
+		}
+	}
+	return found
+}
+
+// byDeletion returns what existed by the status of the answer to a deletion.
+func byDeletion(status int) Existence {
+	switch status {
+	case http.StatusOK, http.StatusAccepted:
+		return Exists
+	case http.StatusGone:
+		return Missing
+	}
+	return Unknown
+}
+
+// A book is the store of this project's platform. It is an Orders.
+type book struct {
+	service string
+	plan    func(Key) string // of an instance
+	store   platform.Store
+	orders  *platform.Orders
+}
+
+var _ Orders = book{}
+
+// bookOf returns a book, yet without its store, in which all instances are of one plan.
+func bookOf(target conform.Target) book {
+	return book{service: target.Service, plan: func(Key) string { return target.Plan }}
+}
+
+// Create writes down an instance to create.
+func (b book) Create(ctx context.Context, key Key) error {
+	_, err := b.orders.Create(ctx, platform.NewInstance{
+		Broker: brokerName, Service: b.service, Plan: b.plan(key), ID: key.Instance,
+		Organization: "osb-storm-organization", Space: "osb-storm-space",
+	})
+	return err
+}
+
+// Bind writes down a binding to create.
+func (b book) Bind(ctx context.Context, key Key) error {
+	_, err := b.orders.Bind(ctx, platform.NewBinding{Instance: key.Instance, ID: key.Binding})
+	return err
+}
+
+// Remove has an instance or a binding deleted.
+func (b book) Remove(ctx context.Context, key Key, withBindings bool) error {
+	numbered, err := numberOf(key)
+	if err != nil {
+		return err
+	}
+	_, err = b.orders.Remove(ctx, numbered, withBindings)
+	return err
+}
+
+// Record returns the record of a key.
+func (b book) Record(ctx context.Context, key Key) (Record, error) {
+	numbered, err := numberOf(key)
+	if err != nil {
+		return Record{}, err
+	}
+	entry, err := b.store.Read(ctx, numbered)
+	if errors.Is(err, platform.ErrUnknown) {
+		return Record{}, nil
+	}
+	return recordOf(entry), err
+}
+
+// Records returns all records.
+func (b book) Records(ctx context.Context) (map[Key]Record, error) {
+	entries, err := b.store.List(ctx, platform.Filter{})
+	if err != nil {
+		return nil, err
+	}
+	all := map[Key]Record{}
+	for _, entry := range entries {
+		all[Key{Instance: entry.Names.Instance, Binding: entry.Names.Binding}] = recordOf(entry)
+	}
+	return all, nil
+}
+
+func recordOf(e platform.Entry) Record {
+	return Record{State: string(e.State), Since: e.Since, Rests: e.Rests() && !e.HasLast, Known: true}
+}
+
+func numberOf(key Key) (platform.Key, error) {
+	instance, err := osb.IDOfText(key.Instance)
+	if err != nil || key.Binding == "" {
+		return platform.InstanceKey(instance), err
+	}
+	binding, err := osb.IDOfText(key.Binding)
+	return platform.BindingKey(instance, binding), err
+}
+
+// keyOf returns the ids of a row. They are GUIDs, so their numbers are their texts.
+func keyOf(key platform.Key) Key {
+	if key.IsBinding {
+		return Key{Instance: key.Instance.String(), Binding: key.Binding.String()}
+	}
+	return Key{Instance: key.Instance.String()}
+}
+
+// keys are the ids of a run with their places. Any number of goroutines use them.
+type keys struct {
+	newID func(number int) string
+	mutex sync.Mutex
+	ofKey map[Key]fault.Place
+	next  map[string]int // the number of the next binding of an instance
+	// others is how many instances have got a place although they aren't the lives'.
+	others int
+}
+
+var _ Keys = (*keys)(nil)
+
+func newKeys(newID func(int) string) *keys {
+	return &keys{newID: newID, ofKey: map[Key]fault.Place{}, next: map[string]int{}}
+}
+
+// instance makes up the id of an instance.
+func (k *keys) instance(number int) Key {
+	k.mutex.Lock()
+	defer k.mutex.Unlock()
+	key := Key{Instance: k.newID(number)}
+	k.ofKey[key] = fault.Place{Instance: number}
+	return key
+}
+
+// binding makes up the id of a binding.
+func (k *keys) binding(of Key) Key {
+	k.mutex.Lock()
+	defer k.mutex.Unlock()
+	k.next[of.Instance]++
+	number := k.next[of.Instance]
+	key := Key{Instance: of.Instance, Binding: k.newID(number)}
+	k.ofKey[key] = fault.Place{Instance: k.ofKey[of].Instance, Binding: number}
+	return key
+}
+
+// Place returns the place of ids, if they are of the run.
+func (k *keys) Place(instance, binding string) (fault.Place, bool) {
+	k.mutex.Lock()
+	defer k.mutex.Unlock()
+	place, is := k.ofKey[Key{Instance: instance, Binding: binding}]
+	return place, is
+}
+
+// firstOther is the number of the first instance that isn't one of the lives', such as a further try of one.
+const firstOther = 1000001
+
+// placeOrNew returns the place of ids. The first request about others gives them one.
+func (k *keys) placeOrNew(instance, binding string) (fault.Place, bool) {
+	if place, is := k.Place(instance, binding); is || instance == "" {
+		return place, is
+	}
+	k.mutex.Lock()
+	defer k.mutex.Unlock()
+	of := Key{Instance: instance}
+	if _, is := k.ofKey[of]; !is {
+		k.ofKey[of] = fault.Place{Instance: firstOther + k.others}
+		k.others++
+	}
+	if binding != "" {
+		k.next[instance]++
+		k.ofKey[Key{Instance: instance, Binding: binding}] = fault.Place{Instance: k.ofKey[of].Instance, Binding: k.next[instance]}
+	}
+	place, is := k.ofKey[Key{Instance: instance, Binding: binding}]
+	return place, is
+}
+
+// All returns all keys, in the order of their places.
+func (k *keys) All() []Key {
+	k.mutex.Lock()
+	defer k.mutex.Unlock()
+	all := make([]Key, 0, len(k.ofKey))
+	for key := range k.ofKey {
+		all = append(all, key)
+	}
+	sort.Slice(all, func(one, other int) bool {
+		a, b := k.ofKey[all[one]], k.ofKey[all[other]]
+		return a.Instance < b.Instance || a.Instance == b.Instance && a.Binding < b.Binding
+	})
+	return all
+}
+
+// What is common to the reports of all storms.
+type (
+	// A Key names an instance, or a binding of it.
+	Key = report.Key
+	// An Event is something that has happened to an instance or a binding, besides its requests.
+	Event = report.Event
+	// A Finding is an instance or a binding that was lost, or whose record was false.
+	Finding = report.Finding
+	// A Violation is a rule that an answer of the broker breaks.
+	Violation = report.Violation
+	// A KindCount is how many requests had a kind of fault.
+	KindCount = report.KindCount
+)
+
+// The programs that are killed and started again.
+const (
+	whoBroker   = report.WhoBroker
+	whoPlatform = report.WhoPlatform
+)

@@ -1,6 +1,7 @@
 package run
 
 import (
+	"bufio"
 	"bytes"
 	"context"
 	"encoding/base64"
@@ -12,14 +13,19 @@ import (
 	"io"
 	"net/http"
 	"net/http/httptest"
+	"os"
+	"path/filepath"
 	"regexp"
 	"strings"
+	"sync"
 	"testing"
 	"time"
 
+	"pippinterm/internal/journalfile"
+	"pippinterm/osb"
 	"pippinterm/storm/conform"
 	"pippinterm/storm/fault"
-	stormreport "pippinterm/storm/report"
+	"pippinterm/storm/report"
 )
 
 // reports returns the report in its three forms.
@@ -30,9 +36,7 @@ func reports(t *testing.T, report *Report) map[string]string {
 		"text": report.WriteText, "JSON": report.WriteJSON, "HTML": report.WriteHTML,
 	} {
 		var text bytes.Buffer
-		if err := write(&text); err != nil {
-			t.Fatal(err)
-		}
+		check(t, write(&text))
 		all[name] = text.String()
 	}
 	return all
@@ -42,7 +46,7 @@ const hostile = `<script>alert("&'1")</script>`
 
 // hostileReport has a text of the broker wherever one may stand.
 func hostileReport() *Report {
-	life := []stormreport.Line{
+	life := []report.Line{
 		{Seconds: 1, Number: "1.1", Who: "request", What: hostile, Fault: "hang-up", Until: 2},
 		{Seconds: 1.5, Number: "1.1", Who: "broker", What: hostile}, {Seconds: 2, Who: "record", What: hostile},
 		{Seconds: 1.2, Who: "broker", What: hostile},
@@ -51,27 +55,27 @@ func hostileReport() *Report {
 	return &Report{
 		URL: "http://" + hostile, Service: hostile, Plan: hostile, Ended: hostile, Inventory: hostile,
 		Lost: []Finding{finding}, False: []Finding{finding}, Stuck: []Finding{finding},
-		Shrunk: stormreport.Shrunk{MinimalLost: []Finding{finding}, Minimal: []string{hostile}}, Given: []string{hostile}, Notes: []string{hostile}, Failed: []string{hostile},
+		Minimum: report.Minimum{MinimalLost: []Finding{finding}, Minimal: []string{hostile}}, Given: []string{hostile}, Notes: []string{hostile}, Failed: []string{hostile},
 		Leftovers: []conform.Leftover{{Instance: hostile, Reason: hostile}},
-		Broken:    []Broken{brokenWith(conform.Result{Reason: hostile, Sent: hostile, Came: hostile}, hostile)},
+		Broken:    []Violation{brokenWith(conform.Result{Reason: hostile, Sent: hostile, Came: hostile}, hostile)},
 	}
 }
 
-func brokenWith(result conform.Result, number string) Broken {
-	return Broken{Result: result, Number: number, Count: 1}
+func brokenWith(result conform.Result, number string) Violation {
+	return Violation{Result: result, Number: number, Count: 1}
 }
 
 // A broker's text is text in the page, wherever it stands. The page has no script, and needs nothing else.
 func TestHTML(t *testing.T) {
 	page := reports(t, hostileReport())["HTML"]
 	if strings.Contains(page, "<script") || strings.Contains(page, "alert(\"") {
-		t.Error("a text of the broker is markup")
+		t.Error("a text of the broker: got it as markup, want it escaped")
 	}
 	if count := strings.Count(page, "&lt;script&gt;"); count < 40 {
-		t.Errorf("the text stands only %d times", count)
+		t.Errorf("the text: got it only %d times, want at least 40", count)
 	}
 	if found := regexp.MustCompile(`(src|href)=|url\(|@import`).FindString(page); found != "" {
-		t.Errorf("the page needs %s", found)
+		t.Errorf("the page: got %s, want nothing from elsewhere", found)
 	}
 	// Apart from the void elements, the page is XML: each element ends.
 	page = strings.Replace(page, "<!DOCTYPE html>", "", 1)
@@ -85,7 +89,7 @@ func TestHTML(t *testing.T) {
 		}
 	}
 	if lanes := strings.Count(page, `<rect class="request fault"`); lanes != 4 {
-		t.Errorf("%d requests with a fault are drawn", lanes)
+		t.Errorf("got %d requests with a fault in the picture, want 4", lanes)
 	}
 }
 
@@ -95,24 +99,24 @@ func TestNoSecrets(t *testing.T) {
 	m, url := newModel(t, false, mistakes{losesBindings: true, forgetsUnread: true, talks: true})
 	config := configFor(t, url)
 	config.Commands = m.commands()
-	report := stormed(t, config)
-	if !hasBinding(report.Lost) {
-		t.Fatal(textOf(t, report))
+	got := runStorm(t, config)
+	if !hasBinding(got.Lost) {
+		t.Fatalf("got\n%s\nwant a binding that is lost", textOf(t, got))
 	}
 	login := base64.StdEncoding.EncodeToString([]byte("platform:" + password))
-	for name, text := range reports(t, report) {
-		for _, it := range []string{password, secret, login, fmt.Sprint(pin)} {
-			if strings.Contains(text, it) {
-				t.Errorf("%s has %s", name, it)
+	for name, text := range reports(t, got) {
+		for _, word := range []string{password, secret, login, fmt.Sprint(pin)} {
+			if strings.Contains(text, word) {
+				t.Errorf("%s: got %s in it, want it hidden", name, word)
 			}
 		}
-		if !strings.Contains(text, stormreport.Hidden) {
-			t.Errorf("%s leaves nothing out", name)
+		if !strings.Contains(text, report.Hidden) {
+			t.Errorf("%s: got no mark of what is left out, want one", name)
 		}
 	}
 	var read map[string]any
-	if err := json.Unmarshal([]byte(reports(t, report)["JSON"]), &read); err != nil || len(read["lost"].([]any)) == 0 {
-		t.Errorf("%v", err)
+	if err := json.Unmarshal([]byte(reports(t, got)["JSON"]), &read); err != nil || len(read["lost"].([]any)) == 0 {
+		t.Errorf("got the error %v, want JSON in which something is lost", err)
 	}
 }
 
@@ -134,41 +138,38 @@ func TestNoSecretsInErrors(t *testing.T) {
 	config.Broker.Pause = time.Millisecond
 	config.Commands.List = "echo " + password + " >&2; exit 3"
 	storm, err := New(config)
-	if err != nil {
-		t.Fatal(err)
-	}
-	report, failed := storm.Run(context.Background(), context.Background())
-	if !errors.Is(failed, ErrTrial) || len(report.Leftovers) != 1 {
-		t.Fatalf("%v %v", failed, report.Leftovers)
+	check(t, err)
+	got, failed := storm.Run(context.Background(), context.Background())
+	if !errors.Is(failed, ErrTrial) || len(got.Leftovers) != 1 {
+		t.Fatalf("got the error %v and the leftovers %v, want %v and one", failed, got.Leftovers, ErrTrial)
 	}
 	m, url := newModel(t, false, mistakes{})
 	config.Broker.URL = url
-	if storm, err = New(config); err != nil {
-		t.Fatal(err)
-	}
+	storm, err = New(config)
+	check(t, err)
 	_, listed := storm.Run(context.Background(), context.Background())
 	if !errors.Is(listed, ErrList) || len(m.left(t)) > 0 {
-		t.Fatalf("%v", listed)
+		t.Fatalf("got the error %v, want %v", listed, ErrList)
 	}
 	login := base64.StdEncoding.EncodeToString([]byte("platform:" + password))
-	for _, it := range append(mapOf(reports(t, report)), failed.Error(), listed.Error(), report.Leftovers[0].String()) {
-		if strings.Contains(it, password) || strings.Contains(it, login[:12]) || !strings.Contains(it, stormreport.Hidden) {
-			t.Error(it)
+	for _, value := range append(mapOf(reports(t, got)), failed.Error(), listed.Error(), got.Leftovers[0].String()) {
+		if strings.Contains(value, password) || strings.Contains(value, login[:12]) || !strings.Contains(value, report.Hidden) {
+			t.Errorf("got %s, want no password and no login in it", value)
 		}
 	}
 }
 
 func mapOf(all map[string]string) (values []string) {
-	for _, it := range all {
-		values = append(values, it)
+	for _, value := range all {
+		values = append(values, value)
 	}
 	return values
 }
 
 // hasBinding returns whether a binding was lost.
 func hasBinding(all []Finding) bool {
-	for _, it := range all {
-		if it.Binding != "" {
+	for _, finding := range all {
+		if finding.Binding != "" {
 			return true
 		}
 	}
@@ -179,31 +180,33 @@ func hasBinding(all []Finding) bool {
 func TestIsClean(t *testing.T) {
 	clean := func() *Report { return &Report{Converged: true} }
 	if !clean().IsClean() {
-		t.Error("nothing was found, and it isn't clean")
+		t.Error("a report without a finding: got it not clean, want it clean")
 	}
 	must, should := conform.Result{Case: conform.Case{Level: conform.Must}}, conform.Result{}
 	for name, change := range map[string]func(*Report){
 		"lost": func(r *Report) { r.Lost = []Finding{{}} }, "false": func(r *Report) { r.False = []Finding{{}} },
 		"stuck":   func(r *Report) { r.Stuck = []Finding{{}} },
-		"must":    func(r *Report) { r.Broken = []Broken{brokenWith(must, "")} },
+		"must":    func(r *Report) { r.Broken = []Violation{brokenWith(must, "")} },
 		"unknown": func(r *Report) { r.Unknown = 1 },
 		"untried": func(r *Report) { r.Untried = []string{"x"} },
 		"ended":   func(r *Report) { r.Ended = "x" }, "not converged": func(r *Report) { r.Converged = false },
 	} {
-		report := clean()
-		if change(report); report.IsClean() {
-			t.Errorf("%s: it is clean", name)
-		}
+		t.Run(name, func(t *testing.T) {
+			report := clean()
+			if change(report); report.IsClean() {
+				t.Errorf("%s: got it clean, want it not", name)
+			}
+		})
 	}
 	report := clean()
-	if report.Broken = []Broken{brokenWith(should, "")}; !report.IsClean() {
-		t.Error("a SHOULD changes the verdict")
+	if report.Broken = []Violation{brokenWith(should, "")}; !report.IsClean() {
+		t.Error("a SHOULD: got another verdict, want it clean")
 	}
 }
 
 // What nobody could ask for doesn't count as nothing lost: each form says how many, and which option helps.
 func TestUnasked(t *testing.T) {
-	for _, it := range []struct {
+	for _, test := range []struct {
 		unknown         int
 		inventory, line string
 		verdict         string
@@ -214,20 +217,22 @@ func TestUnasked(t *testing.T) {
 		{7, byListCommand, "7 instances and bindings couldn't be asked for: give --list-bindings-command",
 			"0 lost of those that could be asked for, 7 couldn't be asked for, 0 false records, "},
 	} {
-		report := emptyReport()
-		report.Converged, report.Unknown, report.Inventory = true, it.unknown, it.inventory
-		if report.IsClean() != (it.unknown == 0) {
-			t.Errorf("%d: clean is %v", it.unknown, report.IsClean())
-		}
-		for form, text := range reports(t, report) {
-			text = html.UnescapeString(text)
-			if form != "JSON" && !(strings.Contains(text, it.line) && strings.Contains(text, it.verdict)) {
-				t.Errorf("%s: %s", form, text)
+		t.Run(fmt.Sprint(test.unknown), func(t *testing.T) {
+			report := emptyReport()
+			report.Converged, report.Unknown, report.Inventory = true, test.unknown, test.inventory
+			if report.IsClean() != (test.unknown == 0) {
+				t.Errorf("%d: got clean %v, want %v", test.unknown, report.IsClean(), test.unknown == 0)
 			}
-			if form != "JSON" && it.unknown == 0 && strings.Contains(text, "asked for") {
-				t.Errorf("%s: %s", form, text)
+			for form, text := range reports(t, report) {
+				text = html.UnescapeString(text)
+				if form != "JSON" && !(strings.Contains(text, test.line) && strings.Contains(text, test.verdict)) {
+					t.Errorf("%s: got %s, want %q and %q", form, text, test.line, test.verdict)
+				}
+				if form != "JSON" && test.unknown == 0 && strings.Contains(text, "asked for") {
+					t.Errorf("%s: got %s, want nothing about what couldn't be asked for", form, text)
+				}
 			}
-		}
+		})
 	}
 }
 
@@ -239,7 +244,7 @@ func TestNoFaultIsNeeded(t *testing.T) {
 		isSaid := minimal != nil && len(minimal) == 0
 		for form, text := range reports(t, report) {
 			if form != "JSON" && strings.Contains(text, "none: something is lost without any fault") != isSaid {
-				t.Errorf("%q, %s: %s", minimal, form, text)
+				t.Errorf("%q, %s: got %s, want that no fault is needed: %v", minimal, form, text, isSaid)
 			}
 		}
 	}
@@ -252,29 +257,29 @@ func TestUnmet(t *testing.T) {
 	config := configFor(t, url)
 	config.Broker.Instances, config.Time = 2, time.Second
 	config.List = listOf(t, "99.1 answer-lost\n1.1 answer-lost\n98/1.2 hang-up")
-	for form, text := range reports(t, stormed(t, config)) {
+	for form, text := range reports(t, runStorm(t, config)) {
 		wanted := "2 faults of the list met no request: 98/1.2 hang-up, 99.1 answer-lost"
 		if form == "JSON" {
 			wanted = "\"unmet_faults\": [\n    \"98/1.2 hang-up\",\n    \"99.1 answer-lost\"\n  ]"
 		}
 		if !strings.Contains(text, wanted) {
-			t.Errorf("%s: %s", form, text)
+			t.Errorf("%s: got %s, want %q", form, text, wanted)
 		}
 	}
 	for form, text := range reports(t, emptyReport()) {
 		if strings.Contains(text, "met no request") || form == "JSON" && !strings.Contains(text, `"unmet_faults": []`) {
-			t.Errorf("%s: %s", form, text)
+			t.Errorf("%s: got %s, want no unmet faults", form, text)
 		}
 	}
 }
 
-// A storm in which no request had a fault isn't clean, unless no fault was wanted or the storm was ended. Each form says
-// what to do.
+// A storm in which no request had a fault isn't clean, unless no fault was wanted or the storm was ended. Each form
+// says what to do.
 func TestUntriedFaults(t *testing.T) {
 	list := listOf(t, "99.1 answer-lost")
-	for name, it := range map[string]struct {
+	for name, test := range map[string]struct {
 		share       float64
-		list, given []fault.Numbered
+		list, given []fault.Entry
 		ended, says string
 	}{
 		"none of many": {0.4, nil, nil, "", "no request had a fault. Pass a greater number to --instances, "},
@@ -283,24 +288,26 @@ func TestUntriedFaults(t *testing.T) {
 		"one":          {0.4, nil, list, "", ""},
 		"one of list":  {0.4, list, list, "", ""},
 		"no share":     {0, nil, nil, "", ""},
-		"empty list":   {0.4, []fault.Numbered{}, nil, "", ""},
+		"empty list":   {0.4, []fault.Entry{}, nil, "", ""},
 		"ended":        {0.4, nil, nil, "x", ""},
 	} {
-		report := emptyReport()
-		report.Converged, report.given, report.Ended = true, it.given, it.ended
-		report.takeUntried(Config{Share: it.share, List: it.list})
-		if report.IsClean() != (it.says == "" && it.ended == "") {
-			t.Errorf("%s: clean is %v", name, report.IsClean())
-		}
-		for form, text := range reports(t, report) {
-			wanted := map[string]string{
-				"JSON": "\"untried\": [\n    \"" + it.says, "text": "\nNOT TRIED: " + it.says,
-				"HTML": "<th>Wrong</th><td>NOT TRIED: " + it.says,
-			}[form]
-			if has := strings.Contains(text, wanted); has != (it.says != "") {
-				t.Errorf("%s, %s: %s", name, form, text)
+		t.Run(name, func(t *testing.T) {
+			report := emptyReport()
+			report.Converged, report.given, report.Ended = true, test.given, test.ended
+			report.takeUntried(Config{Share: test.share, List: test.list})
+			if report.IsClean() != (test.says == "" && test.ended == "") {
+				t.Errorf("%s: got clean %v, want %v", name, report.IsClean(), test.says == "" && test.ended == "")
 			}
-		}
+			for form, text := range reports(t, report) {
+				wanted := map[string]string{
+					"JSON": "\"untried\": [\n    \"" + test.says, "text": "\nNOT TRIED: " + test.says,
+					"HTML": "<th>Wrong</th><td>NOT TRIED: " + test.says,
+				}[form]
+				if has := strings.Contains(text, wanted); has != (test.says != "") {
+					t.Errorf("%s, %s: got %s, want that it says %q", name, form, text, test.says)
+				}
+			}
+		})
 	}
 }
 
@@ -310,13 +317,13 @@ func TestStormWithoutFault(t *testing.T) {
 	_, url := newModel(t, false, mistakes{})
 	config := configFor(t, url)
 	config.Broker.Instances, config.Time, config.Share = 2, time.Second, 1e-9
-	report := stormed(t, config)
+	report := runStorm(t, config)
 	if report.IsClean() || len(report.Untried) != 1 || !report.Converged || len(report.Lost) > 0 {
-		t.Error(textOf(t, report))
+		t.Errorf("got\n%s\nwant what is untried, and nothing else", textOf(t, report))
 	}
 	config.Share = 0
-	if report := stormed(t, config); !report.IsClean() {
-		t.Error(textOf(t, report))
+	if report := runStorm(t, config); !report.IsClean() {
+		t.Errorf("got\n%s\nwant a clean report", textOf(t, report))
 	}
 }
 
@@ -328,20 +335,223 @@ func TestPictureOfCleanStorm(t *testing.T) {
 	config.Commands, config.Time = m.commands(), 2*time.Second
 	config.Commands.Restart = "true"
 	config.List = listOf(t, "1.1 restart-after\n2.1 answer-lost")
-	report := stormed(t, config)
+	report := runStorm(t, config)
 	if !report.IsClean() || report.Restarts != 1 {
-		t.Fatal(textOf(t, report))
+		t.Fatalf("got\n%s\nwant a clean report and 1 restart", textOf(t, report))
 	}
 	page := reports(t, report)["HTML"]
-	for _, it := range []string{
+	for _, part := range []string{
 		"<h2>The storm</h2>", "<title>the broker is killed and started again</title>", "   FAULT: restart-after</title>",
 		"   FAULT: answer-lost</title>",
 	} {
-		if !strings.Contains(page, it) {
-			t.Errorf("the page doesn't have %q", it)
+		if !strings.Contains(page, part) {
+			t.Errorf("the page: got no %q, want it", part)
 		}
 	}
 	if count := strings.Count(page, "<svg"); count != 1 {
-		t.Errorf("there are %d pictures", count)
+		t.Errorf("got %d pictures, want 1", count)
+	}
+}
+
+// A journalLine is what the tests read of a line of a journal.
+type journalLine struct {
+	Process, Side, Event, Request, Instance, Binding, Kind, State, Lost string
+	Attempt                                                             uint64
+	Status                                                              int
+}
+
+// linesOf returns the lines of all files of a folder, process by process.
+func linesOf(t *testing.T, folder string) (all []journalLine) {
+	t.Helper()
+	names, err := filepath.Glob(filepath.Join(folder, "platform-*.jsonl"))
+	check(t, err)
+	for _, name := range names {
+		file, err := os.Open(name)
+		check(t, err)
+		defer file.Close()
+		for lines := bufio.NewScanner(file); lines.Scan(); {
+			var it journalLine
+			check(t, json.Unmarshal(lines.Bytes(), &it))
+			all = append(all, it)
+		}
+	}
+	return all
+}
+
+// An arrival is a request about an instance or a binding, as a broker gets it.
+type arrival struct {
+	method, path string
+	hasTime      bool // of a journal
+}
+
+// newNotedModel is newModel that notes each request with an id, by its id.
+func newNotedModel(t *testing.T, isAsync bool) (m *model, url string, arrivals func() map[string]arrival) {
+	t.Helper()
+	m, _ = newModel(t, isAsync, mistakes{})
+	var mutex sync.Mutex
+	all := map[string]arrival{}
+	server := httptest.NewServer(http.HandlerFunc(func(w http.ResponseWriter, r *http.Request) {
+		if r.URL.Path != "/v2/catalog" {
+			mutex.Lock()
+			all[r.Header.Get(osb.RequestIdentityHeader)] = arrival{r.Method, r.URL.Path, r.Header.Get(journalfile.Header) != ""}
+			mutex.Unlock()
+		}
+		m.ServeHTTP(w, r)
+	}))
+	t.Cleanup(server.Close)
+	return m, server.URL, func() map[string]arrival {
+		mutex.Lock()
+		defer mutex.Unlock()
+		return all
+	}
+}
+
+// With a folder for journals, each request that reaches the broker is in one of them before, whether the platform or
+// osb-storm itself has sent it, and the platform deletes everything that it has created. The answers are there, too.
+func TestJournals(t *testing.T) {
+	for _, isAsync := range []bool{false, true} {
+		isAsync := isAsync
+		t.Run("", func(t *testing.T) {
+			t.Parallel()
+			m, url, arrivals := newNotedModel(t, isAsync)
+			config := configFor(t, url)
+			config.Commands, config.Journal = m.commands(), filepath.Join(t.TempDir(), "journals")
+			config.Commands.ListBindings = "" // osb-storm fetches the bindings
+			report := runStorm(t, config)
+			if !report.IsClean() || len(report.Failed) > 0 || len(report.Leftovers) > 0 {
+				t.Errorf("got\n%s\nwant a clean report and nothing left", textOf(t, report))
+			}
+			if left := m.left(t); len(left) > 0 {
+				t.Errorf("got %v left, want none", left)
+			}
+			checkEmpty(t, config.Folder)
+			lines := linesOf(t, filepath.Join(config.Journal, "platform"))
+			checkRequests(t, lines, arrivals())
+			checkDeletions(t, lines, report)
+		})
+	}
+}
+
+// checkRequests compares the requests of journals with those that a broker got.
+func checkRequests(t *testing.T, lines []journalLine, arrivals map[string]arrival) {
+	t.Helper()
+	sent, answered := map[string]journalLine{}, map[string]bool{}
+	for _, line := range lines {
+		switch line.Event {
+		case "sent":
+			sent[line.Request] = line
+		case "answered":
+			answered[line.Request] = line.Status != 0 || line.Lost != ""
+		}
+	}
+	own := map[string]int{}
+	for id, arrival := range arrivals {
+		line, is := sent[id]
+		if kind := kindOf(arrival); !is || !arrival.hasTime || line.Kind != kind || !answered[id] {
+			t.Fatalf("%+v: got the line %+v of a %s, answered %v, want that of the arrival", arrival, line, kind, answered[id])
+		}
+		if wanted := "/v2/service_instances/" + line.Instance; !strings.HasPrefix(arrival.path, wanted) ||
+			strings.Contains(arrival.path, "/service_bindings/") != (line.Binding != "") || !strings.Contains(arrival.path, line.Binding) {
+			t.Errorf("%+v: got the line %+v, want one of its instance and binding", arrival, line)
+		}
+		if line.Attempt == 0 {
+			own[line.Kind]++
+		}
+	}
+	if own["fetch"] == 0 || own["deprovision"] == 0 || own["provision"] > 0 || len(arrivals) < 50 {
+		t.Errorf("of %d requests: got %v that aren't the platform's, want its fetches and deprovisions, and no provision",
+			len(arrivals), own)
+	}
+}
+
+// kindOf returns the kind of a request.
+func kindOf(it arrival) string {
+	switch {
+	case strings.HasSuffix(it.path, "/last_operation"):
+		return "poll"
+	case it.method == http.MethodGet:
+		return "fetch"
+	case it.method == http.MethodPut:
+		return "provision"
+	}
+	return "deprovision"
+}
+
+// checkDeletions checks that what was created is gone at the end, of each instance and of each binding.
+func checkDeletions(t *testing.T, lines []journalLine, report *Report) {
+	t.Helper()
+	states, processes := map[Key]string{}, map[string]bool{}
+	instances := 0
+	for _, line := range lines {
+		key := Key{Instance: line.Instance, Binding: line.Binding}
+		if _, is := states[key]; line.Event == "changed" && !is && line.Binding == "" {
+			instances++
+		}
+		if line.Event == "changed" {
+			states[key] = line.State
+		}
+		processes[line.Process] = true
+	}
+	for key, state := range states {
+		if state != "gone" && state != "withdrawn" {
+			t.Errorf("%s: got %s at the end, want it gone or withdrawn", key, state)
+		}
+	}
+	bindings := len(states) - instances // the platform may reject a binding, which the report counts all the same
+	if instances != report.Instances || bindings == 0 || bindings > report.Bindings || len(processes) != 3 {
+		t.Errorf("got %d instances, %d bindings and %d processes, want those of the report, %d and %d, and 3", instances,
+			bindings, len(processes), report.Instances, report.Bindings)
+	}
+}
+
+// Without list commands, what only a deletion shows is judged by the platform's own deletion if there is one.
+func TestJournalsByDeletion(t *testing.T) {
+	t.Parallel()
+	inOneStorm(t, func(seed int64) string {
+		m, url := newModel(t, false, mistakes{blind: true, mute: true})
+		config := configFor(t, url)
+		config.Seed, config.Journal = seed, t.TempDir()
+		report := runStorm(t, config)
+		if left := m.left(t); !report.IsClean() || report.Unknown > 0 || len(left) > 0 {
+			return textOf(t, report)
+		}
+		return ""
+	})
+}
+
+func TestDeletedSince(t *testing.T) {
+	const begun = time.Second
+	deletion := func(instance string, at time.Duration, statuses ...int) fault.Exchange {
+		it := fault.Exchange{Method: http.MethodDelete, Instance: instance, Begun: at}
+		for _, status := range statuses {
+			it.Deliveries = append(it.Deliveries, fault.Delivery{Status: status})
+		}
+		return it
+	}
+	creation := deletion("created", begun, 201)
+	creation.Method = http.MethodPut
+	found := deletedSince(begun, []fault.Exchange{
+		deletion("before", 0, 200), creation, deletion("lost", begun), deletion("here", begun, 202, 410),
+		deletion("here", 2*begun, 410), deletion("missing", begun, 410, 200), deletion("failed", begun, 500),
+	})
+	for instance, wanted := range map[string]Existence{
+		"before": Unknown, "created": Unknown, "lost": Unknown, "here": Exists, "missing": Missing, "failed": Unknown,
+	} {
+		t.Run(instance, func(t *testing.T) {
+			if it := found[Key{Instance: instance}]; it != wanted {
+				t.Errorf("%s: got %v, want %v", instance, it, wanted)
+			}
+		})
+	}
+}
+
+// A journal that can't be opened ends the storm before anything is created.
+func TestNoJournals(t *testing.T) {
+	_, url := newModel(t, false, mistakes{})
+	config := configFor(t, url)
+	config.Journal = filepath.Join(t.TempDir(), "file")
+	check(t, os.WriteFile(config.Journal, nil, 0o600))
+	if _, err := New(config); err == nil {
+		t.Error("a file: got no error, want that it is no folder")
 	}
 }

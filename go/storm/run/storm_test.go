@@ -7,38 +7,43 @@ import (
 	"fmt"
 	"net/http"
 	"net/http/httptest"
+	"os"
+	"path/filepath"
+	"reflect"
+	"sort"
 	"strings"
 	"testing"
 	"time"
 
+	"pippinterm/internal/diff"
 	"pippinterm/storm/conform"
 	"pippinterm/storm/fault"
+	"pippinterm/storm/report"
 )
 
 // configFor is a Config of short times.
-func configFor(t *testing.T, url string) Config {
+func configFor(t *testing.T, url string) BrokerConfig {
 	t.Helper()
-	return Config{
+	return BrokerConfig{
+		Config: Config{
+			Seed: 1, Share: 0.5, RequestTime: 200 * time.Millisecond, Late: 400 * time.Millisecond, Time: 5 * time.Second,
+			SettleTime: 20 * time.Second, Folder: t.TempDir(),
+		},
 		Broker: conform.Config{
 			URL: url, User: "platform", Password: password, Instances: 30, RequestTime: 5 * time.Second,
 			OperationTime: 10 * time.Second, Pause: 50 * time.Millisecond,
 		},
-		Seed: 1, Share: 0.5, RequestTime: 200 * time.Millisecond, Late: 400 * time.Millisecond, Time: 5 * time.Second,
-		SettleTime: 20 * time.Second, CleanUpTime: 20 * time.Second, Folder: t.TempDir(),
+		CleanUpTime: 20 * time.Second,
 	}
 }
 
-// stormed returns the report of a storm.
-func stormed(t *testing.T, config Config) *Report {
+// runStorm returns the report of a storm.
+func runStorm(t *testing.T, config BrokerConfig) *Report {
 	t.Helper()
 	storm, err := New(config)
-	if err != nil {
-		t.Fatal(err)
-	}
+	check(t, err)
 	report, err := storm.Run(context.Background(), context.Background())
-	if err != nil {
-		t.Fatal(err)
-	}
+	check(t, err)
 	return report
 }
 
@@ -54,11 +59,11 @@ func inOneStorm(t *testing.T, look func(seed int64) string) {
 			return
 		}
 	}
-	t.Errorf("in none of %d storms: %s", storms, missing)
+	t.Errorf("got it in none of %d storms, want it in one: %s", storms, missing)
 }
 
-// untilEnough calls run with one seed after the other, until enough has happened in all storms together: on a slow machine
-// less happens in each. It fails if it isn't enough after ten.
+// untilEnough calls run with one seed after the other, until enough has happened in all storms together: on a slow
+// machine less happens in each. It fails if it isn't enough after ten.
 func untilEnough(t *testing.T, run func(seed int64) *Report) {
 	t.Helper()
 	var instances, bindings, requests, given int
@@ -73,7 +78,8 @@ func untilEnough(t *testing.T, run func(seed int64) *Report) {
 		}
 	}
 	if !t.Failed() {
-		t.Errorf("%d instances, %d bindings, %d requests, %d faults", instances, bindings, requests, given)
+		t.Errorf("got %d instances, %d bindings, %d requests and %d faults, want a failure", instances, bindings, requests,
+			given)
 	}
 }
 
@@ -81,9 +87,7 @@ func untilEnough(t *testing.T, run func(seed int64) *Report) {
 func textOf(t *testing.T, report *Report) string {
 	t.Helper()
 	var text bytes.Buffer
-	if err := report.WriteText(&text); err != nil {
-		t.Fatal(err)
-	}
+	check(t, report.WriteText(&text))
 	return text.String()
 }
 
@@ -101,12 +105,12 @@ func TestNothingLost(t *testing.T) {
 					if isListed {
 						config.Commands = m.commands()
 					}
-					report := stormed(t, config)
+					report := runStorm(t, config)
 					if !report.IsClean() || len(report.Broken) > 0 || len(report.Failed) > 0 || len(report.Leftovers) > 0 {
-						t.Error(textOf(t, report))
+						t.Errorf("got\n%s\nwant a clean report with nothing broken, failed or left", textOf(t, report))
 					}
 					if left := m.left(t); len(left) > 0 {
-						t.Errorf("%v are left", left)
+						t.Errorf("got %v left, want none", left)
 					}
 					return report
 				})
@@ -117,7 +121,7 @@ func TestNothingLost(t *testing.T) {
 
 // Each mistake is found, and named: what is lost, and by which answers.
 func TestMistakes(t *testing.T) {
-	for _, it := range []struct {
+	for _, test := range []struct {
 		name    string
 		isAsync bool
 		wrong   mistakes
@@ -133,7 +137,7 @@ func TestMistakes(t *testing.T) {
 		{"creates-again", false, mistakes{createsAgain: true}, "exist", "", "provision-repeated"},
 		{"too-early", true, mistakes{tooEarly: true}, "", "its record said ready, and it didn't exist", ""},
 	} {
-		it := it
+		it := test
 		t.Run(it.name, func(t *testing.T) {
 			t.Parallel()
 			inOneStorm(t, func(seed int64) string {
@@ -146,7 +150,7 @@ func TestMistakes(t *testing.T) {
 				if it.wrong.forgetsRestart {
 					config.Commands.Restart = "touch " + m.folder + "/restart"
 				}
-				report := stormed(t, config)
+				report := runStorm(t, config)
 				text := textOf(t, report)
 				switch {
 				case it.lost != "" && !strings.Contains(whats(report.Lost), it.lost):
@@ -174,14 +178,14 @@ func TestByTheStandard(t *testing.T) {
 		wanted, wrong := wanted, wrong
 		t.Run(strings.ReplaceAll(wanted, " ", "-"), func(t *testing.T) {
 			t.Parallel()
-			var config Config
+			var config BrokerConfig
 			inOneStorm(t, func(seed int64) string {
 				_, url := newModel(t, false, wrong)
 				config = configFor(t, url)
 				config.Seed, config.SettleTime = seed, 10*time.Second
-				report := stormed(t, config)
+				report := runStorm(t, config)
 				if !strings.HasPrefix(report.Inventory, wanted) {
-					t.Errorf("%s", report.Inventory)
+					t.Errorf("got %s, want %s", report.Inventory, wanted)
 				}
 				if !strings.Contains(whats(report.Lost), "it exists, and its record says gone") {
 					return "nothing is lost:\n" + textOf(t, report)
@@ -190,8 +194,8 @@ func TestByTheStandard(t *testing.T) {
 			})
 			wrong.unreadLater = false
 			_, config.Broker.URL = newModel(t, false, wrong)
-			if report := stormed(t, config); !report.IsClean() {
-				t.Errorf("without the mistake:\n%s", textOf(t, report))
+			if report := runStorm(t, config); !report.IsClean() {
+				t.Errorf("without the mistake: got\n%s\nwant a clean report", textOf(t, report))
 			}
 		})
 	}
@@ -199,15 +203,15 @@ func TestByTheStandard(t *testing.T) {
 
 func whats(all []Finding) string {
 	var text []string
-	for _, it := range all {
-		text = append(text, it.What)
+	for _, finding := range all {
+		text = append(text, finding.What)
 	}
 	return strings.Join(text, "\n")
 }
 
 func hasBroken(report *Report, name string) bool {
-	for _, it := range report.Broken {
-		if it.Name == name {
+	for _, violation := range report.Broken {
+		if violation.Name == name {
 			return true
 		}
 	}
@@ -222,20 +226,16 @@ func TestMinimize(t *testing.T) {
 		config := configFor(t, url)
 		config.Seed, config.Commands, config.MinimizeTime = seed, m.commands(), time.Minute
 		config.Broker.Instances = 15
-		report := stormed(t, config)
+		report := runStorm(t, config)
 		if len(report.Minimal) != 1 || len(report.MinimalLost) == 0 {
 			return fmt.Sprintf("%v is left:\n%s", report.Minimal, textOf(t, report))
 		}
 		var text bytes.Buffer
-		if err := report.WriteFaults(&text); err != nil {
-			t.Fatal(err)
-		}
+		check(t, report.WriteFaults(&text))
 		list, err := fault.ReadList(&text)
-		if err != nil {
-			t.Fatal(err)
-		}
+		check(t, err)
 		config.List, config.MinimizeTime = list, 0
-		if again := stormed(t, config); len(again.Lost) != 1 || len(again.Given) != 1 {
+		if again := runStorm(t, config); len(again.Lost) != 1 || len(again.Given) != 1 {
 			return fmt.Sprintf("with %v, %s", list, textOf(t, again))
 		}
 		return ""
@@ -247,11 +247,611 @@ func TestNoCatalogue(t *testing.T) {
 	server := httptest.NewServer(http.NotFoundHandler())
 	defer server.Close()
 	storm, err := New(configFor(t, server.URL))
-	if err != nil {
-		t.Fatal(err)
-	}
+	check(t, err)
 	_, err = storm.Run(context.Background(), context.Background())
 	if !errors.Is(err, conform.ErrNoPlan) || !strings.Contains(err.Error(), "give --service and --plan with ids") {
-		t.Errorf("the error is %v", err)
+		t.Errorf("got %v, want %v and which options to give", err, conform.ErrNoPlan)
+	}
+}
+
+// At the first signal the storm ends, and everything is deleted, whatever was going on.
+func TestCleanUpAfterSignal(t *testing.T) {
+	t.Parallel()
+	m, url := newModel(t, true, mistakes{})
+	config := configFor(t, url)
+	config.Commands, config.Time, config.Broker.RequestTime = m.commands(), 15*time.Second, time.Second
+	storm, err := New(config)
+	check(t, err)
+	running, signal := context.WithCancel(context.Background())
+	go func() {
+		for len(m.left(t)) < 5 {
+			time.Sleep(10 * time.Millisecond)
+		}
+		signal()
+	}()
+	begun := time.Now()
+	report, err := storm.Run(running, context.Background())
+	if err != nil || report.Ended == "" || report.IsClean() || len(report.Leftovers)+len(report.Failed) > 0 {
+		t.Errorf("got the error %v, want a report of a run that was ended, which left nothing:\n%s", err, textOf(t, report))
+	}
+	if len(report.Lost)+len(report.False)+len(report.Stuck) > 0 {
+		t.Errorf("got\n%s\nwant nothing lost, false or stuck before everything converged", textOf(t, report))
+	}
+	if left := m.left(t); len(left) > 0 {
+		t.Errorf("got %v left, want none", left)
+	}
+	if time.Since(begun) > 30*time.Second {
+		t.Errorf("got %v, want at most %v", time.Since(begun), 30*time.Second)
+	}
+	if files, err := os.ReadDir(config.Folder); err != nil || len(files) > 0 {
+		t.Errorf("got %v %v left in the folder, want none", err, files)
+	}
+}
+
+// At the second signal nothing more is deleted, and what is left is listed.
+func TestSecondSignal(t *testing.T) {
+	t.Parallel()
+	m, url := newModel(t, false, mistakes{})
+	config := configFor(t, url)
+	config.Commands, config.Time = m.commands(), 15*time.Second
+	storm, err := New(config)
+	check(t, err)
+	running, first := context.WithCancel(context.Background())
+	deleting, second := context.WithCancel(context.Background())
+	go func() {
+		for len(m.left(t)) < 5 {
+			time.Sleep(10 * time.Millisecond)
+		}
+		second()
+		first()
+	}()
+	report, err := storm.Run(running, deleting)
+	check(t, err)
+	listed := map[string]bool{}
+	for _, leftover := range report.Leftovers {
+		listed[strings.Trim(leftover.Instance+"_"+leftover.Binding, "_")] = true
+	}
+	for _, name := range m.left(t) {
+		if !listed[name] {
+			t.Errorf("%s: got it left, and not listed, want it listed", name)
+		}
+	}
+	if len(m.left(t)) == 0 {
+		t.Error("got everything deleted, want something left")
+	}
+}
+
+// What others have at the broker is neither deleted nor reported, even if its id is like one of the run.
+func TestOthersUntouched(t *testing.T) {
+	t.Parallel()
+	m, url := newModel(t, false, mistakes{})
+	config := configFor(t, url)
+	config.Commands, config.Time, config.Broker.Instances = m.commands(), 2*time.Second, 8
+	storm, err := New(config)
+	check(t, err)
+	other := "0" + storm.Prefix()[1:]
+	if other == storm.Prefix() {
+		other = "1" + storm.Prefix()[1:]
+	}
+	theirs := []Key{
+		{Instance: "00000000-0000-4000-8000-000000000001"}, {Instance: other + "-0001-4000-8000-000000000002"},
+		{Instance: "x" + storm.Prefix()},
+		{Instance: "x" + storm.Prefix(), Binding: storm.Prefix() + "-0001-4000-8000-000000000003"},
+	}
+	for _, key := range theirs {
+		m.create(key)
+		m.rows[key] = &row{}
+	}
+	before := m.left(t)
+	report, err := storm.Run(context.Background(), context.Background())
+	if err != nil || !report.IsClean() || len(report.Leftovers) > 0 {
+		t.Errorf("got the error %v, want a clean report without leftovers:\n%s", err, textOf(t, report))
+	}
+	diff.Check(t, m.left(t), before, "what is left, and what was there before")
+	if report.Instances > config.Broker.Instances {
+		t.Errorf("got %d instances created, want at most %v", report.Instances, config.Broker.Instances)
+	}
+}
+
+// If a creation without faults fails, nothing else is tried, whether osb-storm or the platform tries it, and nothing is
+// left.
+func TestTrial(t *testing.T) {
+	for _, folder := range []string{"", t.TempDir()} {
+		folder := folder
+		t.Run("", func(t *testing.T) {
+			t.Parallel()
+			m, url := newModel(t, false, mistakes{})
+			check(t, os.RemoveAll(filepath.Join(m.folder, "instances")))
+			config := configFor(t, url)
+			config.Broker.RequestTime, config.Journal = time.Second, folder
+			storm, err := New(config)
+			check(t, err)
+			if _, err := storm.Run(context.Background(), context.Background()); !errors.Is(err, ErrTrial) {
+				t.Errorf("got the error %v, want %v", err, ErrTrial)
+			}
+			if len(m.rows) > 0 {
+				t.Errorf("got the rows %v, want none", m.rows)
+			}
+			checkEmpty(t, config.Folder)
+		})
+	}
+}
+
+// checkEmpty checks that nothing is in a folder.
+func checkEmpty(t *testing.T, folder string) {
+	t.Helper()
+	if names, err := os.ReadDir(folder); err != nil || len(names) > 0 {
+		t.Errorf("got %v in %s (%v), want none", names, folder, err)
+	}
+}
+
+func TestConfigRejected(t *testing.T) {
+	for name, change := range map[string]func(*BrokerConfig){
+		"one instance":      func(c *BrokerConfig) { c.Broker.Instances = 1 },
+		"share":             func(c *BrokerConfig) { c.Share = 1.1 },
+		"time":              func(c *BrokerConfig) { c.Time = 0 },
+		"kill":              func(c *BrokerConfig) { c.Commands.Kill = "x" },
+		"start":             func(c *BrokerConfig) { c.Commands.Start = "x" },
+		"both":              func(c *BrokerConfig) { c.Commands = Commands{Restart: "x", Kill: "x", Start: "x"} },
+		"list of bindings":  func(c *BrokerConfig) { c.Commands.ListBindings = "x" },
+		"restart":           func(c *BrokerConfig) { c.List = []fault.Entry{{Kind: fault.RestartAfter}} },
+		"URL with password": func(c *BrokerConfig) { c.Broker.URL = "http://u:p@127.0.0.1" },
+	} {
+		t.Run(name, func(t *testing.T) {
+			config := configFor(t, "http://127.0.0.1:1")
+			change(&config)
+			if _, err := New(config); err == nil {
+				t.Errorf("%s: got no error, want one", name)
+			}
+		})
+	}
+}
+
+// What has to be deleted depends on what has reached the broker, and on its answers.
+func TestOwed(t *testing.T) {
+	k := newKeys(func(int) string { return "one" })
+	key := k.instance(1)
+	delivered := func(statuses ...int) *Result {
+		x := exchange("PUT", 0, "", 0, 0)
+		x.Deliveries = nil
+		for _, status := range statuses {
+			x.Deliveries = append(x.Deliveries, fault.Delivery{Status: status})
+		}
+		return &Result{Keys: k, Exchanges: []fault.Exchange{x}, end: time.Second}
+	}
+	type expectation struct{ isOwed, rejected, unanswered bool }
+	for _, test := range []struct {
+		statuses []int
+		wanted   expectation
+	}{
+		{nil, expectation{}},
+		{[]int{201}, expectation{isOwed: true}},
+		{[]int{400}, expectation{isOwed: true, rejected: true}},
+		{[]int{408}, expectation{isOwed: true}},
+		{[]int{500}, expectation{isOwed: true}},
+		{[]int{400, 201}, expectation{isOwed: true}},
+		{[]int{0}, expectation{isOwed: true, unanswered: true}},
+	} {
+		t.Run(fmt.Sprint(test.statuses), func(t *testing.T) {
+			got, isOwed := debtOf(key, delivered(test.statuses...), time.Minute)
+			if !isOwed {
+				got = conform.Debt{}
+			}
+			if (expectation{isOwed, got.Rejected, got.Unanswered}) != test.wanted {
+				t.Errorf("%v: got owed %v, %+v, want %+v", test.statuses, isOwed, got, test.wanted)
+			}
+		})
+	}
+	old := delivered(0)
+	old.end = time.Hour
+	if got, _ := debtOf(key, old, time.Minute); got.Unanswered {
+		t.Error("an hour later: got a creation that may still be carried out, want none")
+	}
+}
+
+// The leftovers of one run aren't those of the next one.
+func TestLeftoversOnce(t *testing.T) {
+	m, _ := newModel(t, false, mistakes{})
+	l := listing{m.commands(), "pre", nil, map[Key]bool{}}
+	for _, id := range []string{"pre-one", "pre-two", "other"} {
+		m.create(Key{Instance: id})
+	}
+	names := func() (all []string) {
+		sight, err := l.Look(context.Background(), []Key{{Instance: "pre-none"}})
+		check(t, err)
+		for key, is := range sight.Of {
+			if is == Exists {
+				all = append(all, key.Instance)
+			}
+		}
+		sort.Strings(all)
+		return all
+	}
+	if all := names(); !reflect.DeepEqual(all, []string{"pre-one", "pre-two"}) {
+		t.Errorf("got %v, want pre-one and pre-two", all)
+	}
+	l.skipped[Key{Instance: "pre-one"}] = true
+	if all := names(); !reflect.DeepEqual(all, []string{"pre-two"}) {
+		t.Errorf("got %v, want pre-two", all)
+	}
+}
+
+// A list that can't be read says nothing.
+func TestListingFails(t *testing.T) {
+	for command, wanted := range map[string]string{
+		"echo broken >&2; exit 3": "(broken)", "echo one two": "doesn't have 1 ids",
+	} {
+		t.Run(command, func(t *testing.T) {
+			_, err := listing{commands: Commands{Lists: Lists{List: command}}}.Look(context.Background(), nil)
+			if err == nil || !strings.Contains(err.Error(), wanted) {
+				t.Errorf("%s: got the error %v, want %q", command, err, wanted)
+			}
+		})
+	}
+}
+
+// The lives depend on the seed alone. In a replay of some instances, these have the same lives, and begin at once.
+func TestLives(t *testing.T) {
+	all := lives(7, 40, time.Minute, true, nil)
+	again, others := lives(7, 40, time.Minute, true, nil), lives(8, 40, time.Minute, true, nil)
+	diff.Check(t, again, all, "the lives of the same seed again")
+	if reflect.DeepEqual(all, others) {
+		t.Error("got the same lives of another seed, want others")
+	}
+	var early, stays, whole, bindings int
+	for _, life := range all {
+		counted := map[*int]bool{&early: life.early, &stays: life.stays, &whole: life.whole, &bindings: life.bindings > 0}
+		for to, is := range counted {
+			if is {
+				*to++
+			}
+		}
+		if life.begin < 0 || life.begin > time.Minute {
+			t.Errorf("got %+v, want it to begin within the storm", life)
+		}
+	}
+	if early == 0 || stays == 0 || whole == 0 || bindings == 0 || early == 40 || stays == 40 || whole == 40 {
+		t.Errorf("got %d early, %d stay, %d whole and %d with bindings, want some of each", early, stays, whole, bindings)
+	}
+	some := lives(7, 40, time.Minute, true, map[int]bool{3: true, 20: true})
+	wanted := []life{all[2], all[19]}
+	wanted[0].begin, wanted[1].begin = 0, 0
+	diff.Check(t, some, wanted, "the lives of two instances")
+	for _, life := range lives(7, 40, time.Minute, false, nil) {
+		if life.bindings > 0 {
+			t.Errorf("got %+v, want no bindings of a plan that isn't bindable", life)
+		}
+	}
+}
+
+// The faults of each lost instance are tried alone, the fewest first. Then come those of all, and the restarts. An
+// instance whose number isn't one of a life isn't tried: in another run, another instance may have that number.
+func TestCandidates(t *testing.T) {
+	k := newKeys(func(number int) string { return fmt.Sprint("id-", number) })
+	one, two, three := k.instance(1), k.instance(2), k.instance(3)
+	numbered := func(instance, request int, kind fault.Kind) fault.Entry {
+		return fault.Entry{Number: fault.Number{Place: fault.Place{Instance: instance}, Request: request}, Kind: kind}
+	}
+	a, b, c := numbered(1, 1, fault.HangUp), numbered(1, 2, fault.HangUp), numbered(2, 1, fault.HangUp)
+	d, other := numbered(3, 1, fault.RestartAfter), Key{Instance: "another"}
+	if place, _ := k.placeOrNew(other.Instance, ""); place.Instance != firstOther {
+		t.Fatalf("another instance: got the number %s, want the first of the others", place)
+	}
+	found := &Result{
+		Keys: k, Given: []fault.Entry{a, b, c, d, numbered(4, 1, fault.HangUp), numbered(firstOther, 1, fault.HangUp)},
+		Differences: []Difference{{Key: one}, {Key: one}, {Key: two, Kind: False}, {Key: three, Kind: Stuck}, {Key: other}},
+	}
+	lists := func() (all []string) {
+		for _, candidate := range candidates(found) {
+			all = append(all, fmt.Sprint(candidate.List))
+		}
+		return all
+	}
+	text := func(list ...fault.Entry) string { return fmt.Sprint(list) }
+	wanted := []string{text(c), text(a, b), text(a, b, c)}
+	diff.Check(t, lists(), wanted, "the lists")
+	found.Restarts = 1
+	wanted = append(wanted, text(a, b, c, d), text(found.Given...))
+	diff.Check(t, lists(), wanted, "the lists with restarts")
+}
+
+// A command that fails, or that doesn't print what exists, ends the run before the storm, whoever makes the trial. The
+// error names the option, and says what the command must print. Nothing is left.
+func TestWrongLists(t *testing.T) {
+	t.Parallel()
+	right := Commands{Lists: Lists{List: "right", ListBindings: "right"}}
+	for name, test := range map[string]struct {
+		commands Commands
+		wanted   string // of the error, or empty for none
+	}{
+		"right":          {right, ""},
+		"fails":          {Commands{Lists: Lists{List: "ls /nonexistent"}}, "of --list-command has failed: exit status 2 (ls: "},
+		"prints nothing": {Commands{Lists: Lists{List: "true"}}, "of --list-command doesn't print the instance "},
+		"prints bindings": {
+			Commands{Lists: Lists{List: "right", ListBindings: "echo one"}}, "of --list-bindings-command has failed: the line",
+		},
+		"bindings fail":  {Commands{Lists: Lists{List: "right", ListBindings: "exit 3"}}, "bindings-command has failed: exit status 3"},
+		"prints no pair": {Commands{Lists: Lists{List: "right", ListBindings: "true"}}, "bindings-command doesn't print the binding "},
+	} {
+		for _, isAsync := range []bool{false, true} {
+			for _, hasJournal := range []bool{false, true} {
+				name, it, isAsync, hasJournal := name, test, isAsync, hasJournal
+				t.Run(fmt.Sprint(name, isAsync, hasJournal), func(t *testing.T) {
+					t.Parallel()
+					m, url := newModel(t, isAsync, mistakes{})
+					config := configFor(t, url)
+					config.Commands, config.Time, config.Broker.Instances = it.commands, time.Second, 2
+					if config.Commands.List == "right" {
+						config.Commands.List = m.commands().List
+					}
+					if config.Commands.ListBindings == "right" {
+						config.Commands.ListBindings = m.commands().ListBindings
+					}
+					if hasJournal {
+						config.Journal = t.TempDir()
+					}
+					storm, err := New(config)
+					check(t, err)
+					report, err := storm.Run(context.Background(), context.Background())
+					if errors.Is(err, ErrList) != (it.wanted != "") {
+						t.Fatalf("got the error %v, want %q:\n%s", err, it.wanted, textOf(t, report))
+					}
+					for _, wanted := range []string{it.wanted, "It must print the id"} {
+						if err != nil && !strings.Contains(err.Error(), wanted) {
+							t.Errorf("got the error %v, want %q", err, wanted)
+						}
+					}
+					if err != nil && report.Requests > 0 {
+						t.Error("got a storm, want none")
+					}
+					if left := m.left(t); len(left)+len(report.Leftovers) > 0 || len(m.rows) > 0 {
+						t.Errorf("got %v %v left, want none", left, report.Leftovers)
+					}
+					checkEmpty(t, config.Folder)
+				})
+			}
+		}
+	}
+}
+
+// After a signal, no command of the user's keeps the storm from its end, even if it never ends and its children keep
+// the pipe open. After the first one, everything is deleted. A second one ends it at once.
+func TestHangingCommands(t *testing.T) {
+	t.Parallel()
+	const hangs = "sleep 1000 | cat"
+	for name, change := range map[string]func(of *Commands, unless string){
+		"list": func(of *Commands, unless string) {
+			of.List = fmt.Sprintf("if %s; then %s; else %s; fi", unless, of.List, hangs)
+		},
+		"bindings": func(of *Commands, unless string) {
+			of.ListBindings = fmt.Sprintf("if %s; then %s; else %s; fi", unless, of.ListBindings, hangs)
+		},
+		"restart": func(of *Commands, unless string) { of.Restart = hangs },
+		"trial":   func(of *Commands, unless string) { of.List = hangs },
+	} {
+		for _, second := range []bool{false, true} {
+			name, change, second := name, change, second
+			t.Run(fmt.Sprint(name, second), func(t *testing.T) {
+				t.Parallel()
+				m, url := newModel(t, false, mistakes{})
+				config := configFor(t, url)
+				config.Commands, config.Time = m.commands(), 30*time.Second
+				flag := filepath.Join(t.TempDir(), "hang")
+				change(&config.Commands, "! test -e "+flag)
+				storm, err := New(config)
+				check(t, err)
+				running, first := context.WithCancel(context.Background())
+				deleting, end := context.WithCancel(context.Background())
+				defer end()
+				begun := make(chan time.Time, 1)
+				go func() {
+					for wanted := map[bool]int{true: 1, false: 5}[name == "trial"]; len(m.left(t)) < wanted; {
+						time.Sleep(10 * time.Millisecond)
+					}
+					_ = os.WriteFile(flag, nil, 0o600)
+					time.Sleep(time.Second)
+					begun <- time.Now()
+					first()
+					if second {
+						time.Sleep(time.Second)
+						end()
+					}
+				}()
+				report, err := storm.Run(running, deleting)
+				took, most := time.Since(<-begun), 3*lastTime
+				if second {
+					most = 8 * time.Second
+				}
+				if err != nil || report.Ended == "" || took > most {
+					t.Errorf("got %v after %v, want its end in time\n%s", err, took, textOf(t, report))
+				}
+				if left := m.left(t); !second && len(left) > 0 {
+					t.Errorf("got %v left, want none", left)
+				}
+			})
+		}
+	}
+}
+
+// listOf returns a list of faults.
+func listOf(t *testing.T, text string) []fault.Entry {
+	t.Helper()
+	list, err := fault.ReadList(strings.NewReader(text))
+	check(t, err)
+	return list
+}
+
+// contains returns whether a list has these faults.
+func contains(list []fault.Entry, needed string) bool {
+	words := strings.Fields(needed)
+	for at := 0; at < len(words); at += 2 {
+		if !strings.Contains(fmt.Sprint(list), words[at]+" "+words[at+1]) {
+			return false
+		}
+	}
+	return true
+}
+
+// The report says that something is lost without any fault, or that nothing was lost in the runs.
+func TestShrinkNotes(t *testing.T) {
+	for note, loses := range map[string]bool{
+		"--minimize: something is lost without any fault, too":                                true,
+		"--minimize: in 2 runs with the faults of the lost instances alone, nothing was lost": false,
+	} {
+		t.Run(note, func(t *testing.T) {
+			got, found := emptyReport(), &Result{Keys: newKeys(nil)}
+			if loses {
+				found.Differences = []Difference{{Kind: Disagree, What: "they disagree"}}
+			}
+			got.shrink(context.Background(), []report.Candidate{{List: listOf(t, "1.1 hang-up")}},
+				func(context.Context, report.Candidate) (*Result, error) { return found, nil })
+			if !reflect.DeepEqual(got.Notes, []string{note}) {
+				t.Errorf("got the notes %q, want %q", got.Notes, note)
+			}
+		})
+	}
+}
+
+// A run that was cut off says nothing, and a list that it has cut short isn't called the shortest, in no report.
+func TestShrinkCutOff(t *testing.T) {
+	const four = "2.1 hang-up\n2.2 answer-slow\n2.3 answer-lost\n2.4 hang-up\n"
+	const isCut = "the time for --minimize was over: the list may not be the shortest"
+	const notFound = "the time for --minimize was over before a list was found that loses something"
+	for name, test := range map[string]struct {
+		needed  string // without these faults, nothing is lost
+		cutAt   int    // the number of the run that is cut off
+		lost    bool   // whether that run has lost something before
+		minimal []string
+		ended   string
+	}{
+		"the first":       {"2.3 answer-lost", 1, false, nil, notFound},
+		"the first loses": {"2.3 answer-lost", 1, true, nil, notFound},
+		"the second":      {"3.1 hang-up", 2, false, nil, notFound},
+		"without faults":  {"2.3 answer-lost", 3, true, strings.Split(strings.TrimSpace(four), "\n"), isCut},
+		"again without":   {"2.3 answer-lost", 2, false, strings.Split(strings.TrimSpace(four), "\n"), isCut},
+		"while shrinking": {"2.3 answer-lost", 7, true, []string{"2.3 answer-lost", "2.4 hang-up"}, isCut},
+		"whole":           {"2.3 answer-lost", 100, false, []string{"2.3 answer-lost"}, ""},
+	} {
+		t.Run(name, func(t *testing.T) {
+			got, runs := emptyReport(), 0
+			ctx, cancel := context.WithCancel(context.Background())
+			got.shrink(expiring{ctx}, []report.Candidate{{List: listOf(t, four), Only: map[int]bool{2: true}}},
+				func(_ context.Context, of report.Candidate) (*Result, error) {
+					runs++
+					found := &Result{Keys: newKeys(nil)}
+					loses := contains(of.List, test.needed)
+					if runs == test.cutAt {
+						loses = test.lost
+						cancel()
+					}
+					if loses {
+						found.Differences = []Difference{{Kind: Lost, What: fmt.Sprint(of.List)}}
+					}
+					return found, nil
+				})
+			cancel()
+			if !reflect.DeepEqual(got.Minimal, test.minimal) || got.MinimizeEnded != test.ended {
+				t.Errorf("%s: got %q, %q after %d runs, want %q, %q", name, got.Minimal, got.MinimizeEnded, runs, test.minimal,
+					test.ended)
+			}
+			if len(got.Notes) > 0 { // such as that nothing was lost, or also without any fault
+				t.Errorf("%s: got the notes %q, want none", name, got.Notes)
+			}
+			if test.ended != "" && got.MinimizeRuns != test.cutAt-1 || test.ended != "" && runs != test.cutAt {
+				t.Errorf("%s: got %d counted of %d runs, want all before the cut", name, got.MinimizeRuns, runs)
+			}
+			if test.minimal != nil && got.MinimalLost[0].What != fmt.Sprint(got.ReplayList(nil)) {
+				t.Errorf("%s: got the life of %s, want that of the list", name, got.MinimalLost[0].What)
+			}
+			for form, text := range reports(t, got) {
+				isCalledShortest := strings.Contains(text, "shortest list") || strings.Contains(text, "Shortest list")
+				isShortest := test.minimal != nil && test.ended == ""
+				if form != "JSON" && isCalledShortest != isShortest || !strings.Contains(text, test.ended) {
+					t.Errorf("%s: got %s, want the end %q", name, text, test.ended)
+				}
+			}
+		})
+	}
+}
+
+// An expiring context is one whose end is that of a time.
+type expiring struct{ context.Context }
+
+func (e expiring) Err() error {
+	if e.Context.Err() == nil {
+		return nil
+	}
+	return context.DeadlineExceeded
+}
+
+// In a calm storm nothing is killed or has to be tried, and it ends with its lives.
+func TestCalm(t *testing.T) {
+	config := fakes(t)
+	config.Calm, config.Without, config.Time, config.password = true, "held", 3*time.Second, "the password"
+	b, err := NewBoth(context.Background(), config)
+	check(t, err)
+	defer b.Close()
+	for _, program := range b.programs() {
+		if b.isKilled(program) {
+			t.Errorf("%s: got it killed, want it to live", program)
+		}
+	}
+	if b.password != "the password" {
+		t.Errorf("the password: got %q, want \"the password\"", b.password)
+	}
+	if untried := b.omissions(); b.unruly != nil || len(untried) > 0 || b.config.time() != 3*time.Second {
+		t.Errorf("got unruly %v, untried %v and %v, want false, none and 3 s", b.unruly != nil, untried, b.config.time())
+	}
+	ctx, cancel := context.WithCancel(context.Background())
+	cancel()
+	troubles := b.trouble(ctx)
+	troubles.group.Wait()
+	for _, program := range b.programs() {
+		if kills, pauses, _, _ := program.counts(); program.running == nil || kills+pauses > 0 {
+			t.Errorf("%s: got it to run %v, %d kills and %d pauses, want it to run without either", program,
+				program.running != nil, kills, pauses)
+		}
+	}
+	for name, change := range map[string]func(*BothConfig){
+		"unruly": func(c *BothConfig) { c.Unruly = true }, "points": func(c *BothConfig) { c.CrashPoints = SomePoints },
+	} {
+		t.Run(name, func(t *testing.T) {
+			wrong := config
+			if change(&wrong); wrong.check() == nil {
+				t.Errorf("%s: got no error of a calm storm, want one", name)
+			}
+		})
+	}
+}
+
+// The lives of a trial are those that these instances had in the storm, in whichever round, except that all begin at
+// once.
+func TestLivesOfTrial(t *testing.T) {
+	config := fakes(t)
+	config.Instances = 3
+	b, err := NewBoth(context.Background(), config)
+	check(t, err)
+	defer b.Close()
+	var wanted []life
+	for _, numbers := range [][2]int{{0, 2}, {2, 7}, {2, 9}} { // the round and the number
+		for _, of := range b.lives(numbers[0]) {
+			if of.number == numbers[1] {
+				of.begin = 0
+				wanted = append(wanted, of)
+			}
+		}
+	}
+	b.config.only = map[int]bool{9: true, 2: true, 7: true}
+	if len(wanted) != 3 {
+		t.Errorf("got %d lives of these instances in the storm, want 3", len(wanted))
+	}
+	diff.Check(t, b.lives(0), wanted, "the lives of the trial")
+}
+
+// check ends the test at an error.
+func check(t testing.TB, err error) {
+	t.Helper()
+	if err != nil {
+		t.Fatal(err)
 	}
 }

@@ -33,7 +33,7 @@ const (
 type unruly struct {
 	url, password string // where the broker is reached
 	records       func(context.Context) (map[Key]audit.Record, error)
-	held          func(context.Context) (map[Key]audit.Held, error)
+	held          func(context.Context) (map[Key]audit.Row, error)
 	newID         func() string
 	perSecond     float64 // how many bindings it creates
 	client        http.Client
@@ -53,12 +53,12 @@ func (u *unruly) run(ctx context.Context) {
 		if err != nil {
 			continue
 		}
-		for _, it := range u.due(ctx, records, time.Since(begun)) {
-			it := it
+		for _, request := range u.due(ctx, records, time.Since(begun)) {
+			request := request
 			group.Add(1)
 			go func() {
 				defer group.Done()
-				u.send(ctx, it)
+				u.send(ctx, request)
 			}()
 		}
 	}
@@ -87,8 +87,8 @@ func (u *unruly) due(ctx context.Context, records map[Key]audit.Record, since ti
 		}
 		all = append(all, bindingRequest{method, plan, key})
 	}
-	for _, it := range unbound {
-		add(http.MethodDelete, it)
+	for _, key := range unbound {
+		add(http.MethodDelete, key)
 	}
 	candidates := sentOf(records)
 	for !u.isCalm && len(candidates) > 0 && len(u.sending) < unrulyAtOnce &&
@@ -103,10 +103,10 @@ func (u *unruly) due(ctx context.Context, records map[Key]audit.Record, since ti
 	return all
 }
 
-// sentOf returns the instances that the broker may have heard of, and that aren't recorded gone.
+// sentOf returns the instances that may have reached the broker, and that aren't recorded gone.
 func sentOf(records map[Key]audit.Record) (ids []string) {
-	for key, it := range records {
-		isSent := it.State != platform.Ordered && it.State != platform.Withdrawn && it.State != audit.Gone
+	for key, record := range records {
+		isSent := record.State != platform.Ordered && record.State != platform.Withdrawn && record.State != audit.Gone
 		if key.Binding == "" && isSent {
 			ids = append(ids, key.Instance)
 		}
@@ -124,9 +124,9 @@ func (u *unruly) toUnbind(ctx context.Context) (keys []Key) {
 		keys, _ = u.left(ctx) // while the store is away, nothing is unbound
 		return keys
 	}
-	for _, it := range sortedKeys(u.all()) {
+	for _, key := range sortedKeys(u.all()) {
 		if u.chance.Float64() < unboundShare {
-			keys = append(keys, it)
+			keys = append(keys, key)
 		}
 	}
 	return keys
@@ -144,8 +144,8 @@ func sortedKeys(of map[Key]bool) (keys []Key) {
 func (u *unruly) left(ctx context.Context) (keys []Key, err error) {
 	held, err := u.held(ctx)
 	bound := u.all()
-	for key, it := range held {
-		if bound[key] && it.Holding.IsHeld() {
+	for key, row := range held {
+		if bound[key] && row.Holding.IsHeld() {
 			keys = append(keys, key)
 		}
 	}
@@ -201,7 +201,7 @@ func (u *unruly) send(ctx context.Context, it bindingRequest) {
 	}
 }
 
-// ask returns the status of the answer, or 0 if none came.
+// ask returns the status of the answer, or 0 if none arrived.
 func (u *unruly) ask(ctx context.Context, method, target, body string) int {
 	request, err := http.NewRequestWithContext(ctx, method, u.url+target, strings.NewReader(body))
 	if err != nil {

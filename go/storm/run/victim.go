@@ -4,6 +4,8 @@ import (
 	"context"
 	"fmt"
 	"math/rand"
+	"net"
+	"net/url"
 	"os"
 	"os/exec"
 	"regexp"
@@ -14,6 +16,7 @@ import (
 
 	"pippinterm/internal/child"
 	"pippinterm/storm/fault"
+	"pippinterm/storm/run/shell"
 )
 
 // A process is how a program is started.
@@ -49,7 +52,7 @@ type victim struct {
 
 	mutex   sync.Mutex
 	open    []string // the crash points that are still to be visited, besides trying
-	trying  string   // the crash point that the process is to come to now, or empty
+	trying  string   // the crash point that the process is to reach now, or empty
 	visited []string
 	kills   int
 	pauses  int
@@ -60,7 +63,7 @@ type victim struct {
 // lifetimes are between which times something lasts.
 type lifetimes struct {
 	life, pause, rest [2]time.Duration
-	point             time.Duration // for the program to come to a crash point, at most
+	point             time.Duration // for the program to reach a crash point, at most
 	end               time.Duration // for the program to end at SIGTERM, at most
 }
 
@@ -197,8 +200,8 @@ func (v *victim) judge(err error, isFirst bool) {
 		return
 	}
 	status := v.running.ProcessState.ExitCode()
-	for _, it := range v.accepted {
-		if status == it {
+	for _, accepted := range v.accepted {
+		if status == accepted {
 			v.tell(fmt.Sprintf("ends with status %d", status))
 			v.mutex.Lock()
 			v.ends++
@@ -292,8 +295,8 @@ func (v *victim) between(times [2]time.Duration) time.Duration {
 	return times[0] + time.Duration(v.chance.Float64()*float64(times[1]-times[0]))
 }
 
-// unvisited returns the crash points that are still to be visited.
-func (v *victim) unvisited() []string {
+// remainingPoints returns the crash points that are still to be visited.
+func (v *victim) remainingPoints() []string {
 	v.mutex.Lock()
 	defer v.mutex.Unlock()
 	points := append([]string{}, v.open...)
@@ -329,4 +332,64 @@ func cries(log string) []string {
 		return []string{"the log can't be read: " + err.Error()}
 	}
 	return cry.FindAllString(string(text), -1)
+}
+
+// commandTime is how long a command that kills or starts the broker may take, and how long the broker may then take
+// until it can be reached.
+const commandTime = time.Minute
+
+// lastTime is for how long a command of the user's may go on after the first signal.
+const lastTime = 10 * time.Second
+
+// lingering returns the context of a command. Once running is done, the command has lastTime. Once deleting is done, it
+// has none.
+func lingering(running, deleting context.Context) (ctx context.Context, cancel func()) {
+	ctx, cancel = context.WithCancel(deleting)
+	go func() {
+		select {
+		case <-running.Done():
+			fault.Sleep(ctx, lastTime)
+			cancel()
+		case <-ctx.Done():
+		}
+	}()
+	return ctx, cancel
+}
+
+// restart kills the broker and starts it again, and waits until it can be reached.
+func (c Commands) restart(broker *url.URL) func(context.Context) error {
+	if !c.restarts() {
+		return nil
+	}
+	commands := []string{c.Restart}
+	if c.Restart == "" {
+		commands = []string{c.Kill, c.Start}
+	}
+	return func(ctx context.Context) error {
+		ctx, cancel := context.WithTimeout(ctx, commandTime)
+		defer cancel()
+		for _, command := range commands {
+			if err := shell.Run(ctx, command); err != nil {
+				return fmt.Errorf("the command %q: %w", command, err)
+			}
+		}
+		return awaitBroker(ctx, broker)
+	}
+}
+
+// awaitBroker waits until a broker takes connections.
+func awaitBroker(ctx context.Context, broker *url.URL) error {
+	port := broker.Port()
+	if port == "" {
+		port = map[string]string{"http": "80", "https": "443"}[broker.Scheme]
+	}
+	for {
+		connection, err := (&net.Dialer{}).DialContext(ctx, "tcp", net.JoinHostPort(broker.Hostname(), port))
+		if err == nil {
+			return connection.Close()
+		}
+		if !fault.Sleep(ctx, 20*time.Millisecond) {
+			return fmt.Errorf("the broker can't be reached after its start: %w", err)
+		}
+	}
 }

@@ -49,7 +49,7 @@ func runs(t *testing.T, v *victim, folder string, until func() bool) {
 	}()
 	for end := time.Now().Add(20 * time.Second); !until(); time.Sleep(5 * time.Millisecond) {
 		if time.Now().After(end) {
-			t.Error("that never came")
+			t.Error("got nothing in time, want it")
 			break
 		}
 	}
@@ -74,10 +74,11 @@ func TestVictimIsKilled(t *testing.T) {
 	kills, _, visited, odd := v.counts()
 	// The last process may have been killed before it has counted itself.
 	if started := starts(t, folder); kills < 8 || kills-started > 1 || started > kills || len(visited)+len(odd) > 0 {
-		t.Errorf("%d starts, %d kills, visited %v, odd %v", started, kills, visited, odd)
+		t.Errorf("got %d starts, %d kills, %v visited and odd %v, want at least 8 kills, each of one start", started, kills,
+			visited, odd)
 	}
 	if process := v.running.Process; process.Signal(syscall.Signal(0)) == nil {
-		t.Error("a process is left")
+		t.Error("got a process left, want none")
 	}
 }
 
@@ -87,14 +88,12 @@ func TestVictimIsPaused(t *testing.T) {
 	v, _ := victimOf(t, "exec sleep 60")
 	v.line[2] = "exec sleep 60"
 	if !v.start("") {
-		t.Fatal(v.odd)
+		t.Fatalf("got no start (%v), want one", v.odd)
 	}
 	defer v.kill()
 	state := func() string {
 		text, err := os.ReadFile("/proc/" + strings.TrimSpace(pidOf(v)) + "/stat")
-		if err != nil {
-			t.Fatal(err)
-		}
+		check(t, err)
 		return strings.Fields(string(text[strings.LastIndexByte(string(text), ')')+1:]))[0]
 	}
 	done := make(chan struct{})
@@ -105,15 +104,15 @@ func TestVictimIsPaused(t *testing.T) {
 	}()
 	time.Sleep(100 * time.Millisecond)
 	if it := state(); it != "T" {
-		t.Errorf("while it is paused, its state is %s", it)
+		t.Errorf("the state while it is paused: got %s, want \"T\"", it)
 	}
 	<-done
 	if it := state(); it == "T" {
-		t.Error("it is still paused")
+		t.Error("got it still paused, want it to go on")
 	}
 }
 
-// Each crash point is visited once, also if the program doesn't come to it in its first life.
+// Each crash point is visited once, also if the program doesn't reach it in its first life.
 func TestVictimVisitsPoints(t *testing.T) {
 	t.Parallel()
 	v, folder := victimOf(t, `case "$OSB_CRASH_AT" in
@@ -123,15 +122,15 @@ func TestVictimVisitsPoints(t *testing.T) {
 	exec sleep 60`, "one", "two")
 	v.times.point = 200 * time.Millisecond
 	runs(t, v, folder, func() bool { // a point that is tried is still to be visited
-		left := len(v.unvisited())
+		left := len(v.remainingPoints())
 		_, _, visited, _ := v.counts()
 		if left+len(visited) < 2 {
-			t.Errorf("%d are left, %v are visited", left, visited)
+			t.Errorf("got %d left and %v visited, want 2 or more", left, visited)
 		}
 		return left == 0
 	})
 	if _, _, visited, odd := v.counts(); len(visited) != 2 || len(odd) > 0 {
-		t.Errorf("visited %v, odd %v", visited, odd)
+		t.Errorf("got %v visited and odd %v, want 2 and none", visited, odd)
 	}
 }
 
@@ -141,26 +140,28 @@ func TestVictimIsOdd(t *testing.T) {
 	v, folder := victimOf(t, "exit 3")
 	runs(t, v, folder, func() bool { _, _, _, odd := v.counts(); return len(odd) >= 2 })
 	if _, _, _, odd := v.counts(); !strings.Contains(odd[0], "has ended by itself: exit status 3") {
-		t.Errorf("%v", odd)
+		t.Errorf("got %v, want that it has ended by itself with status 3", odd)
 	}
 	for script, wanted := range map[string]string{
 		"exec sleep 60":                            "has ended after SIGTERM: signal: terminated",
 		"trap '' TERM; sleep 60":                   "didn't end after SIGTERM",
 		"trap 'exit 0' TERM; sleep 0.3; sleep 0.3": "",
 	} {
-		v, _ := victimOf(t, script)
-		v.line[2] = script
-		v.times.end = time.Second
-		if !v.start("") {
-			t.Fatal(v.odd)
-		}
-		time.Sleep(100 * time.Millisecond)
-		v.end()
-		_, _, _, odd := v.counts()
-		if got := strings.Join(odd, "\n"); (wanted == "") != (got == "") || !strings.Contains(got, wanted) {
-			t.Errorf("%s: %q", script, got)
-		}
-		_ = syscall.Kill(-v.running.Process.Pid, syscall.SIGKILL) // its sleep, if it has left one
+		t.Run(script, func(t *testing.T) {
+			v, _ := victimOf(t, script)
+			v.line[2] = script
+			v.times.end = time.Second
+			if !v.start("") {
+				t.Fatalf("got no start (%v), want one", v.odd)
+			}
+			time.Sleep(100 * time.Millisecond)
+			v.end()
+			_, _, _, odd := v.counts()
+			if got := strings.Join(odd, "\n"); (wanted == "") != (got == "") || !strings.Contains(got, wanted) {
+				t.Errorf("%s: got %q, want %q", script, got, wanted)
+			}
+			_ = syscall.Kill(-v.running.Process.Pid, syscall.SIGKILL) // its sleep, if it has left one
+		})
 	}
 }
 
@@ -173,7 +174,7 @@ func TestVictimWhoseStoreIsAway(t *testing.T) {
 	runs(t, v, folder, func() bool { return v.endsByItself() >= 3 })
 	kills, _, visited, odd := v.counts() // on a busy machine some are killed before they end
 	if uncounted := starts(t, folder) - kills - v.endsByItself(); uncounted > 0 || len(visited)+len(odd) > 0 {
-		t.Errorf("%d ends that aren't counted, visited %v, odd %v", uncounted, visited, odd)
+		t.Errorf("got %d ends that aren't counted, %v visited and odd %v, want none", uncounted, visited, odd)
 	}
 	v, folder = victimOf(t, "[ $(wc -l <starts) -ge 3 ] || exit 75; exec sleep 60")
 	v.accepted = []int{75}
@@ -181,7 +182,7 @@ func TestVictimWhoseStoreIsAway(t *testing.T) {
 	v.startCalmly()
 	defer v.kill()
 	if started, ends := starts(t, folder), v.endsByItself(); started != 3 || ends != 2 {
-		t.Errorf("%d starts, %d ends", started, ends)
+		t.Errorf("got %d starts and %d ends, want 3 and 2", started, ends)
 	}
 }
 
@@ -195,14 +196,12 @@ panic: one
 fatal error: four
 {"event":"request","panic":"x"}
 `
-	if err := os.WriteFile(log, []byte(text), 0o600); err != nil {
-		t.Fatal(err)
-	}
+	check(t, os.WriteFile(log, []byte(text), 0o600))
 	if found := cries(log); len(found) != 4 {
-		t.Errorf("%q", found)
+		t.Errorf("got %q, want four", found)
 	}
 	if found := cries(log + "-none"); len(found) != 1 {
-		t.Errorf("a log that can't be read: %q", found)
+		t.Errorf("a log that can't be read: got %q, want 1", found)
 	}
 }
 
@@ -210,18 +209,18 @@ fatal error: four
 func TestPausesAreWritten(t *testing.T) {
 	pause := usualTimes().pause
 	if pause[0] <= 3*time.Second { // the lease of a build with the tag storm
-		t.Errorf("a pause of %v doesn't outlast a lease", pause[0])
+		t.Errorf("got a pause of %v, want one longer than a lease", pause[0])
 	}
 	want := fmt.Sprintf("for %v to %v seconds. ", pause[0].Seconds(), pause[1].Seconds())
 	for file, want := range map[string]string{
 		"../../../README.md": want, "../../../docs/storm.md": strings.Replace(want, "for ", "A pause lasts ", 1),
 	} {
-		text, err := os.ReadFile(file)
-		if err != nil {
-			t.Fatal(err)
-		}
-		if !strings.Contains(strings.Join(strings.Fields(string(text)), " ")+" ", want) {
-			t.Errorf("%s doesn't say %q", file, want)
-		}
+		t.Run(file, func(t *testing.T) {
+			text, err := os.ReadFile(file)
+			check(t, err)
+			if !strings.Contains(strings.Join(strings.Fields(string(text)), " ")+" ", want) {
+				t.Errorf("%s: got no %q, want it", file, want)
+			}
+		})
 	}
 }

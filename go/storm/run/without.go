@@ -25,22 +25,22 @@ var parts = []designPart{
 }
 
 const (
-	withoutAttempts = "attempts" // for which other faults come than usually
+	withoutAttempts = "attempts" // for which other faults are chosen than usually
 	withoutBoth     = "both"     // broker and platform, each out of its program
 )
 
 // Parts returns the names of the parts.
 func Parts() (names []string) {
-	for _, it := range parts {
-		names = append(names, it.name)
+	for _, part := range parts {
+		names = append(names, part.name)
 	}
 	return names
 }
 
 func partOf(name string) designPart {
-	for _, it := range parts {
-		if it.name == name {
-			return it
+	for _, part := range parts {
+		if part.name == name {
+			return part
 		}
 	}
 	return designPart{}
@@ -51,15 +51,15 @@ func isRule(name string) bool        { return partOf(name).isRule }
 func needsFolders(name string) bool  { return partOf(name).needsFolders }
 func isUsualBroker(name string) bool { return partOf(name).isUsualBroker }
 
-// weights are how often the kinds of faults are chosen. Without attempts, most answers come too late or never: then the
-// 200 to a Provision that arrived twice is taken for that to a Deprovision that was swallowed.
+// weights are how often the kinds of faults are chosen. Without attempts, most answers are too late or missing: then
+// the 200 to a Provision that arrived twice is taken for that to a Deprovision that was swallowed.
 func (c BothConfig) weights() fault.Weights {
 	weights := fault.StandardWeights(false)
 	if c.Without != withoutAttempts {
 		return weights
 	}
-	for at, it := range weights {
-		switch it.Kind {
+	for at, weight := range weights {
+		switch weight.Kind {
 		case fault.RepeatedUnread:
 			weights[at].Weight = 120
 		case fault.RequestSwallowed:
@@ -99,12 +99,12 @@ func (c BothConfig) withoutOf(program string) []string {
 // checkTag returns an error if a part is to be taken out, and a program was built without the tag storm. A program with
 // the tag doesn't start without a part that it doesn't have.
 func (b *Both) checkTag(ctx context.Context) error {
-	for _, it := range []*victim{b.brokers[0], b.workers[0]} {
-		if len(b.config.withoutOf(it.name)) == 0 {
+	for _, program := range []*victim{b.brokers[0], b.workers[0]} {
+		if len(b.config.withoutOf(program.name)) == 0 {
 			continue
 		}
-		environment := append(append([]string{}, it.environment...), "OSB_WITHOUT=no-such-part")
-		if err := b.probe(ctx, it, environment, "", "storm"); err != nil {
+		environment := append(append([]string{}, program.environment...), "OSB_WITHOUT=no-such-part")
+		if err := b.probe(ctx, program, environment, "", "storm"); err != nil {
 			return err
 		}
 	}

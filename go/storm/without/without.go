@@ -5,8 +5,12 @@ package without
 import (
 	"context"
 	"fmt"
+	"net/http"
+	"time"
 
 	"pippinterm/broker"
+	"pippinterm/osb"
+	"pippinterm/platform"
 )
 
 // Without returns the store and the locks of a broker that lacks a part of the design:
@@ -19,7 +23,7 @@ import (
 //	busy        while work is pending, a request is judged as if none were
 //	locks       whoever asks for a lock has it
 //	broker      the broker as it is usually written: the work first and then its row, with no tombstones and no locks.
-//	            What the last process had under way has failed
+//	            The unfinished work of the last process has failed
 //
 // Errors: if it is no such part; with broker, those of the store.
 func Without(
@@ -40,7 +44,7 @@ func Without(
 		return store, withoutLocks{}, nil
 	case "broker":
 		err := failUnfinished(ctx, store)
-		return withoutTombstones{newWithoutWork(finished{store})}, withoutLocks{}, err
+		return withoutTombstones{newWithoutWork(idleStore{store})}, withoutLocks{}, err
 	}
 	return nil, nil, fmt.Errorf("storm: a broker can't run without %q", part)
 }
@@ -49,11 +53,11 @@ func Without(
 type withoutHeld struct{ broker.NamedStore }
 
 func (s withoutHeld) Change(ctx context.Context, key broker.Key, fence int64, step broker.Step) error {
-	return s.NamedStore.Change(ctx, key, fence, func(held broker.Held) (*broker.Entry, error) {
+	return s.NamedStore.Change(ctx, key, fence, func(snapshot broker.Snapshot) (*broker.Entry, error) {
 		if !key.IsBinding {
-			held.AnyBinding = func() (bool, error) { return false, nil }
+			snapshot.AnyBinding = func() (bool, error) { return false, nil }
 		}
-		return step(held)
+		return step(snapshot)
 	})
 }
 
@@ -61,8 +65,8 @@ func (s withoutHeld) Change(ctx context.Context, key broker.Key, fence int64, st
 type withoutTombstones struct{ broker.NamedStore }
 
 func (s withoutTombstones) Change(ctx context.Context, key broker.Key, fence int64, step broker.Step) error {
-	return s.NamedStore.Change(ctx, key, fence, func(held broker.Held) (*broker.Entry, error) {
-		next, err := step(held)
+	return s.NamedStore.Change(ctx, key, fence, func(snapshot broker.Snapshot) (*broker.Entry, error) {
+		next, err := step(snapshot)
 		if err == nil && next != nil && next.Holding.HasTombstone() {
 			next = &broker.Entry{}
 		}
@@ -81,3 +85,134 @@ type noLock struct{}
 
 func (noLock) Context(ctx context.Context) context.Context { return ctx }
 func (noLock) Unlock()                                     {}
+
+// listens is for how much longer WithoutAttempts listens for an answer.
+const listens = 15 * time.Second
+
+// WithoutAttempts returns the client of a platform that ignores the numbers of requests. It goes on listening for the
+// answer to a request that is given up, and takes the answer for that to whatever request of the instance is in flight
+// by then. Of bindings nothing is changed.
+func WithoutAttempts(client platform.Client, store platform.Store) platform.Client {
+	return withoutAttempts{Client: client, store: store}
+}
+
+type withoutAttempts struct {
+	platform.Client
+	store platform.Store
+}
+
+// Exchange sends a request as the client does, and listens for longer.
+func (c withoutAttempts) Exchange(ctx context.Context, out platform.Outgoing) platform.Incoming {
+	if out.Entry.Key.IsBinding {
+		return c.Client.Exchange(ctx, out)
+	}
+	limit := time.NewTimer(out.Until.Sub(c.Clock()))
+	defer limit.Stop()
+	patient := out
+	patient.Until = out.Until.Add(listens)
+	came, isOver := make(chan platform.Incoming), make(chan struct{})
+	go func() { // it ends with the exchange
+		in := c.Client.Exchange(ctx, patient)
+		select {
+		case came <- in:
+		case <-isOver:
+			c.takeLate(ctx, out.Entry.Key, in)
+		}
+	}()
+	select {
+	case in := <-came:
+		return in
+	case <-limit.C:
+		close(isOver)
+		return platform.Incoming{Lost: context.DeadlineExceeded}
+	}
+}
+
+// takeLate takes an answer for that to the request in flight, whichever it is.
+func (c withoutAttempts) takeLate(ctx context.Context, key platform.Key, in platform.Incoming) {
+	if in.Lost != nil {
+		return
+	}
+	_ = c.store.Change(ctx, key, func(now time.Time, snapshot platform.Snapshot) (*platform.Change, error) {
+		e := snapshot.Entry
+		if !e.IsSent || e.Record.InFlight() == osb.KindNone {
+			return nil, nil
+		}
+		record, err := e.Record.Answer(e.Record.Attempt(), in.Answer)
+		if err != nil {
+			return nil, err
+		}
+		before := e.State
+		e.Record, e.State, e.Lease, e.Due = record, platform.StateOf(record), platform.Lease{}, now
+		if e.State != before {
+			e.Since, e.PolledSince, e.Operation = now, now, nil
+		}
+		return &platform.Change{Entry: e}, nil
+	})
+}
+
+// Forgetful returns the store of a platform as platforms are usually written: a creation that has failed, or of which
+// no answer says how it has ended, is recorded as gone, and forgotten. Package platform has it deleted. Creations that
+// are to be removed, and deletions, go on as they do there.
+func Forgetful(store platform.Store) platform.Store { return forgettingStore{store} }
+
+type forgettingStore struct{ platform.Store }
+
+// Claim has the step decide once more about what is forgotten, so that it sends nothing.
+func (s forgettingStore) Claim(
+	ctx context.Context, brokers []string, most int, step platform.Step,
+) ([]platform.ClaimedRow, error) {
+	return s.Store.Claim(ctx, brokers, most, func(now time.Time, snapshot platform.Snapshot) (*platform.Change, error) {
+		change, isForgotten, err := forget(now, snapshot, step)
+		if !isForgotten || err != nil {
+			return change, err
+		}
+		snapshot.Entry = change.Entry
+		return step(now, snapshot)
+	})
+}
+
+// Change writes that a creation is forgotten in place of its deletion.
+func (s forgettingStore) Change(ctx context.Context, key platform.Key, step platform.Step) error {
+	return s.Store.Change(ctx, key, func(now time.Time, snapshot platform.Snapshot) (*platform.Change, error) {
+		change, _, err := forget(now, snapshot, step)
+		return change, err
+	})
+}
+
+// forget is what a step writes. If that is the beginning of a deletion for which nobody has asked, the row is gone.
+func forget(
+	now time.Time, snapshot platform.Snapshot, step platform.Step,
+) (change *platform.Change, isForgotten bool, err error) {
+	change, err = step(now, snapshot)
+	if err != nil || change == nil || !isMitigation(snapshot.State, change.Entry) {
+		return change, false, err
+	}
+	e := &change.Entry
+	e.Record, err = goneOf(e.Key, e.Record)
+	e.State, e.Since, e.Operation, e.HasLast = platform.Gone, now, nil, false
+	e.Due, e.DueSince, e.Lease, e.Unchanged = time.Time{}, time.Time{}, platform.Lease{}, 0
+	change.WakeInstance = e.Key.IsBinding
+	return change, true, err
+}
+
+// goneOf is the record after a deletion that is answered with 410.
+func goneOf(key platform.Key, record osb.Record) (osb.Record, error) {
+	if record.InFlight() == osb.KindNone {
+		var err error
+		if record, _, err = record.Send(key.ID()); err != nil {
+			return record, err
+		}
+	}
+	answer := osb.Answer{Status: http.StatusGone, Body: osb.BodyEmpty}
+	if key.IsBinding {
+		return record.AnswerBinding(record.Attempt(), answer, false)
+	}
+	return record.Answer(record.Attempt(), answer)
+}
+
+// isMitigation returns whether a row comes from a creation to a deletion for which nobody has asked.
+func isMitigation(before platform.State, after platform.Entry) bool {
+	isCreated := before == platform.Wanted || before == platform.Polling
+	return isCreated && after.State == platform.Cleaning && after.Removal == platform.NotRemoved
+}

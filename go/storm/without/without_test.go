@@ -4,12 +4,17 @@ package without
 
 import (
 	"context"
+	"encoding/json"
+	"net/http"
 	"os"
 	"path/filepath"
 	"testing"
+	"time"
 
 	"pippinterm/broker"
 	"pippinterm/osb"
+	"pippinterm/platform"
+	"pippinterm/platform/sqlite"
 )
 
 // Whatever is taken out: a life over a calm network goes as it does with everything in.
@@ -28,7 +33,7 @@ func TestALifeWithoutAPart(t *testing.T) {
 			s.remove(200, instance, now)
 			s.remove(410, instance, now)
 			if _, err := os.Stat(filepath.Join(s.top, one.String())); !os.IsNotExist(err) {
-				t.Errorf("the folder is there still: %v", err)
+				t.Errorf("the folder: got %v, want that there is none", err)
 			}
 		})
 	}
@@ -51,8 +56,8 @@ func TestALaterLifeWithoutAPart(t *testing.T) {
 }
 
 func TestUnknownPart(t *testing.T) {
-	if _, _, err := Without(context.Background(), "everything", opened(t), withoutLocks{}); err == nil {
-		t.Error("a broker runs without everything")
+	if _, _, err := Without(context.Background(), "everything", openEmpty(t), withoutLocks{}); err == nil {
+		t.Error("a broker without everything: got no error, want one")
 	}
 }
 
@@ -81,20 +86,20 @@ func TestHeld(t *testing.T) {
 
 func TestLocks(t *testing.T) {
 	ctx := context.Background()
-	_, locks, err := Without(ctx, "locks", opened(t), nil)
+	_, locks, err := Without(ctx, "locks", openEmpty(t), nil)
 	check(t, err)
 	for n := 0; n < 2; n++ {
 		if lock, err := locks.TryLock(ctx, instance); err != nil || lock == nil {
-			t.Errorf("attempt %d: the lock is %v, %v", n, lock, err)
+			t.Errorf("attempt %d: got the lock %v, %v, want one", n, lock, err)
 		}
 	}
 	_, err = locks.Lock(ctx, instance)
 	check(t, err)
 }
 
-// What the last process had under way has failed, if the broker is as usual.
+// The unfinished work of the last process has failed, if the broker is as usual.
 func TestUnfinishedHasFailed(t *testing.T) {
-	ctx, store := context.Background(), opened(t)
+	ctx, store := context.Background(), openEmpty(t)
 	making, deleting := holding(t, in("making"), "null", false), holding(t, in("deleting"), "null", false)
 	other := broker.InstanceKey(bound)
 	write(t, store, instance, making)
@@ -104,7 +109,173 @@ func TestUnfinishedHasFailed(t *testing.T) {
 	wantHolding(t, store, instance, holding(t, in("failed"), "null", false))
 	wantHolding(t, store, other, holding(t, in("delete-failed"), "null", false))
 	write(t, store, instance, making) // as a request has begun it since
-	if keys, err := usual.Unfinished(ctx); err != nil || len(keys) > 0 {
-		t.Errorf("unfinished are %v, %v", keys, err)
+	if keys, err := usual.UnfinishedKeys(ctx); err != nil || len(keys) > 0 {
+		t.Errorf("unfinished: got %v, %v, want none", keys, err)
+	}
+}
+
+// A late client answers once the test lets it.
+type late struct {
+	answers chan platform.Incoming
+	until   chan time.Time // of each request
+}
+
+func (c late) Exchange(_ context.Context, out platform.Outgoing) platform.Incoming {
+	c.until <- out.Until
+	return <-c.answers
+}
+
+func (late) Catalogue(context.Context, platform.Broker) (json.RawMessage, int, error) {
+	return nil, 0, context.Canceled
+}
+
+func (late) Clock() time.Time { return time.Now() }
+
+// inFlight is a store with an instance whose request is in flight.
+func inFlight(t *testing.T) (platform.Store, platform.Entry) {
+	t.Helper()
+	ctx := context.Background()
+	store, err := sqlite.Open(ctx, filepath.Join(t.TempDir(), "store"))
+	check(t, err)
+	t.Cleanup(func() { check(t, store.Close()) })
+	check(t, store.AddBroker(ctx, platform.Broker{Name: "b", URL: "http://127.0.0.1"}))
+	record, _ := osb.Create(one, service, now, true)
+	entry := platform.Entry{
+		Order: platform.Order{
+			Key: platform.InstanceKey(one), Broker: "b", Service: service, Plan: now, Body: json.RawMessage("{}"),
+			Names:      platform.Names{Instance: one.String(), Service: service.String(), Plan: now.String()},
+			OrderTexts: platform.OrderTexts{Organization: "o", Space: "s"}, Try: 1, Tries: 1, First: one,
+		},
+		Record: record, IsSent: true, State: platform.Wanted, Since: time.Now(), Due: time.Now(),
+	}
+	check(t, store.Insert(ctx, entry, func(platform.Snapshot) error { return nil }))
+	return store, entry
+}
+
+// An answer in time is the client's own, and changes nothing.
+func TestAnswerInTime(t *testing.T) {
+	store, entry := inFlight(t)
+	client := late{make(chan platform.Incoming, 1), make(chan time.Time, 1)}
+	client.answers <- platform.Incoming{Status: http.StatusCreated}
+	out := platform.Outgoing{Entry: entry, Until: time.Now().Add(time.Minute)}
+	if in := WithoutAttempts(client, store).Exchange(context.Background(), out); in.Status != http.StatusCreated {
+		t.Errorf("got %+v, want the status 201", in)
+	}
+	if until := <-client.until; !until.Equal(out.Until.Add(listens)) {
+		t.Errorf("got it to listen until %v, want it %v after the exchange", until, listens)
+	}
+	if read, err := store.Read(context.Background(), entry.Key); err != nil || read.State != platform.Wanted {
+		t.Errorf("got the state %v and the error %v, want wanted", read.State, err)
+	}
+}
+
+// A late answer is taken for that to another request: the 201 of a Provision for the answer to the Deprovision.
+func TestLateAnswerIsTaken(t *testing.T) {
+	ctx := context.Background()
+	store, entry := inFlight(t)
+	client := late{make(chan platform.Incoming), make(chan time.Time, 1)}
+	out := platform.Outgoing{Entry: entry, Until: time.Now()}
+	if in := WithoutAttempts(client, store).Exchange(ctx, out); in.Lost == nil {
+		t.Fatalf("got %+v, want no answer", in)
+	}
+	check(t, store.Change(ctx, entry.Key, func(_ time.Time, snapshot platform.Snapshot) (*platform.Change, error) {
+		e := snapshot.Entry
+		record, err := e.Record.Timeout(1)
+		check(t, err)
+		e.Record, _, err = record.Send(one)
+		e.State = platform.StateOf(e.Record)
+		return &platform.Change{Entry: e}, err
+	}))
+	client.answers <- platform.Incoming{Answer: osb.Answer{Status: http.StatusOK, Body: osb.BodyEmpty}}
+	for until := time.Now().Add(time.Minute); ; time.Sleep(time.Millisecond) {
+		read, err := store.Read(ctx, entry.Key)
+		check(t, err)
+		if read.State == platform.Gone {
+			break
+		}
+		if time.Now().After(until) {
+			t.Fatalf("got %s after the time for it, want another state", read.State)
+		}
+	}
+}
+
+// givenUp is a step that gives the request in flight up, and then asks for the deletion, as package platform does.
+func givenUp(t *testing.T, steps *[]platform.State) platform.Step {
+	return func(_ time.Time, snapshot platform.Snapshot) (*platform.Change, error) {
+		*steps = append(*steps, snapshot.State)
+		e := snapshot.Entry
+		if e.State == platform.Gone {
+			return &platform.Change{Entry: e}, nil
+		}
+		record, err := e.Record.Timeout(e.Record.Attempt())
+		check(t, err)
+		e.Record, _, err = record.Send(e.Key.ID())
+		check(t, err)
+		e.State, e.Due, e.Lease = platform.StateOf(e.Record), time.Now(), platform.Lease{Worker: "w", Until: time.Now()}
+		return &platform.Change{Entry: e}, nil
+	}
+}
+
+// A creation that is given up is forgotten, by a claim and by an answer, and nothing is sent.
+func TestForgets(t *testing.T) {
+	ctx := context.Background()
+	for name, change := range map[string]func(platform.Store, platform.Key, platform.Step) error{
+		"claim": func(store platform.Store, _ platform.Key, step platform.Step) error {
+			_, err := store.Claim(ctx, []string{"b"}, 1, step)
+			return err
+		},
+		"change": func(store platform.Store, key platform.Key, step platform.Step) error {
+			return store.Change(ctx, key, step)
+		},
+	} {
+		t.Run(name, func(t *testing.T) {
+			store, entry := inFlight(t)
+			var steps []platform.State
+			check(t, change(Forgetful(store), entry.Key, givenUp(t, &steps)))
+			read, err := store.Read(ctx, entry.Key)
+			check(t, err)
+			if read.State != platform.Gone || !read.Record.IsGone() || !read.Due.IsZero() || read.Lease.Worker != "" {
+				t.Errorf("%s: got %+v, want a record that is gone, and of no worker", name, read)
+			}
+			if last := steps[len(steps)-1]; name == "claim" && last != platform.Gone { // what was decided last is sent
+				t.Errorf("%s: got the decisions on %v, want that of gone last", name, steps)
+			}
+		})
+	}
+}
+
+// A creation that is to be removed, one that is answered, and a deletion go on.
+func TestForgetsNothingElse(t *testing.T) {
+	ctx := context.Background()
+	for name, test := range map[string]struct {
+		removal platform.Removal
+		step    func(osb.Record) (osb.Record, error)
+		wanted  platform.State
+	}{
+		"removed": {platform.Removed, func(r osb.Record) (osb.Record, error) { return r.Timeout(1) }, platform.Cleaning},
+		"answered": {platform.NotRemoved, func(r osb.Record) (osb.Record, error) {
+			return r.Answer(1, osb.Answer{Status: 201, Body: osb.BodyEmpty})
+		}, platform.Ready},
+		"deleted": {platform.Removed, func(r osb.Record) (osb.Record, error) {
+			record, err := r.Answer(1, osb.Answer{Status: 201, Body: osb.BodyEmpty})
+			check(t, err)
+			return record.Remove()
+		}, platform.Cleaning},
+	} {
+		t.Run(name, func(t *testing.T) {
+			store, entry := inFlight(t)
+			check(t, Forgetful(store).Change(ctx, entry.Key, func(_ time.Time, snapshot platform.Snapshot) (*platform.Change, error) {
+				e := snapshot.Entry
+				var err error
+				e.Record, err = test.step(e.Record)
+				e.State, e.Removal = platform.StateOf(e.Record), test.removal
+				return &platform.Change{Entry: e}, err
+			}))
+			read, err := store.Read(ctx, entry.Key)
+			check(t, err)
+			if read.State != test.wanted {
+				t.Errorf("%s: got the state %s, want %s", name, read.State, test.wanted)
+			}
+		})
 	}
 }

@@ -4,10 +4,19 @@ package without
 
 import (
 	"context"
+	"encoding/json"
 	"errors"
+	"fmt"
+	"net/http"
+	"net/http/httptest"
+	"os"
+	"path/filepath"
+	"strings"
 	"testing"
 
 	"pippinterm/broker"
+	"pippinterm/broker/backend/folders"
+	"pippinterm/broker/sqlite"
 	"pippinterm/osb"
 )
 
@@ -18,21 +27,21 @@ func begin(t *testing.T, store broker.Store, key broker.Key, pending osb.Holding
 }
 
 func end(store broker.Store, key broker.Key) error {
-	return store.Change(context.Background(), key, 0, func(held broker.Held) (*broker.Entry, error) {
-		if _, isPending := held.Holding.Work(); !isPending {
+	return store.Change(context.Background(), key, 0, func(snapshot broker.Snapshot) (*broker.Entry, error) {
+		if _, isPending := snapshot.Holding.Work(); !isPending {
 			return nil, broker.ErrLostWork
 		}
-		ended, _, err := held.Holding.End(osb.ModeAsync, osb.OutcomeDone)
+		ended, _, err := snapshot.Holding.End(osb.ModeAsync, osb.OutcomeDone)
 		return &broker.Entry{Holding: ended}, err
 	})
 }
 
 func TestWorkIsWrittenOnceItIsDone(t *testing.T) {
-	store := opened(t)
+	store := openEmpty(t)
 	wrapped, _, err := Without(context.Background(), "work", store, nil)
 	check(t, err)
 	if err := end(wrapped, instance); !errors.Is(err, broker.ErrLostWork) {
-		t.Errorf("work that nobody began ends with %v", err)
+		t.Errorf("work that nobody began: got %v, want %v", err, broker.ErrLostWork)
 	}
 	begin(t, wrapped, instance, holding(t, "null", pending("provision", instance), false))
 	wantHolding(t, store, instance, osb.Holding{})
@@ -42,12 +51,12 @@ func TestWorkIsWrittenOnceItIsDone(t *testing.T) {
 
 // While work is pending, a step sees what is held without it.
 func TestBusy(t *testing.T) {
-	ctx, store := context.Background(), opened(t)
+	ctx, store := context.Background(), openEmpty(t)
 	wrapped, _, err := Without(ctx, "busy", store, nil)
 	check(t, err)
 	creating := holding(t, "null", pending("provision", instance), false)
 	deleting := holding(t, in("ready"), pending("deprovision", instance), false)
-	for _, it := range []struct {
+	for _, test := range []struct {
 		name                 string
 		pending, shown, next osb.Holding
 		written              osb.Holding
@@ -56,28 +65,283 @@ func TestBusy(t *testing.T) {
 		{"other work is", creating, osb.Holding{}, deleting, deleting},
 		{"a row stays", deleting, holding(t, in("ready"), "null", false), holding(t, in("failed"), "null", false), deleting},
 	} {
-		write(t, store, instance, it.pending)
-		check(t, wrapped.Change(ctx, instance, 0, func(held broker.Held) (*broker.Entry, error) {
-			if held.Holding != it.shown {
-				t.Errorf("%s: the step sees %v, want %v", it.name, held.Holding, it.shown)
-			}
-			return &broker.Entry{Holding: it.next}, nil
-		}))
-		wantHolding(t, store, instance, it.written)
+		t.Run(test.name, func(t *testing.T) {
+			write(t, store, instance, test.pending)
+			check(t, wrapped.Change(ctx, instance, 0, func(snapshot broker.Snapshot) (*broker.Entry, error) {
+				if snapshot.Holding != test.shown {
+					t.Errorf("%s: the step: got %v, want %v", test.name, snapshot.Holding, test.shown)
+				}
+				return &broker.Entry{Holding: test.next}, nil
+			}))
+			wantHolding(t, store, instance, test.written)
+		})
 	}
 	check(t, end(wrapped, instance))
 	wantHolding(t, store, instance, holding(t, in("deleting"), "null", false))
 }
 
 func TestBusyBinding(t *testing.T) {
-	ctx, store := context.Background(), opened(t)
+	ctx, store := context.Background(), openEmpty(t)
 	wrapped, _, err := Without(ctx, "busy", store, nil)
 	check(t, err)
 	write(t, store, binding, holding(t, in("ready"), pending("deprovision", binding), false))
-	check(t, wrapped.Change(ctx, binding, 0, func(held broker.Held) (*broker.Entry, error) {
-		if want := holding(t, in("ready"), "null", false); held.Holding != want {
-			t.Errorf("the step sees %v, want %v", held.Holding, want)
+	check(t, wrapped.Change(ctx, binding, 0, func(snapshot broker.Snapshot) (*broker.Entry, error) {
+		if want := holding(t, in("ready"), "null", false); snapshot.Holding != want {
+			t.Errorf("the step: got %v, want %v", snapshot.Holding, want)
 		}
 		return nil, nil
 	}))
+}
+
+func newSlow(t *testing.T) (*slow, string) {
+	t.Helper()
+	state := t.TempDir()
+	of, err := folders.New(filepath.Join(state, "instances"))
+	check(t, err)
+	_, err = Slow(of, state)
+	check(t, err)
+	return &slow{Folders: of, state: state, pause: func(context.Context) error { return nil }}, state
+}
+
+func request(key broker.Key) broker.Request {
+	return broker.Request{Key: key, InstanceID: one.String(), ServiceID: service.String(), PlanID: now.String()}
+}
+
+// failingAt is a pause that fails the n-th time.
+func failingAt(n int) func(context.Context) error {
+	return func(context.Context) error {
+		if n--; n == 0 {
+			return errFails
+		}
+		return nil
+	}
+}
+
+// Each call fails before it was done, or after it.
+func TestFailures(t *testing.T) {
+	ctx := context.Background()
+	s, _ := newSlow(t)
+	createBinding := func(ctx context.Context, request broker.Request) error {
+		_, err := s.CreateBinding(ctx, request)
+		return err
+	}
+	for _, test := range []struct {
+		name          string
+		key           broker.Key
+		call          func(context.Context, broker.Request) error
+		look          func(context.Context, broker.Request) (broker.There, error)
+		before, after broker.There
+	}{
+		{"create", instance, s.Create, s.Look, broker.None, broker.Whole},
+		{"create a binding", binding, createBinding, s.LookBinding, broker.None, broker.Whole},
+		{"delete a binding", binding, s.DeleteBinding, s.LookBinding, broker.Whole, broker.None},
+		{"delete", instance, s.Delete, s.Look, broker.Whole, broker.None},
+	} {
+		t.Run(test.name, func(t *testing.T) {
+			for pause, want := range []broker.There{test.before, test.after} {
+				s.pause = failingAt(pause + 1)
+				if err := test.call(ctx, request(test.key)); !errors.Is(err, errFails) {
+					t.Errorf("%s: got %[3]v of the call when pause %[2]d fails, want %[4]v", test.name, pause+1, err, errFails)
+				}
+				there, err := test.look(ctx, request(test.key))
+				check(t, err)
+				if there != want {
+					t.Errorf("%s: pause %d fails: got %v, want %v", test.name, pause+1, there, want)
+				}
+			}
+		})
+	}
+}
+
+// Two that work at a key at once are written down, and two at different keys aren't.
+func TestTogether(t *testing.T) {
+	ctx := context.Background()
+	s, state := newSlow(t)
+	check(t, s.Create(ctx, request(instance)))
+	within := func(other broker.Key) {
+		s.pause = func(context.Context) error {
+			s.pause = func(context.Context) error { return nil }
+			if other.IsBinding {
+				return s.DeleteBinding(ctx, request(other))
+			}
+			return s.Create(ctx, request(other))
+		}
+	}
+	within(binding)
+	check(t, s.Create(ctx, request(instance)))
+	if _, err := os.Stat(filepath.Join(state, "together")); !os.IsNotExist(err) {
+		t.Errorf("two keys: got %v, want them to count as two", err)
+	}
+	within(instance)
+	check(t, s.Create(ctx, request(instance)))
+	within(binding)
+	check(t, s.DeleteBinding(ctx, request(binding)))
+	text, err := os.ReadFile(filepath.Join(state, "together"))
+	check(t, err)
+	if want := instance.String() + "\n" + binding.String() + "\n"; string(text) != want {
+		t.Errorf("written down: got %q, want %q", text, want)
+	}
+}
+
+// A backend that forgets has every interface of the folders but the one of credentials.
+func TestForgetful(t *testing.T) {
+	s, _ := newSlow(t)
+	var made broker.Backend = forgetful{s}
+	if _, ok := made.(broker.CredentialsBackend); ok {
+		t.Error("got credentials, want none")
+	}
+	if _, ok := made.(broker.TiedBackend); !ok {
+		t.Error("got no owner, want one")
+	}
+	if _, ok := made.(broker.LockBackend); !ok {
+		t.Error("got no locks, want some")
+	}
+}
+
+func TestPauseEndsWithItsContext(t *testing.T) {
+	ctx, cancel := context.WithCancel(context.Background())
+	cancel()
+	if err := newChance(1).pause(ctx); !errors.Is(err, context.Canceled) {
+		t.Errorf("a pause whose context is over: got %v, want %v", err, context.Canceled)
+	}
+}
+
+const catalogue = `{"services": [{
+	"id": "00000000-0000-0000-0000-0000000000a0", "name": "folder", "description": "A folder", "bindable": true,
+	"bindings_retrievable": true, "plans": [
+	{"id": "00000000-0000-0000-0000-0000000000b1", "name": "now", "description": "all at once"},
+	{"id": "00000000-0000-0000-0000-0000000000b2", "name": "later", "description": "all later",
+		"x-osb-asynchronous": true, "x-osb-asynchronous-bindings": true}]}]}`
+
+var (
+	service = osb.MustParseID("00000000-0000-0000-0000-0000000000a0")
+	now     = osb.MustParseID("00000000-0000-0000-0000-0000000000b1")
+	later   = osb.MustParseID("00000000-0000-0000-0000-0000000000b2")
+	one     = osb.MustParseID("00000000-0000-0000-0000-000000000001")
+	bound   = osb.MustParseID("00000000-0000-0000-0000-0000000000f1")
+
+	instance = broker.InstanceKey(one)
+	binding  = broker.BindingKey(one, bound)
+)
+
+func check(t *testing.T, err error) {
+	t.Helper()
+	if err != nil {
+		t.Fatal(err)
+	}
+}
+
+// openEmpty is an empty store.
+func openEmpty(t *testing.T) broker.NamedStore {
+	t.Helper()
+	store, err := sqlite.Open(context.Background(), filepath.Join(t.TempDir(), "store"), broker.Silent{})
+	check(t, err)
+	t.Cleanup(func() { check(t, store.Close()) })
+	return store
+}
+
+// holding reads a holding of an instance, whose row and work are JSON.
+func holding(t *testing.T, row, work string, hasTombstone bool) (read osb.Holding) {
+	t.Helper()
+	text := fmt.Sprintf(`{"attributes":"%064d","row":%s,"tombstone":%t,"version":2,"work":%s}`, 0, row, hasTombstone, work)
+	check(t, json.Unmarshal([]byte(text), &read))
+	return read
+}
+
+// in is a row in a phase.
+func in(phase string) string {
+	return fmt.Sprintf(`{"phase":%q,"plan":%q,"service":%q}`, phase, later, service)
+}
+
+// pending is the pending work of a request of this kind, about the key.
+func pending(kind string, key broker.Key) string {
+	text := `{"accepts_incomplete":true,"id":%q,"kind":%q,"plan":%q,"service":%q}`
+	return fmt.Sprintf(text, key.ID(), kind, later, service)
+}
+
+// write writes a holding, whatever is held.
+func write(t *testing.T, store broker.Store, key broker.Key, holding osb.Holding) {
+	t.Helper()
+	check(t, store.Change(context.Background(), key, 0, func(broker.Snapshot) (*broker.Entry, error) {
+		return &broker.Entry{Holding: holding}, nil
+	}))
+}
+
+// wantHolding compares what is written with what has to be.
+func wantHolding(t *testing.T, store broker.Store, key broker.Key, want osb.Holding) {
+	t.Helper()
+	snapshot, err := store.Read(context.Background(), key)
+	check(t, err)
+	if snapshot.Holding != want {
+		t.Errorf("%v: got %v written, want %v", key, snapshot.Holding, want)
+	}
+}
+
+// A site is a broker over a store and folders of its own.
+type site struct {
+	t       *testing.T
+	top     string
+	handler *broker.Handler
+	store   broker.NamedStore
+}
+
+func newSite(t *testing.T, part string) *site {
+	t.Helper()
+	ctx, s := context.Background(), &site{t: t, top: t.TempDir()}
+	sold, err := folders.New(s.top)
+	check(t, err)
+	store, locks, err := Without(ctx, part, openEmpty(t), sold.Locks())
+	check(t, err)
+	read, err := broker.NewCatalogue([]byte(catalogue), true)
+	check(t, err)
+	users, err := broker.NewUsers(map[string][]string{"u": {"p"}})
+	check(t, err)
+	made := broker.NewService(read, store, sold, locks, broker.Rules{}, broker.Silent{})
+	s.store = store
+	s.handler, err = broker.NewHandler(ctx, made, broker.Config{
+		Users: users, LongestBody: 1000, AtOnce: 4, Observer: broker.Silent{},
+		Touch: func(key broker.Key) { check(t, made.TakeUp(ctx, key)) },
+	})
+	check(t, err)
+	return s
+}
+
+// ask sends a request below an instance, and returns the status of its answer.
+func (s *site) ask(method, target, body string) int {
+	request := httptest.NewRequest(method, "/v2/service_instances/"+one.String()+target, strings.NewReader(body))
+	request.SetBasicAuth("u", "p")
+	request.Header.Set(osb.VersionHeader, osb.VersionSent)
+	given := httptest.NewRecorder()
+	s.handler.ServeHTTP(given, request)
+	return given.Code
+}
+
+// want asks, and compares the status.
+func (s *site) want(status int, method, target, body string) {
+	s.t.Helper()
+	if given := s.ask(method, target, body); given != status {
+		s.t.Errorf("%s %s: got %d, want %d", method, target, given, status)
+	}
+}
+
+func (s *site) provision(status int, plan osb.ID) {
+	s.t.Helper()
+	body := `{"service_id":%q,"plan_id":%q,"organization_guid":"o","space_guid":"s"}`
+	s.want(status, http.MethodPut, "?accepts_incomplete=true", fmt.Sprintf(body, service, plan))
+}
+
+func (s *site) bind(status int, plan osb.ID) {
+	s.t.Helper()
+	body := fmt.Sprintf(`{"service_id":%q,"plan_id":%q}`, service, plan)
+	s.want(status, http.MethodPut, "/service_bindings/"+bound.String()+"?accepts_incomplete=true", body)
+}
+
+// remove deletes the instance, or its binding.
+func (s *site) remove(status int, of broker.Key, plan osb.ID) {
+	s.t.Helper()
+	target := fmt.Sprintf("?service_id=%v&plan_id=%v&accepts_incomplete=true", service, plan)
+	if of.IsBinding {
+		target = "/service_bindings/" + bound.String() + target
+	}
+	s.want(status, http.MethodDelete, target, "")
 }

@@ -1,7 +1,87 @@
+// Package command is a backend that is a program in any language. The broker runs the program once for each call:
+//
+//	PROGRAM look            what exists of an instance
+//	PROGRAM create          create an instance
+//	PROGRAM delete          delete an instance
+//	PROGRAM look-binding    what exists of a binding
+//	PROGRAM create-binding  create a binding, and report its credentials
+//	PROGRAM delete-binding  delete a binding
+//	PROGRAM credentials     report the credentials of a binding that exists
+//	PROGRAM capabilities    report which of these calls the program supports; it is run once, at the start
+//
+// The calls are those of broker.Backend, broker.BindingBackend and broker.CredentialsBackend, and promise the same. In
+// particular, each call may be repeated after a crash, and what create and delete have done is on disk once the program
+// exits with status 0. The protocol is this project's choice.
+//
+// # What the program gets
+//
+// Standard input is the broker.Request, as one object of JSON. Its members are instance_id, binding_id, service_id,
+// plan_id, body, originating_identity, request_identity and deletion, and besides "state". For capabilities, it has
+// "state" alone. The program needn't read it.
+// The working directory is the folder for the program's own use. The environment has these variables, and no others:
+//
+//	OSB_STATE               the absolute path of that folder, as the member "state"
+//	OSB_INSTANCE            the number of the instance's id, as a GUID in lower case; not for capabilities
+//	OSB_BINDING             the number of the binding's id, likewise; only for the calls of bindings
+//	OSB_NAME                a name for the instance or the binding: OSB_INSTANCE, or OSB_INSTANCE.OSB_BINDING; not for
+//	                        capabilities
+//	PATH, HOME, LANG, TZ    those of the broker, if they are set
+//	BACKEND_..              all variables of the broker whose names begin so
+//
+// An id is any text of 1 to 255 bytes, and may contain "/" or "..". So name files by OSB_NAME.
+//
+// # What the program reports
+//
+// With status 0, standard output has the result, as one object of JSON:
+//
+//	look, look-binding              {"exists": "none"}, or "part", or "whole"
+//	create, delete, delete-binding  nothing, or {}
+//	create-binding, credentials     {"credentials": any JSON}
+//	capabilities                    {"bindings": true, "credentials": true}; a member that is missing is false
+//
+// The exit status says how the call went:
+//
+//	0                    done
+//	3                    rejected, for create and create-binding: nothing of it exists. Standard output is
+//	                     {"status": 400 or 422, "error": a code for programs, "description": a text for the platform}.
+//	                     Without that status, the call has failed
+//	4                    failed. Standard output is {"description": a text for the platform}
+//	5                    the program doesn't support the call. For capabilities: neither bindings nor credentials
+//	any other, a signal  failed
+//
+// If a call fails by its status, the last line of standard error is in the text of the error. No other output is.
+// Whatever the program reports, the broker calls look afterwards, and answers by what exists.
+//
+// # Time, output and locks
+//
+// A run ends once the program has exited, and every process that has its standard output or standard error open has
+// closed them. The call has failed if the status isn't 0; if standard output isn't the result, or has more than 1 MiB;
+// if the run takes longer than Options.Limit; and if the broker stops. If a call has failed, what is left of its
+// process group is killed with SIGKILL. So the program must not leave its process group.
+//
+// The program runs under the command timeout of coreutils, which kills the process group 5 seconds after Options.Limit.
+// So a run that hangs ends even if the broker was killed. The command timeout ends with the program.
+//
+// Descriptor 3 is an open file that has the lock of the instance or the binding. Until every process that has
+// inherited the descriptor has exited or closed it, nobody else gets the lock, even if the broker is killed. So at
+// most one call of a key runs at a time. The broker's next call of the key waits 5 seconds for that too, and then
+// fails. So a broker that looks what exists after a call that failed doesn't do so while a process of that call goes
+// on. Two things are the program's part:
+//
+//   - A process that works for the call must inherit descriptor 3. A child of a shell does. In Python, pass
+//     pass_fds=[3] to subprocess. A process that has left the process group, and has closed descriptor 3 and both
+//     outputs, isn't noticed.
+//   - A process that runs on after the call, such as a server that is sold, must not have descriptor 3 open. In a
+//     shell, start it with 3>&-. Otherwise the instance stays locked, and the work of the call stays pending.
+//
+// The locks are of one machine. So all brokers of a store that have such a backend must run on the same machine, with
+// the same Options.State. The file .owner in that folder has the name of the store, so broker.Tie rejects another
+// folder for the store, and another store for the folder. It doesn't notice a copy of the folder.
 package command
 
 import (
 	"context"
+	"encoding/json"
 	"errors"
 	"fmt"
 	"io/fs"
@@ -9,11 +89,11 @@ import (
 	"os/exec"
 	"path/filepath"
 	"strings"
+	"syscall"
 	"time"
 	"unicode/utf8"
 
 	"pippinterm/broker"
-	"pippinterm/internal/filelock"
 )
 
 // DefaultLimit is how long a run may take if Options don't say.
@@ -42,7 +122,7 @@ type program struct {
 	environment []string
 	limit       time.Duration
 	grace       time.Duration
-	locks       *filelock.Locks
+	locks       broker.Locks
 }
 
 // New returns the backend that runs a program. program is a path, or a name that is looked up in PATH. New asks the
@@ -91,7 +171,7 @@ func newProgram(name string, options Options) (*program, error) {
 	if err != nil {
 		return nil, err
 	}
-	locks, err := filelock.New(state + lockFile)
+	locks, err := broker.NewFileLocks(state + lockFile)
 	if err != nil {
 		return nil, err
 	}
@@ -177,4 +257,217 @@ func names(key broker.Key) []string {
 	}
 	binding := key.Binding.String()
 	return []string{"OSB_INSTANCE=" + instance, "OSB_BINDING=" + binding, "OSB_NAME=" + instance + "." + binding}
+}
+
+// instances is a program that sells no bindings.
+type instances struct{ *program }
+
+// bindings is a program that sells bindings, and can't report their credentials later.
+type bindings struct{ instances }
+
+// bindingsWithCredentials is a program that supports all calls.
+type bindingsWithCredentials struct{ bindings }
+
+var (
+	_ broker.LockBackend        = instances{}
+	_ broker.BindingBackend     = bindings{}
+	_ broker.CredentialsBackend = bindingsWithCredentials{}
+)
+
+// Locks returns the locks of the program's calls, which are in the file .locks of Options.State.
+func (i instances) Locks() broker.Locks { return i.locks }
+
+// Look runs "PROGRAM look".
+func (i instances) Look(ctx context.Context, request broker.Request) (broker.There, error) {
+	return i.look(ctx, "look", request)
+}
+
+// Create runs "PROGRAM create".
+func (i instances) Create(ctx context.Context, request broker.Request) error {
+	return i.work(ctx, "create", request)
+}
+
+// Delete runs "PROGRAM delete".
+func (i instances) Delete(ctx context.Context, request broker.Request) error {
+	return i.work(ctx, "delete", request)
+}
+
+// LookBinding runs "PROGRAM look-binding".
+func (b bindings) LookBinding(ctx context.Context, request broker.Request) (broker.There, error) {
+	return b.look(ctx, "look-binding", request)
+}
+
+// CreateBinding runs "PROGRAM create-binding".
+func (b bindings) CreateBinding(ctx context.Context, request broker.Request) (json.RawMessage, error) {
+	return b.credentials(ctx, "create-binding", request)
+}
+
+// DeleteBinding runs "PROGRAM delete-binding".
+func (b bindings) DeleteBinding(ctx context.Context, request broker.Request) error {
+	return b.work(ctx, "delete-binding", request)
+}
+
+// Credentials runs "PROGRAM credentials".
+func (b bindingsWithCredentials) Credentials(ctx context.Context, request broker.Request) (json.RawMessage, error) {
+	return b.credentials(ctx, "credentials", request)
+}
+
+// look runs a call that reports what exists.
+func (p *program) look(ctx context.Context, call string, request broker.Request) (broker.There, error) {
+	var found existence
+	if err := p.call(ctx, call, request, &found); err != nil {
+		return broker.None, err
+	}
+	return found.there()
+}
+
+// work runs a call without a result.
+func (p *program) work(ctx context.Context, call string, request broker.Request) error {
+	return p.call(ctx, call, request, &nothing{})
+}
+
+// credentials runs a call that reports credentials.
+func (p *program) credentials(ctx context.Context, call string, request broker.Request) (json.RawMessage, error) {
+	var found credentialsResult
+	if err := p.call(ctx, call, request, &found); err != nil {
+		return nil, err
+	}
+	return found.Credentials, nil
+}
+
+// call runs the program for a request, and reads what it reports.
+func (p *program) call(ctx context.Context, call string, request broker.Request, into result) error {
+	input, err := json.Marshal(struct {
+		broker.Request
+		State string `json:"state"`
+	}{request, p.state})
+	if err == nil {
+		err = p.run(ctx, call, input, names(request.Key), func(run exit) error {
+			return run.read(into, call == "create" || call == "create-binding")
+		})
+	}
+	return p.wrap(call, err)
+}
+
+// capabilities asks the program which calls it supports.
+func (p *program) capabilities(ctx context.Context) (found capable, err error) {
+	const call = "capabilities"
+	input, err := json.Marshal(map[string]string{"state": p.state})
+	if err != nil {
+		return found, p.wrap(call, err)
+	}
+	isLasting := false
+	err = p.run(ctx, call, input, nil, func(run exit) error {
+		if run.exit.ExitStatus() == statusUnsupported {
+			return nil
+		}
+		isLasting = run.isLasting()
+		return run.read(&found, false)
+	})
+	if err == nil {
+		return found, nil
+	}
+	return found, &CallError{Program: p.path, Call: call, Err: err, MayPass: !isLasting && mayPass(err)}
+}
+
+// mayPass returns whether the error of a run that hasn't ended by itself may be over later.
+func mayPass(err error) bool {
+	var number syscall.Errno
+	if !errors.As(err, &number) {
+		return !errors.Is(err, errTooLong)
+	}
+	return number == syscall.EAGAIN || number == syscall.ENOMEM || number == syscall.EMFILE || number == syscall.ENFILE
+}
+
+// A CallError is the error of a call, with the program and the call.
+type CallError struct {
+	Program, Call string
+	Err           error
+	// MayPass is set for capabilities: the program failed, was killed or took too long, so the same call may succeed
+	// later. It isn't set if the program can't be run, or reports something wrong.
+	MayPass bool
+}
+
+// Error returns the text of Err after the program and the call.
+func (c *CallError) Error() string {
+	return fmt.Sprintf("command: %s %s: %v", c.Program, c.Call, c.Err)
+}
+
+// Unwrap returns Err.
+func (c *CallError) Unwrap() error { return c.Err }
+
+// wrap names the program and the call in an error.
+func (p *program) wrap(call string, err error) error {
+	if err == nil {
+		return nil
+	}
+	return &CallError{Program: p.path, Call: call, Err: err}
+}
+
+// ownerFile is the path of the file with the name of the store, below the folder.
+const ownerFile = "/.owner"
+
+var _ broker.LateTiedBackend = instances{}
+
+// IsLateTied does nothing. Earlier versions kept no name in the folder.
+func (*program) IsLateTied() {}
+
+// Owner returns the name of the store whose instances the program has created, or "" if no store has taken the folder
+// yet.
+//
+// Errors: those of reading the file .owner.
+func (p *program) Owner(context.Context) (string, error) {
+	text, err := os.ReadFile(p.state + ownerFile)
+	if errors.Is(err, fs.ErrNotExist) {
+		return "", nil
+	}
+	if err != nil {
+		return "", fmt.Errorf("command: %w", err)
+	}
+	return strings.TrimSuffix(string(text), "\n"), nil
+}
+
+// Own writes the name of a store to the file .owner in the folder, unless the file exists, and returns the name that
+// the file has. Once Own returns, the name outlives a power cut. Nobody knows which of the other files in the folder
+// belong to instances, so Own doesn't look at them.
+//
+// Errors: those of the file system. The name may have been written then.
+func (p *program) Own(ctx context.Context, store string) (string, error) {
+	if err := p.writeOwner(store); err != nil {
+		return "", fmt.Errorf("command: %w", err)
+	}
+	return p.Owner(ctx)
+}
+
+// writeOwner writes the file .owner, unless it exists. The file gets its name once its content is on disk.
+func (p *program) writeOwner(store string) error {
+	file, err := os.CreateTemp(p.state, ".owner-")
+	if err != nil {
+		return err
+	}
+	defer os.Remove(file.Name())
+	_, err = file.WriteString(store + "\n")
+	if err == nil {
+		err = file.Sync()
+	}
+	if wrong := file.Close(); err == nil {
+		err = wrong
+	}
+	if err != nil {
+		return err
+	}
+	if err := os.Link(file.Name(), p.state+ownerFile); err != nil && !errors.Is(err, fs.ErrExist) {
+		return err
+	}
+	return syncFolder(p.state)
+}
+
+// syncFolder returns once the names in a folder are on disk.
+func syncFolder(folder string) error {
+	opened, err := os.Open(folder)
+	if err != nil {
+		return err
+	}
+	defer opened.Close()
+	return opened.Sync()
 }

@@ -2,16 +2,22 @@ package command
 
 import (
 	"context"
+	"encoding/json"
 	"errors"
+	"fmt"
 	"os"
+	"os/exec"
 	"path/filepath"
-	"reflect"
 	"sort"
 	"strings"
+	"syscall"
 	"testing"
 	"time"
 
 	"pippinterm/broker"
+	"pippinterm/broker/sqlite"
+	"pippinterm/internal/diff"
+	"pippinterm/internal/filelock"
 	"pippinterm/osb"
 )
 
@@ -33,9 +39,7 @@ func requestOf(key broker.Key) broker.Request {
 func script(t *testing.T, text string) string {
 	t.Helper()
 	path := filepath.Join(t.TempDir(), "backend")
-	if err := os.WriteFile(path, []byte("#!/bin/sh\n"+text+"\n"), 0o700); err != nil {
-		t.Fatal(err)
-	}
+	check(t, os.WriteFile(path, []byte("#!/bin/sh\n"+text+"\n"), 0o700))
 	return path
 }
 
@@ -47,9 +51,7 @@ func newBackend(t *testing.T, options Options, text string) bindingsWithCredenti
 	}
 	program := script(t, `case $1 in capabilities) echo '{"bindings":true,"credentials":true}'; exit 0 ;; esac`+"\n"+text)
 	backend, err := New(ctx, program, options)
-	if err != nil {
-		t.Fatal(err)
-	}
+	check(t, err)
 	return backend.(bindingsWithCredentials)
 }
 
@@ -76,7 +78,7 @@ func TestCapabilities(t *testing.T) {
 		t.Run(name, func(t *testing.T) {
 			backend, err := New(ctx, script(t, c.text), Options{State: t.TempDir()})
 			if (err != nil) != c.isRejected {
-				t.Fatalf("New returned %v", err)
+				t.Fatalf("New: got %v, want an error exactly if it is rejected", err)
 			}
 			if c.isRejected {
 				return
@@ -84,13 +86,14 @@ func TestCapabilities(t *testing.T) {
 			_, hasBindings := backend.(broker.BindingBackend)
 			_, hasCredentials := backend.(broker.CredentialsBackend)
 			if hasBindings != c.bindings || hasCredentials != c.credentials {
-				t.Errorf("the backend has bindings: %v, and credentials: %v", hasBindings, hasCredentials)
+				t.Errorf("got bindings %v and credentials %v of the backend, want %v and %v", hasBindings, hasCredentials,
+					c.bindings, c.credentials)
 			}
 			if _, hasLocks := backend.(broker.LockBackend); !hasLocks {
-				t.Error("the backend has no locks")
+				t.Error("got a backend without locks, want one with them")
 			}
 			if _, hasSync := backend.(broker.SyncBackend); hasSync {
-				t.Error("the backend claims to know what is on disk")
+				t.Error("got a backend that claims to know what is on disk, want one that doesn't")
 			}
 		})
 	}
@@ -99,7 +102,7 @@ func TestCapabilities(t *testing.T) {
 // A program that fails, is killed or is slow may report its capabilities at the next start. One that can't be run, or
 // reports something wrong, needs a change first.
 func TestCapabilitiesThatMayPass(t *testing.T) {
-	for name, it := range map[string]struct {
+	for name, test := range map[string]struct {
 		text    string
 		mayPass bool
 	}{
@@ -117,19 +120,17 @@ func TestCapabilitiesThatMayPass(t *testing.T) {
 	} {
 		t.Run(name, func(t *testing.T) {
 			limit := time.Minute
-			if strings.Contains(it.text, "sleep") {
+			if strings.Contains(test.text, "sleep") {
 				limit = 300 * time.Millisecond
 			}
-			file := script(t, it.text)
-			if strings.HasPrefix(it.text, "#!") {
-				if err := os.WriteFile(file, []byte(it.text+"\n"), 0o700); err != nil {
-					t.Fatal(err)
-				}
+			file := script(t, test.text)
+			if strings.HasPrefix(test.text, "#!") {
+				check(t, os.WriteFile(file, []byte(test.text+"\n"), 0o700))
 			}
 			_, err := New(ctx, file, Options{State: t.TempDir(), Limit: limit})
 			var called *CallError
-			if !errors.As(err, &called) || called.MayPass != it.mayPass {
-				t.Errorf("New returned %v, which may pass: %v; want %v", err, called != nil && called.MayPass, it.mayPass)
+			if !errors.As(err, &called) || called.MayPass != test.mayPass {
+				t.Errorf("New: got %v, which may pass: %v, want %v", err, called != nil && called.MayPass, test.mayPass)
 			}
 		})
 	}
@@ -137,31 +138,57 @@ func TestCapabilitiesThatMayPass(t *testing.T) {
 
 func TestProgramsThatNewRejects(t *testing.T) {
 	file := filepath.Join(t.TempDir(), "file")
-	if err := os.WriteFile(file, []byte("#!/bin/sh\n"), 0o600); err != nil {
-		t.Fatal(err)
-	}
+	check(t, os.WriteFile(file, []byte("#!/bin/sh\n"), 0o600))
 	for name, program := range map[string]string{
 		"a file that doesn't exist": file + "x", "a name that isn't in PATH": "osb-no-such-program",
 		"a file that isn't executable": file, "a folder": t.TempDir(), "nothing": "",
 	} {
-		if backend, err := New(ctx, program, Options{State: t.TempDir()}); err == nil {
-			t.Errorf("New took %s: %v", name, backend)
-		}
+		t.Run(name, func(t *testing.T) {
+			if backend, err := New(ctx, program, Options{State: t.TempDir()}); err == nil {
+				t.Errorf("New with %s: got %v, want an error", name, backend)
+			}
+		})
+	}
+}
+
+// A call of the program that hasn't ended by itself may succeed later, unless its error says that it can't.
+func TestMayPass(t *testing.T) {
+	for _, test := range []struct {
+		err  error
+		want bool
+	}{
+		{errors.New("the program was killed"), true}, {errTooLong, false}, {syscall.EAGAIN, true}, {syscall.ENOMEM, true},
+		{syscall.EMFILE, true}, {syscall.ENFILE, true}, {syscall.ENOEXEC, false}, {syscall.EACCES, false},
+	} {
+		t.Run(test.err.Error(), func(t *testing.T) {
+			if got := mayPass(fmt.Errorf("the call: %w", test.err)); got != test.want {
+				t.Errorf("%v: got %t, want %t", test.err, got, test.want)
+			}
+		})
+	}
+}
+
+// Without locks there is no backend.
+func TestLocksThatCanNotBeOpened(t *testing.T) {
+	state := t.TempDir()
+	check(t, os.Mkdir(state+lockFile, 0o700))
+	if _, err := New(ctx, script(t, ""), Options{State: state}); err == nil || !strings.Contains(err.Error(), lockFile) {
+		t.Errorf("got %v, want the error of %s", err, lockFile)
 	}
 }
 
 func TestOptionsThatNewRejects(t *testing.T) {
 	file := filepath.Join(t.TempDir(), "file")
-	if err := os.WriteFile(file, nil, 0o600); err != nil {
-		t.Fatal(err)
-	}
+	check(t, os.WriteFile(file, nil, 0o600))
 	for wanted, options := range map[string]Options{
 		"no folder": {}, "not a directory": {State: file}, "UTF-8": {State: t.TempDir() + "/\xff"},
 		"negative": {State: t.TempDir(), Limit: -1},
 	} {
-		if _, err := New(ctx, script(t, ""), options); err == nil || !strings.Contains(err.Error(), wanted) {
-			t.Errorf("New returned %v, and not an error with %q", err, wanted)
-		}
+		t.Run(wanted, func(t *testing.T) {
+			if _, err := New(ctx, script(t, ""), options); err == nil || !strings.Contains(err.Error(), wanted) {
+				t.Errorf("New: got %v, want an error with %q", err, wanted)
+			}
+		})
 	}
 }
 
@@ -169,26 +196,26 @@ func TestOptionsThatNewRejects(t *testing.T) {
 func TestExisting(t *testing.T) {
 	program, top := script(t, ""), t.TempDir()
 	empty := filepath.Join(top, "empty")
-	if err := os.Mkdir(empty, 0o700); err != nil {
-		t.Fatal(err)
-	}
+	check(t, os.Mkdir(empty, 0o700))
 	for name, state := range map[string]string{
 		"a folder that doesn't exist": filepath.Join(top, "none"), "an empty folder": empty,
 	} {
-		_, err := New(ctx, program, Options{State: state, Existing: true})
-		if !errors.Is(err, os.ErrNotExist) || !strings.Contains(err.Error(), state) {
-			t.Errorf("of %s, New returned %v", name, err)
-		}
+		t.Run(name, func(t *testing.T) {
+			_, err := New(ctx, program, Options{State: state, Existing: true})
+			if !errors.Is(err, os.ErrNotExist) || !strings.Contains(err.Error(), state) {
+				t.Errorf("New with %s: got %v, want one of %s that doesn't exist", name, err, state)
+			}
+		})
 	}
 	if found, err := filepath.Glob(top + "/*/.locks"); len(found) != 0 || err != nil {
-		t.Errorf("there are %v, %v", found, err)
+		t.Errorf("got the folders %v, %v, want none", found, err)
 	}
 	if _, err := os.Stat(filepath.Join(top, "none")); !errors.Is(err, os.ErrNotExist) {
-		t.Errorf("the folder was created: %v", err)
+		t.Errorf("the folder: got %v, want that there is none", err)
 	}
 	for _, existing := range []bool{false, true} {
 		if _, err := New(ctx, program, Options{State: empty, Existing: existing}); err != nil {
-			t.Errorf("with Existing %v, New returned %v", existing, err)
+			t.Errorf("New with Existing %v: got %v, want no error", existing, err)
 		}
 	}
 }
@@ -199,7 +226,7 @@ func TestWithoutTimeout(t *testing.T) {
 	t.Setenv("PATH", t.TempDir())
 	_, err := New(ctx, program, Options{State: t.TempDir()})
 	if err == nil || !strings.Contains(err.Error(), "Install coreutils") {
-		t.Errorf("New returned %v", err)
+		t.Errorf("New: got %v, want an error with \"Install coreutils\"", err)
 	}
 }
 
@@ -207,26 +234,20 @@ func TestWithoutTimeout(t *testing.T) {
 func TestRelativePaths(t *testing.T) {
 	program, folder := script(t, `pwd >"$OSB_STATE/pwd"`), t.TempDir()
 	before, err := os.Getwd()
-	if err != nil {
-		t.Fatal(err)
-	}
-	if err := os.Chdir(filepath.Dir(program)); err != nil {
-		t.Fatal(err)
-	}
+	check(t, err)
+	check(t, os.Chdir(filepath.Dir(program)))
 	defer func() { _ = os.Chdir(before) }()
 	state, err := filepath.Rel(filepath.Dir(program), filepath.Join(folder, "new", "state"))
-	if err != nil {
-		t.Fatal(err)
-	}
+	check(t, err)
 	if _, err := New(ctx, "./backend", Options{State: state}); err != nil {
 		t.Fatal(err)
 	}
 	text, err := os.ReadFile(folder + "/new/state/pwd")
 	if err != nil || !strings.HasSuffix(strings.TrimSpace(string(text)), "/new/state") {
-		t.Errorf("the working directory is %q, %v", text, err)
+		t.Errorf("the working directory: got %q, %v, want new/state", text, err)
 	}
 	if found, err := os.Stat(folder + "/new/state"); err != nil || found.Mode().Perm() != 0o700 {
-		t.Errorf("the folder is %v, %v", found, err)
+		t.Errorf("the folder: got %v, %v, want the mode 0700", found, err)
 	}
 }
 
@@ -250,15 +271,410 @@ func TestEnvironment(t *testing.T) {
 		"create":         append([]string{"OSB_NAME=" + one}, always...),
 		"create-binding": append([]string{"OSB_BINDING=" + two, "OSB_NAME=" + one + "." + two}, always...),
 	} {
-		text, err := os.ReadFile(filepath.Join(backend.state, call))
-		if err != nil {
-			t.Fatal(err)
+		t.Run(call, func(t *testing.T) {
+			text, err := os.ReadFile(filepath.Join(backend.state, call))
+			check(t, err)
+			found := strings.Split(strings.TrimSpace(string(text)), "\n")
+			sort.Strings(found)
+			sort.Strings(wanted)
+			diff.Check(t, found, wanted, "the environment of %s", call)
+		})
+	}
+}
+
+// all runs each call of the backend, and returns their errors by the names of the calls.
+func all(backend bindingsWithCredentials) map[string]error {
+	errs := map[string]error{
+		"create": backend.Create(ctx, instance), "delete": backend.Delete(ctx, instance),
+		"delete-binding": backend.DeleteBinding(ctx, binding),
+	}
+	_, errs["look"] = backend.Look(ctx, instance)
+	_, errs["look-binding"] = backend.LookBinding(ctx, binding)
+	_, errs["create-binding"] = backend.CreateBinding(ctx, binding)
+	_, errs["credentials"] = backend.Credentials(ctx, binding)
+	return errs
+}
+
+func TestEachCallIsItsName(t *testing.T) {
+	backend := newBackend(t, Options{}, `echo "called with $*" >&2; exit 1`)
+	for call, err := range all(backend) {
+		if err == nil || !strings.HasSuffix(err.Error(), "called with "+call) {
+			t.Errorf("%s: got the error %v, want one that ends with the call", call, err)
 		}
-		found := strings.Split(strings.TrimSpace(string(text)), "\n")
-		sort.Strings(found)
-		sort.Strings(wanted)
-		if !reflect.DeepEqual(found, wanted) {
-			t.Errorf("the environment of %s is %q, and not %q", call, found, wanted)
+	}
+}
+
+func TestLook(t *testing.T) {
+	cases := map[string]struct {
+		text  string
+		there broker.There
+		isBad bool
+	}{
+		"none":              {text: `echo '{"exists": "none"}'`},
+		"part":              {text: `echo '{"exists": "part"}'`, there: broker.Part},
+		"whole":             {text: `printf '\n {"exists":"whole", "more": 1}'`, there: broker.Whole},
+		"another word":      {text: `echo '{"exists": "unknown"}'`, isBad: true},
+		"nothing":           {text: ``, isBad: true},
+		"an empty object":   {text: `echo '{}'`, isBad: true},
+		"no object":         {text: `echo '"whole"'`, isBad: true},
+		"two objects":       {text: `echo '{"exists": "whole"}{"exists": "whole"}'`, isBad: true},
+		"half an object":    {text: `echo '{"exists": "whole"'`, isBad: true},
+		"a status":          {text: `echo '{"exists": "whole"}'; exit 1`, isBad: true},
+		"a rejected look":   {text: `echo '{"exists": "whole"}'; exit 3`, isBad: true},
+		"ended by a signal": {text: `echo '{"exists": "whole"}'; kill -9 $$`, isBad: true},
+	}
+	for name, c := range cases {
+		t.Run(name, func(t *testing.T) {
+			backend := newBackend(t, Options{}, c.text)
+			there, err := backend.Look(ctx, instance)
+			bound, boundErr := backend.LookBinding(ctx, binding)
+			if there != c.there || bound != c.there || (err != nil) != c.isBad || (boundErr != nil) != c.isBad {
+				t.Errorf("got Look %v, %v, and LookBinding %v, %v, want %v", there, err, bound, boundErr, c.there)
+			}
+		})
+	}
+}
+
+func TestWork(t *testing.T) {
+	for name, c := range map[string]struct {
+		text  string
+		isBad bool
+	}{
+		"nothing": {"", false}, "a blank line": {"echo", false}, "an empty object": {"echo '{}'", false},
+		"a text": {"echo done", true}, "a list": {"echo '[]'", true}, "null": {"echo null", true},
+	} {
+		t.Run(name, func(t *testing.T) {
+			errs := all(newBackend(t, Options{}, c.text))
+			for _, call := range []string{"create", "delete", "delete-binding"} {
+				if (errs[call] != nil) != c.isBad {
+					t.Errorf("%s: got %v, want an error exactly if it is bad", call, errs[call])
+				}
+			}
+		})
+	}
+}
+
+func TestCredentials(t *testing.T) {
+	for text, wanted := range map[string]string{
+		`{"credentials": {"uri": "x", "n": 1.50}}`: `{"uri": "x", "n": 1.50}`,
+		`{"credentials": "text"}`:                  `"text"`,
+		`{"credentials": null}`:                    `null`,
+		`{}`:                                       "",
+		``:                                         "",
+		`{"credentials": {"uri": "x"}`:             "",
+	} {
+		t.Run(text, func(t *testing.T) {
+			backend := newBackend(t, Options{}, "echo '"+text+"'")
+			created, createErr := backend.CreateBinding(ctx, binding)
+			found, findErr := backend.Credentials(ctx, binding)
+			isBad := wanted == ""
+			if string(created) != wanted || string(found) != wanted || (createErr != nil) != isBad || (findErr != nil) != isBad {
+				t.Errorf("of %q: got CreateBinding %s, %v, and Credentials %s, %v, want %q", text, created, createErr, found,
+					findErr, wanted)
+			}
+		})
+	}
+}
+
+func TestExitStatuses(t *testing.T) {
+	cases := []struct {
+		text     string
+		wanted   string            // in the error
+		rejected *broker.Rejection // of a creation
+		public   string            // the description for the platform
+	}{
+		{"exit 1", "exit status 1", nil, ""},
+		{"echo first >&2; echo ' last ' >&2; echo >&2; exit 1", "exit status 1: last", nil, ""},
+		{"printf 'bad \\377' >&2; exit 2", "exit status 2: bad \uFFFD", nil, ""},
+		{"exit 5", "doesn't support", nil, ""},
+		{"exit 77", "exit status 77", nil, ""},
+		{"kill -9 $$", "signal: killed", nil, ""},
+		{"exit 3", "exit status 3: standard output has no \"status\"", nil, ""},
+		{`echo '{"description": "Full."}'; exit 3`, "no \"status\"", nil, ""},
+		{`echo '{"status": 403, "description": "Full."}'; echo no >&2; exit 3`, "so this is no rejection: no", nil, ""},
+		{`echo '{"status": 400}'; exit 3`, "exit status 3", &broker.Rejection{Status: 400}, ""},
+		{
+			`echo '{"status": 422, "error": "QuotaExceeded", "description": "Full."}'; echo no >&2; exit 3`, "exit status 3: no",
+			&broker.Rejection{Status: 422, Code: "QuotaExceeded", Description: "Full."}, "",
+		},
+		{"echo no; exit 3", "JSON", nil, ""},
+		{`echo '{"description": "Try later."}'; echo why >&2; exit 4`, "exit status 4: Try later.: why", nil, "Try later."},
+		{"exit 4", "exit status 4", nil, ""},
+		{"echo no; exit 4", "JSON", nil, ""},
+	}
+	for _, c := range cases {
+		t.Run(c.text, func(t *testing.T) {
+			for call, err := range all(newBackend(t, Options{}, c.text)) {
+				if err == nil {
+					t.Fatalf("%s: got no error, want one", call)
+				}
+				isCreation := strings.HasPrefix(call, "create")
+				var rejected *broker.Rejection
+				if errors.As(err, &rejected) != (c.rejected != nil && isCreation) {
+					t.Fatalf("%s: got %v, which is a rejection: %v, want one exactly if it is scripted", call, err, rejected)
+				}
+				if rejected != nil && *rejected != *c.rejected {
+					t.Errorf("%s: got the rejection %+v, want %+v", call, rejected, *c.rejected)
+				}
+				if (isCreation || !strings.Contains(c.text, "exit 3")) && !strings.Contains(err.Error(), c.wanted) {
+					t.Errorf("%s: got %q, want %q in it", call, err, c.wanted)
+				}
+				described := c.public
+				if rejected != nil {
+					described = c.rejected.Description
+				}
+				if found := broker.Description(err); found != described {
+					t.Errorf("%s: got the description %q, want %q", call, found, described)
+				}
+			}
+		})
+	}
+}
+
+func TestRequestIsTheInput(t *testing.T) {
+	backend := newBackend(t, Options{}, `cat >"$OSB_STATE/$1"`)
+	request := binding
+	request.InstanceID = "a/../<é>"
+	request.Body = json.RawMessage(`{"parameters": {"size": 1.50, "name": "<x>"}}`)
+	request.Identity = &broker.Identity{Platform: "cloudfoundry", Value: json.RawMessage(`{"user_id": "u"}`)}
+	request.RequestID = "r1"
+	request.Deletion = &broker.Origin{RequestID: "r2"}
+	_, _ = backend.CreateBinding(ctx, request)
+	text, err := os.ReadFile(filepath.Join(backend.state, "create-binding"))
+	check(t, err)
+	var found any
+	check(t, json.Unmarshal(text, &found))
+	wanted := map[string]any{
+		"instance_id": "a/../<é>", "binding_id": request.BindingID, "service_id": "database", "plan_id": "now",
+		"body":                 map[string]any{"parameters": map[string]any{"size": 1.5, "name": "<x>"}},
+		"originating_identity": map[string]any{"platform": "cloudfoundry", "value": map[string]any{"user_id": "u"}},
+		"request_identity":     "r1", "deletion": map[string]any{"request_identity": "r2"}, "state": backend.state,
+	}
+	diff.Check(t, found, wanted, "the input")
+	if !strings.Contains(string(text), `1.50`) {
+		t.Errorf("a number: got %s, want it as it was written", text)
+	}
+}
+
+var _ broker.LateTiedBackend = bindingsWithCredentials{}
+
+// The folder keeps the name of the first store, also if an earlier version has used the folder before.
+func TestOwner(t *testing.T) {
+	state := t.TempDir()
+	ok(t, os.WriteFile(filepath.Join(state, "sold before"), nil, 0o600))
+	first := newBackend(t, Options{State: state}, "")
+	if owner, err := first.Owner(ctx); owner != "" || err != nil {
+		t.Errorf("the owner of a new folder: got %q and %v, want none and no error", owner, err)
+	}
+	for _, store := range []string{"one", "two"} {
+		if owner, err := first.Own(ctx, store); owner != "one" || err != nil {
+			t.Errorf("Own(%s): got %q and %v, want \"one\" and no error", store, owner, err)
 		}
+	}
+	if owner, err := newBackend(t, Options{State: state, Existing: true}, "").Owner(ctx); owner != "one" || err != nil {
+		t.Errorf("the owner after a restart: got %q and %v, want \"one\" and no error", owner, err)
+	}
+	left, err := os.ReadDir(state)
+	ok(t, err)
+	for n, name := range []string{".locks", ".owner", "sold before"} {
+		if len(left) != 3 || left[n].Name() != name {
+			t.Fatalf("the folder: got %v, want three files", left)
+		}
+	}
+	if owner, err := newBackend(t, Options{}, "").Owner(ctx); owner != "" || err != nil {
+		t.Errorf("the owner of another folder: got %q and %v, want none and no error", owner, err)
+	}
+}
+
+// If nobody can tell the owner, Owner fails, and Own too.
+func TestOwnerThatIsUnreadable(t *testing.T) {
+	backend := newBackend(t, Options{}, "")
+	ok(t, os.Mkdir(backend.state+ownerFile, 0o700))
+	if owner, err := backend.Owner(ctx); err == nil {
+		t.Errorf("Owner: got %q, want an error", owner)
+	}
+	if owner, err := backend.Own(ctx, "one"); err == nil {
+		t.Errorf("Own: got %q, want an error", owner)
+	}
+}
+
+// Of these variables, the first makes the test binary a broker that runs the program with the folder of the second, and
+// with the limit of the third, if it is set.
+const (
+	programVariable = "COMMAND_TEST_PROGRAM"
+	stateVariable   = "COMMAND_TEST_STATE"
+	limitVariable   = "COMMAND_TEST_LIMIT"
+)
+
+func TestMain(m *testing.M) {
+	program := os.Getenv(programVariable)
+	if program == "" {
+		os.Exit(m.Run())
+	}
+	if err := serve(program, os.Getenv(stateVariable)); err != nil {
+		fmt.Fprintln(os.Stderr, err)
+		os.Exit(1)
+	}
+}
+
+// serve creates the instance under its lock, as a broker does.
+func serve(program, state string) error {
+	backend, err := New(ctx, program, Options{State: state})
+	if err != nil {
+		return err
+	}
+	sold := backend.(instances)
+	if text := os.Getenv(limitVariable); text != "" {
+		if sold.limit, err = time.ParseDuration(text); err != nil {
+			return err
+		}
+		sold.grace = 100 * time.Millisecond
+	}
+	lock, err := sold.Locks().Lock(ctx, instance.Key)
+	if err != nil {
+		return err
+	}
+	defer lock.Unlock()
+	return sold.Create(lock.Context(ctx), instance)
+}
+
+// The lock of a call outlives the broker: no other process gets it before the program has ended.
+func TestLockOutlivesTheBroker(t *testing.T) {
+	texts := map[string]string{
+		"the program":            `echo >"$OSB_STATE/started"; read line <"$OSB_STATE/go"; : >"$OSB_STATE/done"`,
+		"a child of the program": `{ echo >"$OSB_STATE/started"; read line <"$OSB_STATE/go"; : >"$OSB_STATE/done"; } &`,
+	}
+	for name, text := range texts {
+		t.Run(name, func(t *testing.T) {
+			state := t.TempDir()
+			started, goOn := fifo(t, state+"/started"), fifo(t, state+"/go")
+			killedBroker(t, script(t, "[ $1 = create ] || exit 0; "+text), state, func() { read(t, started) })
+			locks, err := broker.NewFileLocks(state + "/.locks")
+			check(t, err)
+			if lock, err := locks.TryLock(ctx, instance.Key); lock != nil || err != nil {
+				t.Errorf("TryLock while the program runs: got %v and %v, want none and no error", lock, err)
+			}
+			if lock, err := locks.TryLock(ctx, binding.Key); lock == nil || err != nil {
+				t.Errorf("TryLock of another key: got %v and %v, want one and no error", lock, err)
+			} else {
+				lock.Unlock()
+			}
+			if _, err := goOn.WriteString("go\n"); err != nil {
+				t.Fatal(err)
+			}
+			mustLock(t, locks).Unlock()
+			if _, err := os.Stat(state + "/done"); err != nil {
+				t.Errorf("the program's work before the lock is free: got %v, want it done", err)
+			}
+		})
+	}
+}
+
+// killedBroker starts another process as the broker, and kills it with SIGKILL once until returns.
+func killedBroker(t *testing.T, program, state string, until func()) {
+	t.Helper()
+	cmd := exec.Command(os.Args[0])
+	cmd.Env = append(os.Environ(), programVariable+"="+program, stateVariable+"="+state)
+	cmd.Stderr = os.Stderr
+	check(t, cmd.Start())
+	defer func() { _ = cmd.Wait() }()
+	defer func() { _ = cmd.Process.Kill() }()
+	until()
+}
+
+// A run that hangs ends after its limit, though its broker was killed. So does what it has started.
+func TestLimitOutlivesTheBroker(t *testing.T) {
+	state := t.TempDir()
+	started := fifo(t, state+"/started")
+	t.Setenv(limitVariable, "2s")
+	text := `[ $1 = create ] || exit 0; sleep 1000 & echo >"$OSB_STATE/started"; sleep 1000`
+	killedBroker(t, script(t, text), state, func() { read(t, started) })
+	locks, err := broker.NewFileLocks(state + "/.locks")
+	check(t, err)
+	if lock, err := locks.TryLock(ctx, instance.Key); lock != nil || err != nil {
+		t.Errorf("TryLock while the program runs: got %v and %v, want none and no error", lock, err)
+	}
+	mustLock(t, locks).Unlock()
+}
+
+// A lockingBackend is a backend with its own locks.
+type lockingBackend interface {
+	broker.Backend
+	broker.LockBackend
+}
+
+// serviceOf returns a service over a backend, and its store.
+func serviceOf(t *testing.T, backend lockingBackend, observer broker.Observer) (*broker.Service, broker.Store) {
+	t.Helper()
+	document, err := os.ReadFile(examples + "own-catalogue.json")
+	ok(t, err)
+	catalogue, err := broker.NewCatalogue(document, true)
+	ok(t, err)
+	store, err := sqlite.Open(ctx, filepath.Join(t.TempDir(), "holdings.sqlite"), broker.Silent{})
+	ok(t, err)
+	t.Cleanup(func() { _ = store.Close() })
+	rules := broker.Rules{WaitForPoll: time.Minute}
+	return broker.NewService(catalogue, store, backend, backend.Locks(), rules, observer), store
+}
+
+// provision is the Provision of the instance.
+func provision(t *testing.T) broker.Visit {
+	t.Helper()
+	asked := osb.Asked{
+		Kind: osb.KindProvision, HasService: true, HasPlan: true, ID: instance.Key.Instance,
+		Service: osb.MustParseID("11111111-0000-0000-0000-0000000000a0"),
+		Plan:    osb.MustParseID("11111111-0000-0000-0000-0000000000b1"),
+	}
+	request, err := json.Marshal(instance)
+	ok(t, err)
+	return broker.Visit{Key: instance.Key, Asked: asked, Request: request}
+}
+
+// A process that left the group goes on after the creation has failed, and creates the resource. As long as it runs,
+// look finds nothing, and that isn't reported: the work stays pending. Once the process has ended, the work ends too.
+func TestNobodyIsToldWhatAProcessStillChanges(t *testing.T) {
+	backend := newBackend(t, Options{}, `case $1 in
+		look) [ -e resource ] && echo '{"exists": "whole"}' || echo '{"exists": "none"}' ;;
+		create)
+			setsid sh -c 'echo >left; read line <go; : >resource' >/dev/null 2>&1 &
+			read line <left
+			exit 1 ;;
+		*) exit 5 ;;
+	esac`)
+	backend.grace = 200 * time.Millisecond
+	fifo(t, backend.state+"/left")
+	goOn := fifo(t, backend.state+"/go")
+	service, store := serviceOf(t, backend, broker.Silent{})
+	response, err := service.Handle(ctx, provision(t))
+	if !errors.Is(err, broker.ErrNobodyKnows) || !strings.Contains(err.Error(), filelock.ErrLent.Error()) {
+		t.Errorf("the Provision: got %v, %v, want %v", response, err, filelock.ErrLent)
+	}
+	if err := service.TakeUp(ctx, instance.Key); err != nil {
+		t.Errorf("TakeUp while the process runs: got %v, want no error", err)
+	}
+	if snapshot, err := store.Read(ctx, instance.Key); err != nil || !isPending(snapshot) {
+		t.Errorf("got %v, %v, want the work pending", snapshot.Holding, err)
+	}
+	_, err = goOn.WriteString("go\n")
+	ok(t, err)
+	mustLock(t, backend.Locks()).Unlock()
+	ok(t, service.TakeUp(ctx, instance.Key))
+	snapshot, err := store.Read(ctx, instance.Key)
+	ok(t, err)
+	if row, isHeld := snapshot.Holding.Row(); !isHeld || row.Phase != osb.PhaseReady || isPending(snapshot) {
+		t.Errorf("in the end: got %v in the store, want it ready", snapshot.Holding)
+	}
+}
+
+func isPending(snapshot broker.Snapshot) bool {
+	_, isPending := snapshot.Holding.Work()
+	return isPending
+}
+
+// check ends the test at an error.
+func check(t testing.TB, err error) {
+	t.Helper()
+	if err != nil {
+		t.Fatal(err)
 	}
 }

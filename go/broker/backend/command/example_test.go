@@ -1,10 +1,14 @@
 package command
 
 import (
+	"context"
 	"encoding/json"
+	"fmt"
 	"os"
+	"os/exec"
 	"path/filepath"
 	"reflect"
+	"strings"
 	"testing"
 
 	"pippinterm/broker"
@@ -23,15 +27,11 @@ func databases(t *testing.T, fakes map[string]string) bindingsWithCredentials {
 	t.Helper()
 	folder := t.TempDir()
 	for name, text := range fakes {
-		if err := os.WriteFile(filepath.Join(folder, name), []byte("#!/bin/sh\n"+text+"\n"), 0o700); err != nil {
-			t.Fatal(err)
-		}
+		check(t, os.WriteFile(filepath.Join(folder, name), []byte("#!/bin/sh\n"+text+"\n"), 0o700))
 	}
 	t.Setenv("PATH", folder+":"+os.Getenv("PATH"))
 	backend, err := New(ctx, examples+"databases", Options{State: t.TempDir()})
-	if err != nil {
-		t.Fatal(err)
-	}
+	check(t, err)
 	return backend.(bindingsWithCredentials)
 }
 
@@ -41,15 +41,14 @@ func exist(t *testing.T, backend bindingsWithCredentials, wanted, wantedBinding 
 	there, err := backend.Look(ctx, instance)
 	bound, boundErr := backend.LookBinding(ctx, binding)
 	if err != nil || boundErr != nil || there != wanted || bound != wantedBinding {
-		t.Fatalf("Look returned %v, %v, and LookBinding %v, %v", there, err, bound, boundErr)
+		t.Fatalf("got Look %v, %v, and LookBinding %v, %v, want %v and %v", there, err, bound, boundErr, wanted,
+			wantedBinding)
 	}
 }
 
 func ok(t *testing.T, err error) {
 	t.Helper()
-	if err != nil {
-		t.Fatal(err)
-	}
+	check(t, err)
 }
 
 func TestExampleLife(t *testing.T) {
@@ -63,7 +62,7 @@ func TestExampleLife(t *testing.T) {
 	ok(t, backend.Create(ctx, instance)) // once more, which leaves the content alone
 	for _, name := range []string{whole, whole + "-wal"} {
 		if text, err := os.ReadFile(backend.state + "/" + name); err != nil || string(text) != "of the user" {
-			t.Errorf("after another Create %s is %q, %v", name, text, err)
+			t.Errorf("after another Create: got %q in %s, %v, want it as the user left it", text, name, err)
 		}
 	}
 	created, err := backend.CreateBinding(ctx, binding)
@@ -72,22 +71,22 @@ func TestExampleLife(t *testing.T) {
 	var credentials struct{ Database, Token string }
 	ok(t, json.Unmarshal(created, &credentials))
 	if credentials.Database != whole || len(credentials.Token) != 36 {
-		t.Errorf("the credentials are %s", created)
+		t.Errorf("the credentials: got %s, want the database and a token", created)
 	}
 	if again, err := backend.Credentials(ctx, binding); err != nil || string(again) != string(created) {
-		t.Errorf("Credentials returned %s, %v, and not %s", again, err, created)
+		t.Errorf("Credentials: got %s, %v, want %s", again, err, created)
 	}
 	ok(t, backend.DeleteBinding(ctx, binding))
 	exist(t, backend, broker.Whole, broker.None)
 	again, err := backend.CreateBinding(ctx, binding)
 	if err != nil || string(again) == string(created) {
-		t.Errorf("a new binding has the credentials of the old one: %s, %v", again, err)
+		t.Errorf("a new binding: got %s, %v, want other credentials than the old one's", again, err)
 	}
 	ok(t, backend.DeleteBinding(ctx, binding))
 	ok(t, backend.Delete(ctx, instance))
 	exist(t, backend, broker.None, broker.None)
 	if left := resources(t, backend); len(left) != 0 {
-		t.Errorf("left are %v", left)
+		t.Errorf("left: got %v, want none", left)
 	}
 }
 
@@ -106,11 +105,13 @@ func TestExampleIsPrivate(t *testing.T) {
 	_, err := backend.CreateBinding(ctx, binding)
 	ok(t, err)
 	for name, wanted := range map[string]os.FileMode{whole: 0o600, bound: 0o600} {
-		found, err := os.Stat(backend.state + "/" + name)
-		ok(t, err)
-		if found.Mode().Perm() != wanted {
-			t.Errorf("the mode of %s is %v", name, found.Mode())
-		}
+		t.Run(name, func(t *testing.T) {
+			found, err := os.Stat(backend.state + "/" + name)
+			ok(t, err)
+			if found.Mode().Perm() != wanted {
+				t.Errorf("the mode of %s: got %v, want %v", name, found.Mode(), wanted)
+			}
+		})
 	}
 }
 
@@ -122,7 +123,7 @@ func TestExampleWithAPartBesideIt(t *testing.T) {
 	exist(t, backend, broker.Whole, broker.None)
 	ok(t, backend.Delete(ctx, instance))
 	if left := resources(t, backend); len(left) != 0 {
-		t.Errorf("left are %v", left)
+		t.Errorf("left: got %v, want none", left)
 	}
 }
 
@@ -132,11 +133,11 @@ func TestExampleThatCanNotLook(t *testing.T) {
 	exist(t, backend, broker.None, broker.None)
 	ok(t, os.RemoveAll(backend.state))
 	if there, err := backend.Look(ctx, instance); err == nil {
-		t.Errorf("without its folder Look returned %v", there)
+		t.Errorf("Look without its folder: got %v, want an error", there)
 	}
 	backend = databases(t, map[string]string{"find": "exit 1"})
 	if there, err := backend.Look(ctx, instance); err == nil {
-		t.Errorf("Look returned %v", there)
+		t.Errorf("Look: got %v, want an error", there)
 	}
 }
 
@@ -153,10 +154,10 @@ func TestExampleWithSimilarNames(t *testing.T) {
 
 func TestExampleRejectsOtherCalls(t *testing.T) {
 	backend := databases(t, nil)
-	var run ended
-	err := backend.run(ctx, "update", nil, names(instance.Key), func(it ended) error { run = it; return nil })
+	var run exit
+	err := backend.run(ctx, "update", nil, names(instance.Key), func(it exit) error { run = it; return nil })
 	if err != nil || run.exit.ExitStatus() != statusUnsupported {
-		t.Errorf("the program ended with %s, %v", run.how(), err)
+		t.Errorf("the program ended: got %s, %v, want the status %d", run.how(), err, statusUnsupported)
 	}
 }
 
@@ -167,14 +168,236 @@ func TestExampleCatalogue(t *testing.T) {
 	for name, read := range map[string]func([]byte) ([]osb.Plan, error){
 		"instances": osb.CataloguePlans, "bindings": osb.BindingModes,
 	} {
-		plans, err := read(document)
+		t.Run(name, func(t *testing.T) {
+			plans, err := read(document)
+			ok(t, err)
+			var modes []bool
+			for _, plan := range plans {
+				modes = append(modes, plan.IsAsynchronous)
+			}
+			if !reflect.DeepEqual(modes, []bool{false, true}) {
+				t.Errorf("of %s: got plans that are asynchronous %v, want one of each", name, modes)
+			}
+		})
+	}
+}
+
+// Each call returns once what it did would outlive a power cut, and a power cut before leaves what can be looked at.
+func TestExampleOutlivesAPowerCut(t *testing.T) {
+	const list = `list() { echo "names $(find . -maxdepth 1 -name '[0-9a-f]*' -printf '` + printed + `')" >>.trace; }; list
+`
+	fakes := map[string]string{}
+	for name, then := range map[string]string{"mv": "list", "rm": "list", "sync": `echo "sync $*" >>.trace`} {
+		path, err := exec.LookPath(name)
 		ok(t, err)
-		var modes []bool
-		for _, plan := range plans {
-			modes = append(modes, plan.IsAsynchronous)
-		}
-		if !reflect.DeepEqual(modes, []bool{false, true}) {
-			t.Errorf("of %s, the plans are asynchronous: %v", name, modes)
+		fakes[name] = list + path + ` "$@" && ` + then
+	}
+	backend := databases(t, fakes)
+	isDurable := func(resource string, call func() error) {
+		t.Helper()
+		disk := newDisk(t, backend.state, resource)
+		ok(t, call())
+		disk.trace()
+		disk.isWritten()
+	}
+	isDurable(whole, func() error { return backend.Create(ctx, instance) })
+	for _, name := range []string{whole, whole + "-wal", whole + "-shm"} {
+		ok(t, os.WriteFile(backend.state+"/"+name, []byte("of the user"), 0o600))
+	}
+	isDurable(bound, func() error { _, err := backend.CreateBinding(ctx, binding); return err })
+	isDurable(bound, func() error { return backend.DeleteBinding(ctx, binding) })
+	isDurable(whole, func() error { return backend.Delete(ctx, instance) })
+	if left := resources(t, backend); len(left) != 0 {
+		t.Errorf("left: got %v, want none", left)
+	}
+}
+
+// printed is what find prints of each file for a listing.
+const printed = "%f=%i:%s:%T@ "
+
+// A listing has the files that exist, each with its inode, length and time of change. A file that was written again is
+// another one.
+type listing map[string]string
+
+// A disk is what is known to be on disk while a call runs. After a power cut, each name may be as in any of since.
+type disk struct {
+	*testing.T
+	state, resource string
+	beside          []string        // the files that belong to the resource, and have its content too
+	synced          map[string]bool // files whose content is on disk
+	since           []listing       // the names at the last sync of the folder, and each later time
+}
+
+// newDisk returns the disk before a call, and begins a new trace. All that exists is on disk.
+func newDisk(t *testing.T, state, resource string) *disk {
+	d := &disk{T: t, state: state, resource: resource, synced: map[string]bool{}}
+	ok(t, os.WriteFile(state+"/.trace", nil, 0o600))
+	d.since = []listing{d.now()}
+	for name, file := range d.now() {
+		d.synced[file] = true
+		if strings.HasPrefix(name, resource+"-") {
+			d.beside = append(d.beside, name)
 		}
 	}
+	return d
+}
+
+// now returns the names in the folder.
+func (d *disk) now() listing {
+	d.Helper()
+	find := exec.Command("find", ".", "-maxdepth", "1", "-name", "[0-9a-f]*", "-printf", printed)
+	find.Dir = d.state
+	out, err := find.Output()
+	ok(d.T, err)
+	return namesIn(string(out))
+}
+
+func namesIn(text string) listing {
+	found := listing{}
+	for _, word := range strings.Fields(text) {
+		name, file, _ := strings.Cut(word, "=")
+		found[name] = file
+	}
+	return found
+}
+
+// trace goes through the commands of the call, and looks at what a power cut would leave after each.
+func (d *disk) trace() {
+	d.Helper()
+	text, err := os.ReadFile(d.state + "/.trace")
+	ok(d.T, err)
+	for _, line := range strings.Split(strings.TrimSpace(string(text)), "\n") {
+		command, rest, _ := strings.Cut(line, " ")
+		last := d.since[len(d.since)-1]
+		if command == "names" {
+			d.since = append(d.since, namesIn(rest))
+		} else {
+			for _, path := range strings.Fields(rest) {
+				if path == "." {
+					d.since = []listing{last}
+				} else {
+					d.synced[last[path]] = true
+				}
+			}
+		}
+		d.cut(line)
+	}
+}
+
+// cut fails if the resource may have its name after a power cut now, and not its content.
+func (d *disk) cut(line string) {
+	d.Helper()
+	for _, change := range d.since {
+		file, isNamed := change[d.resource]
+		if !isNamed {
+			continue
+		}
+		if isEmpty := strings.Contains(file, ":0:"); !isEmpty && !d.synced[file] {
+			d.Errorf("after %q: got %s, which may have its name alone, want its content first", line, d.resource)
+		}
+		for _, name := range d.beside {
+			for _, other := range d.since {
+				if _, exists := other[name]; !exists {
+					d.Errorf("after %q: got %s, which may exist alone, want %s first", line, d.resource, name)
+				}
+			}
+		}
+	}
+}
+
+// isWritten fails if what exists now isn't on disk.
+func (d *disk) isWritten() {
+	d.Helper()
+	now := d.now()
+	for _, change := range d.since {
+		if !reflect.DeepEqual(change, now) {
+			d.Errorf("got %v on disk, want %v", change, now)
+		}
+	}
+	if file, exists := now[d.resource]; exists && !d.synced[file] {
+		d.Errorf("got the content of %s in memory alone, want it on disk", d.resource)
+	}
+}
+
+// A program that is killed before any of its commands leaves what can be completed, and what can be deleted.
+func TestExampleThatIsKilled(t *testing.T) {
+	fakes := map[string]string{}
+	for _, name := range []string{"cat", "mv", "rm", "sync"} {
+		path, err := exec.LookPath(name)
+		ok(t, err)
+		if name == "sync" {
+			path = "true"
+		}
+		fakes[name] = "read left <.left; echo $((left - 1)) >.left\n" +
+			"[ $left -ne 1 ] || { kill -9 $PPID; exit 1; }\nexec " + path + ` "$@"`
+	}
+	backend, left := databases(t, fakes), map[string]int{}
+	for at := 1; ; at++ {
+		for _, goOn := range []broker.There{broker.Whole, broker.None} {
+			request := killedAt(t, backend, at)
+			if request == nil {
+				if left["instance part"] == 0 || left["binding part"] == 0 || left["instance whole"] == 0 || at < 10 {
+					t.Errorf("the program was killed at %d commands: got %v left, want each part at least once", at-1, left)
+				}
+				return
+			}
+			there := goOnWith(t, backend, *request, goOn)
+			left[map[bool]string{true: "binding ", false: "instance "}[request.Key.IsBinding]+there.String()]++
+		}
+	}
+}
+
+// killedAt begins with nothing, and makes calls until one fails, because the program is killed at one of its commands.
+// It returns the request of that call, or nil if there weren't so many commands.
+func killedAt(t *testing.T, backend bindingsWithCredentials, at int) *broker.Request {
+	t.Helper()
+	for _, path := range resources(t, backend) {
+		ok(t, os.RemoveAll(path))
+	}
+	ok(t, os.WriteFile(backend.state+"/.left", []byte(fmt.Sprintln(at)), 0o600))
+	if backend.Create(ctx, instance) != nil {
+		return &instance
+	}
+	if _, err := backend.CreateBinding(ctx, binding); err != nil {
+		return &binding
+	}
+	if backend.DeleteBinding(ctx, binding) != nil {
+		return &binding
+	}
+	if backend.Delete(ctx, instance) != nil {
+		return &instance
+	}
+	return nil
+}
+
+// goOnWith completes or deletes what is left of a request, and returns what was left.
+func goOnWith(
+	t *testing.T, backend bindingsWithCredentials, request broker.Request, wanted broker.There,
+) (left broker.There) {
+	t.Helper()
+	look, create, remove, name := backend.Look, backend.Create, backend.Delete, whole
+	if request.Key.IsBinding {
+		look, remove, name = backend.LookBinding, backend.DeleteBinding, bound
+		create = func(ctx context.Context, request broker.Request) error {
+			_, err := backend.CreateBinding(ctx, request)
+			return err
+		}
+	}
+	left, err := look(ctx, request)
+	ok(t, err)
+	if left != broker.Whole && wanted == broker.Whole {
+		ok(t, create(ctx, request))
+	}
+	if left != broker.None && wanted == broker.None {
+		ok(t, remove(ctx, request))
+	}
+	if there, err := look(ctx, request); err != nil || there != wanted {
+		t.Errorf("%v was left: got %v, %v, want %v", left, there, err, wanted)
+	}
+	for _, path := range resources(t, backend) {
+		if found := filepath.Base(path); found != whole && (found != name || wanted != broker.Whole) {
+			t.Errorf("%v was left: got a file %s, want none but the whole one", left, found)
+		}
+	}
+	return left
 }

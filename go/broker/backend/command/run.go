@@ -1,17 +1,23 @@
 package command
 
 import (
+	"bytes"
 	"context"
+	"encoding/json"
+	"errors"
 	"fmt"
 	"io"
+	"net/http"
 	"os"
 	"os/exec"
 	"strconv"
+	"strings"
 	"sync"
 	"syscall"
 	"time"
 	"unsafe"
 
+	"pippinterm/broker"
 	"pippinterm/internal/filelock"
 )
 
@@ -28,7 +34,7 @@ var errTooLong = fmt.Errorf("standard output has more than %d bytes", mostOutput
 // Errors: those of starting the program, among them filelock.ErrLent; if it ran too long or ctx is done; if it wrote
 // too much; those of read. If run returns an error, the process group was killed.
 func (p *program) run(
-	ctx context.Context, call string, input []byte, variables []string, read func(ended) error,
+	ctx context.Context, call string, input []byte, variables []string, read func(exit) error,
 ) error {
 	started, err := p.start(ctx, call, variables)
 	if err != nil {
@@ -120,14 +126,14 @@ func (p *process) release(done <-chan struct{}) {
 }
 
 // read calls read with what the run has left.
-func (p *process) read(read func(ended) error) error {
+func (p *process) read(read func(exit) error) error {
 	if p.exitErr != nil {
 		return p.exitErr
 	}
 	if len(p.output) > mostOutput {
 		return errTooLong
 	}
-	return read(ended{exit: p.exit, output: p.output, stderr: p.stderrEnd.text})
+	return read(exit{exit: p.exit, output: p.output, stderr: p.stderrEnd.text})
 }
 
 // waitFor returns nil once a run is done, or why it has to be killed.
@@ -229,4 +235,176 @@ func (t *tail) Write(text []byte) (int, error) {
 		t.text = append(t.text[:0], t.text[over:]...)
 	}
 	return len(text), nil
+}
+
+// The exit statuses that mean something else than "failed".
+const (
+	statusDone        = 0
+	statusRejected    = 3
+	statusDescribed   = 4
+	statusUnsupported = 5
+
+	// Those of the command timeout, and of a shell: the program can't be run.
+	statusNotExecutable = 126
+	statusNotFound      = 127
+)
+
+// A result is what standard output has after a call that succeeded.
+type result interface {
+	// check returns an error if a member is missing, or has a value that means nothing.
+	check() error
+}
+
+// nothing is the result of a call that reports nothing.
+type nothing struct{}
+
+func (nothing) check() error { return nil }
+
+// existence is the result of look and look-binding.
+type existence struct {
+	Exists string `json:"exists"`
+}
+
+func (e existence) check() error {
+	_, err := e.there()
+	return err
+}
+
+// there returns what exists.
+func (e existence) there() (broker.There, error) {
+	for _, there := range []broker.There{broker.None, broker.Part, broker.Whole} {
+		if e.Exists == there.String() {
+			return there, nil
+		}
+	}
+	return broker.None, fmt.Errorf(`"exists" is %q, and not none, part or whole`, e.Exists)
+}
+
+// credentialsResult is the result of create-binding and credentials.
+type credentialsResult struct {
+	Credentials json.RawMessage `json:"credentials"`
+}
+
+func (k credentialsResult) check() error {
+	if k.Credentials == nil {
+		return errors.New(`standard output has no member "credentials"`)
+	}
+	return nil
+}
+
+// capable is the result of capabilities.
+type capable struct {
+	Bindings    bool `json:"bindings"`
+	Credentials bool `json:"credentials"`
+}
+
+func (c capable) check() error {
+	if c.Credentials && !c.Bindings {
+		return errors.New("the program supports credentials, and no bindings")
+	}
+	return nil
+}
+
+// An exit is a run that has ended by itself.
+type exit struct {
+	exit   syscall.WaitStatus
+	output []byte // standard output, all of it
+	stderr []byte // the end of standard error
+}
+
+// read reads what a run reports.
+//
+// Errors: if the run failed, and if standard output isn't the result. An error of a creation may be a *broker.Rejected.
+func (e exit) read(into result, isCreation bool) error {
+	switch status := e.exit.ExitStatus(); {
+	case status == statusDone:
+		if err := e.decode(into); err != nil {
+			return err
+		}
+		return into.check()
+	case status == statusRejected && isCreation:
+		return e.rejection()
+	case status == statusDescribed:
+		return e.descriptionError()
+	case status == statusUnsupported:
+		return e.failure("the program doesn't support this call")
+	}
+	return e.failure("")
+}
+
+// isLasting returns whether a run whose result can't be used ends so again: the program can't be run, or it has
+// succeeded and reported something wrong.
+func (e exit) isLasting() bool {
+	status := e.exit.ExitStatus()
+	return status == statusDone || status == statusNotExecutable || status == statusNotFound
+}
+
+// rejection is the error of a creation that the program rejects. Many commands exit with status 3 for other reasons. So
+// the run has failed if standard output doesn't have the status of a rejection.
+func (e exit) rejection() error {
+	var given struct {
+		Status      int    `json:"status"`
+		Error       string `json:"error"`
+		Description string `json:"description"`
+	}
+	if err := e.decode(&given); err != nil {
+		return err
+	}
+	if given.Status != http.StatusBadRequest && given.Status != http.StatusUnprocessableEntity {
+		return e.failure(`standard output has no "status" of 400 or 422, so this is no rejection`)
+	}
+	rejected := &broker.Rejection{Status: given.Status, Code: given.Error, Description: given.Description}
+	return fmt.Errorf("%w (%v)", rejected, e.failure(""))
+}
+
+// descriptionError is the error of a call that failed with a description for the platform.
+func (e exit) descriptionError() error {
+	var given struct {
+		Description string `json:"description"`
+	}
+	if err := e.decode(&given); err != nil {
+		return err
+	}
+	return broker.Public(e.failure(given.Description), given.Description)
+}
+
+// decode reads standard output, if there is any.
+func (e exit) decode(into any) error {
+	text := bytes.TrimSpace(e.output)
+	if len(text) == 0 {
+		return nil
+	}
+	err := json.Unmarshal(text, into)
+	if err == nil && text[0] != '{' {
+		err = errors.New("it is no object")
+	}
+	if err != nil {
+		return fmt.Errorf("%s: standard output isn't the JSON that is expected: %w", e.how(), err)
+	}
+	return nil
+}
+
+// how returns how the program exited, such as "exit status 1" or "signal: killed".
+func (e exit) how() string {
+	if e.exit.Exited() {
+		return fmt.Sprintf("exit status %d", e.exit.ExitStatus())
+	}
+	return fmt.Sprintf("signal: %v", e.exit.Signal())
+}
+
+// failure is the error of a run: how it ended, a text if there is one, and the last line of standard error.
+func (e exit) failure(text string) error {
+	said := e.how()
+	for _, part := range []string{text, lastLine(e.stderr)} {
+		if part != "" {
+			said += ": " + part
+		}
+	}
+	return errors.New(said)
+}
+
+// lastLine returns the last line of a text that isn't blank, as UTF-8.
+func lastLine(text []byte) string {
+	trimmed := strings.TrimSpace(strings.ToValidUTF8(string(text), "\uFFFD"))
+	return strings.TrimSpace(trimmed[strings.LastIndexByte(trimmed, '\n')+1:])
 }

@@ -5,6 +5,7 @@ import (
 	"encoding/json"
 	"errors"
 	"io"
+	"net/http"
 	"os"
 	"path/filepath"
 	"strconv"
@@ -15,6 +16,7 @@ import (
 
 	"pippinterm/broker"
 	"pippinterm/internal/filelock"
+	"pippinterm/osb"
 )
 
 func TestMostOutput(t *testing.T) {
@@ -23,10 +25,12 @@ func TestMostOutput(t *testing.T) {
 		bytes, then string
 		isTooLong   bool
 	}{{"1048576", "", false}, {"1048577", "", true}, {"1048577", "exec yes", true}} {
-		backend.environment = append(backend.environment, "BYTES="+c.bytes, "THEN="+c.then)
-		if err := backend.Create(ctx, instance); errors.Is(err, errTooLong) != c.isTooLong || (err != nil) != c.isTooLong {
-			t.Errorf("after %s bytes %s, Create returned %v", c.bytes, c.then, err)
-		}
+		t.Run(c.bytes+" bytes "+c.then, func(t *testing.T) {
+			backend.environment = append(backend.environment, "BYTES="+c.bytes, "THEN="+c.then)
+			if err := backend.Create(ctx, instance); errors.Is(err, errTooLong) != c.isTooLong || (err != nil) != c.isTooLong {
+				t.Errorf("after %s bytes %s: Create got %v, want %v only if it is too long", c.bytes, c.then, err, errTooLong)
+			}
+		})
 	}
 }
 
@@ -34,10 +38,10 @@ func TestEndOfStandardError(t *testing.T) {
 	backend := newBackend(t, Options{}, `head -c 1000000 /dev/zero | tr '\0' a >&2; printf end >&2; exit 1`)
 	err := backend.Create(ctx, instance)
 	if err == nil || !strings.HasSuffix(err.Error(), strings.Repeat("a", keptErrors-3)+"end") {
-		t.Fatalf("Create returned %.100v", err)
+		t.Fatalf("Create: got %.100v, want the end of its errors", err)
 	}
 	if strings.Contains(err.Error(), strings.Repeat("a", keptErrors)) {
-		t.Errorf("the error has %d bytes", len(err.Error()))
+		t.Errorf("got an error of %d bytes, want fewer", len(err.Error()))
 	}
 }
 
@@ -46,10 +50,10 @@ func TestInputThatIsNotRead(t *testing.T) {
 	request := instance
 	request.Body = json.RawMessage(`{"parameters": {"x": "` + strings.Repeat("x", 1<<20) + `"}}`)
 	if err := newBackend(t, Options{}, `exec <&-`).Create(ctx, request); err != nil {
-		t.Errorf("Create returned %v", err)
+		t.Errorf("Create: got %v, want no error", err)
 	}
 	if err := newBackend(t, Options{}, `[ $(cat | wc -c) -gt 1048576 ]`).Create(ctx, request); err != nil {
-		t.Errorf("a program that reads it: %v", err)
+		t.Errorf("a program that reads it: got %v, want no error", err)
 	}
 }
 
@@ -60,7 +64,7 @@ func TestInputThatStaysOpen(t *testing.T) {
 	const text = `exec 4<&0; sleep 600 <&4 >/dev/null 2>&1 3>&- & echo $! >pid`
 	backend := newBackend(t, Options{Limit: 20 * time.Second}, text)
 	if err := backend.Create(ctx, request); err != nil {
-		t.Errorf("Create returned %v", err)
+		t.Errorf("Create: got %v, want no error", err)
 	}
 	ok(t, syscall.Kill(pidOf(t, backend), syscall.SIGKILL)) // it still runs
 }
@@ -80,17 +84,17 @@ func TestEndOfARun(t *testing.T) {
 			read(t, started)
 			select {
 			case err := <-ended:
-				t.Errorf("Create returned while the work was going on: %v", err)
+				t.Errorf("Create returned while the work was going on: got %v, want it to wait", err)
 			case <-time.After(50 * time.Millisecond):
 			}
 			if _, err := goOn.WriteString("go\n"); err != nil {
 				t.Fatal(err)
 			}
 			if err := <-ended; err != nil {
-				t.Errorf("Create returned %v", err)
+				t.Errorf("Create: got %v, want no error", err)
 			}
 			if _, err := os.Stat(backend.state + "/done"); err != nil {
-				t.Errorf("Create returned before the work was done: %v", err)
+				t.Errorf("Create before the work was done: got %v, want no error", err)
 			}
 		})
 	}
@@ -99,13 +103,9 @@ func TestEndOfARun(t *testing.T) {
 // fifo creates a fifo and opens it. Neither reading nor writing it waits for another process to open it.
 func fifo(t *testing.T, path string) *os.File {
 	t.Helper()
-	if err := syscall.Mkfifo(path, 0o600); err != nil {
-		t.Fatal(err)
-	}
+	check(t, syscall.Mkfifo(path, 0o600))
 	file, err := os.OpenFile(path, os.O_RDWR, 0)
-	if err != nil {
-		t.Fatal(err)
-	}
+	check(t, err)
 	t.Cleanup(func() { _ = file.Close() })
 	return file
 }
@@ -121,26 +121,24 @@ func TestLimit(t *testing.T) {
 		t.Run(name, func(t *testing.T) {
 			backend := newBackend(t, Options{Limit: time.Minute}, text)
 			backend.limit = 200 * time.Millisecond
-			lock := locked(t, backend.Locks())
+			lock := mustLock(t, backend.Locks())
 			err := backend.Create(lock.Context(ctx), instance)
 			lock.Unlock()
 			if err == nil || !strings.Contains(err.Error(), "it ran longer than 200ms") {
-				t.Errorf("Create returned %v", err)
+				t.Errorf("Create: got %v, want an error with \"it ran longer than 200ms\"", err)
 			}
-			locked(t, backend.Locks()).Unlock() // the sleep has ended
+			mustLock(t, backend.Locks()).Unlock() // the sleep has ended
 		})
 	}
 }
 
-// locked returns the lock of the instance. It fails if it has to wait for more than a minute.
-func locked(t *testing.T, locks broker.Locks) broker.Lock {
+// mustLock returns the lock of the instance. It fails if it has to wait for more than a minute.
+func mustLock(t *testing.T, locks broker.Locks) broker.Lock {
 	t.Helper()
 	limited, cancel := context.WithTimeout(ctx, time.Minute)
 	defer cancel()
 	lock, err := locks.Lock(limited, instance.Key)
-	if err != nil {
-		t.Fatal(err)
-	}
+	check(t, err)
 	return lock
 }
 
@@ -148,20 +146,18 @@ func locked(t *testing.T, locks broker.Locks) broker.Lock {
 func TestCancel(t *testing.T) {
 	backend := newBackend(t, Options{}, `echo >"$OSB_STATE/started"; `+forked+"wait")
 	started := fifo(t, backend.state+"/started")
-	lock := locked(t, backend.Locks())
+	lock := mustLock(t, backend.Locks())
 	if err := canceledCreate(t, backend, lock, started); !errors.Is(err, context.Canceled) {
-		t.Errorf("Create returned %v", err)
+		t.Errorf("Create: got %v, want %v", err, context.Canceled)
 	}
 	lock.Unlock()
-	locked(t, backend.Locks()).Unlock()
+	mustLock(t, backend.Locks()).Unlock()
 }
 
 // read reads a byte. It fails if there is none within ten seconds.
 func read(t *testing.T, file *os.File) {
 	t.Helper()
-	if err := file.SetReadDeadline(time.Now().Add(10 * time.Second)); err != nil {
-		t.Fatal(err)
-	}
+	check(t, file.SetReadDeadline(time.Now().Add(10*time.Second)))
 	if _, err := file.Read(make([]byte, 1)); err != nil {
 		t.Fatal(err)
 	}
@@ -179,23 +175,23 @@ func TestProcessThatLeftTheGroup(t *testing.T) {
 			backend := newBackend(t, Options{Limit: 20 * time.Second}, c.text)
 			backend.grace = 50 * time.Millisecond
 			started, goOn := fifo(t, backend.state+"/started"), fifo(t, backend.state+"/go")
-			lock := locked(t, backend.Locks())
+			lock := mustLock(t, backend.Locks())
 			err := canceledCreate(t, backend, lock, started)
 			if !errors.Is(err, context.Canceled) || !strings.HasSuffix(err.Error(), c.says) {
-				t.Errorf("Create returned %v", err)
+				t.Errorf("Create: got %v, want one that says %q", err, c.says)
 			}
 			there, err := backend.Look(lock.Context(ctx), instance)
 			if there != broker.None || !errors.Is(err, filelock.ErrLent) {
-				t.Errorf("while the process runs Look returned %v, %v", there, err)
+				t.Errorf("Look while the process runs: got %v and %v, want %v and %v", there, err, broker.None, filelock.ErrLent)
 			}
 			lock.Unlock()
 			if free, err := backend.Locks().TryLock(ctx, instance.Key); free != nil || err != nil {
-				t.Errorf("the lock of a process that still runs is free: %v, %v", free, err)
+				t.Errorf("the lock of a process that still runs: got %v, %v, want none", free, err)
 			}
 			if _, err := io.WriteString(goOn, "go\n"); err != nil {
 				t.Fatal(err)
 			}
-			locked(t, backend.Locks()).Unlock()
+			mustLock(t, backend.Locks()).Unlock()
 		})
 	}
 }
@@ -219,17 +215,17 @@ func TestServerThatHasTheLock(t *testing.T) {
 		look) echo '{"exists": "whole"}' ;;
 	esac`)
 	backend.grace = 20 * time.Millisecond
-	lock := locked(t, backend.Locks())
+	lock := mustLock(t, backend.Locks())
 	defer lock.Unlock()
 	ok(t, backend.Create(lock.Context(ctx), instance))
 	there, err := backend.Look(lock.Context(ctx), instance)
 	if there != broker.None || !errors.Is(err, filelock.ErrLent) {
-		t.Errorf("while the server runs Look returned %v, %v", there, err)
+		t.Errorf("Look while the server runs: got %v and %v, want %v and %v", there, err, broker.None, filelock.ErrLent)
 	}
 	ok(t, syscall.Kill(pidOf(t, backend), syscall.SIGKILL))
 	backend.grace = 10 * time.Second
 	if there, err := backend.Look(lock.Context(ctx), instance); there != broker.Whole || err != nil {
-		t.Errorf("after the server has ended Look returned %v, %v", there, err)
+		t.Errorf("Look after the server has ended: got %v and %v, want %v and no error", there, err, broker.Whole)
 	}
 }
 
@@ -250,27 +246,27 @@ func TestCallThatDoesNotBegin(t *testing.T) {
 	stop()
 	err := backend.Create(stopped, instance)
 	if !errors.Is(err, context.Canceled) || strings.Contains(err.Error(), "killed") {
-		t.Errorf("Create returned %v", err)
+		t.Errorf("Create: got %v, want %v without a kill", err, context.Canceled)
 	}
 }
 
 // A run without a lock has no descriptor 3.
 func TestDescriptors(t *testing.T) {
 	backend := newBackend(t, Options{}, `[ -e /proc/$$/fd/3 ] && echo '{"exists": "whole"}' || echo '{"exists": "none"}'`)
-	lock := locked(t, backend.Locks())
+	lock := mustLock(t, backend.Locks())
 	defer lock.Unlock()
 	if there, err := backend.Look(ctx, instance); there != broker.None || err != nil {
-		t.Errorf("without a lock Look returned %v, %v", there, err)
+		t.Errorf("Look without a lock: got %v and %v, want %v and no error", there, err, broker.None)
 	}
 	if there, err := backend.Look(lock.Context(ctx), instance); there != broker.Whole || err != nil {
-		t.Errorf("with a lock Look returned %v, %v", there, err)
+		t.Errorf("Look with a lock: got %v and %v, want %v and no error", there, err, broker.Whole)
 	}
 }
 
 // Runs leave neither open files nor children behind, also if they don't begin.
 func TestRunsLeaveNothing(t *testing.T) {
 	backend := newBackend(t, Options{}, "exit 1")
-	lock := locked(t, backend.Locks())
+	lock := mustLock(t, backend.Locks())
 	defer lock.Unlock()
 	before := openFiles(t)
 	for n := 0; n < 5; n++ {
@@ -279,37 +275,35 @@ func TestRunsLeaveNothing(t *testing.T) {
 	backend.path += "-that-does-not-exist"
 	err := backend.Create(lock.Context(ctx), instance)
 	if err == nil || !strings.Contains(err.Error(), "exit status 127: ") {
-		t.Errorf("a program that was deleted: %v", err)
+		t.Errorf("a program that was deleted: got %v, want an error with \"exit status 127: \"", err)
 	}
 	backend.timeout += "-that-does-not-exist"
 	if err := backend.Create(lock.Context(ctx), instance); !errors.Is(err, os.ErrNotExist) {
-		t.Errorf("without the command timeout: %v", err)
+		t.Errorf("without the command timeout: got %v, want %v", err, os.ErrNotExist)
 	}
 	lent, err := filelock.Lend(lock.Context(ctx), time.Minute)
 	ok(t, err)
 	backend.grace = 10 * time.Millisecond
 	if err := backend.Create(lock.Context(ctx), instance); !errors.Is(err, filelock.ErrLent) {
-		t.Errorf("with a lock that is lent: %v", err)
+		t.Errorf("with a lock that is lent: got %v, want %v", err, filelock.ErrLent)
 	}
 	ok(t, lent.Close())
 	if after := openFiles(t); after != before {
-		t.Errorf("%d files are open, and %d were open before", after, before)
+		t.Errorf("got %d files open, want %d", after, before)
 	}
 	if pid, err := syscall.Wait4(-1, nil, syscall.WNOHANG, nil); err != syscall.ECHILD {
-		t.Errorf("there are children: %d, %v", pid, err)
+		t.Errorf("the children: got %d, %v, want %v", pid, err, syscall.ECHILD)
 	}
 }
 
-// openFiles returns how many files are open, without those that were deleted: the locks of an earlier test leave some open
-// until they are collected as garbage.
+// openFiles returns how many files are open, without those that were deleted: the locks of an earlier test leave some
+// open until they are collected as garbage.
 func openFiles(t *testing.T) (count int) {
 	t.Helper()
 	found, err := os.ReadDir("/proc/self/fd")
-	if err != nil {
-		t.Fatal(err)
-	}
-	for _, it := range found {
-		path, err := os.Readlink("/proc/self/fd/" + it.Name())
+	check(t, err)
+	for _, entry := range found {
+		path, err := os.Readlink("/proc/self/fd/" + entry.Name())
 		if err == nil && !strings.HasSuffix(path, " (deleted)") {
 			count++
 		}
@@ -325,7 +319,7 @@ func TestFailureEndsTheGroup(t *testing.T) {
 		t.Run(name, func(t *testing.T) {
 			backend := newBackend(t, Options{}, "sleep 600 >/dev/null 2>&1 3>&- & echo $! >pid; "+end)
 			if err := backend.Create(ctx, instance); err == nil {
-				t.Fatal("create returned no error")
+				t.Fatal("create: got no error, want one")
 			}
 			waitForEnd(t, pidOf(t, backend))
 		})
@@ -336,7 +330,7 @@ func TestFailureEndsTheGroup(t *testing.T) {
 func TestBadResultEndsTheGroup(t *testing.T) {
 	backend := newBackend(t, Options{}, `sleep 600 >/dev/null 2>&1 3>&- & echo $! >pid; echo '{"exists": "no"}'`)
 	if _, err := backend.Look(ctx, instance); err == nil {
-		t.Fatal("look returned no error")
+		t.Fatal("look: got no error, want one")
 	}
 	waitForEnd(t, pidOf(t, backend))
 }
@@ -350,7 +344,103 @@ func waitForEnd(t *testing.T, pid int) {
 			return
 		}
 		if time.Now().After(end) {
-			t.Fatal("the process runs on")
+			t.Fatal("got the process running after the time for it, want its end")
 		}
 	}
+}
+
+// hasty has a limit of its own for creations. Looks keep the long one.
+type hasty struct {
+	bindingsWithCredentials
+	limit time.Duration
+}
+
+func (h hasty) Create(ctx context.Context, request broker.Request) error {
+	limited := *h.program
+	limited.limit = h.limit
+	return instances{&limited}.Create(ctx, request)
+}
+
+// failures keeps what a broker reports.
+type failures struct {
+	broker.Silent
+	all []broker.Failure
+}
+
+func (f *failures) OnFailure(failure broker.Failure) { f.all = append(f.all, failure) }
+
+// A creation that runs longer than its limit is killed. If nothing is left that could go on, the work ends: look finds
+// nothing, and that is reported.
+func TestWorkOverTheLimitEnds(t *testing.T) {
+	backend := newBackend(t, Options{}, `case $1 in
+		look) [ -e resource ] && echo '{"exists": "whole"}' || echo '{"exists": "none"}' ;;
+		create) `+forked+`wait; : >resource ;;
+		*) exit 5 ;;
+	esac`)
+	reported := &failures{}
+	service, store := serviceOf(t, hasty{backend, 200 * time.Millisecond}, reported)
+	response, err := service.Handle(ctx, provision(t))
+	if err != nil || response.Status != http.StatusInternalServerError {
+		t.Errorf("the Provision: got %v, %v, want 500", response, err)
+	}
+	snapshot, err := store.Read(ctx, instance.Key)
+	ok(t, err)
+	if row, isHeld := snapshot.Holding.Row(); isHeld || isPending(snapshot) {
+		t.Errorf("in the end: got %v in the store, want none", row)
+	}
+	if _, err := os.Stat(backend.state + "/resource"); !errors.Is(err, os.ErrNotExist) {
+		t.Errorf("the run after its limit: got %v, want no resource", err)
+	}
+	if len(reported.all) != 1 || !strings.HasSuffix(reported.all[0].Err.Error(), "it ran longer than 200ms") {
+		t.Errorf("the reports: got %v, want one of the limit", reported.all)
+	}
+}
+
+// If a process that has left the group still has the lock after the limit, nobody knows what it will do. The work stays
+// pending until that process has ended.
+func TestWorkOverTheLimitStaysPending(t *testing.T) {
+	for limit := 500 * time.Millisecond; !isPendingAfter(t, limit); limit *= 2 {
+		if limit > time.Minute {
+			t.Fatal("got no process out of the group within a minute, want one")
+		}
+	}
+}
+
+// isPendingAfter returns false if the run was killed before its process had left the group.
+func isPendingAfter(t *testing.T, limit time.Duration) bool {
+	t.Helper()
+	backend := newBackend(t, Options{}, `case $1 in
+		look) [ -e resource ] && echo '{"exists": "whole"}' || echo '{"exists": "none"}' ;;
+		create)
+			setsid sh -c 'echo >left; read line <go; : >resource' >/dev/null 2>&1 &
+			exec sleep 1000 ;;
+		*) exit 5 ;;
+	esac`)
+	backend.grace = 200 * time.Millisecond
+	left, goOn := fifo(t, backend.state+"/left"), fifo(t, backend.state+"/go")
+	service, store := serviceOf(t, hasty{backend, limit}, broker.Silent{})
+	response, err := service.Handle(ctx, provision(t))
+	ok(t, left.SetReadDeadline(time.Now().Add(time.Millisecond)))
+	if _, late := left.Read(make([]byte, 1)); errors.Is(late, os.ErrDeadlineExceeded) {
+		return false
+	}
+	if !errors.Is(err, broker.ErrNobodyKnows) || !strings.Contains(err.Error(), filelock.ErrLent.Error()) ||
+		!strings.Contains(err.Error(), "it ran longer than") {
+		t.Errorf("the Provision: got %v, %v, want %v", response, err, filelock.ErrLent)
+	}
+	ok(t, service.TakeUp(ctx, instance.Key))
+	snapshot, err := store.Read(ctx, instance.Key)
+	if ok(t, err); !isPending(snapshot) {
+		t.Errorf("while the process runs: got %v, want the work pending", snapshot.Holding)
+	}
+	_, err = goOn.WriteString("go\n")
+	ok(t, err)
+	mustLock(t, backend.Locks()).Unlock()
+	ok(t, service.TakeUp(ctx, instance.Key))
+	snapshot, err = store.Read(ctx, instance.Key)
+	ok(t, err)
+	if row, isHeld := snapshot.Holding.Row(); !isHeld || row.Phase != osb.PhaseReady || isPending(snapshot) {
+		t.Errorf("in the end: got %v in the store, want it ready", snapshot.Holding)
+	}
+	return true
 }

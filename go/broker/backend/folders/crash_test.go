@@ -33,29 +33,31 @@ func TestCrashes(t *testing.T) {
 			"binding-half", bound, []func(*Folders) error{creation, bind}, unbind, broker.None, bind, unbind},
 	}
 	for name, c := range cases {
-		for goOn, wanted := range []broker.There{broker.None, broker.Whole} {
-			f := newFolders(t, t.TempDir())
-			for _, before := range c.before {
-				ok(t, before(f))
+		t.Run(name, func(t *testing.T) {
+			for goOn, wanted := range []broker.There{broker.None, broker.Whole} {
+				f := newFolders(t, t.TempDir())
+				for _, before := range c.before {
+					ok(t, before(f))
+				}
+				if !crashes(c.point, func() { _ = c.broken(f) }) {
+					t.Errorf("got no crash at %s, want one", c.point)
+				}
+				after := newFolders(t, f.top)
+				has(t, after, c.request, c.left)
+				ok(t, []func(*Folders) error{c.delete, c.create}[goOn](after))
+				has(t, after, c.request, wanted)
 			}
-			if !crashes(c.point, func() { _ = c.broken(f) }) {
-				t.Errorf("%s doesn't come to the crash point %s", name, c.point)
-			}
-			after := newFolders(t, f.top)
-			has(t, after, c.request, c.left)
-			ok(t, []func(*Folders) error{c.delete, c.create}[goOn](after))
-			has(t, after, c.request, wanted)
-		}
+		})
 	}
 }
 
-// crashes breaks a call off at a crash point, and returns whether it came there.
+// crashes breaks a call off at a crash point, and returns whether it got there.
 func crashes(point string, call func()) (isCrashed bool) {
 	before := crash.Hook
 	defer func() { crash.Hook = before }()
-	crash.Hook = func(place string) {
-		if place == point {
-			panic(point)
+	crash.Hook = func(reached string) {
+		if reached == point {
+			panic(reached)
 		}
 	}
 	defer func() { isCrashed = recover() == point }()

@@ -2,14 +2,20 @@ package folders
 
 import (
 	"context"
+	"encoding/json"
 	"errors"
+	"io/fs"
 	"os"
 	"path/filepath"
 	"reflect"
+	"runtime"
+	"strings"
+	"sync"
 	"syscall"
 	"testing"
 
 	"pippinterm/broker"
+	"pippinterm/internal/diff"
 	"pippinterm/osb"
 )
 
@@ -29,9 +35,7 @@ func requestOf(key broker.Key) broker.Request {
 func newFolders(t *testing.T, top string) *Folders {
 	t.Helper()
 	f, err := New(top)
-	if err != nil {
-		t.Fatal(err)
-	}
+	ok(t, err)
 	return f
 }
 
@@ -51,7 +55,7 @@ func has(t *testing.T, f *Folders, request broker.Request, wanted broker.There) 
 		look = f.LookBinding
 	}
 	if there, err := look(ctx, request); there != wanted || err != nil {
-		t.Fatalf("of %v exists %v, %v, and not %v", request.Key, there, err, wanted)
+		t.Fatalf("of %v: got %v, %v, want %v", request.Key, there, err, wanted)
 	}
 }
 
@@ -77,7 +81,7 @@ func TestLife(t *testing.T) {
 		found, err := os.Stat(path)
 		ok(t, err)
 		if found.Mode() != os.ModeDir|0o700 {
-			t.Errorf("the mode of %s is %v", path, found.Mode())
+			t.Errorf("the mode of %s: got %v, want %v", path, found.Mode(), os.ModeDir|0o700)
 		}
 	}
 	ok(t, os.WriteFile(f.whole(first.Key.Instance)+"/data", []byte("of the user"), 0o400))
@@ -86,9 +90,7 @@ func TestLife(t *testing.T) {
 	has(t, f, first, broker.None)
 	has(t, f, other, broker.Whole)
 	wanted := []string{".bindings", ".locks", other.Key.Instance.String()}
-	if found := names(t, f.top); !reflect.DeepEqual(found, wanted) {
-		t.Errorf("left are %v, and not %v", found, wanted)
-	}
+	diff.Check(t, names(t, f.top), wanted, "what is left")
 }
 
 // Whatever a crash or a power cut has left, Create completes it and Delete deletes it, and both can be done again.
@@ -121,11 +123,11 @@ func TestWhateverIsLeft(t *testing.T) {
 				}
 				_, err := os.Stat(f.top + "/" + whole + "/data")
 				if c.there == broker.Whole && wanted == broker.Whole && err != nil {
-					t.Errorf("Create changed a folder that existed: %v", err)
+					t.Errorf("a folder that existed: got %v, want it left as it was", err)
 				}
 				ok(t, f.Delete(ctx, first))
 				if found := names(t, f.top); !reflect.DeepEqual(found, []string{".bindings", ".locks"}) {
-					t.Errorf("left are %v", found)
+					t.Errorf("left: got %v, want the folders of bindings and of locks", found)
 				}
 			})
 		}
@@ -150,7 +152,7 @@ func TestFoldersOfVersion02(t *testing.T) {
 	has(t, f, first, broker.Whole)
 	has(t, f, other, broker.Part)
 	if owner, err := f.Owner(ctx); owner != "the store" || err != nil {
-		t.Errorf("the owner is %q, %v", owner, err)
+		t.Errorf("the owner: got %q and %v, want \"the store\" and no error", owner, err)
 	}
 	ok(t, f.Delete(ctx, first))
 	ok(t, f.Delete(ctx, other))
@@ -170,7 +172,7 @@ func TestLinksAreNotFollowed(t *testing.T) {
 		has(t, f, request, broker.None)
 	}
 	if _, err := os.Stat(precious + "/data"); err != nil {
-		t.Errorf("what a link leads to was deleted: %v", err)
+		t.Errorf("what a link leads to: got %v, want it there", err)
 	}
 }
 
@@ -182,16 +184,16 @@ func TestNobodyCanLook(t *testing.T) {
 	f := newFolders(t, t.TempDir())
 	f.top = loop
 	if there, err := f.Look(ctx, first); !errors.Is(err, syscall.ELOOP) {
-		t.Errorf("Look returned %v, %v", there, err)
+		t.Errorf("Look: got %v, %v, want %v", there, err, syscall.ELOOP)
 	}
 	if there, err := f.LookBinding(ctx, bound); !errors.Is(err, syscall.ELOOP) {
-		t.Errorf("LookBinding returned %v, %v", there, err)
+		t.Errorf("LookBinding: got %v, %v, want %v", there, err, syscall.ELOOP)
 	}
 	if err := f.Create(ctx, first); err == nil {
-		t.Error("Create returned nil")
+		t.Error("Create: got no error, want one")
 	}
 	if err := f.Delete(ctx, first); err == nil {
-		t.Error("Delete returned nil")
+		t.Error("Delete: got no error, want one")
 	}
 }
 
@@ -201,10 +203,22 @@ func TestTopsThatNewRejects(t *testing.T) {
 	for name, top := range map[string]string{
 		"a file": file, "below a file": file + "/top", "not UTF-8": t.TempDir() + "/\xff",
 	} {
-		if _, err := New(top); err == nil {
-			t.Errorf("New took %s", name)
-		}
+		t.Run(name, func(t *testing.T) {
+			if _, err := New(top); err == nil {
+				t.Errorf("New with %s: got no error, want one", name)
+			}
+		})
 	}
+}
+
+// What can't be removed is an error, and what doesn't exist isn't.
+func TestRemoved(t *testing.T) {
+	folder := t.TempDir()
+	leave(t, folder+"/full/data")
+	if err := removeFile(folder + "/full"); err == nil {
+		t.Error("got nil, want that the folder isn't empty")
+	}
+	ok(t, removeFile(folder+"/none"))
 }
 
 // The top may be a symbolic link, and the path relative.
@@ -219,7 +233,7 @@ func TestTopBehindALink(t *testing.T) {
 	ok(t, f.Create(ctx, first))
 	has(t, f, first, broker.Whole)
 	if f.top != folder+"/link" {
-		t.Errorf("the top is %s", f.top)
+		t.Errorf("the top: got %s, want %s", f.top, folder+"/link")
 	}
 	ok(t, f.Delete(ctx, first))
 }
@@ -229,10 +243,313 @@ func TestLocks(t *testing.T) {
 	top := t.TempDir()
 	lock, err := newFolders(t, top).Locks().TryLock(ctx, first.Key)
 	if err != nil || lock == nil {
-		t.Fatal(lock, err)
+		t.Fatalf("got the lock %v, %v, want one", lock, err)
 	}
 	defer lock.Unlock()
 	if second, err := newFolders(t, top).Locks().TryLock(ctx, first.Key); second != nil || err != nil {
-		t.Errorf("a second backend has the lock: %v, %v", second, err)
+		t.Errorf("a second backend: got the lock %v, %v, want none", second, err)
+	}
+}
+
+var (
+	bound    = requestOf(broker.BindingKey(first.Key.Instance, other.Key.Instance))
+	same     = requestOf(broker.BindingKey(other.Key.Instance, other.Key.Instance)) // of another instance
+	sameSide = requestOf(broker.BindingKey(first.Key.Instance, first.Key.Instance)) // of the same instance
+)
+
+// withInstances returns a backend that has sold both instances.
+func withInstances(t *testing.T) *Folders {
+	t.Helper()
+	f := newFolders(t, t.TempDir())
+	ok(t, f.Create(ctx, first))
+	ok(t, f.Create(ctx, other))
+	return f
+}
+
+// bind creates a binding, and returns its credentials.
+func bind(t *testing.T, f *Folders, request broker.Request) (text string, read credentials) {
+	t.Helper()
+	created, err := f.CreateBinding(ctx, request)
+	ok(t, err)
+	has(t, f, request, broker.Whole)
+	ok(t, json.Unmarshal(created, &read))
+	return string(created), read
+}
+
+func TestLifeOfABinding(t *testing.T) {
+	f := withInstances(t)
+	has(t, f, bound, broker.None)
+	text, read := bind(t, f, bound)
+	if wanted := f.top + "/" + first.Key.Instance.String(); read.Folder != wanted {
+		t.Errorf("the folder: got %q, want %q", read.Folder, wanted)
+	}
+	if len(read.Token) != 43 {
+		t.Errorf("the token: got %q, want one of 43 characters", read.Token)
+	}
+	again, err := f.Credentials(ctx, bound)
+	if err != nil || string(again) != text {
+		t.Errorf("Credentials: got %s, %v, want %s", again, err, text)
+	}
+	if again, _ := bind(t, f, bound); again != text {
+		t.Errorf("a second creation: got %s, want %s", again, text)
+	}
+	found, err := os.Stat(f.binding(bound.Key))
+	ok(t, err)
+	if found.Mode() != 0o600 {
+		t.Errorf("the mode of the file: got %v, want %v", found.Mode(), 0o600)
+	}
+	ok(t, f.Sync(ctx, bound))
+	ok(t, f.DeleteBinding(ctx, bound))
+	has(t, f, bound, broker.None)
+	if _, err := f.Credentials(ctx, bound); !errors.Is(err, fs.ErrNotExist) {
+		t.Errorf("the credentials of a binding that was deleted: got %v, want %v", err, fs.ErrNotExist)
+	}
+	if _, after := bind(t, f, bound); after.Token == read.Token {
+		t.Error("a new binding: got the token of the old one, want another")
+	}
+}
+
+func TestBindingsLeaveTheRestAlone(t *testing.T) {
+	f := withInstances(t)
+	_, one := bind(t, f, bound)
+	_, two := bind(t, f, same)
+	_, three := bind(t, f, sameSide)
+	if one.Token == two.Token || one.Token == three.Token || one.Folder == two.Folder {
+		t.Errorf("got bindings %v, %v, %v, want credentials of their own", one, two, three)
+	}
+	leave(t, f.whole(first.Key.Instance)+"/data")
+	ok(t, f.DeleteBinding(ctx, bound))
+	has(t, f, same, broker.Whole)
+	has(t, f, sameSide, broker.Whole)
+	has(t, f, first, broker.Whole)
+	if found := names(t, f.whole(first.Key.Instance)); !reflect.DeepEqual(found, []string{"data"}) {
+		t.Errorf("the folder: got %v, want data", found)
+	}
+}
+
+// Whatever a crash has left of a binding, CreateBinding completes it and DeleteBinding deletes it.
+func TestWhateverIsLeftOfABinding(t *testing.T) {
+	for name, text := range map[string]string{
+		"an empty part": "", "a part": `{"folder":`, "a longer part": strings.Repeat("x", 1000),
+	} {
+		for _, wanted := range []broker.There{broker.Whole, broker.None} {
+			t.Run(name+" to "+wanted.String(), func(t *testing.T) {
+				f := withInstances(t)
+				ok(t, os.WriteFile(f.bindingPart(bound.Key), []byte(text), 0o600))
+				has(t, f, bound, broker.Part)
+				for again := 0; again < 2; again++ {
+					if wanted == broker.Whole {
+						bind(t, f, bound)
+					} else {
+						ok(t, f.DeleteBinding(ctx, bound))
+					}
+					has(t, f, bound, wanted)
+				}
+				ok(t, f.DeleteBinding(ctx, bound))
+				if found := names(t, f.bindings()); len(found) != 0 {
+					t.Errorf("left: got %v, want none", found)
+				}
+			})
+		}
+	}
+}
+
+func TestBindingOfAnInstanceThatDoesNotExist(t *testing.T) {
+	f := newFolders(t, t.TempDir())
+	if _, err := f.CreateBinding(ctx, bound); err == nil {
+		t.Error("CreateBinding: got no error, want one")
+	}
+	has(t, f, bound, broker.None)
+}
+
+// A symbolic link in the place of a part isn't followed.
+func TestLinkInThePlaceOfABinding(t *testing.T) {
+	f, precious := withInstances(t), t.TempDir()+"/data"
+	leave(t, precious)
+	ok(t, os.Symlink(precious, f.bindingPart(bound.Key)))
+	if _, err := f.CreateBinding(ctx, bound); err == nil {
+		t.Error("CreateBinding: got no error, want one")
+	}
+	ok(t, f.DeleteBinding(ctx, bound))
+	bind(t, f, bound)
+	if text, err := os.ReadFile(precious); err != nil || string(text) != "x" {
+		t.Errorf("got %q, %v, want what the link leads to left as it was", text, err)
+	}
+}
+
+func TestCredentialsThatAreNotJSON(t *testing.T) {
+	f := withInstances(t)
+	ok(t, os.WriteFile(f.binding(bound.Key), []byte(`{"folder":`), 0o600))
+	if text, err := f.Credentials(ctx, bound); err == nil {
+		t.Errorf("Credentials: got %s, want an error", text)
+	}
+}
+
+// Only once the credentials have their name, the folder of the bindings is written to disk.
+func TestOrderOfFsyncsOfABinding(t *testing.T) {
+	f := withInstances(t)
+	var seen [][]string
+	f.bindingsSync.init(func() error { seen = append(seen, names(t, f.bindings())); return nil })
+	bind(t, f, bound)
+	ok(t, f.DeleteBinding(ctx, bound))
+	diff.Check(t, seen, [][]string{{bindingName(bound.Key)}, {}}, "what was there at the fsyncs")
+}
+
+func TestOwner(t *testing.T) {
+	f := newFolders(t, t.TempDir())
+	if owner, err := f.Owner(ctx); owner != "" || err != nil {
+		t.Errorf("the owner of a new top: got %q and %v, want none and no error", owner, err)
+	}
+	for _, store := range []string{"one", "two"} {
+		if owner, err := f.Own(ctx, store); owner != "one" || err != nil {
+			t.Errorf("Own(%s): got %q and %v, want \"one\" and no error", store, owner, err)
+		}
+	}
+	ok(t, f.Create(ctx, first))
+	if owner, err := f.Own(ctx, "two"); owner != "one" || err != nil {
+		t.Errorf("Own with a folder: got %q and %v, want \"one\" and no error", owner, err)
+	}
+	ok(t, f.Delete(ctx, first))
+	if found := names(t, f.top); !reflect.DeepEqual(found, []string{".bindings", ".locks", ".owner"}) {
+		t.Errorf("left: got %v, want the bindings, the locks and the owner", found)
+	}
+}
+
+func TestFoldersWithoutAnOwner(t *testing.T) {
+	for _, name := range []string{first.Key.Instance.String(), partPrefix + first.Key.Instance.String()} {
+		f := newFolders(t, t.TempDir())
+		ok(t, os.Mkdir(f.top+"/"+name, 0o700))
+		if owner, err := f.Own(ctx, "one"); err == nil || !strings.Contains(err.Error(), ".owner") {
+			t.Errorf("with %s: Own got %q, %v, want an error that names .owner", name, owner, err)
+		}
+		if owner, err := f.Owner(ctx); owner != "" || err != nil {
+			t.Errorf("the owner with %s: got %q and %v, want none and no error", name, owner, err)
+		}
+	}
+}
+
+// Of many stores that take a top at once, one becomes the owner.
+func TestOwnersAtOnce(t *testing.T) {
+	f := newFolders(t, t.TempDir())
+	stores := strings.Fields("one two three four five six")
+	owners := make([]string, len(stores))
+	var all sync.WaitGroup
+	for n, store := range stores {
+		all.Add(1)
+		go func(n int, store string) {
+			defer all.Done()
+			owner, err := f.Own(ctx, store)
+			if err != nil {
+				t.Error(err)
+			}
+			owners[n] = owner
+		}(n, store)
+	}
+	all.Wait()
+	for _, owner := range owners {
+		if owner == "" || owner != owners[0] {
+			t.Fatalf("the owners: got %q, want one", owners)
+		}
+	}
+}
+
+// unlistableFolder returns a folder in which names can be written and looked up, but not listed, and which can't be
+// synced. Until the end of the test, this goroutine has the rights of a user who isn't root.
+func unlistableFolder(t *testing.T) string {
+	t.Helper()
+	folder := t.TempDir()
+	if os.Geteuid() == 0 {
+		const nobody = 65534
+		ok(t, os.Chown(folder, nobody, nobody))
+		for above := filepath.Dir(folder); above != os.TempDir() && above != "/"; above = filepath.Dir(above) {
+			ok(t, os.Chmod(above, 0o755))
+		}
+		runtime.LockOSThread()
+		_, _, _ = syscall.RawSyscall(syscall.SYS_SETFSUID, nobody, 0, 0) // of this thread
+		t.Cleanup(func() {
+			_, _, _ = syscall.RawSyscall(syscall.SYS_SETFSUID, 0, 0, 0)
+			runtime.UnlockOSThread()
+		})
+	}
+	ok(t, os.Chmod(folder, 0o300))
+	t.Cleanup(func() { _ = os.Chmod(folder, 0o700) })
+	if _, err := os.ReadDir(folder); !errors.Is(err, fs.ErrPermission) {
+		t.Fatalf("got %v, want a folder that can't be listed", err)
+	}
+	return folder
+}
+
+// A top that can't be listed may contain folders of another store, so it isn't taken.
+func TestOwnerOfATopThatCanNotBeListed(t *testing.T) {
+	f := newFolders(t, t.TempDir())
+	f.top = unlistableFolder(t)
+	if owner, err := f.Own(ctx, "one"); !errors.Is(err, fs.ErrPermission) {
+		t.Errorf("got %q, %v, want %v", owner, err, fs.ErrPermission)
+	}
+	if owner, err := f.Owner(ctx); owner != "" || err != nil {
+		t.Errorf("the owner: got %q, %v, want none", owner, err)
+	}
+}
+
+// A new folder is there after a power cut: the folder that it is in is synced. If that fails, so does New.
+func TestNewFoldersAreSynced(t *testing.T) {
+	top := filepath.Join(unlistableFolder(t), "top")
+	if _, err := New(top); !errors.Is(err, fs.ErrPermission) || !strings.Contains(err.Error(), filepath.Dir(top)) {
+		t.Errorf("got %v, want the error of syncing %s", err, filepath.Dir(top))
+	}
+}
+
+func TestLabel(t *testing.T) {
+	t.Run("an attribute", func(t *testing.T) {
+		wanted := "000000000000000000000000000000a0 000000000000000000000000000000b1"
+		f := newFolders(t, t.TempDir())
+		if syscall.Setxattr(f.top, labelAttribute, []byte("x"), 0) != nil {
+			t.Skip("the file system of the temporary folder has no extended attributes")
+		}
+		ok(t, f.Create(ctx, first))
+		var text [256]byte
+		n, err := syscall.Getxattr(f.whole(first.Key.Instance), labelAttribute, text[:])
+		if err != nil || string(text[:n]) != wanted {
+			t.Errorf("the attribute: got %q, %v, want %q", text[:n], err, wanted)
+		}
+		if found := names(t, f.whole(first.Key.Instance)); len(found) != 0 {
+			t.Errorf("the folder: got %v, want none", found)
+		}
+	})
+	t.Run("a file", func(t *testing.T) {
+		wanted := `{"instance":"` + first.Key.Instance.String() + `","plan":"` + first.PlanID +
+			`","service":"` + first.ServiceID + `"}` + "\n"
+		f := newFolders(t, t.TempDir())
+		f.setAttribute = func(string, string, []byte, int) error { return syscall.ENOTSUP }
+		ok(t, f.Create(ctx, first))
+		text, err := os.ReadFile(f.whole(first.Key.Instance) + "/instance.json")
+		if err != nil || string(text) != wanted {
+			t.Errorf("the file: got %q, %v, want %q", text, err, wanted)
+		}
+		has(t, f, first, broker.Whole)
+	})
+}
+
+// An id that isn't a GUID stands for its number.
+func TestLabelHasNumbers(t *testing.T) {
+	sold := soldAs{"postgres", "small"}
+	text, err := sold.textOf(first.Key.Instance)
+	ok(t, err)
+	var label map[string]string
+	ok(t, json.Unmarshal(text, &label))
+	wanted := ""
+	for _, attribute := range [][2]string{{"service", "postgres"}, {"plan", "small"}} {
+		number, err := osb.IDOfText(attribute[1])
+		ok(t, err)
+		if label[attribute[0]] != number.String() {
+			t.Errorf("%s: got %s, want %v", attribute[0], label[attribute[0]], number)
+		}
+		wanted += " " + strings.ReplaceAll(number.String(), "-", "")
+	}
+	f := newFolders(t, t.TempDir())
+	for again := 0; again < 2; again++ {
+		if attribute, err := f.attributeOf(sold); err != nil || " "+string(attribute) != wanted {
+			t.Errorf("the attribute: got %s, %v, want%s", attribute, err, wanted)
+		}
 	}
 }

@@ -3,6 +3,7 @@ package postgres_test
 import (
 	"context"
 	"database/sql"
+	"errors"
 	"strings"
 	"sync"
 	"testing"
@@ -11,13 +12,14 @@ import (
 	"pippinterm/broker"
 	"pippinterm/broker/backend/postgres"
 	"pippinterm/internal/pg/pgtest"
+	"pippinterm/internal/storefaults"
 )
 
 // Findings H1: nothing that a customer leaves open or changes keeps its database from being deleted, or created anew.
 func TestWhatACustomerHolds(t *testing.T) {
 	r := newRig(t)
 	d := r.open()
-	for _, it := range []struct {
+	for _, test := range []struct {
 		name       string
 		statements []string
 	}{
@@ -29,10 +31,10 @@ func TestWhatACustomerHolds(t *testing.T) {
 		{"settings of the database", []string{"ALTER DATABASE $name SET default_transaction_read_only = on"}},
 		{"a large object", []string{"SELECT lo_create(0)"}},
 	} {
-		t.Run(it.name, func(t *testing.T) {
-			deleted, anew := created(t, d), created(t, d)
-			for _, of := range []locked{deleted, anew} {
-				hold(t, r.customer(of.request.Key), named(it.statements, of.request.Key)...)
+		t.Run(test.name, func(t *testing.T) {
+			deleted, anew := createInstance(t, d), createInstance(t, d)
+			for _, of := range []lockedKey{deleted, anew} {
+				hold(t, r.customer(of.request.Key), statementsOf(test.statements, of.request.Key)...)
 			}
 			wantQuick(t, "Delete", func() error { return d.Delete(deleted.ctx, deleted.request) })
 			wantThere(t, d, deleted, broker.None)
@@ -42,10 +44,10 @@ func TestWhatACustomerHolds(t *testing.T) {
 	}
 }
 
-// named are statements about the database of a key.
-func named(statements []string, key broker.Key) (of []string) {
-	for _, it := range statements {
-		of = append(of, strings.ReplaceAll(it, "$name", postgres.NameOf(key)))
+// statementsOf are statements about the database of a key.
+func statementsOf(statements []string, key broker.Key) (of []string) {
+	for _, statement := range statements {
+		of = append(of, strings.ReplaceAll(statement, "$name", postgres.NameOf(key)))
 	}
 	return of
 }
@@ -55,10 +57,10 @@ func wantQuick(t *testing.T, what string, call func() error) {
 	t.Helper()
 	begin := time.Now()
 	if err := call(); err != nil {
-		t.Errorf("%s: %v", what, err)
+		t.Errorf("%s: got the error %v, want none", what, err)
 	}
 	if took := time.Since(begin); took > 8*time.Second {
-		t.Errorf("%s took %v", what, took)
+		t.Errorf("%s: got %v, want at most %v", what, took, 8*time.Second)
 	}
 }
 
@@ -69,34 +71,35 @@ func TestAPreparedTransaction(t *testing.T) {
 		t.Skip("max_prepared_transactions is 0 on this server")
 	}
 	d := r.open()
-	it := created(t, d)
+	it := createInstance(t, d)
 	name := postgres.NameOf(it.request.Key)
 	hold(t, r.customer(it.request.Key), "BEGIN", "CREATE TABLE t ()", "PREPARE TRANSACTION '"+name+"'")
 	begin := time.Now()
 	err := d.Delete(it.ctx, it.request)
 	took := time.Since(begin)
 	if err == nil || !strings.Contains(err.Error(), "ROLLBACK PREPARED") || took > 8*time.Second {
-		t.Errorf("Delete: %v after %v", err, took)
+		t.Errorf("Delete: got %v after %v, want one of prepared transactions within 8 s", err, took)
 	}
 	wantThere(t, d, it, broker.Part)
 	if err := r.customer(it.request.Key).Ping(); err == nil {
-		t.Error("the customer still logs in")
+		t.Error("a login of the customer: got no error, want one")
 	}
 	pgtest.Exec(t, r.admin, "ALTER DATABASE "+name+" ALLOW_CONNECTIONS true")
 	operator := pgtest.DB(t, pgtest.In(t, pgtest.URL(t), name))
 	pgtest.Exec(t, operator, "ROLLBACK PREPARED '"+name+"'")
 	_ = operator.Close() // the broker can't end a superuser's session
 	if err := d.Delete(it.ctx, it.request); err != nil {
-		t.Errorf("Delete once it has ended: %v", err)
+		t.Errorf("Delete once it has ended: got %v, want no error", err)
 	}
 	r.wantNothing(it.request.Key)
 }
 
 // What another customer grants to the role, in its own database, keeps nothing either: done, or in an open transaction.
+// Its session goes on if it is in no transaction.
 func TestWhatAnotherCustomerHolds(t *testing.T) {
 	r := newRig(t)
 	d := r.open()
-	for _, it := range []struct {
+	for _, test := range []struct {
 		name       string
 		statements []string
 	}{
@@ -119,26 +122,32 @@ func TestWhatAnotherCustomerHolds(t *testing.T) {
 		{"and keeps it so", []string{"GRANT SELECT ON t TO $name", "ALTER DATABASE $other CONNECTION LIMIT 0", "BEGIN",
 			"ALTER DATABASE $other CONNECTION LIMIT 0"}},
 	} {
-		t.Run(it.name, func(t *testing.T) {
-			of, other := created(t, d), created(t, d)
-			statements := named(append([]string{"CREATE TABLE t (x integer)"}, it.statements...), of.request.Key)
+		t.Run(test.name, func(t *testing.T) {
+			of, other := createInstance(t, d), createInstance(t, d)
+			statements := statementsOf(append([]string{"CREATE TABLE t (x integer)"}, test.statements...), of.request.Key)
 			for n := range statements {
 				statements[n] = strings.ReplaceAll(statements[n], "$other", postgres.NameOf(other.request.Key))
 			}
-			hold(t, r.customer(other.request.Key), statements...)
+			held := hold(t, r.customer(other.request.Key), statements...)
 			wantQuick(t, "Delete", func() error { return d.Delete(of.ctx, of.request) })
 			r.wantNothing(of.request.Key)
 			wantThere(t, d, other, broker.Whole)
+			if strings.Contains(strings.Join(statements, ";"), ";BEGIN") {
+				return
+			}
+			if err := held.PingContext(of.ctx); err != nil {
+				t.Errorf("the session of the other customer: got %v, want that it goes on", err)
+			}
 		})
 	}
 }
 
-// A customer that shuts its database again and again keeps nothing of another one. Its sessions are in a second database
-// of its own, so that it gets in again once they have ended.
+// A customer that shuts its database again and again keeps nothing of another one. Its sessions are in a second
+// database of its own, so that it gets in again once they have ended.
 func TestACustomerThatShutsItsDatabase(t *testing.T) {
 	r := newRig(t)
 	d := r.open()
-	of, shut, second := created(t, d), created(t, d), created(t, d)
+	of, shut, second := createInstance(t, d), createInstance(t, d), createInstance(t, d)
 	name, inside := postgres.NameOf(shut.request.Key), postgres.NameOf(second.request.Key)
 	pgtest.Exec(t, r.customer(shut.request.Key), "CREATE TABLE t (x integer)",
 		"GRANT SELECT ON t TO "+postgres.NameOf(of.request.Key))
@@ -148,7 +157,7 @@ func TestACustomerThatShutsItsDatabase(t *testing.T) {
 	defer all.Wait()
 	defer cancel()
 	begun := make(chan struct{}, 1)
-	for _, statement := range named([]string{
+	for _, statement := range statementsOf([]string{
 		"ALTER DATABASE $name CONNECTION LIMIT 0", "ALTER DATABASE $name CONNECTION LIMIT 9",
 		"ALTER DATABASE $name ALLOW_CONNECTIONS false", "REVOKE ALL ON DATABASE $name FROM $name",
 		"ALTER DATABASE $name SET local_preload_libraries = 'garbage'",
@@ -167,7 +176,7 @@ func TestACustomerThatShutsItsDatabase(t *testing.T) {
 	}
 	<-begun
 	if err := d.Delete(of.ctx, of.request); err != nil {
-		t.Errorf("Delete: %v", err)
+		t.Errorf("Delete: got %v, want no error", err)
 	}
 	r.wantNothing(of.request.Key)
 }
@@ -179,18 +188,18 @@ func TestPoliciesOnManyTables(t *testing.T) {
 	}
 	r := newRig(t)
 	d := r.open()
-	of, other, third := created(t, d), created(t, d), created(t, d)
+	of, other, third := createInstance(t, d), createInstance(t, d), createInstance(t, d)
 	name, thirds := postgres.NameOf(of.request.Key), postgres.NameOf(third.request.Key)
 	count := createMany(t, r, r.customer(other.request.Key), "CREATE TABLE s.t%d ()",
 		"CREATE POLICY one ON s.t%d TO "+name, "CREATE POLICY two ON s.t%d TO "+name+", "+thirds)
 	if err := d.Delete(of.ctx, of.request); err != nil {
-		t.Errorf("Delete: %v", err)
+		t.Errorf("Delete: got %v, want no error", err)
 	}
 	r.wantNothing(of.request.Key)
 	in := &rig{t: t, admin: pgtest.DB(t, pgtest.In(t, pgtest.URL(t), postgres.NameOf(other.request.Key)))}
 	got := in.column("SELECT DISTINCT concat_ws(' ', policyname, roles, count(*)) FROM pg_policies GROUP BY policyname, roles")
 	if want := "two {" + thirds + "} " + count; len(got) != 1 || got[0] != want {
-		t.Errorf("the policies are %v, want %s", got, want)
+		t.Errorf("the policies: got %v, want %s", got, want)
 	}
 }
 
@@ -198,7 +207,7 @@ func TestPoliciesOnManyTables(t *testing.T) {
 func TestPartsOfAnExtension(t *testing.T) {
 	r := newRig(t)
 	d := r.open()
-	of, other := created(t, d), created(t, d)
+	of, other := createInstance(t, d), createInstance(t, d)
 	bind, binding := bound(t, d, of.request.Key)
 	others := postgres.NameOf(other.request.Key)
 	pgtest.Exec(t, r.customer(other.request.Key),
@@ -208,10 +217,10 @@ func TestPartsOfAnExtension(t *testing.T) {
 		"CREATE FUNCTION s.f(integer[]) RETURNS integer LANGUAGE sql AS 'SELECT 1'",
 		"ALTER EXTENSION hstore ADD FUNCTION s.f(integer[])")
 	if err := d.DeleteBinding(bind.ctx, bind.request); err != nil {
-		t.Errorf("DeleteBinding: %v", err)
+		t.Errorf("DeleteBinding: got %v, want no error", err)
 	}
 	if err := d.Delete(of.ctx, of.request); err != nil {
-		t.Errorf("Delete: %v", err)
+		t.Errorf("Delete: got %v, want no error", err)
 	}
 	r.wantNothing(of.request.Key)
 }
@@ -224,7 +233,7 @@ const manyLargeObjects = `SELECT lo_create(0) FROM generate_series(1,
 func TestManyLargeObjects(t *testing.T) {
 	r := newRig(t)
 	d := r.open()
-	of, other := created(t, d), created(t, d)
+	of, other := createInstance(t, d), createInstance(t, d)
 	name, others := postgres.NameOf(of.request.Key), postgres.NameOf(other.request.Key)
 	pgtest.Exec(t, r.customer(other.request.Key), "GRANT ALL ON DATABASE "+others+" TO "+name)
 	owner := r.login(name, postgres.PasswordOf(secret, of.request.Key), others)
@@ -235,10 +244,10 @@ func TestManyLargeObjects(t *testing.T) {
 	bind, binding := bound(t, d, other.request.Key)
 	hold(t, r.login(binding.Username, binding.Password, binding.Database), "SET ROLE NONE", manyLargeObjects)
 	if err := d.DeleteBinding(bind.ctx, bind.request); err != nil {
-		t.Errorf("DeleteBinding: %v", err)
+		t.Errorf("DeleteBinding: got %v, want no error", err)
 	}
 	if err := d.Delete(of.ctx, of.request); err != nil {
-		t.Errorf("Delete: %v", err)
+		t.Errorf("Delete: got %v, want no error", err)
 	}
 	r.wantNothing(of.request.Key)
 	wantThere(t, d, other, broker.Whole)
@@ -249,7 +258,7 @@ func TestManyLargeObjects(t *testing.T) {
 func TestRolesThatAreLeft(t *testing.T) {
 	r := newRig(t)
 	d := r.open()
-	of, other := created(t, d), created(t, d)
+	of, other := createInstance(t, d), createInstance(t, d)
 	bind, one := bound(t, d, other.request.Key)
 	unbound, two := bound(t, d, other.request.Key)
 	name := postgres.NameOf(other.request.Key)
@@ -260,16 +269,16 @@ func TestRolesThatAreLeft(t *testing.T) {
 			"CREATE TABLE "+binding.Username+" (x integer)")
 	}
 	leave := "REVOKE " + name + ", " + one.Username + ", " + two.Username + " FROM " + r.role
-	for _, it := range []struct {
+	for _, test := range []struct {
 		name string
 		call func(context.Context, broker.Request) error
-		of   locked
+		of   lockedKey
 	}{{"Delete of another", d.Delete, of}, {"DeleteBinding", d.DeleteBinding, bind}, {"Delete", d.Delete, other}} {
 		pgtest.Exec(t, r.admin, leave)
-		if err := it.call(it.of.ctx, it.of.request); err != nil {
-			t.Errorf("%s: %v", it.name, err)
+		if err := test.call(test.of.ctx, test.of.request); err != nil {
+			t.Errorf("%s: got the error %v, want none", test.name, err)
 		}
-		r.wantNothing(it.of.request.Key)
+		r.wantNothing(test.of.request.Key)
 		leave = "REVOKE " + name + ", " + two.Username + " FROM " + r.role
 	}
 	wantThere(t, d, unbound, broker.None)
@@ -279,7 +288,7 @@ func TestRolesThatAreLeft(t *testing.T) {
 func TestLongSettings(t *testing.T) {
 	r := newRig(t)
 	d := r.open()
-	it := created(t, d)
+	it := createInstance(t, d)
 	name := postgres.NameOf(it.request.Key)
 	pgtest.Exec(t, r.customer(it.request.Key), "ALTER DATABASE "+name+" SET application_name = 'short'")
 	wantReset(t, d, it, false)
@@ -287,14 +296,14 @@ func TestLongSettings(t *testing.T) {
 		"ALTER DATABASE "+name+" SET search_path = '"+strings.Repeat("garbage, ", 1<<18)+"x'")
 	wantReset(t, d, it, true)
 	if got := r.settingsOf(name); got != "" {
-		t.Errorf("%d bytes of settings are left", len(got))
+		t.Errorf("got %d bytes of settings left, want none", len(got))
 	}
 }
 
-func wantReset(t *testing.T, d *postgres.Databases, it locked, want bool) {
+func wantReset(t *testing.T, d *postgres.Databases, it lockedKey, want bool) {
 	t.Helper()
 	if got, err := d.ForgetLongSettings(it.ctx, it.request); err != nil || got != want {
-		t.Errorf("the settings were reset: %t, %v, want %t", got, err, want)
+		t.Errorf("the settings were reset: got %t, %v, want %t", got, err, want)
 	}
 }
 
@@ -303,7 +312,7 @@ func wantReset(t *testing.T, d *postgres.Databases, it locked, want bool) {
 func TestWhatDependsOnIt(t *testing.T) {
 	r := newRig(t)
 	d := r.open()
-	of, other := created(t, d), created(t, d)
+	of, other := createInstance(t, d), createInstance(t, d)
 	name, others := postgres.NameOf(of.request.Key), postgres.NameOf(other.request.Key)
 	pgtest.Exec(t, r.customer(other.request.Key), "GRANT ALL ON DATABASE "+others+" TO "+name, "CREATE TABLE kept ()")
 	pgtest.Exec(t, r.login(name, postgres.PasswordOf(secret, of.request.Key), others), "CREATE SCHEMA theirs",
@@ -318,7 +327,7 @@ func TestWhatDependsOnIt(t *testing.T) {
 func TestADatabaseThatAcceptsNobody(t *testing.T) {
 	r := newRig(t)
 	d := r.open()
-	of, other := created(t, d), created(t, d)
+	of, other := createInstance(t, d), createInstance(t, d)
 	pgtest.Exec(t, r.customer(other.request.Key), "GRANT CONNECT ON DATABASE "+postgres.NameOf(other.request.Key)+
 		" TO "+postgres.NameOf(of.request.Key), "CREATE TABLE t (x integer)",
 		"GRANT SELECT ON t TO "+postgres.NameOf(of.request.Key))
@@ -332,13 +341,13 @@ func TestADatabaseThatAcceptsNobody(t *testing.T) {
 func TestACustomerThatComesAgain(t *testing.T) {
 	r := newRig(t)
 	d := r.open()
-	it := created(t, d)
+	it := createInstance(t, d)
 	ctx, cancel := context.WithCancel(context.Background())
 	var all sync.WaitGroup
 	defer all.Wait()
 	defer cancel()
 	entered := make(chan struct{}, 100)
-	for _, statement := range named([]string{
+	for _, statement := range statementsOf([]string{
 		"COMMENT ON DATABASE $name IS 'x'", "ALTER ROLE $name PASSWORD 'x'", "ALTER DATABASE $name CONNECTION LIMIT 9",
 	}, it.request.Key) {
 		for n := 0; n < 3; n++ {
@@ -354,7 +363,7 @@ func TestACustomerThatComesAgain(t *testing.T) {
 	}
 	<-entered
 	if err := d.Delete(it.ctx, it.request); err != nil {
-		t.Errorf("Delete: %v", err)
+		t.Errorf("Delete: got %v, want no error", err)
 	}
 	wantThere(t, d, it, broker.None)
 }
@@ -381,12 +390,12 @@ func holdOnce(ctx context.Context, db *sql.DB, statement string, entered chan<- 
 func TestInTheBrokersDatabase(t *testing.T) {
 	r := newRig(t)
 	d := r.open()
-	it := created(t, d)
+	it := createInstance(t, d)
 	name := postgres.NameOf(it.request.Key)
 	pgtest.Exec(t, r.admin, "GRANT CONNECT ON DATABASE "+r.role+" TO "+name)
 	pgtest.Exec(t, r.login(name, postgres.PasswordOf(secret, it.request.Key), r.role), "SELECT lo_create(0)")
 	if err := d.Delete(it.ctx, it.request); err != nil {
-		t.Errorf("Delete: %v", err)
+		t.Errorf("Delete: got %v, want no error", err)
 	}
 	r.wantNothing(it.request.Key)
 }
@@ -395,12 +404,398 @@ func TestInTheBrokersDatabase(t *testing.T) {
 func TestBindingsGoToo(t *testing.T) {
 	r := newRig(t)
 	d := r.open()
-	it := created(t, d)
+	it := createInstance(t, d)
 	_, one := bound(t, d, it.request.Key)
 	hold(t, r.login(one.Username, one.Password, one.Database), "SET ROLE NONE", "CREATE TABLE t (x integer)", "BEGIN",
 		"LOCK TABLE t")
 	if err := d.Delete(it.ctx, it.request); err != nil {
-		t.Errorf("Delete: %v", err)
+		t.Errorf("Delete: got %v, want no error", err)
 	}
 	r.wantNothing(it.request.Key)
+}
+
+// wantForeign sees that no call for the key does anything.
+func wantForeign(t *testing.T, d *postgres.Databases, it lockedKey) {
+	t.Helper()
+	_, err := d.Look(it.ctx, it.request)
+	for call, err := range map[string]error{
+		"Look": err, "Create": d.Create(it.ctx, it.request), "Delete": d.Delete(it.ctx, it.request),
+	} {
+		if !errors.Is(err, postgres.ErrForeign) {
+			t.Errorf("%s: got the error %v, want ErrForeign", call, err)
+		}
+	}
+	bind := lock(t, d, broker.BindingKey(it.request.Key.Instance, randomID(t)))
+	_, err = d.LookBinding(bind.ctx, bind.request)
+	_, failed := d.CreateBinding(bind.ctx, bind.request)
+	for call, err := range map[string]error{
+		"LookBinding": err, "CreateBinding": failed, "DeleteBinding": d.DeleteBinding(bind.ctx, bind.request),
+	} {
+		if !errors.Is(err, postgres.ErrForeign) {
+			t.Errorf("%s: got the error %v, want ErrForeign", call, err)
+		}
+	}
+}
+
+// of02 has the brokers' database as version 0.2 left it.
+func (r *rig) of02(of string) {
+	r.t.Helper()
+	pgtest.Exec(r.t, r.login(r.role, "of the broker", r.role),
+		"CREATE TABLE osb_owner (one boolean PRIMARY KEY DEFAULT true CHECK (one), store uuid NOT NULL)",
+		"INSERT INTO osb_owner (store) VALUES ('"+of+"')")
+}
+
+// create02 creates a database as version 0.2 did, with a password.
+func (r *rig) create02(key broker.Key, password string) {
+	r.t.Helper()
+	name := postgres.NameOf(key)
+	pgtest.Exec(r.t, r.login(r.role, "of the broker", r.role),
+		"CREATE ROLE "+name+" LOGIN PASSWORD '"+password+"'",
+		"GRANT "+name+" TO CURRENT_USER",
+		"CREATE DATABASE "+name+" OWNER "+name+" TEMPLATE template0 ALLOW_CONNECTIONS false",
+		"REVOKE ALL ON DATABASE "+name+" FROM PUBLIC",
+		"ALTER DATABASE "+name+" ALLOW_CONNECTIONS true")
+}
+
+// Finding H3: two stores on one server, with one role or with two, don't take each other's databases for their own.
+func TestAnotherStore(t *testing.T) {
+	r := newRig(t)
+	d := r.open()
+	it := createInstance(t, d)
+	pgtest.Exec(t, r.customer(it.request.Key), "CREATE TABLE t (x integer)")
+	for name, other := range map[string]*rig{"with a role of its own": newRig(t), "with the same role": r.sibling()} {
+		t.Run(name, func(t *testing.T) {
+			second := other.openUntied()
+			if _, err := second.Own(context.Background(), "00000000-0000-4000-8000-00000000bbbb"); err != nil {
+				t.Fatal(err)
+			}
+			wantForeign(t, second, lock(t, second, it.request.Key))
+			wantThere(t, d, it, broker.Whole)
+			pgtest.Exec(t, r.customer(it.request.Key), "SELECT * FROM t")
+		})
+	}
+}
+
+// What has no label isn't this store's, unless version 0.2 created it for this store.
+func TestWithoutALabel(t *testing.T) {
+	for _, database := range []unlabelledDatabase{
+		{"a store of 0.2, and an instance of 0.2", true, true, nil, true},
+		{"a store of this version", false, true, nil, false},
+		{"an instance of this version", true, false, nil, false},
+		{"a role that another broker's role has created", true, true, []string{"REVOKE $name FROM $role"}, false},
+		{"a role with another comment", true, true, []string{"COMMENT ON ROLE $name IS 'osb store x'"}, false},
+		{"a database of somebody else", true, true, []string{"ALTER DATABASE $name OWNER TO CURRENT_USER"}, false},
+		{"a database without a role", true, true, []string{"ALTER DATABASE $name OWNER TO CURRENT_USER",
+			"ALTER DATABASE $name CONNECTION LIMIT 1", "DROP ROLE $name"}, false},
+	} {
+		t.Run(database.name, database.run)
+	}
+}
+
+// An unlabelledDatabase is of a store and of an instance that version 0.2 created, or not, and was changed by hand.
+type unlabelledDatabase struct {
+	name                 string
+	isStore02, isOfRow02 bool
+	change               []string
+	isOurs               bool
+}
+
+func (u unlabelledDatabase) run(t *testing.T) {
+	r := newRig(t)
+	if u.isStore02 {
+		r.of02(store)
+	}
+	d := r.open()
+	held := lock(t, d, newInstance(t))
+	if u.isOfRow02 {
+		held.request.Body = nil
+	}
+	r.create02(held.request.Key, "x")
+	t.Cleanup(func() { r.dropByForce(postgres.NameOf(held.request.Key)) })
+	for _, statement := range statementsOf(u.change, held.request.Key) {
+		pgtest.Exec(t, r.admin, strings.ReplaceAll(statement, "$role", r.role))
+	}
+	if u.isOurs {
+		wantOurs(t, r, d, held)
+		return
+	}
+	if u.isOfRow02 { // the row of a binding doesn't say which version created its instance
+		wantForeign(t, d, held)
+	} else if _, err := d.Look(held.ctx, held.request); !errors.Is(err, postgres.ErrForeign) {
+		t.Errorf("Look: got %v, want %v", err, postgres.ErrForeign)
+	}
+	if !r.exists("pg_database WHERE datname = $1", postgres.NameOf(held.request.Key)) {
+		t.Error("got no database, want it left")
+	}
+}
+
+// No customer changes its label: with another store's, its database could never be deleted.
+func TestNoCustomerChangesItsLabel(t *testing.T) {
+	r := newRig(t)
+	it := createInstance(t, r.open())
+	if _, err := r.customer(it.request.Key).Exec("COMMENT ON ROLE CURRENT_USER IS 'osb store x'"); err == nil {
+		t.Error("another label: got no error, want one")
+	}
+	_, err := r.customer(it.request.Key).Exec("COMMENT ON ROLE " + postgres.NameOf(it.request.Key) + " IS NULL")
+	if err == nil {
+		t.Error("no label: got no error, want one")
+	}
+}
+
+// wantOurs sees that an instance of version 0.2 is bound and deleted as any other.
+func wantOurs(t *testing.T, r *rig, d *postgres.Databases, held lockedKey) {
+	t.Helper()
+	wantThere(t, d, held, broker.Whole)
+	bound(t, d, held.request.Key)
+	if err := d.Delete(held.ctx, held.request); err != nil {
+		t.Errorf("Delete: got %v, want no error", err)
+	}
+	r.wantNothing(held.request.Key)
+}
+
+// dropByForce drops what a test has taken away from the broker.
+func (r *rig) dropByForce(name string) {
+	pgtest.Exec(r.t, r.admin, "DROP DATABASE IF EXISTS "+name+" WITH (FORCE)", "DROP ROLE IF EXISTS "+name)
+}
+
+// A faultyCall is a call of which each statement fails once. It is called again and again until it succeeds.
+type faultyCall struct {
+	name string
+	call func() error
+	look looking
+	want broker.There // once it has returned nil
+	undo func() error // if it succeeds although a statement has failed
+}
+
+// Each statement of each call fails once, under a lock of its own: a session that fails may end, and its lock with it.
+// The call returns the error, unless nothing depends on the statement, and goes on where it has ended if it is called
+// again.
+func TestStatementsThatFail(t *testing.T) {
+	r := newRig(t)
+	proxy, url := storefaults.NewProxy(t, r.url)
+	r.url = url
+	d := r.open()
+	instance := newInstance(t)
+	i, b := request(instance), request(broker.BindingKey(instance.Instance, randomID(t)))
+	under := func(of broker.Request, call func(context.Context) error) func() error {
+		return func() error {
+			held, err := d.Locks().Lock(context.Background(), of.Key) // a session that has ended may have it for a moment
+			if err != nil {
+				return err
+			}
+			defer held.Unlock()
+			return call(held.Context(context.Background()))
+		}
+	}
+	create := under(i, func(ctx context.Context) error { return d.Create(ctx, i) })
+	remove := under(i, func(ctx context.Context) error { return d.Delete(ctx, i) })
+	bind := under(b, func(ctx context.Context) error { _, err := d.CreateBinding(ctx, b); return err })
+	unbind := under(b, func(ctx context.Context) error { return d.DeleteBinding(ctx, b) })
+	seen := func(of broker.Request, look func(context.Context, broker.Request) (broker.There, error)) looking {
+		return func() (there broker.There, err error) {
+			err = under(of, func(ctx context.Context) (err error) { there, err = look(ctx, of); return err })()
+			return there, err
+		}
+	}
+	look, lookBinding := seen(i, d.Look), seen(b, d.LookBinding)
+	credentials := under(b, func(ctx context.Context) error { _, err := d.Credentials(ctx, b); return err })
+	for _, call := range []faultyCall{
+		{"Create", create, look, broker.Whole, remove},
+		{"Look", look.call, look, broker.Whole, nothing},
+		{"CreateBinding", bind, lookBinding, broker.Whole, unbind},
+		{"LookBinding", lookBinding.call, lookBinding, broker.Whole, nothing},
+		{"Credentials", credentials, lookBinding, broker.Whole, nothing},
+		{"Own", func() error { _, err := d.Own(context.Background(), store); return err }, look, broker.Whole, nothing},
+		{"DeleteBinding", unbind, lookBinding, broker.None, bind},
+		{"Delete", remove, look, broker.None, create},
+	} {
+		call.fails(t, &proxy.Countdown)
+	}
+}
+
+// looking returns what exists.
+type looking func() (broker.There, error)
+
+func (l looking) call() error { _, err := l(); return err }
+
+func nothing() error { return nil }
+
+// isDispensable returns whether nothing depends on a statement: a lock ends with its session too, and whoever is in the
+// way is ended by the next try.
+func isDispensable(statement string) bool {
+	return strings.Contains(statement, "pg_advisory_unlock") || strings.Contains(statement, "pg_blocking_pids")
+}
+
+func (c faultyCall) fails(t *testing.T, countdown *storefaults.Countdown) {
+	t.Helper()
+	for n, failed := 1, "none yet"; failed != ""; n++ {
+		if _, err := c.look(); err != nil { // it leaves an idle session: to open one takes a statement, too
+			t.Fatalf("%s: got the error %v, want none", c.name, err)
+		}
+		countdown.Fail(n, storefaults.Refused)
+		err := c.call()
+		failed = countdown.FailedStatement()
+		countdown.Fail(0, storefaults.Refused)
+		if failed == "" && (err != nil || n == 1) {
+			t.Fatalf("%s: got %v after %d statements that fail, want nil", c.name, err, n-1)
+		}
+		if err != nil {
+			continue
+		}
+		if there, err := c.look(); err != nil || there != c.want {
+			t.Errorf("%s, and %q has failed: got %v, %v, want %v", c.name, failed, there, err, c.want)
+		}
+		if failed != "" {
+			if !isDispensable(failed) {
+				t.Errorf("%s, and %q has failed: got nil, want the error", c.name, failed)
+			}
+			if err := c.undo(); err != nil {
+				t.Fatalf("%s: the opposite: got %v, want no error", c.name, err)
+			}
+		}
+	}
+}
+
+// Sync commits: its third statement is a COMMIT. If that fails, it returns the error.
+func TestSyncCommits(t *testing.T) {
+	r := newRig(t)
+	proxy, url := storefaults.NewProxy(t, r.url)
+	r.url = url
+	d := r.open()
+	instance := createInstance(t, d)
+	proxy.Countdown.Fail(3, storefaults.Refused)
+	if err := d.Sync(instance.ctx, instance.request); err == nil {
+		t.Error("got nil, want the error of the COMMIT")
+	}
+	if failed := proxy.Countdown.FailedStatement(); !storefaults.IsCommit(failed) {
+		t.Errorf("got %q as the statement that failed, want a COMMIT", failed)
+	}
+}
+
+// Each statement of Open, and of Rekey, fails once: the error is returned. Later they succeed.
+func TestOpeningAndRekeyThatFail(t *testing.T) {
+	r := newRig(t)
+	proxy, url := storefaults.NewProxy(t, r.url)
+	r.url = url
+	other := append([]byte("another"), secret...)
+	open := faultyCall{name: "Open", want: broker.None, undo: nothing, call: func() error {
+		d, err := postgres.Open(context.Background(), r.url, postgres.Options{Key: secret, Sessions: 4})
+		if err == nil {
+			_ = d.Close()
+		}
+		return err
+	}}
+	open.look = func() (broker.There, error) { return broker.None, nil }
+	open.fails(t, &proxy.Countdown)
+	d := r.open()
+	i := lock(t, d, newInstance(t))
+	check(t, d.Create(i.ctx, i.request))
+	rekey := open
+	rekey.name = "Rekey"
+	rekey.call = func() error { _, err := postgres.Rekey(context.Background(), r.url, secret, other); return err }
+	rekey.undo = func() error { _, err := postgres.Rekey(context.Background(), r.url, other, secret); return err }
+	rekey.fails(t, &proxy.Countdown)
+}
+
+// Nothing that was granted to a role keeps the role, whoever has granted it: the owner, or another customer with the
+// right to grant it further. Neither if both have no right in the schema any more.
+func TestWhatSomebodyElseHasGranted(t *testing.T) {
+	r := newRig(t)
+	d := r.open()
+	of, owner, grantor := createInstance(t, d), createInstance(t, d), createInstance(t, d)
+	name, owners, grantors := postgres.NameOf(of.request.Key), postgres.NameOf(owner.request.Key), postgres.NameOf(grantor.request.Key)
+	grants := []string{"SELECT ON s.\"a table\" TO", "UPDATE (y) ON s.t TO", "USAGE ON SEQUENCE s.q TO",
+		"EXECUTE ON FUNCTION s.f(s.d[]) TO", "EXECUTE ON PROCEDURE s.p() TO", "USAGE ON TYPE s.d TO", "USAGE ON SCHEMA s TO",
+		"SELECT ON LARGE OBJECT 7 TO", "DELETE, TRIGGER ON s.t TO", "CONNECT ON DATABASE " + owners + " TO"}
+	first := []string{"CREATE SCHEMA s", `CREATE TABLE s."a table" ()`, "CREATE TABLE s.t (x integer, y integer)",
+		"CREATE SEQUENCE s.q", "CREATE DOMAIN s.d AS integer", "SELECT lo_create(7)",
+		"CREATE FUNCTION s.f(s.d[]) RETURNS integer LANGUAGE sql AS 'SELECT 1'", "CREATE PROCEDURE s.p() LANGUAGE sql AS ''",
+		"GRANT CREATE ON SCHEMA public TO " + name, "GRANT SELECT (x) ON s.t TO " + name, "GRANT SELECT ON s.t TO " + name,
+		"CREATE POLICY p ON s.t TO " + name}
+	second := []string{}
+	for _, grant := range grants {
+		first = append(first, "GRANT "+grant+" "+grantors+" WITH GRANT OPTION")
+		second = append(second, "GRANT "+grant+" "+name)
+	}
+	pgtest.Exec(t, r.customer(owner.request.Key), first...)
+	pgtest.Exec(t, r.login(grantors, postgres.PasswordOf(secret, grantor.request.Key), owners), second...)
+	pgtest.Exec(t, r.customer(owner.request.Key), "REVOKE USAGE ON SCHEMA s FROM "+owners)
+	if err := d.Delete(of.ctx, of.request); err != nil {
+		t.Errorf("Delete: got %v, want no error", err)
+	}
+	r.wantNothing(of.request.Key)
+	wantThere(t, d, owner, broker.Whole)
+	for _, grant := range grants { // the grantor's own rights stay
+		pgtest.Exec(t, r.login(grantors, postgres.PasswordOf(secret, grantor.request.Key), owners),
+			"SET client_min_messages = error", "GRANT "+grant+" "+r.role)
+	}
+}
+
+// Grants on many columns of one table go in a time that is proportional to their number. DROP OWNED writes all columns
+// for each of them again.
+func TestGrantsOnManyColumns(t *testing.T) {
+	const count = 150
+	r := newRig(t)
+	d := r.open()
+	of, other, third := createInstance(t, d), createInstance(t, d), createInstance(t, d)
+	columns := make([]string, count)
+	for n := range columns {
+		columns[n] = "c" + strings.Repeat("x", n%50) + string(rune('a'+n/50))
+	}
+	others := r.customer(other.request.Key)
+	pgtest.Exec(t, others, "CREATE TABLE t ("+strings.Join(columns, " integer, ")+" integer)",
+		"GRANT SELECT ("+strings.Join(columns, ", ")+") ON t TO "+postgres.NameOf(of.request.Key)+", "+
+			postgres.NameOf(third.request.Key))
+	size := func() (bytes int64) {
+		t.Helper()
+		check(t, others.QueryRow("SELECT pg_table_size('pg_attribute')").Scan(&bytes))
+		return bytes
+	}
+	before := size()
+	if err := d.Delete(of.ctx, of.request); err != nil {
+		t.Errorf("Delete: got %v, want no error", err)
+	}
+	r.wantNothing(of.request.Key)
+	if grown := size() - before; grown > 1<<20 {
+		t.Errorf("got a catalogue of columns that grew by %d bytes, want at most 1 MiB", grown)
+	}
+	var left int
+	if err := others.QueryRow("SELECT sum(cardinality(attacl)) FROM pg_attribute WHERE attrelid = 't'::regclass").Scan(&left); err != nil || left != count {
+		t.Errorf("got %d grants, %v, want those to the third customer, %d", left, err, count)
+	}
+}
+
+// A binding that is deleted leaves what it owns to the instance, although the instance's role has taken from itself the
+// rights that this needs.
+func TestTheHeirLacksRights(t *testing.T) {
+	r := newRig(t)
+	d := r.open()
+	of := createInstance(t, d)
+	bind, binding := bound(t, d, of.request.Key)
+	const function = "() RETURNS integer LANGUAGE sql AS 'SELECT 1'"
+	statements := []string{"CREATE SCHEMA s", "GRANT ALL ON SCHEMA s TO " + binding.Username, "SET ROLE NONE",
+		"CREATE FUNCTION s.f" + function, "CREATE FUNCTION g" + function, "CREATE SCHEMA z", "ALTER FUNCTION g() SET SCHEMA z",
+		"REVOKE ALL ON SCHEMA z FROM " + binding.Username, "RESET ROLE", "REVOKE ALL ON SCHEMA s FROM $name",
+		"REVOKE ALL ON DATABASE $name FROM $name", "GRANT CONNECT ON DATABASE $name TO $name"}
+	hold(t, r.login(binding.Username, binding.Password, binding.Database), statementsOf(statements, of.request.Key)...)
+	if err := d.DeleteBinding(bind.ctx, bind.request); err != nil {
+		t.Errorf("DeleteBinding: got %v, want no error", err)
+	}
+	r.wantNothing(bind.request.Key)
+	pgtest.Exec(t, r.customer(of.request.Key), "GRANT USAGE ON SCHEMA s, z TO CURRENT_USER", "SELECT s.f() + z.g()")
+}
+
+// A customer keeps a role of another one neither by coming again and again, nor by a lock that it holds from elsewhere.
+func TestWhoHoldsALockFromElsewhere(t *testing.T) {
+	r := newRig(t)
+	d := r.open()
+	of, other, elsewhere := createInstance(t, d), createInstance(t, d), createInstance(t, d)
+	name, others := postgres.NameOf(of.request.Key), postgres.NameOf(other.request.Key)
+	pgtest.Exec(t, r.customer(other.request.Key), "GRANT CONNECT ON DATABASE "+others+" TO "+name,
+		"GRANT CONNECT ON DATABASE "+others+" TO "+postgres.NameOf(elsewhere.request.Key)+" WITH GRANT OPTION")
+	hold(t, r.customer(elsewhere.request.Key), "BEGIN", "GRANT CONNECT ON DATABASE "+others+" TO "+r.role)
+	if err := d.Delete(of.ctx, of.request); err != nil {
+		t.Errorf("Delete: got %v, want no error", err)
+	}
+	r.wantNothing(of.request.Key)
 }

@@ -52,7 +52,7 @@ func (l locks) take(ctx context.Context, key broker.Key, statement string) (brok
 		if within.Err() == nil && wasIdle && pg.IsLost(err) && tries < l.most {
 			continue
 		}
-		if err = pg.Unanswered(ctx, err); pg.IsAway(err) {
+		if err = pg.AsNoAnswer(ctx, err); pg.IsAway(err) {
 			err = broker.Away(err)
 		}
 		return lock, err

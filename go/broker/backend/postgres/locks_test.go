@@ -16,7 +16,7 @@ func take(t *testing.T, d *postgres.Databases, key broker.Key) broker.Lock {
 	t.Helper()
 	held, err := d.Locks().TryLock(context.Background(), key)
 	if err != nil {
-		t.Fatalf("TryLock of %v: %v", key, err)
+		t.Fatalf("TryLock of %v: got %v, want no error", key, err)
 	}
 	return held
 }
@@ -25,33 +25,33 @@ func TestLocks(t *testing.T) {
 	r := newRig(t)
 	first, second := r.open(), r.open()
 	if !first.Locks().CanBeLost() {
-		t.Error("the lock of a session can't be lost")
+		t.Error("the lock of a session: got one that can't be lost, want one that can be")
 	}
 	id := randomID(t)
 	for _, key := range []broker.Key{broker.InstanceKey(id), broker.BindingKey(id, id)} {
 		held := take(t, first, key)
 		if held == nil {
-			t.Fatalf("%v: the lock isn't free", key)
+			t.Fatalf("%v: got no lock, want it free", key)
 		}
 		for _, d := range []*postgres.Databases{first, second} {
 			if other := take(t, d, key); other != nil {
-				t.Errorf("%v: the lock was taken twice", key)
+				t.Errorf("%v: got the lock twice, want it once", key)
 			}
 		}
 		held.Unlock()
 		again := take(t, second, key)
 		if again == nil {
-			t.Fatalf("%v: the lock isn't free again", key)
+			t.Fatalf("%v: got no lock, want it free again", key)
 		}
 		again.Unlock()
 	}
 	both := []broker.Lock{take(t, first, broker.InstanceKey(id)), take(t, first, broker.BindingKey(id, id)),
 		take(t, first, broker.BindingKey(id, randomID(t)))}
-	for _, it := range both {
-		if it == nil {
-			t.Fatal("an instance and its bindings share a lock")
+	for _, lock := range both {
+		if lock == nil {
+			t.Fatal("an instance and its bindings: got one lock, want two")
 		}
-		it.Unlock()
+		lock.Unlock()
 	}
 }
 
@@ -70,7 +70,7 @@ func TestLockWaits(t *testing.T) {
 	r.waitForWaiter()
 	cancel()
 	if err := <-given; err == nil {
-		t.Error("the lock was taken")
+		t.Error("Lock: got no error, want one")
 	}
 	go func() {
 		next, err := d.Locks().Lock(context.Background(), key)
@@ -81,12 +81,12 @@ func TestLockWaits(t *testing.T) {
 	}()
 	select {
 	case err := <-given:
-		t.Errorf("Lock didn't wait: %v", err)
+		t.Errorf("Lock: got %v, want it to wait", err)
 	case <-time.After(2500 * time.Millisecond):
 	}
 	held.Unlock()
 	if err := <-given; err != nil {
-		t.Errorf("Lock: %v", err)
+		t.Errorf("Lock: got %v, want no error", err)
 	}
 }
 
@@ -96,7 +96,7 @@ func (r *rig) waitForWaiter() {
 	for until := time.Now().Add(10 * time.Second); !r.exists("pg_locks JOIN pg_database ON pg_database.oid = database "+
 		"WHERE locktype = 'advisory' AND NOT granted AND datname = $1", r.role); {
 		if time.Now().After(until) {
-			r.t.Fatal("nobody waits")
+			r.t.Fatal("got nobody who waits, want one")
 		}
 	}
 }
@@ -122,7 +122,7 @@ func TestLockExcludes(t *testing.T) {
 	}
 	all.Wait()
 	if at != 8 {
-		t.Errorf("%d had the lock", at)
+		t.Errorf("got the lock for %d, want 8", at)
 	}
 }
 
@@ -130,34 +130,34 @@ func TestLockExcludes(t *testing.T) {
 func TestCallsWithoutTheLock(t *testing.T) {
 	r := newRig(t)
 	d := r.open()
-	it := created(t, d)
+	it := createInstance(t, d)
 	other := lock(t, d, newInstance(t))
 	binding := request(broker.BindingKey(it.request.Key.Instance, it.request.Key.Instance))
 	for _, ctx := range []context.Context{context.Background(), other.ctx} {
 		if _, err := d.Look(ctx, it.request); err == nil {
-			t.Error("Look")
+			t.Error("Look: got no error, want one")
 		}
 		if err := d.Create(ctx, it.request); err == nil {
-			t.Error("Create")
+			t.Error("Create: got no error, want one")
 		}
 		if err := d.Delete(ctx, it.request); err == nil {
-			t.Error("Delete")
+			t.Error("Delete: got no error, want one")
 		}
 		if err := d.Sync(ctx, it.request); err == nil {
-			t.Error("Sync")
+			t.Error("Sync: got no error, want one")
 		}
 	}
 	if _, err := d.LookBinding(it.ctx, binding); err == nil {
-		t.Error("LookBinding under the lock of the instance")
+		t.Error("LookBinding under the lock of the instance: got no error, want one")
 	}
 	if _, err := d.CreateBinding(it.ctx, binding); err == nil {
-		t.Error("CreateBinding under the lock of the instance")
+		t.Error("CreateBinding under the lock of the instance: got no error, want one")
 	}
 	if err := d.DeleteBinding(it.ctx, binding); err == nil {
-		t.Error("DeleteBinding under the lock of the instance")
+		t.Error("DeleteBinding under the lock of the instance: got no error, want one")
 	}
 	if _, err := d.Credentials(it.ctx, binding); err == nil {
-		t.Error("Credentials under the lock of the instance")
+		t.Error("Credentials under the lock of the instance: got no error, want one")
 	}
 	wantThere(t, d, it, broker.Whole)
 }
@@ -168,9 +168,7 @@ func TestALockThatOutlivesItsClient(t *testing.T) {
 	r.open()
 	proxy, url := pgtest.NewProxy(t, r.url)
 	d, err := postgres.Open(context.Background(), url, postgres.Options{Key: secret, Sessions: 1})
-	if err != nil {
-		t.Fatal(err)
-	}
+	check(t, err)
 	defer d.Close()
 	key := newInstance(t)
 	held := take(t, d, key)
@@ -179,15 +177,15 @@ func TestALockThatOutlivesItsClient(t *testing.T) {
 	proxy.Cut("CREATE DATABASE")
 	err = d.Create(held.Context(context.Background()), request(key))
 	if err == nil {
-		t.Fatal("Create succeeded")
+		t.Fatal("Create: got no error, want one")
 	}
 	held.Unlock()
 	second := r.open()
 	if other := take(t, second, key); other != nil {
-		t.Error("the lock is free while the server still creates the database")
+		t.Error("got the lock while the server still creates the database, want it taken")
 	}
 	if !r.exists("pg_roles WHERE rolname = $1 AND NOT rolcanlogin", postgres.NameOf(key)) {
-		t.Error("the role can log in before its database exists")
+		t.Error("got a role that can log in before its database exists, want it without login")
 	}
 	if _, err := template.ExecContext(context.Background(), "COMMIT"); err != nil {
 		t.Fatal(err)
@@ -196,11 +194,11 @@ func TestALockThatOutlivesItsClient(t *testing.T) {
 	defer cancel()
 	next, err := second.Locks().Lock(ctx, key)
 	if err != nil {
-		t.Fatalf("the lock isn't free once the server has ended: %v", err)
+		t.Fatalf("the lock once the server has ended: got %v, want no error", err)
 	}
 	defer next.Unlock()
 	if err := second.Create(next.Context(ctx), request(key)); err != nil {
-		t.Errorf("Create by the next: %v", err)
+		t.Errorf("Create by the next: got %v, want no error", err)
 	}
 }
 
@@ -212,11 +210,11 @@ func TestALockThatIsLost(t *testing.T) {
 		"ON pg_database.oid = database WHERE locktype = 'advisory' AND datname = '"+r.role+"'")
 	other := take(t, d, it.request.Key)
 	if other == nil {
-		t.Fatal("the lock isn't free")
+		t.Fatal("got no lock, want it free")
 	}
 	defer other.Unlock()
 	if err := d.Create(it.ctx, it.request); err == nil {
-		t.Error("Create went on without the lock")
+		t.Error("Create without the lock: got no error, want one")
 	}
 	r.wantNothing(it.request.Key)
 }
@@ -230,10 +228,10 @@ func TestSessions(t *testing.T) {
 	ctx, cancel := context.WithTimeout(context.Background(), 100*time.Millisecond)
 	defer cancel()
 	if _, err := d.Locks().TryLock(ctx, newInstance(t)); !errors.Is(err, context.DeadlineExceeded) {
-		t.Errorf("a third session: %v", err)
+		t.Errorf("a third session: got %v, want %v", err, context.DeadlineExceeded)
 	}
-	for _, it := range all {
-		it.Unlock()
+	for _, lock := range all {
+		lock.Unlock()
 	}
 	pgtest.Exec(t, r.admin,
 		"SELECT pg_terminate_backend(pid, 5000) FROM pg_stat_activity WHERE datname = '"+r.role+"'")
@@ -249,38 +247,34 @@ func TestLocksOfAServerThatIsAway(t *testing.T) {
 	r.open()
 	proxy, url := pgtest.NewProxy(t, r.url)
 	d, err := postgres.Open(context.Background(), url, postgres.Options{Key: secret, Sessions: 2})
-	if err != nil {
-		t.Fatal(err)
-	}
+	check(t, err)
 	defer d.Close()
 	key := newInstance(t)
 	proxy.Cut("\x00") // a byte of every message
 	for round := 0; round < 2; round++ {
 		if _, err := d.Locks().TryLock(context.Background(), key); !errors.Is(err, broker.ErrAway) {
-			t.Errorf("TryLock returned %v", err)
+			t.Errorf("TryLock: got %v, want %v", err, broker.ErrAway)
 		}
 		if _, err := d.Locks().Lock(context.Background(), key); !errors.Is(err, broker.ErrAway) {
-			t.Errorf("Lock returned %v", err)
+			t.Errorf("Lock: got %v, want %v", err, broker.ErrAway)
 		}
 	}
 	proxy.Cut("")
 	held := take(t, d, key)
 	defer held.Unlock()
 	if other := take(t, d, key); other != nil {
-		t.Error("a lock is taken twice")
+		t.Error("got a lock twice, want it once")
 	}
 }
 
-// While the server is silent, whoever wants a lock is answered broker.ErrAway within a limit, on sessions that were idle,
-// on new ones, and while it waits for one. A lock that is held is given back in that time too.
+// While the server is silent, whoever wants a lock is answered broker.ErrAway within a limit, on sessions that were
+// idle, on new ones, and while it waits for one. A lock that is held is given back in that time too.
 func TestLocksOfAServerThatIsSilent(t *testing.T) {
 	r := newRig(t)
 	r.open()
 	proxy, url := pgtest.NewProxy(t, r.url)
 	d, err := postgres.Open(context.Background(), url, postgres.Options{Key: secret, Sessions: 3})
-	if err != nil {
-		t.Fatal(err)
-	}
+	check(t, err)
 	defer d.Close()
 	key := newInstance(t)
 	held, idle := take(t, d, key), take(t, d, newInstance(t))
@@ -303,10 +297,10 @@ func TestLocksOfAServerThatIsSilent(t *testing.T) {
 		select {
 		case err := <-done:
 			if !errors.Is(err, broker.ErrAway) {
-				t.Errorf("TryLock returned %v", err)
+				t.Errorf("TryLock: got %v, want %v", err, broker.ErrAway)
 			}
 		case <-late:
-			t.Fatal("TryLock or Unlock waits for the silent server")
+			t.Fatal("got TryLock or Unlock to wait for the silent server, want their end")
 		}
 	}
 	proxy.Hang(false)

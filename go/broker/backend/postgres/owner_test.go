@@ -3,62 +3,61 @@ package postgres_test
 import (
 	"context"
 	"errors"
+	"strings"
+	"sync"
 	"testing"
 
 	"pippinterm/broker"
+	"pippinterm/broker/backend/postgres"
 	pgstore "pippinterm/broker/postgres"
 	"pippinterm/internal/pg/pgtest"
 )
 
 func TestOwner(t *testing.T) {
 	r := newRig(t)
-	first, second := r.untied(), r.untied()
+	first, second := r.openUntied(), r.openUntied()
 	ctx := context.Background()
 	if owner, err := first.Owner(ctx); err != nil || owner != "" {
-		t.Errorf("before the first: %q, %v", owner, err)
+		t.Errorf("before the first: got %q, %v, want none", owner, err)
 	}
 	it := lock(t, first, newInstance(t))
 	if _, err := first.Look(it.ctx, it.request); err == nil {
-		t.Error("Look before there is a store")
+		t.Error("Look before there is a store: got no error, want one")
 	}
 	if err := first.Create(it.ctx, it.request); err == nil {
-		t.Error("Create before there is a store")
+		t.Error("Create before there is a store: got no error, want one")
 	}
 	if owner, err := first.Own(ctx, store); err != nil || owner != store {
-		t.Errorf("the first: %q, %v", owner, err)
+		t.Errorf("the first: got %q, %v, want %q", owner, err, store)
 	}
 	if owner, err := second.Own(ctx, "00000000-0000-4000-8000-00000000bbbb"); err != nil || owner != store {
-		t.Errorf("the second: %q, %v", owner, err)
+		t.Errorf("the second: got %q, %v, want %q", owner, err, store)
 	}
 	if owner, err := second.Owner(ctx); err != nil || owner != store {
-		t.Errorf("afterwards: %q, %v", owner, err)
+		t.Errorf("afterwards: got %q, %v, want %q", owner, err, store)
 	}
 }
 
 // A store and the backend in one database, as the guide has them, and then another store with the same backend.
 func TestTie(t *testing.T) {
 	r := newRig(t)
-	d := r.untied()
+	d := r.openUntied()
 	ctx := context.Background()
 	for n := 0; n < 2; n++ {
 		s, err := pgstore.Open(ctx, r.url, 2, broker.Silent{})
-		if err != nil {
-			t.Fatal(err)
-		}
+		check(t, err)
 		if err := broker.Tie(ctx, s, d, n > 0); err != nil {
-			t.Errorf("Tie: %v", err)
+			t.Errorf("Tie: got %v, want no error", err)
 		}
 		if err := s.Close(); err != nil {
 			t.Error(err)
 		}
 	}
 	other, err := pgstore.Open(ctx, r.sibling().url, 2, broker.Silent{})
-	if err != nil {
-		t.Fatal(err)
-	}
+	check(t, err)
 	defer other.Close()
 	if err := broker.Tie(ctx, other, d, false); !errors.Is(err, broker.ErrParted) {
-		t.Errorf("Tie with another store: %v", err)
+		t.Errorf("Tie with another store: got %v, want %v", err, broker.ErrParted)
 	}
 }
 
@@ -67,12 +66,234 @@ func TestTieOf02(t *testing.T) {
 	r := newRig(t)
 	r.of02(store)
 	s, err := pgstore.Open(context.Background(), r.url, 2, broker.Silent{})
-	if err != nil {
-		t.Fatal(err)
-	}
+	check(t, err)
 	defer s.Close()
 	pgtest.Exec(t, r.login(r.role, "of the broker", r.role), "INSERT INTO osb_store VALUES (true, '"+store+"', true)")
-	if err := broker.Tie(context.Background(), s, r.untied(), true); err != nil {
-		t.Errorf("Tie: %v", err)
+	if err := broker.Tie(context.Background(), s, r.openUntied(), true); err != nil {
+		t.Errorf("Tie: got %v, want no error", err)
+	}
+}
+
+var another = []byte(strings.Repeat("another key ", 3))
+
+// openWith opens the backend with a key.
+func (r *rig) openWith(key []byte) (*postgres.Databases, error) {
+	d, err := postgres.Open(context.Background(), r.url, postgres.Options{Key: key, Sessions: 2})
+	if err == nil {
+		r.t.Cleanup(func() { _ = d.Close() })
+	}
+	return d, err
+}
+
+// Findings H4: a key that can be guessed is rejected, and so is another key than the one that is in use.
+func TestKeys(t *testing.T) {
+	r := newRig(t)
+	for _, short := range []string{"", "hunter2", strings.Repeat("k", postgres.ShortestKey-1)} {
+		_, err := r.openWith([]byte(short))
+		if err == nil || !strings.Contains(err.Error(), "openssl rand") {
+			t.Errorf("a key of %d bytes: got %v, want an error with \"openssl rand\"", len(short), err)
+		}
+	}
+	late := r.openUntied(func(o *postgres.Options) { o.Key = another }) // opened before the key was known
+	r.open()
+	if _, err := r.openWith(another); !errors.Is(err, postgres.ErrWrongKey) {
+		t.Errorf("another key: got %v, want %v", err, postgres.ErrWrongKey)
+	}
+	if _, err := r.openWith(secret); err != nil {
+		t.Errorf("the same key: got %v, want no error", err)
+	}
+	if _, err := late.Own(context.Background(), store); !errors.Is(err, postgres.ErrWrongKey) {
+		t.Errorf("Own with another key: got %v, want %v", err, postgres.ErrWrongKey)
+	}
+	it := lock(t, late, newInstance(t))
+	if err := late.Create(it.ctx, it.request); !errors.Is(err, postgres.ErrWrongKey) {
+		t.Errorf("Create with another key: got %v, want %v", err, postgres.ErrWrongKey)
+	}
+	r.wantNothing(it.request.Key)
+}
+
+// Version 0.2 kept no fingerprint. The first key with which something is created becomes the key, of two at once one.
+func TestTheKeyOf02(t *testing.T) {
+	r := newRig(t)
+	r.of02(store)
+	both := []*postgres.Databases{r.openUntied(), r.openUntied(func(o *postgres.Options) { o.Key = another })}
+	given := make([]error, len(both))
+	var all sync.WaitGroup
+	for n, d := range both {
+		it := lock(t, d, newInstance(t))
+		all.Add(1)
+		go func(n int, d *postgres.Databases) {
+			defer all.Done()
+			given[n] = d.Create(it.ctx, it.request)
+		}(n, d)
+	}
+	all.Wait()
+	if (given[0] == nil) == (given[1] == nil) || !errors.Is(given[0], postgres.ErrWrongKey) &&
+		!errors.Is(given[1], postgres.ErrWrongKey) {
+		t.Errorf("Create with two keys: got %v, %v, want %v once", given[0], given[1], postgres.ErrWrongKey)
+	}
+}
+
+func (r *rig) rekey(old, new []byte) []string {
+	r.t.Helper()
+	left, err := postgres.Rekey(context.Background(), r.url, old, new)
+	if err != nil {
+		r.t.Fatalf("Rekey: got %v, want no error", err)
+	}
+	return left
+}
+
+// wantPassword sees which key the password of a role is of.
+func (r *rig) wantPassword(key broker.Key, opens, doesnt []byte) {
+	r.t.Helper()
+	database := postgres.NameOf(broker.InstanceKey(key.Instance))
+	if err := r.login(postgres.NameOf(key), postgres.PasswordOf(opens, key), database).Ping(); err != nil {
+		r.t.Errorf("%v: got %v, want no error", key, err)
+	}
+	if err := r.login(postgres.NameOf(key), postgres.PasswordOf(doesnt, key), database).Ping(); err == nil {
+		r.t.Errorf("%v with the other key: got no error, want one", key)
+	}
+}
+
+func TestRekey(t *testing.T) {
+	r := newRig(t)
+	d := r.open()
+	it := createInstance(t, d)
+	bind, _ := bound(t, d, it.request.Key)
+	for n := 0; n < 2; n++ { // the second time all is done already
+		if left := r.rekey(secret, another); len(left) > 0 {
+			t.Errorf("left: got %v, want none", left)
+		}
+		r.wantPassword(it.request.Key, another, secret)
+		r.wantPassword(bind.request.Key, another, secret)
+	}
+	if _, err := d.Credentials(bind.ctx, bind.request); !errors.Is(err, postgres.ErrWrongKey) {
+		t.Errorf("Credentials with the old key: got %v, want %v", err, postgres.ErrWrongKey)
+	}
+	next := lock(t, d, newInstance(t))
+	if err := d.Create(next.ctx, next.request); !errors.Is(err, postgres.ErrWrongKey) {
+		t.Errorf("Create with the old key: got %v, want %v", err, postgres.ErrWrongKey)
+	}
+	r.wantNothing(next.request.Key)
+	if _, err := r.openWith(secret); !errors.Is(err, postgres.ErrWrongKey) {
+		t.Errorf("Open with the old key: got %v, want %v", err, postgres.ErrWrongKey)
+	}
+	if _, err := r.openWith(another); err != nil {
+		t.Errorf("Open with the new key: got %v, want no error", err)
+	}
+	wantThere(t, d, it, broker.Whole)
+	if err := d.Delete(it.ctx, it.request); err != nil {
+		t.Errorf("Delete with the old key: got %v, want no error", err)
+	}
+}
+
+func TestRekeyRejects(t *testing.T) {
+	r := newRig(t)
+	if _, err := postgres.Rekey(context.Background(), r.url, secret, another); err == nil {
+		t.Error("before there is a store: got no error, want one")
+	}
+	key := createInstance(t, r.open()).request.Key
+	for what, test := range map[string]struct{ old, new []byte }{
+		"the wrong old key": {[]byte("not the key"), another},
+		"a short new key":   {secret, []byte("short")},
+	} {
+		t.Run(what, func(t *testing.T) {
+			if _, err := postgres.Rekey(context.Background(), r.url, test.old, test.new); err == nil {
+				t.Error("got no error, want one")
+			}
+		})
+	}
+	r.wantPassword(key, secret, another)
+	if _, err := r.openWith(secret); err != nil {
+		t.Error(err)
+	}
+}
+
+// A customer that holds its own role, also by a binding, has its sessions ended, and gets its new password.
+func TestRekeyBesideACustomer(t *testing.T) {
+	r := newRig(t)
+	d := r.open()
+	key, second := createInstance(t, d).request.Key, createInstance(t, d).request.Key
+	hold(t, r.customer(key), "BEGIN", "ALTER ROLE CURRENT_USER PASSWORD 'x'")
+	_, binding := bound(t, d, second)
+	hold(t, r.login(binding.Username, binding.Password, binding.Database), "BEGIN", "ALTER ROLE CURRENT_USER PASSWORD 'x'")
+	r.rekey(secret, another)
+	r.wantPassword(key, another, secret)
+	r.wantPassword(second, another, secret)
+}
+
+// Of roles without a label those are this store's that open with its key, which may be short.
+func TestRekeyAfter02(t *testing.T) {
+	short := []byte("hunter2")
+	r := newRig(t)
+	r.of02(store)
+	ours, theirs, changed := newInstance(t), newInstance(t), newInstance(t)
+	r.create02(ours, postgres.PasswordOf(short, ours))
+	r.create02(theirs, postgres.PasswordOf(another, theirs)) // of another store with the same role
+	r.create02(changed, "of the customer")
+	left := strings.Join(r.rekey(short, secret), " ")
+	for _, key := range []broker.Key{theirs, changed} {
+		if !strings.Contains(left, postgres.NameOf(key)) {
+			t.Errorf("left: got %s, want %v in it", left, key)
+		}
+	}
+	r.wantPassword(ours, secret, short)
+	r.wantPassword(theirs, another, secret)
+	d := r.open()
+	it := lock(t, d, ours)
+	wantThere(t, d, it, broker.Whole) // with a label now: its row needn't be of 0.2
+	pgtest.Exec(t, r.admin, "COMMENT ON ROLE "+postgres.NameOf(changed)+" IS 'osb store "+store+"'")
+	r.rekey(secret, another)
+	r.wantPassword(changed, another, secret)
+}
+
+// Another store's roles are neither touched nor reported.
+func TestRekeyBesideAnotherStore(t *testing.T) {
+	r := newRig(t)
+	r.open()
+	other := r.sibling()
+	theirs := other.openUntied()
+	if _, err := theirs.Own(context.Background(), "00000000-0000-4000-8000-00000000bbbb"); err != nil {
+		t.Fatal(err)
+	}
+	key := createInstance(t, theirs).request.Key
+	if left := r.rekey(secret, another); len(left) > 0 {
+		t.Errorf("left: got %v, want none", left)
+	}
+	r.wantPassword(key, secret, another)
+}
+
+// What is created beside a Rekey has the new password, or isn't created.
+func TestRekeyBesideCreations(t *testing.T) {
+	r := newRig(t)
+	d := r.open()
+	keys := make([]broker.Key, 3)
+	given := make([]error, len(keys))
+	var all sync.WaitGroup
+	for n := range keys {
+		it := lock(t, d, newInstance(t))
+		keys[n] = it.request.Key
+		all.Add(1)
+		go func(n int) {
+			defer all.Done()
+			given[n] = d.Create(it.ctx, it.request)
+		}(n)
+	}
+	r.rekey(secret, another)
+	all.Wait()
+	for n, key := range keys {
+		if given[n] == nil {
+			r.wantPassword(key, another, secret)
+		} else if !errors.Is(given[n], postgres.ErrWrongKey) {
+			t.Errorf("Create: got %v, want %v", given[n], postgres.ErrWrongKey)
+		}
+	}
+}
+
+// check ends the test at an error.
+func check(t testing.TB, err error) {
+	t.Helper()
+	if err != nil {
+		t.Fatal(err)
 	}
 }

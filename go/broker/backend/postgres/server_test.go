@@ -2,9 +2,13 @@ package postgres_test
 
 import (
 	"context"
+	"database/sql"
+	"fmt"
+	"net/url"
 	"strings"
 	"testing"
 
+	"pippinterm/broker"
 	"pippinterm/broker/backend/postgres"
 	"pippinterm/internal/pg"
 	"pippinterm/internal/pg/pgtest"
@@ -14,11 +18,9 @@ import (
 func wantWarning(t *testing.T, d *postgres.Databases, has string, isWanted bool) {
 	t.Helper()
 	found, err := d.Warnings(context.Background())
-	if err != nil {
-		t.Fatal(err)
-	}
+	check(t, err)
 	if got := strings.Contains(strings.Join(found, "\n"), has); got != isWanted {
-		t.Errorf("%q is among the warnings: %t, want %t: %q", has, got, isWanted, found)
+		t.Errorf("%q is among the warnings: got %t, want %t: %q", has, got, isWanted, found)
 	}
 }
 
@@ -28,9 +30,14 @@ func TestWarnings(t *testing.T) {
 	d := r.open()
 	version := r.column("SELECT current_setting('server_version_num')")[0]
 	wantWarning(t, d, "operating system account", version < "160000")
-	wantWarning(t, d, "FROM PUBLIC", false)
-	pgtest.Exec(t, r.admin, "GRANT CONNECT ON DATABASE "+r.role+" TO PUBLIC")
-	wantWarning(t, d, "FROM PUBLIC", true)
+	sibling, err := url.Parse(r.sibling().url)
+	check(t, err)
+	other := strings.TrimPrefix(sibling.Path, "/")
+	for _, test := range []struct{ name, has string }{{r.role, "the brokers' locks"}, {other, other}} {
+		wantWarning(t, d, test.has, false)
+		pgtest.Exec(t, r.admin, "GRANT CONNECT ON DATABASE "+test.name+" TO PUBLIC")
+		wantWarning(t, d, test.has, true)
+	}
 	wantWarning(t, d, "SET ON PARAMETER temp_file_limit", true)
 	pgtest.Exec(t, r.admin, "GRANT SET ON PARAMETER temp_file_limit TO "+r.role)
 	wantWarning(t, d, "SET ON PARAMETER temp_file_limit", false)
@@ -47,9 +54,9 @@ func TestARoleThatMayNotCreate(t *testing.T) {
 	for _, lacks := range []string{"NOCREATEDB", "NOCREATEROLE"} {
 		r := newRig(t)
 		pgtest.Exec(t, r.admin, "ALTER ROLE "+r.role+" "+lacks)
-		_, err := r.opened(secret)
+		_, err := r.openWith(secret)
 		if err == nil || !strings.Contains(err.Error(), "CREATEDB CREATEROLE") {
-			t.Errorf("%s: %v", lacks, err)
+			t.Errorf("%s: got the error %v, want one that names CREATEDB CREATEROLE", lacks, err)
 		}
 	}
 }
@@ -57,7 +64,278 @@ func TestARoleThatMayNotCreate(t *testing.T) {
 func TestASynchronousCommitThatIsOff(t *testing.T) {
 	r := newRig(t)
 	pgtest.Exec(t, r.admin, "ALTER ROLE "+r.role+" SET synchronous_commit = off")
-	if _, err := r.opened(secret); err == nil || !strings.Contains(err.Error(), pg.ErrNotDurable.Error()) {
-		t.Errorf("Open: %v", err)
+	if _, err := r.openWith(secret); err == nil || !strings.Contains(err.Error(), pg.ErrNotDurable.Error()) {
+		t.Errorf("Open: got %v, want %v", err, pg.ErrNotDurable)
+	}
+}
+
+// template creates a template that the broker may look into. In its copies no customer can take advisory locks.
+func (r *rig) template() (name string) {
+	r.t.Helper()
+	name = "template_" + randomText(r.t)
+	pgtest.Exec(r.t, r.admin, "CREATE DATABASE "+name+" TEMPLATE template0 IS_TEMPLATE true",
+		"REVOKE ALL ON DATABASE "+name+" FROM PUBLIC", "GRANT CONNECT ON DATABASE "+name+" TO "+r.role)
+	r.t.Cleanup(func() {
+		pgtest.Exec(r.t, r.admin, "ALTER DATABASE "+name+" IS_TEMPLATE false", "DROP DATABASE "+name+" WITH (FORCE)")
+	})
+	r.in(name, `DO $$ DECLARE it text; BEGIN
+		FOR it IN SELECT oid::regprocedure FROM pg_proc WHERE proname LIKE 'pg%advisory%lock%' AND proname NOT LIKE '%unlock%'
+		LOOP EXECUTE 'REVOKE EXECUTE ON FUNCTION ' || it || ' FROM PUBLIC'; END LOOP; END $$`)
+	return name
+}
+
+// in runs statements in a database, as a superuser.
+func (r *rig) in(database string, statements ...string) {
+	r.t.Helper()
+	db := pgtest.DB(r.t, pgtest.In(r.t, pgtest.URL(r.t), database))
+	pgtest.Exec(r.t, db, statements...)
+	if err := pg.Close(db); err != nil { // otherwise nobody can copy the database
+		r.t.Fatal(err)
+	}
+}
+
+func withTemplate(name string) func(*postgres.Options) {
+	return func(o *postgres.Options) { o.Template = name }
+}
+
+// In a copy of the template, no customer takes an advisory lock, neither the owner nor an application, whatever it
+// creates. The broker's own locks are in another database.
+func TestNoCustomerTakesAdvisoryLocks(t *testing.T) {
+	r := newRig(t)
+	d := r.open(withTemplate(r.template()))
+	it := createInstance(t, d)
+	_, binding := bound(t, d, it.request.Key)
+	owner := r.customer(it.request.Key)
+	pgtest.Exec(t, owner, "CREATE FUNCTION own() RETURNS void SECURITY DEFINER LANGUAGE sql AS 'SELECT pg_advisory_lock(1)'",
+		"SELECT pg_advisory_unlock_all()")
+	calls := r.column("SELECT format('SELECT %s(%s)', proname, CASE pronargs WHEN 1 THEN '1' ELSE '1, 2' END) FROM pg_proc " +
+		"WHERE proname LIKE 'pg%advisory%lock%' AND proname NOT LIKE '%unlock%'")
+	if len(calls) < 16 {
+		t.Errorf("got %d functions, want 16 or more", len(calls))
+	}
+	calls = append(calls, "SELECT own()", "GRANT EXECUTE ON FUNCTION pg_advisory_lock(bigint) TO CURRENT_USER",
+		"ALTER FUNCTION pg_advisory_lock(bigint) OWNER TO CURRENT_USER",
+		"CREATE FUNCTION anew(bigint) RETURNS void LANGUAGE internal AS 'pg_advisory_lock_int8'",
+		"CREATE OPERATOR ### (PROCEDURE = pg_advisory_lock, LEFTARG = integer, RIGHTARG = integer)")
+	for _, call := range calls {
+		if _, err := owner.Exec(call); !pg.IsCode(err, pg.InsufficientPrivilege) {
+			t.Errorf("the owner: %s: got %v, want a lack of rights", call, err)
+		}
+	}
+	application := r.login(binding.Username, binding.Password, binding.Database)
+	if _, err := application.Exec("SELECT pg_advisory_lock(1)"); !pg.IsCode(err, pg.InsufficientPrivilege) {
+		t.Errorf("the application: got %v, want a lack of rights", err)
+	}
+}
+
+// The template is looked at when the broker starts.
+func TestWarningsOfTheTemplate(t *testing.T) {
+	r := newRig(t)
+	name := r.template()
+	d := r.open(withTemplate(name))
+	const takes, enters, cannot = "take advisory locks (", "Every role may connect to the template", "can't connect to the"
+	want := func(takesIt, entersIt, cannotIt bool) {
+		t.Helper()
+		wantWarning(t, d, takes, takesIt)
+		wantWarning(t, d, enters, entersIt)
+		wantWarning(t, d, cannot, cannotIt)
+	}
+	want(false, false, false)
+	r.in(name, "GRANT EXECUTE ON FUNCTION pg_try_advisory_xact_lock_shared(integer, integer) TO PUBLIC")
+	want(true, false, false)
+	pgtest.Exec(t, r.admin, "GRANT CONNECT ON DATABASE "+name+" TO PUBLIC")
+	want(true, true, false)
+	pgtest.Exec(t, r.admin, "ALTER DATABASE "+name+" ALLOW_CONNECTIONS false")
+	want(false, false, true)
+	createInstance(t, d)
+	pgtest.Exec(t, r.admin, "ALTER DATABASE "+name+" ALLOW_CONNECTIONS true", "REVOKE ALL ON DATABASE "+name+" FROM PUBLIC",
+		"REVOKE ALL ON DATABASE "+name+" FROM "+r.role)
+	want(false, false, true)
+	d = r.open(withTemplate("template0"))
+	wantWarning(t, d, "copied from template0", true)
+}
+
+// A template that can't be copied is an error that lasts.
+func TestTemplatesThatCantBeCopied(t *testing.T) {
+	r := newRig(t)
+	name := r.template()
+	pgtest.Exec(t, r.admin, "ALTER DATABASE "+name+" IS_TEMPLATE false")
+	for template, has := range map[string]string{"no_such_template": "no_such_template", name: "IS_TEMPLATE true"} {
+		t.Run(template, func(t *testing.T) {
+			options := postgres.Options{Key: secret, Sessions: 1, Template: template}
+			_, err := postgres.Open(context.Background(), r.url, options)
+			if err == nil || !strings.Contains(err.Error(), has) {
+				t.Errorf("got %v, want %q in it", err, has)
+			}
+			if _, isLasting := pg.Remedy(err); !isLasting {
+				t.Errorf("%v: got an error that passes, want one that lasts", err)
+			}
+		})
+	}
+}
+
+// An assignment is a parameter of the server with a hostile value. In the value, $name is the role that sets it.
+type assignment struct{ name, value string }
+
+// hostile returns values of all parameters that the server lets every user set: both of a boolean, all of an
+// enumeration, the least number, the next one and the greatest, and texts that mean nothing. The n-th round has the
+// n-th value of each parameter.
+func (r *rig) hostile() (rounds [][]assignment) {
+	r.t.Helper()
+	names := r.column("SELECT name FROM pg_settings WHERE context = 'user' ORDER BY name")
+	if len(names) < 100 {
+		r.t.Fatalf("the server: got %d parameters: %v, want at least 100", len(names), names)
+	}
+	add := func(name string, values ...string) {
+		for n, value := range values {
+			if n == len(rounds) {
+				rounds = append(rounds, nil)
+			}
+			rounds[n] = append(rounds[n], assignment{name, value})
+		}
+	}
+	for _, name := range names {
+		add(name, r.column("SELECT unnest(CASE vartype WHEN 'bool' THEN ARRAY['on', 'off'] WHEN 'enum' THEN enumvals "+
+			"WHEN 'string' THEN ARRAY['garbage', ''] ELSE ARRAY[(min_val::numeric + 1)::text, max_val, min_val] END) "+
+			"FROM pg_settings WHERE name = $1", name)...)
+	}
+	// These aren't in the view.
+	add("role", "$name", "none")
+	add("session_authorization", "$name")
+	add("seed", "0.5")
+	return rounds
+}
+
+// A hostileTrial sees whether all goes well although a customer has set parameters.
+type hostileTrial func(t *testing.T, set []assignment) error
+
+// wantHarmless reports the parameters with which a trial fails: those of a group are halved until one is left. Of a
+// group whose halves are harmless, all are reported.
+func (it hostileTrial) wantHarmless(t *testing.T, set []assignment) {
+	t.Helper()
+	var failed error
+	t.Run(fmt.Sprintf("%d from %s on", len(set), set[0].name), func(t *testing.T) { failed = it(t, set) })
+	switch {
+	case failed == nil:
+		return
+	case len(set) == 1:
+		t.Errorf("with %s = '%s': got %v, want no error", set[0].name, set[0].value, failed)
+		return
+	}
+	half := len(set) / 2
+	areHarmless := true
+	for _, part := range [][]assignment{set[:half], set[half:]} {
+		part := part
+		areHarmless = t.Run("of them", func(t *testing.T) { it.wantHarmless(t, part) }) && areHarmless
+	}
+	if areHarmless {
+		t.Errorf("with all of %v: got none that fails (%v), want one", set, failed)
+	}
+}
+
+// setAll has a role set parameters at its database, at itself, and at itself in the database. It returns how many of
+// these the server has accepted.
+func setAll(t *testing.T, as *sql.Conn, role, database string, set []assignment) (accepted int) {
+	t.Helper()
+	for _, assignment := range set {
+		value := "'" + strings.ReplaceAll(assignment.value, "$name", role) + "'"
+		for _, of := range []string{"DATABASE " + database, "ROLE " + role, "ROLE " + role + " IN DATABASE " + database} {
+			if _, err := as.ExecContext(context.Background(), "ALTER "+of+" SET "+assignment.name+" = "+value); err == nil {
+				accepted++
+			}
+		}
+	}
+	return accepted
+}
+
+// settingsOf are the parameters that are set for a database.
+func (r *rig) settingsOf(database string) string {
+	r.t.Helper()
+	return strings.Join(r.column("SELECT unnest(setconfig) FROM pg_db_role_setting "+
+		"WHERE setrole = 0 AND setdatabase = (SELECT oid FROM pg_database WHERE datname = $1) ORDER BY 1", database), "\n")
+}
+
+// wantAsOwn sees that a session in the database of a customer has the parameters that the broker's own session has.
+func wantAsOwn(t *testing.T, d *postgres.Databases, of lockedKey, database string) {
+	t.Helper()
+	own, entered, err := d.Parameters(of.ctx, of.request, database)
+	if err != nil {
+		t.Errorf("the parameters: got %v, want no error", err)
+	}
+	for name, want := range own {
+		if got := entered[name]; got != want {
+			t.Errorf("%s in the customer's database: got %q, want %q", name, got, want)
+		}
+	}
+}
+
+// Whatever parameters a customer sets for its database and its roles, it keeps nothing from being deleted, neither its
+// own nor what belongs to another customer, to whom it has granted something. Its settings stay.
+func TestParametersThatACustomerSets(t *testing.T) {
+	if testing.Short() {
+		t.Skip("it takes many seconds")
+	}
+	r := newRig(t)
+	d := r.open(func(o *postgres.Options) { o.Sessions = 8 })
+	accepted := 0
+	trial := hostileTrial(func(t *testing.T, set []assignment) error {
+		attacker, victim := createInstance(t, d), createInstance(t, d)
+		attackers, one := bound(t, d, attacker.request.Key)
+		victims, two := bound(t, d, victim.request.Key)
+		name := postgres.NameOf(attacker.request.Key)
+		binding := hold(t, r.login(one.Username, one.Password, one.Database), "SET ROLE NONE", "CREATE TABLE u (x integer)")
+		owner := hold(t, r.customer(attacker.request.Key), "CREATE TABLE t (x integer)",
+			"GRANT SELECT ON t TO "+two.Username+", "+postgres.NameOf(victim.request.Key))
+		accepted += setAll(t, binding, one.Username, name, set)
+		accepted += setAll(t, owner, name, name, set)
+		before := r.settingsOf(name)
+		wantAsOwn(t, d, victim, name)
+		for _, test := range []struct {
+			name string
+			call func(context.Context, broker.Request) error
+			of   lockedKey
+		}{
+			{"DeleteBinding of the victim", d.DeleteBinding, victims}, {"Delete of the victim", d.Delete, victim},
+			{"DeleteBinding of the attacker", d.DeleteBinding, attackers},
+		} {
+			if err := test.call(test.of.ctx, test.of.request); err != nil {
+				return fmt.Errorf("%s: %w", test.name, err)
+			}
+			r.wantNothing(test.of.request.Key)
+		}
+		if after := r.settingsOf(name); after != before {
+			return fmt.Errorf("the customer's settings were\n%s\nand are\n%s", before, after)
+		}
+		return d.Delete(attacker.ctx, attacker.request)
+	})
+	for _, round := range r.hostile() {
+		trial.wantHarmless(t, round)
+	}
+	if accepted < 1500 {
+		t.Errorf("got only %d settings accepted, want at least 1500", accepted)
+	}
+}
+
+// Whatever parameters a customer of version 0.2 sets, Rekey logs in as its role, and knows it as this store's.
+func TestParametersBesideRekey(t *testing.T) {
+	if testing.Short() {
+		t.Skip("it takes many seconds")
+	}
+	short := []byte("hunter2")
+	trial := hostileTrial(func(t *testing.T, set []assignment) error {
+		r := newRig(t)
+		r.of02(store)
+		key := newInstance(t)
+		name := postgres.NameOf(key)
+		r.create02(key, postgres.PasswordOf(short, key))
+		owner := hold(t, r.login(name, postgres.PasswordOf(short, key), name), "SELECT 1")
+		setAll(t, owner, name, name, set)
+		if left, err := postgres.Rekey(context.Background(), r.url, short, secret); err != nil || len(left) > 0 {
+			return fmt.Errorf("left: %v, %v", left, err)
+		}
+		return nil
+	})
+	for _, round := range newRig(t).hostile()[:2] { // the others are further values of enumerations
+		trial.wantHarmless(t, round)
 	}
 }

@@ -4,10 +4,10 @@ package notify
 
 import (
 	"fmt"
-	"net"
 	"os"
-	"strings"
 	"time"
+
+	"github.com/coreos/go-systemd/daemon"
 )
 
 // variable is the environment variable with the service manager's socket.
@@ -17,44 +17,37 @@ const variable = "NOTIFY_SOCKET"
 const longest = time.Second
 
 // Ready reports that the program is ready. With Type=notify, systemd waits for this report before it starts the units
-// that come after the program's.
+// that follow the program's.
 //
 // It sends one datagram to the socket that NOTIFY_SOCKET names: a path, or an abstract name that begins with @. Without
-// this variable it does nothing and returns nil. (The protocol is systemd's.)
+// this variable it does nothing and returns nil.
 //
 // Errors: the variable names no socket of this kind, nothing listens there, or the report isn't taken within a second.
-func Ready() error { return report("READY=1") }
+func Ready() error { return report(daemon.SdNotifyReady) }
 
 // Stopping reports that the program has begun to stop. It sends as Ready does, and has the same errors.
-func Stopping() error { return report("STOPPING=1") }
+func Stopping() error { return report(daemon.SdNotifyStopping) }
 
 func report(state string) error {
-	name := os.Getenv(variable)
-	if name == "" {
-		return nil
-	}
-	if err := send(name, state); err != nil {
+	if err := send(state); err != nil {
 		return fmt.Errorf("the service manager doesn't get %s: %w", state, err)
 	}
 	return nil
 }
 
-func send(name, text string) (err error) {
-	if !strings.HasPrefix(name, "/") && !strings.HasPrefix(name, "@") {
+func send(state string) error {
+	if name := os.Getenv(variable); name != "" && name[0] != '/' && name[0] != '@' {
 		return fmt.Errorf("%s is %q: want a path, or a name that begins with @", variable, name)
 	}
-	socket, err := net.DialUnix("unixgram", nil, &net.UnixAddr{Name: name, Net: "unixgram"})
-	if err != nil {
-		return err
-	}
-	defer func() {
-		if closed := socket.Close(); err == nil {
-			err = closed
-		}
+	sent := make(chan error, 1)
+	go func() { // SdNotify itself waits without a limit
+		_, err := daemon.SdNotify(false, state)
+		sent <- err
 	}()
-	if err := socket.SetWriteDeadline(time.Now().Add(longest)); err != nil {
+	select {
+	case err := <-sent:
 		return err
+	case <-time.After(longest):
+		return os.ErrDeadlineExceeded
 	}
-	_, err = socket.Write([]byte(text))
-	return err
 }

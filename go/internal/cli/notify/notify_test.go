@@ -15,25 +15,19 @@ import (
 func manager(t *testing.T, name string) *net.UnixConn {
 	t.Helper()
 	socket, err := net.ListenUnixgram("unixgram", &net.UnixAddr{Name: name, Net: "unixgram"})
-	if err != nil {
-		t.Fatal(err)
-	}
+	check(t, err)
 	t.Cleanup(func() { socket.Close() })
 	t.Setenv(variable, name)
 	return socket
 }
 
-// taken is the next report that the service manager gets.
-func taken(t *testing.T, socket *net.UnixConn) string {
+// nextReport returns the next report that the service manager gets.
+func nextReport(t *testing.T, socket *net.UnixConn) string {
 	t.Helper()
-	if err := socket.SetReadDeadline(time.Now().Add(10 * time.Second)); err != nil {
-		t.Fatal(err)
-	}
+	check(t, socket.SetReadDeadline(time.Now().Add(10*time.Second)))
 	buffer := make([]byte, 100)
 	length, err := socket.Read(buffer)
-	if err != nil {
-		t.Fatal(err)
-	}
+	check(t, err)
 	return string(buffer[:length])
 }
 
@@ -45,11 +39,9 @@ func TestReports(t *testing.T) {
 		t.Run(kind, func(t *testing.T) {
 			socket := manager(t, name)
 			for want, call := range map[string]func() error{"READY=1": Ready, "STOPPING=1": Stopping} {
-				if err := call(); err != nil {
-					t.Fatal(err)
-				}
-				if got := taken(t, socket); got != want {
-					t.Errorf("%q, want %q", got, want)
+				check(t, call())
+				if got := nextReport(t, socket); got != want {
+					t.Errorf("got %q, want %q", got, want)
 				}
 			}
 		})
@@ -69,10 +61,12 @@ func TestErrors(t *testing.T) {
 		nobody: nobody, "@osb-test-nobody": "connection refused", "vsock:2:1234": `"vsock:2:1234"`, "relative": "want a path",
 		"/" + strings.Repeat("a", 200): "invalid",
 	} {
-		t.Setenv(variable, name)
-		if err := Ready(); err == nil || !strings.Contains(err.Error(), says) || !strings.Contains(err.Error(), "READY=1") {
-			t.Errorf("%.20s: %v, want an error with %q", name, err, says)
-		}
+		t.Run(name, func(t *testing.T) {
+			t.Setenv(variable, name)
+			if err := Ready(); err == nil || !strings.Contains(err.Error(), says) || !strings.Contains(err.Error(), "READY=1") {
+				t.Errorf("got %v, want an error with %q", err, says)
+			}
+		})
 	}
 }
 
@@ -84,9 +78,15 @@ func TestAReportIsNotWaitedForForever(t *testing.T) {
 		if errors.Is(err, os.ErrDeadlineExceeded) {
 			return
 		}
-		if err != nil {
-			t.Fatal(err)
-		}
+		check(t, err)
 	}
-	t.Fatal("all reports are taken, though nobody reads them")
+	t.Fatal("got all reports taken, though nobody reads them, want a deadline")
+}
+
+// check ends the test at an error.
+func check(t testing.TB, err error) {
+	t.Helper()
+	if err != nil {
+		t.Fatal(err)
+	}
 }

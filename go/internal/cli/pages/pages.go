@@ -73,11 +73,11 @@ func prepare(command *cobra.Command) {
 // as they are. Any other paragraph becomes one line: troff takes a line that begins with an apostrophe for a request.
 func markdown(text string) string {
 	paragraphs := strings.Split(text, "\n\n")
-	for at, it := range paragraphs {
-		if strings.HasPrefix(it, "  ") || strings.Contains(it, "\n  ") {
-			paragraphs[at] = "```\n" + strings.Trim(it, "\n") + "\n```"
+	for at, paragraph := range paragraphs {
+		if strings.HasPrefix(paragraph, "  ") || strings.Contains(paragraph, "\n  ") {
+			paragraphs[at] = "```\n" + strings.Trim(paragraph, "\n") + "\n```"
 		} else {
-			paragraphs[at] = strings.ReplaceAll(it, "\n", " ")
+			paragraphs[at] = strings.ReplaceAll(paragraph, "\n", " ")
 		}
 	}
 	return strings.Join(paragraphs, "\n\n")

@@ -23,7 +23,7 @@ func commands() *cobra.Command {
 	return root
 }
 
-func written(t *testing.T, date time.Time) map[string]string {
+func writePages(t *testing.T, date time.Time) map[string]string {
 	t.Helper()
 	folder := t.TempDir()
 	if err := Write(commands(), folder, date); err != nil {
@@ -41,7 +41,7 @@ func written(t *testing.T, date time.Time) map[string]string {
 }
 
 func TestPages(t *testing.T) {
-	files := written(t, time.Date(2024, 2, 29, 12, 0, 0, 0, time.UTC))
+	files := writePages(t, time.Date(2024, 2, 29, 12, 0, 0, 0, time.UTC))
 	for name, parts := range map[string][]string{
 		"osb-test.1": {
 			`.TH "OSB-TEST" "1" "Feb 2024" "osb-test 1.2.3" "User Commands"`, `osb-test - A program`, `osb-test-serve(1)`,
@@ -51,11 +51,13 @@ func TestPages(t *testing.T) {
 		"osb-test.bash":    {"complete -o default -F __start_osb-test osb-test"},
 		"_osb-test":        {"#compdef osb-test\n"},
 	} {
-		for _, part := range parts {
-			if !strings.Contains(strings.ReplaceAll(files[name], `\-`, "-"), part) {
-				t.Errorf("%s: there is no %q in\n%s", name, part, files[name])
+		t.Run(name, func(t *testing.T) {
+			for _, part := range parts {
+				if !strings.Contains(strings.ReplaceAll(files[name], `\-`, "-"), part) {
+					t.Errorf("got no %q in it, want one:\n%s", part, files[name])
+				}
 			}
-		}
+		})
 	}
 }
 

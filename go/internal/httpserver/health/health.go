@@ -3,23 +3,24 @@ package health
 
 import (
 	"context"
+	"errors"
 	"net/http"
 	"strconv"
+	"sync"
 	"sync/atomic"
-
-	"pippinterm/broker"
+	"time"
 )
 
 // Options say what a Handler answers. The zero Options are usable.
 type Options struct {
-	// Ready returns nil if the program can work, as broker.Store.Ready does. If Ready is nil, the program always can.
+	// Ready returns nil if the program can work, as Ready of a store does. If Ready is nil, the program always can.
 	Ready func(ctx context.Context) error
 	// Metrics answers /metrics. If Metrics is nil, Next does.
 	Metrics http.Handler
 	// Next answers all other requests. If Next is nil, they are answered with 404.
 	Next http.Handler
-	// Observer gets the failure not_ready if Ready fails, and again if the text of its error changes. It may be nil.
-	Observer broker.Observer
+	// NotReady is called with the error if Ready fails, and again if the text of its error changes. It may be nil.
+	NotReady func(error)
 }
 
 // A Handler answers these paths without a password, and hands all other requests to Options.Next:
@@ -45,10 +46,10 @@ func New(ctx context.Context, options Options) *Handler {
 	if options.Next == nil {
 		options.Next = http.NotFoundHandler()
 	}
-	if options.Observer == nil {
-		options.Observer = broker.Silent{}
+	if options.NotReady == nil {
+		options.NotReady = func(error) {}
 	}
-	return &Handler{options: options, readiness: newReadiness(ctx, options.Ready, options.Observer)}
+	return &Handler{options: options, readiness: newReadiness(ctx, options.Ready, options.NotReady)}
 }
 
 // Stop makes the Handler answer that the program is being stopped.
@@ -95,7 +96,84 @@ func (h *Handler) answer(w http.ResponseWriter, r *http.Request, check func(cont
 func send(w http.ResponseWriter, status int, body string) {
 	w.Header().Set("Content-Type", "application/json")
 	w.Header().Set("Cache-Control", "no-store")
-	w.Header().Set("Content-Length", strconv.Itoa(len(body))) // so that it ends before a body of the request has come
+	w.Header().Set("Content-Length", strconv.Itoa(len(body))) // so that it ends before a body of the request has arrived
 	w.WriteHeader(status)
 	_, _ = w.Write([]byte(body)) // a client that has gone isn't waited for
+}
+
+const (
+	keptFor  = time.Second     // how long a result is used
+	waitsFor = 2 * time.Second // how long a request waits for a result
+)
+
+var errSlow = errors.New("it takes too long")
+
+// A readiness calls a function for all requests that ask for its result. At most one call runs at a time. It runs in
+// its own goroutine, since it may take longer than a request waits, and the goroutine ends with it.
+type readiness struct {
+	ctx      context.Context // of the calls; a request that ends doesn't end a call that others wait for
+	ready    func(context.Context) error
+	notReady func(error)
+	now      func() time.Time
+	waitsFor time.Duration
+
+	mutex   sync.Mutex
+	running chan struct{} // is closed once the call that runs has ended; nil if none runs
+	at      time.Time     // when the last call ended
+	err     error         // what it returned
+}
+
+func newReadiness(ctx context.Context, ready func(context.Context) error, notReady func(error)) *readiness {
+	return &readiness{ctx: ctx, ready: ready, notReady: notReady, now: time.Now, waitsFor: waitsFor}
+}
+
+// check returns a result of ready that is less than a second old, or waits for one. It returns another error if that
+// takes too long, or if ctx is done.
+func (r *readiness) check(ctx context.Context) error {
+	running, err := r.start()
+	if running == nil {
+		return err
+	}
+	timer := time.NewTimer(r.waitsFor)
+	defer timer.Stop()
+	select {
+	case <-running:
+		r.mutex.Lock()
+		defer r.mutex.Unlock()
+		return r.err
+	case <-timer.C:
+		return errSlow
+	case <-ctx.Done():
+		return ctx.Err()
+	}
+}
+
+// start returns a channel that is closed when the running call ends, and starts a call if none runs. If the last result
+// can be used, it returns nil and that result.
+func (r *readiness) start() (running chan struct{}, err error) {
+	r.mutex.Lock()
+	defer r.mutex.Unlock()
+	if r.running != nil {
+		return r.running, nil
+	}
+	if !r.at.IsZero() && r.now().Sub(r.at) < keptFor {
+		return nil, r.err
+	}
+	r.running = make(chan struct{})
+	go r.run(r.running)
+	return r.running, nil
+}
+
+func (r *readiness) run(running chan struct{}) {
+	ctx, cancel := context.WithTimeout(r.ctx, r.waitsFor)
+	defer cancel()
+	err := r.ready(ctx)
+	r.mutex.Lock()
+	isNew := err != nil && (r.err == nil || r.err.Error() != err.Error())
+	r.running, r.at, r.err = nil, r.now(), err
+	r.mutex.Unlock()
+	close(running)
+	if isNew {
+		r.notReady(err)
+	}
 }

@@ -9,8 +9,6 @@ import (
 	"sync"
 	"testing"
 	"time"
-
-	"pippinterm/broker"
 )
 
 func ask(handler http.Handler, method, target string) *httptest.ResponseRecorder {
@@ -67,10 +65,10 @@ func TestAnswers(t *testing.T) {
 			}
 			answer := ask(handler, test.method, test.target)
 			if answer.Code != test.status || answer.Body.String() != test.body {
-				t.Errorf("%d %q, want %d %q", answer.Code, answer.Body, test.status, test.body)
+				t.Errorf("got %d %q, want %d %q", answer.Code, answer.Body, test.status, test.body)
 			}
 			if test.status == 405 && answer.Header().Get("Allow") != "GET, HEAD" {
-				t.Errorf("Allow is %q", answer.Header().Get("Allow"))
+				t.Errorf("Allow: got %q, want GET and HEAD", answer.Header().Get("Allow"))
 			}
 		})
 	}
@@ -78,10 +76,10 @@ func TestAnswers(t *testing.T) {
 
 // The answers don't say which program it is.
 func TestAnswersFitEachProgram(t *testing.T) {
-	for _, it := range []string{fine, notReady, stopping, notGet} {
+	for _, body := range []string{fine, notReady, stopping, notGet} {
 		for _, word := range []string{"broker", "platform", "worker"} {
-			if strings.Contains(it, word) {
-				t.Errorf("%s is of a %s", it, word)
+			if strings.Contains(body, word) {
+				t.Errorf("%s: got a %s in it, want none", body, word)
 			}
 		}
 	}
@@ -108,7 +106,7 @@ func (c *calls) ready(context.Context) error {
 	return err
 }
 
-func (c *calls) counted() int {
+func (c *calls) sum() int {
 	c.mutex.Lock()
 	defer c.mutex.Unlock()
 	return c.count
@@ -138,9 +136,9 @@ func TestAResultIsUsedForASecond(t *testing.T) {
 	} {
 		now = now.Add(step.after)
 		counted.fail(step.err)
-		status, count := ask(handler, "GET", "/readyz").Code, counted.counted()
+		status, count := ask(handler, "GET", "/readyz").Code, counted.sum()
 		if status != step.status || count != step.count {
-			t.Errorf("%v later: status %d after %d calls, want %d after %d", step.after, status, count, step.status,
+			t.Errorf("%v later: got the status %d after %d calls, want %d after %d", step.after, status, count, step.status,
 				step.count)
 		}
 	}
@@ -152,21 +150,21 @@ func TestACallThatHangsHoldsNobodyUp(t *testing.T) {
 	handler.readiness.waitsFor = 20 * time.Millisecond
 	for number := 0; number < 3; number++ {
 		if status := ask(handler, "GET", "/readyz").Code; status != http.StatusServiceUnavailable {
-			t.Errorf("status %d while the call hangs", status)
+			t.Errorf("got the status %d while the call hangs, want 503", status)
 		}
 	}
 	if status := ask(handler, "GET", "/healthz").Code; status != http.StatusOK {
-		t.Errorf("/healthz has the status %d", status)
+		t.Errorf("/healthz: got the status %d, want 200", status)
 	}
-	if count := hanging.counted(); count != 1 {
-		t.Errorf("%d calls at once", count)
+	if count := hanging.sum(); count != 1 {
+		t.Errorf("got %d calls at once, want 1", count)
 	}
 	handler.readiness.waitsFor = 10 * time.Second
 	status := make(chan int)
 	go func() { status <- ask(handler, "GET", "/readyz").Code }()
 	close(hanging.pass)
 	if got := <-status; got != http.StatusOK {
-		t.Errorf("status %d once the call returned nil", got)
+		t.Errorf("got the status %d once the call returned nil, want 200", got)
 	}
 }
 
@@ -181,11 +179,11 @@ func TestManyShareOneCall(t *testing.T) {
 	close(counted.pass)
 	for number := 0; number < 5; number++ {
 		if got := <-status; got != http.StatusOK {
-			t.Errorf("status %d", got)
+			t.Errorf("got the status %d, want 200", got)
 		}
 	}
-	if count := counted.counted(); count != 1 {
-		t.Errorf("%d calls", count)
+	if count := counted.sum(); count != 1 {
+		t.Errorf("got %d calls, want 1", count)
 	}
 }
 
@@ -196,7 +194,7 @@ func TestACallHasALimitOfTime(t *testing.T) {
 	}})
 	handler.readiness.waitsFor = 10 * time.Millisecond
 	if status := ask(handler, "GET", "/readyz").Code; status != http.StatusServiceUnavailable {
-		t.Errorf("status %d", status)
+		t.Errorf("got the status %d, want 503", status)
 	}
 }
 
@@ -209,28 +207,22 @@ func TestARequestThatEndsEndsNoCall(t *testing.T) {
 	<-counted.begun
 	cancel()
 	if err := <-ended; !errors.Is(err, context.Canceled) {
-		t.Errorf("the request ended with %v", err)
+		t.Errorf("the request ended: got %v, want %v", err, context.Canceled)
 	}
 	waits := make(chan error)
 	go func() { waits <- handler.readiness.check(context.Background()) }()
 	close(counted.pass)
-	if err := <-waits; err != nil || counted.counted() != 1 {
-		t.Errorf("another got %v of %d calls", err, counted.counted())
+	if err := <-waits; err != nil || counted.sum() != 1 {
+		t.Errorf("another: got %v of %d calls, want no error of 1", err, counted.sum())
 	}
 }
 
-// failures is an Observer that has the failures.
-type failures struct {
-	broker.Silent
-	got chan broker.Failure
-}
-
-func (f failures) Failed(failure broker.Failure) { f.got <- failure }
-
 func TestEachReasonIsReportedOnce(t *testing.T) {
 	var counted calls
-	reported := failures{got: make(chan broker.Failure, 10)}
-	handler, now := New(context.Background(), Options{Ready: counted.ready, Observer: reported}), time.Now()
+	reported := make(chan error, 10)
+	handler, now := New(context.Background(), Options{
+		Ready: counted.ready, NotReady: func(err error) { reported <- err },
+	}), time.Now()
 	handler.readiness.now = func() time.Time { return now }
 	for _, step := range []struct {
 		err        error
@@ -245,11 +237,11 @@ func TestEachReasonIsReportedOnce(t *testing.T) {
 		if !step.isReported {
 			continue
 		}
-		if failure := <-reported.got; failure.Event != "not_ready" || failure.Err != step.err {
-			t.Errorf("reported: %v", failure)
+		if err := <-reported; err != step.err {
+			t.Errorf("got %v, want %v", err, step.err)
 		}
 	}
-	if len(reported.got) != 0 {
-		t.Errorf("%d more were reported", len(reported.got))
+	if len(reported) != 0 {
+		t.Errorf("got %d more reported, want none", len(reported))
 	}
 }

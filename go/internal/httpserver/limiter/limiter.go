@@ -41,9 +41,9 @@ type count struct {
 // New returns a Limiter without failures.
 func New() *Limiter { return &Limiter{now: time.Now, of: make(map[netip.Prefix]count)} }
 
-// Failed counts a failed login from this address, and returns how long its answer has to wait: 0, or until its turn. The
-// address is an IP address without a port. All texts that are no IP address count as one address.
-func (l *Limiter) Failed(address string) time.Duration {
+// FailedLogin counts a failed login from this address, and returns how long its answer has to wait: 0, or until its turn.
+// The address is an IP address without a port. All texts that are no IP address count as one address.
+func (l *Limiter) FailedLogin(address string) time.Duration {
 	key, now := Neighbours(address), l.now()
 	l.mutex.Lock()
 	defer l.mutex.Unlock()
@@ -77,8 +77,8 @@ func latest(one, other time.Time) time.Time {
 func (l *Limiter) forget(now time.Time) {
 	var earliest netip.Prefix
 	seen := 0
-	for key, it := range l.of {
-		if seen == 0 || it.free.Before(l.of[earliest].free) {
+	for key, count := range l.of {
+		if seen == 0 || count.free.Before(l.of[earliest].free) {
 			earliest = key
 		}
 		if seen++; seen == sample {
@@ -89,8 +89,8 @@ func (l *Limiter) forget(now time.Time) {
 		delete(l.of, earliest)
 		return
 	}
-	for key, it := range l.of {
-		if !it.free.After(now) {
+	for key, count := range l.of {
+		if !count.free.After(now) {
 			delete(l.of, key)
 		}
 	}

@@ -17,7 +17,7 @@ func at() (*Limiter, func(time.Duration)) {
 // failures counts how many failures in a row are free.
 func failures(limiter *Limiter, address string) int {
 	for count := 0; ; count++ {
-		if limiter.Failed(address) > 0 || count > 2*burst {
+		if limiter.FailedLogin(address) > 0 || count > 2*burst {
 			return count
 		}
 	}
@@ -31,7 +31,7 @@ func TestTwentyFailuresAndOneMoreEachThreeSeconds(t *testing.T) {
 	}{{0, 20}, {0, 0}, {2999 * time.Millisecond, 0}, {3 * time.Second, 1}, {9 * time.Second, 3}, {time.Hour, 20}} {
 		pass(step.after)
 		if got := failures(limiter, "192.0.2.1"); got != step.want {
-			t.Errorf("%v later %d failures are free, want %d", step.after, got, step.want)
+			t.Errorf("%v later: got %d failures free, want %d", step.after, got, step.want)
 		}
 	}
 }
@@ -39,11 +39,11 @@ func TestTwentyFailuresAndOneMoreEachThreeSeconds(t *testing.T) {
 func TestFailuresBeyondTheLimitDontExtendIt(t *testing.T) {
 	limiter, pass := at()
 	for count := 0; count < 1000; count++ {
-		limiter.Failed("192.0.2.1")
+		limiter.FailedLogin("192.0.2.1")
 	}
 	pass(burst * interval)
 	if got := failures(limiter, "192.0.2.1"); got != burst {
-		t.Errorf("%d failures are free a minute later, want %d", got, burst)
+		t.Errorf("got %d failures free a minute later, want %d", got, burst)
 	}
 }
 
@@ -52,16 +52,16 @@ func TestTheTurns(t *testing.T) {
 	limiter, pass := at()
 	failures(limiter, "192.0.2.1")
 	for count := time.Duration(2); count <= 100; count++ { // failures has taken the first turn
-		if got, want := limiter.Failed("192.0.2.1"), count*delay; got != want {
+		if got, want := limiter.FailedLogin("192.0.2.1"), count*delay; got != want {
 			t.Fatalf("got %v for failure %d, want %v", got, count, want)
 		}
 	}
-	if got := limiter.Failed("192.0.2.2"); got != 0 {
-		t.Errorf("another address waits %v, want 0", got)
+	if got := limiter.FailedLogin("192.0.2.2"); got != 0 {
+		t.Errorf("another address: got a wait of %v, want 0", got)
 	}
 	pass(18 * delay)
 	for count, want := range []time.Duration{0, 0, 0, 83 * delay, 84 * delay} { // three are free after nine seconds
-		if got := limiter.Failed("192.0.2.1"); got != want {
+		if got := limiter.FailedLogin("192.0.2.1"); got != want {
 			t.Errorf("got %v for failure %d after %v, want %v", got, count+1, 18*delay, want)
 		}
 	}
@@ -81,26 +81,28 @@ func TestWhichAddressesShareALimit(t *testing.T) {
 		{"", "a name", true},
 		{"a name", "192.0.2.1", false},
 	} {
-		limiter, _ := at()
-		failures(limiter, test.first)
-		if isShared := limiter.Failed(test.second) > 0; isShared != test.isShared {
-			t.Errorf("%q and %q: shared is %v", test.first, test.second, isShared)
-		}
+		t.Run(test.first+" and "+test.second, func(t *testing.T) {
+			limiter, _ := at()
+			failures(limiter, test.first)
+			if isShared := limiter.FailedLogin(test.second) > 0; isShared != test.isShared {
+				t.Errorf("%q and %q: got shared %v, want %v", test.first, test.second, isShared, test.isShared)
+			}
+		})
 	}
 }
 
 func TestMemoryIsBounded(t *testing.T) {
 	limiter, pass := at()
 	for number := 0; number < 3*capacity; number++ {
-		limiter.Failed(fmt.Sprintf("10.%d.%d.%d", number>>16&255, number>>8&255, number&255))
+		limiter.FailedLogin(fmt.Sprintf("10.%d.%d.%d", number>>16&255, number>>8&255, number&255))
 		if len(limiter.of) > capacity {
-			t.Fatalf("%d addresses are remembered", len(limiter.of))
+			t.Fatalf("got %d addresses remembered, want at most %v", len(limiter.of), capacity)
 		}
 	}
 	pass(interval)
-	limiter.Failed("192.0.2.1")
+	limiter.FailedLogin("192.0.2.1")
 	if len(limiter.of) != 1 {
-		t.Errorf("%d addresses are remembered after the failures of all others are over, want 1", len(limiter.of))
+		t.Errorf("got %d addresses remembered after the failures of all others are over, want 1", len(limiter.of))
 	}
 }
 
@@ -108,10 +110,10 @@ func TestAFullLimiterKeepsTheWorst(t *testing.T) {
 	limiter, _ := at()
 	failures(limiter, "192.0.2.1")
 	for number := 0; number < 2*capacity; number++ {
-		limiter.Failed(fmt.Sprintf("10.%d.%d.%d", number>>16&255, number>>8&255, number&255))
+		limiter.FailedLogin(fmt.Sprintf("10.%d.%d.%d", number>>16&255, number>>8&255, number&255))
 	}
-	if limiter.Failed("192.0.2.1") == 0 {
-		t.Error("an address at its limit is forgotten for others that failed once")
+	if limiter.FailedLogin("192.0.2.1") == 0 {
+		t.Error("an address at its limit: got it forgotten for others that failed once, want it kept")
 	}
 }
 
@@ -122,11 +124,11 @@ func TestManyGoroutines(t *testing.T) {
 		all.Add(1)
 		go func() {
 			defer all.Done()
-			limiter.Failed("192.0.2.1")
+			limiter.FailedLogin("192.0.2.1")
 		}()
 	}
 	all.Wait()
 	if got := failures(limiter, "192.0.2.1"); got != burst-10 {
-		t.Errorf("%d more failures are free after 10, want %d", got, burst-10)
+		t.Errorf("got %d more failures free after 10, want %d", got, burst-10)
 	}
 }

@@ -1,15 +1,19 @@
+// Package audit compares, all through a storm and at its end, three things: what the platform records, what the broker
+// holds, and which resources exist. It finds what is lost, which record is false, and what else they disagree in.
 package audit
 
 import (
 	"bytes"
+	"context"
 	"encoding/json"
 	"sort"
 
 	"pippinterm/osb"
 	"pippinterm/platform"
+	"pippinterm/storm/report"
 )
 
-// A Kind tells what is wrong.
+// A Kind is what is wrong.
 type Kind int
 
 // The kinds of what is wrong.
@@ -33,10 +37,10 @@ const (
 	Gone  = platform.Gone
 )
 
-// Compared returns the keys of the records that were in a state all the time: bindings or instances.
-func (s Sight) Compared(state platform.State, isBinding bool) (keys []Key) {
-	for key, it := range s.Records {
-		if it.State == state && s.After[key].State == state && (key.Binding != "") == isBinding {
+// SteadyKeys returns the keys of the records that were in a state all the time: bindings or instances.
+func (s Sight) SteadyKeys(state platform.State, isBinding bool) (keys []Key) {
+	for key, record := range s.Records {
+		if record.State == state && s.After[key].State == state && (key.Binding != "") == isBinding {
 			keys = append(keys, key)
 		}
 	}
@@ -51,8 +55,8 @@ type finder struct {
 
 func (f *finder) add(key Key, kind Kind, what string) { f.all = append(f.all, Wrong{key, kind, what}) }
 
-// sorted returns what was found, in the order of the ids.
-func (f *finder) sorted() []Wrong {
+// inOrder returns what was found, in the order of the ids.
+func (f *finder) inOrder() []Wrong {
 	sort.SliceStable(f.all, func(one, other int) bool {
 		a, b := f.all[one].Key, f.all[other].Key
 		return a.Instance < b.Instance || a.Instance == b.Instance && a.Binding < b.Binding
@@ -63,24 +67,24 @@ func (f *finder) sorted() []Wrong {
 // Wrong returns what is wrong while a storm goes on.
 func (s Sight) Wrong() []Wrong {
 	f := &finder{Sight: s}
-	f.unrecorded()
-	for key, it := range s.Records {
-		if it.Says != "" && !it.isOfNoRecord() && it.Says != it.State {
-			f.add(key, False, "its state is "+string(it.State)+", and its record says "+string(it.Says))
+	f.findUnrecorded()
+	for key, record := range s.Records {
+		if record.Says != "" && !record.isOfNoRecord() && record.Says != record.State {
+			f.add(key, False, "its state is "+string(record.State)+", and its record says "+string(record.Says))
 		}
 	}
 	for _, isBinding := range []bool{false, true} {
-		for _, key := range s.Compared(Ready, isBinding) {
+		for _, key := range s.SteadyKeys(Ready, isBinding) {
 			if why := s.notReady(key, s.Records[key]); why != "" {
 				f.add(key, False, "its record says ready, and "+why)
 			}
 		}
-		for _, key := range s.Compared(Gone, isBinding) {
+		for _, key := range s.SteadyKeys(Gone, isBinding) {
 			f.notGone(key, "its record says gone")
 		}
 	}
 	f.withoutInstance()
-	return f.sorted()
+	return f.inOrder()
 }
 
 // isOfNoRecord returns whether the state isn't that of a record.
@@ -88,15 +92,15 @@ func (r Record) isOfNoRecord() bool {
 	return r.State == platform.Ordered || r.State == platform.Withdrawn || r.State == platform.Abandoned
 }
 
-// unrecorded finds what exists, or what the broker has a row of, without a record.
-func (f *finder) unrecorded() {
+// findUnrecorded finds what exists, or what the broker has a row of, without a record.
+func (f *finder) findUnrecorded() {
 	for key := range f.There.Of {
 		if _, isKnown := f.After[key]; !isKnown && !f.Foreign[key] && f.There.Some(key) {
 			f.add(key, Lost, "it exists, and the platform has no record")
 		}
 	}
-	for key, it := range f.Held {
-		if _, isKnown := f.After[key]; !isKnown && !f.Foreign[key] && !it.isEmpty() {
+	for key, row := range f.Held {
+		if _, isKnown := f.After[key]; !isKnown && !f.Foreign[key] && !row.isEmpty() {
 			f.add(key, Disagree, "the broker has a row, and the platform has no record")
 		}
 	}
@@ -104,7 +108,7 @@ func (f *finder) unrecorded() {
 
 // isEmpty returns whether a row keeps nothing: PostgreSQL gets such a row for an instance of which only a binding was
 // ever asked for.
-func (h Held) isEmpty() bool {
+func (h Row) isEmpty() bool {
 	_, isHeld := h.Holding.Row()
 	_, isPending := h.Holding.Work()
 	return !isHeld && !isPending && !h.Holding.HasTombstone()
@@ -151,7 +155,7 @@ func (s Sight) isHeldReady(key Key, record Record) bool {
 }
 
 // withoutInstance finds each binding that exists or is held while its instance isn't held ready. A broker never lets
-// that come about, whatever it is asked.
+// that can happen, whatever it is asked.
 func (f *finder) withoutInstance() {
 	for key := range f.There.Of {
 		if key.Binding == "" || !f.Before.Some(key) || !f.There.Some(key) {
@@ -163,11 +167,11 @@ func (f *finder) withoutInstance() {
 			f.add(key, Disagree, "its credentials exist, and the broker doesn't hold its instance ready")
 		}
 	}
-	for key, it := range f.Held {
+	for key, row := range f.Held {
 		if key.Binding == "" {
 			continue
 		}
-		service, plan, isHeld := heldFor(it.Holding)
+		service, plan, isHeld := heldFor(row.Holding)
 		if isHeld && !f.Held[key.InstanceKey()].Holding.IsThere(service, plan) {
 			f.add(key, Disagree, "the broker holds it, and doesn't hold its instance ready at the same plan")
 		}
@@ -208,4 +212,176 @@ func canonical(text json.RawMessage) ([]byte, bool) {
 	}
 	written, err := json.Marshal(value)
 	return written, err == nil
+}
+
+// A Key names an instance, or a binding of it.
+type Key = report.Key
+
+// A Record is what the platform records about an instance or a binding.
+type Record struct {
+	State         platform.State
+	Service, Plan osb.ID
+	// Says is the state of the record itself, or empty if nothing was sent yet.
+	Says  platform.State
+	Rests bool // nobody goes on with it until somebody asks
+}
+
+// RecordOf returns the Record of a row.
+func RecordOf(e platform.Entry) Record {
+	record := Record{State: e.State, Service: e.Service, Plan: e.Plan, Rests: e.Rests() && !e.HasLast}
+	if e.IsSent {
+		record.Says = platform.StateOf(e.Record)
+	}
+	return record
+}
+
+// A Row is a row of the broker.
+type Row struct {
+	Holding osb.Holding
+	Object  json.RawMessage // of a binding: the object with its credentials, or nil
+}
+
+// An Existence is what exists of an instance or a binding.
+type Existence int
+
+// The values of Existence.
+const (
+	Nothing Existence = iota
+	Part              // nobody can use it
+	Whole
+)
+
+// A There is what exists. What it lacks doesn't exist.
+type There struct {
+	Of map[Key]Existence
+	// Credentials are those of each whole binding whose resource shows them.
+	Credentials map[Key]json.RawMessage
+}
+
+// Some returns whether anything of a key exists.
+func (t There) Some(key Key) bool { return t.Of[key] != Nothing }
+
+// A Sight is what was seen, in the order of the members. What is the same in two members was so all the time between
+// them: no record returns to ready, or leaves gone, and nothing exists again once it was deleted.
+type Sight struct {
+	Records map[Key]Record
+	Before  There       // what existed before the rows of the broker were read
+	Held    map[Key]Row // the rows of the broker, all of one moment
+	There   There       // what existed after that
+	After   map[Key]Record
+	Given   map[Key]json.RawMessage // the objects of bindings that the platform has given out, with the credentials
+	Foreign map[Key]bool            // the bindings that somebody else than the platform has created
+}
+
+// Holdings are the rows of a broker.
+type Holdings interface {
+	// Read returns all rows, as of one moment.
+	Read(ctx context.Context) (map[Key]Row, error)
+}
+
+// Resources are what a broker sells in a storm.
+type Resources interface {
+	// Look returns what exists. isOurs is whether an instance is one of the storm's, if its place doesn't say it.
+	Look(ctx context.Context, isOurs func(instance string) bool) (There, error)
+	// IsUsable returns whether the resource of an instance that is ready can be used, and is what was ordered.
+	IsUsable(ctx context.Context, key Key, record Record) (bool, error)
+	// Works returns whether the credentials of a binding give access to its instance.
+	Works(ctx context.Context, key Key, credentials json.RawMessage) (bool, error)
+	// Clear deletes what exists of the storm's instances, if the end of the storm doesn't.
+	Clear(ctx context.Context, isOurs func(instance string) bool) error
+}
+
+// A Place is where to look.
+type Place struct {
+	Records   func(context.Context) (map[Key]Record, error)
+	Holdings  Holdings
+	Resources Resources
+	Given     func() map[Key]json.RawMessage
+	Foreign   func() map[Key]bool
+	IsOurs    func(instance string) bool // besides the instances with a record
+}
+
+// Look looks at everything, in the order of Sight.
+func (p Place) Look(ctx context.Context) (s Sight, err error) {
+	if s.Records, err = p.Records(ctx); err != nil {
+		return s, err
+	}
+	isOurs := func(instance string) bool {
+		_, isKnown := s.Records[Key{Instance: instance}]
+		return isKnown || p.IsOurs(instance)
+	}
+	if s.Before, err = p.Resources.Look(ctx, isOurs); err != nil {
+		return s, err
+	}
+	if s.Held, err = p.Holdings.Read(ctx); err != nil {
+		return s, err
+	}
+	if s.There, err = p.Resources.Look(ctx, isOurs); err != nil {
+		return s, err
+	}
+	if s.After, err = p.Records(ctx); err != nil {
+		return s, err
+	}
+	s.Given, s.Foreign = p.Given(), p.Foreign()
+	return s, nil
+}
+
+// Left returns what the three disagree in at the end: each instance and each binding has to be ready in all three, or
+// in none. Nobody knows of the instances that were abandoned. usable tries each resource that is ready; what it fails
+// with is returned.
+func (s Sight) Left(ctx context.Context, usable Resources) ([]Wrong, error) {
+	f := &finder{Sight: s}
+	f.findUnrecorded()
+	var failed error
+	for key, record := range s.After {
+		switch {
+		case !record.Rests || !isFinal(record.State):
+			f.add(key, Stuck, "its record is still "+string(record.State))
+		case record.State == Ready:
+			if err := f.readyAtEnd(ctx, key, record, usable); err != nil && failed == nil {
+				failed = err
+			}
+		case record.State != platform.Abandoned:
+			f.notGone(key, "its record says "+string(record.State))
+		}
+	}
+	f.withoutInstance()
+	return f.inOrder(), failed
+}
+
+// isFinal returns whether a record may stay in a state at the end of a storm. One that is unsettled waits for an
+// operator, and the storm's operator removes it.
+func isFinal(state platform.State) bool {
+	switch state {
+	case Ready, Gone, platform.Withdrawn, platform.Abandoned:
+		return true
+	}
+	return false
+}
+
+// readyAtEnd finds what is wrong with a record that is ready at the end.
+func (f *finder) readyAtEnd(ctx context.Context, key Key, record Record, usable Resources) error {
+	if why := f.notReady(key, record); why != "" {
+		f.add(key, False, "its record says ready, and "+why)
+		return nil
+	}
+	if key.Binding != "" {
+		f.bindingAtEnd(key)
+		return nil
+	}
+	isUsable, err := usable.IsUsable(ctx, key, record)
+	if err == nil && !isUsable {
+		f.add(key, False, "its record says ready, and it can't be used, or isn't what was ordered")
+	}
+	return err
+}
+
+// bindingAtEnd finds what is wrong with a binding that is ready at the end, and that exists.
+func (f *finder) bindingAtEnd(key Key) {
+	if _, isGiven := f.Given[key]; !isGiven {
+		f.add(key, False, "its record says ready, and its credentials aren't given out")
+	}
+	if instance := f.After[key.InstanceKey()]; instance.State != Ready {
+		f.add(key, Disagree, "its record says ready, and that of its instance says "+string(instance.State))
+	}
 }

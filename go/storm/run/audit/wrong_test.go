@@ -4,9 +4,19 @@ import (
 	"context"
 	"encoding/json"
 	"fmt"
+	"net/url"
+	"os"
+	"path/filepath"
 	"strings"
+	"syscall"
 	"testing"
 
+	"pippinterm/broker"
+	"pippinterm/broker/backend/postgres"
+	brokersqlite "pippinterm/broker/sqlite"
+	"pippinterm/internal/diff"
+	"pippinterm/internal/pg"
+	"pippinterm/internal/pg/pgtest"
 	"pippinterm/osb"
 	"pippinterm/platform"
 )
@@ -31,8 +41,8 @@ func id(text string) osb.ID {
 	return made
 }
 
-// row is a row of the broker in a phase, or with pending work, or with a tombstone, or an empty one. The text is that of
-// an instance (docs/instance.md).
+// row is a row of the broker in a phase, or with pending work, or with a tombstone, or an empty one. The text is that
+// of an instance (docs/instance.md).
 func row(t *testing.T, what string, at osb.ID) osb.Holding {
 	t.Helper()
 	ready := fmt.Sprintf(`{"phase":"ready","plan":"%s","service":"%s"}`, at, service)
@@ -54,7 +64,7 @@ func row(t *testing.T, what string, at osb.ID) osb.Holding {
 	var holding osb.Holding
 	text := fmt.Sprintf(`{"attributes":"%064d","row":%s,"tombstone":%s,"version":2,"work":%s}`, 0, held, tombstone, work)
 	if err := holding.UnmarshalJSON([]byte(text)); err != nil {
-		t.Fatalf("%s: %v", text, err)
+		t.Fatalf("got the error of %s: %v, want none", text, err)
 	}
 	return holding
 }
@@ -73,13 +83,13 @@ type scene struct {
 	restless      bool
 	foreign       bool
 	unrecorded    bool
-	came          bool // what exists has come after the rows were read
+	came          bool // what exists was created after the rows were read
 }
 
 func (s scene) sight(t *testing.T, key Key) Sight {
 	t.Helper()
 	sight := Sight{
-		Records: map[Key]Record{}, After: map[Key]Record{}, Held: map[Key]Held{}, Given: map[Key]json.RawMessage{},
+		Records: map[Key]Record{}, After: map[Key]Record{}, Held: map[Key]Row{}, Given: map[Key]json.RawMessage{},
 		Foreign: map[Key]bool{bound: s.foreign},
 		There:   There{Of: map[Key]Existence{}, Credentials: map[Key]json.RawMessage{}},
 	}
@@ -94,7 +104,7 @@ func (s scene) sight(t *testing.T, key Key) Sight {
 			s.instance = "ready"
 		}
 		if s.instance != "-" {
-			sight.Held[one] = Held{Holding: row(t, s.instance, plan)}
+			sight.Held[one] = Row{Holding: row(t, s.instance, plan)}
 		}
 	}
 	says := s.says
@@ -110,9 +120,9 @@ func (s scene) sight(t *testing.T, key Key) Sight {
 		sight.After[key] = record
 	}
 	if s.held != "" {
-		sight.Held[key] = Held{Holding: row(t, s.held, plan), Object: json.RawMessage(s.object)}
+		sight.Held[key] = Row{Holding: row(t, s.held, plan), Object: json.RawMessage(s.object)}
 		if s.object == "" {
-			sight.Held[key] = Held{Holding: row(t, s.held, plan)}
+			sight.Held[key] = Row{Holding: row(t, s.held, plan)}
 		}
 	}
 	if !s.came {
@@ -140,9 +150,9 @@ func (u usable) IsUsable(context.Context, Key, Record) (bool, error) { return u.
 
 func texts(all []Wrong, key Key) string {
 	var found []string
-	for _, it := range all {
-		if it.Key == key {
-			found = append(found, fmt.Sprintf("%d %s", it.Kind, it.What))
+	for _, wrong := range all {
+		if wrong.Key == key {
+			found = append(found, fmt.Sprintf("%d %s", wrong.Kind, wrong.What))
 		}
 	}
 	return strings.Join(found, "; ")
@@ -152,9 +162,7 @@ func texts(all []Wrong, key Key) string {
 func left(t *testing.T, s Sight, key Key) string {
 	t.Helper()
 	all, err := s.Left(context.Background(), usable{is: true})
-	if err != nil {
-		t.Fatal(err)
-	}
+	check(t, err)
 	return texts(all, key)
 }
 
@@ -177,7 +185,7 @@ func TestBindings(t *testing.T) {
 		unheld   = "3 the broker holds it, and doesn't hold its instance ready at the same plan"
 		wanting  = "2 its record is still wanted"
 	)
-	for name, it := range map[string]struct {
+	for name, test := range map[string]struct {
 		scene     scene
 		found     string // while the storm goes on
 		foundLeft string
@@ -216,22 +224,24 @@ func TestBindings(t *testing.T) {
 		"ended without instance": {scene{state: Gone, held: "tombstone", instance: "-"}, "", ""},
 		"instance recorded gone": {readyBinding.with(func(s *scene) { s.instanceState = Gone }), "", "3 its record says ready, and that of its instance says gone"},
 	} {
-		s := it.scene.sight(t, bound)
-		if found := texts(s.Wrong(), bound); found != it.found {
-			t.Errorf("%s: while the storm goes on: %q", name, found)
-		}
-		if found := left(t, s, bound); found != it.foundLeft {
-			t.Errorf("%s: at the end: %q", name, found)
-		}
+		t.Run(name, func(t *testing.T) {
+			s := test.scene.sight(t, bound)
+			if found := texts(s.Wrong(), bound); found != test.found {
+				t.Errorf("%s: while the storm goes on: got %q, want %q", name, found, test.found)
+			}
+			if found := left(t, s, bound); found != test.foundLeft {
+				t.Errorf("%s: at the end: got %q, want %q", name, found, test.foundLeft)
+			}
+		})
 	}
 }
 
 // A binding at another plan than its instance is found.
 func TestAnotherPlan(t *testing.T) {
 	s := scene{state: platform.Wanted, restless: true, held: "provision"}.sight(t, bound)
-	s.Held[one] = Held{Holding: row(t, "ready", otherPlan)}
+	s.Held[one] = Row{Holding: row(t, "ready", otherPlan)}
 	if found := texts(s.Wrong(), bound); !strings.Contains(found, "at the same plan") {
-		t.Errorf("%q", found)
+		t.Errorf("got %q, want two at the same plan", found)
 	}
 }
 
@@ -243,7 +253,7 @@ func TestInstances(t *testing.T) {
 		absent = "1 its record says ready, and it doesn't exist, or not as a whole"
 		other  = "1 its record says ready, and the broker's row says something else"
 	)
-	for name, it := range map[string]struct {
+	for name, test := range map[string]struct {
 		scene            scene
 		found, foundLeft string
 	}{
@@ -264,17 +274,19 @@ func TestInstances(t *testing.T) {
 		"absent":       {scene{state: Ready, held: "ready"}, absent, absent},
 		"no row":       {scene{state: Ready, exists: Whole}, other, other},
 	} {
-		s := it.scene.sight(t, one)
-		if found := texts(s.Wrong(), one); found != it.found {
-			t.Errorf("%s: while the storm goes on: %q", name, found)
-		}
-		if found := left(t, s, one); found != it.foundLeft {
-			t.Errorf("%s: at the end: %q", name, found)
-		}
+		t.Run(name, func(t *testing.T) {
+			s := test.scene.sight(t, one)
+			if found := texts(s.Wrong(), one); found != test.found {
+				t.Errorf("%s: while the storm goes on: got %q, want %q", name, found, test.found)
+			}
+			if found := left(t, s, one); found != test.foundLeft {
+				t.Errorf("%s: at the end: got %q, want %q", name, found, test.foundLeft)
+			}
+		})
 	}
 	s := scene{state: Ready, held: "ready", exists: Whole}.sight(t, one)
 	if all, err := s.Left(context.Background(), usable{is: false}); err != nil || len(all) != 1 {
-		t.Errorf("a resource that can't be used: %v %v", all, err)
+		t.Errorf("a resource that can't be used: got %v %v, want 1", all, err)
 	}
 }
 
@@ -282,11 +294,257 @@ func TestInstances(t *testing.T) {
 func TestCompared(t *testing.T) {
 	for state, wanted := range map[platform.State]int{Ready: 1, Gone: 0} {
 		s := readyBinding.sight(t, bound)
-		if of, instances := s.Compared(state, true), s.Compared(state, false); len(of) != wanted || len(instances) != wanted {
-			t.Errorf("%s: %v, %v", state, of, instances)
+		if of, instances := s.SteadyKeys(state, true), s.SteadyKeys(state, false); len(of) != wanted || len(instances) != wanted {
+			t.Errorf("%s: got %v and %v, want %d of each", state, of, instances, wanted)
 		}
 	}
-	if of := readyBinding.with(func(s *scene) { s.moves = true }).sight(t, bound).Compared(Ready, true); len(of) != 0 {
-		t.Errorf("one that changes: %v", of)
+	if of := readyBinding.with(func(s *scene) { s.moves = true }).sight(t, bound).SteadyKeys(Ready, true); len(of) != 0 {
+		t.Errorf("one that changes: got %v, want none", of)
+	}
+}
+
+var background = context.Background()
+
+func every(string) bool { return true }
+
+func guid(n int) string { return fmt.Sprintf("00000000-0000-4000-8000-%012d", n) }
+
+func write(t *testing.T, path, text string) {
+	t.Helper()
+	check(t, os.MkdirAll(filepath.Dir(path), 0o700))
+	check(t, os.WriteFile(path, []byte(text), 0o600))
+}
+
+// What exists is read from the names of the folders, and so are the credentials of bindings.
+func TestFolders(t *testing.T) {
+	top := t.TempDir()
+	for _, name := range []string{guid(1), partPrefix + guid(2), guid(3), partPrefix + guid(3), "other"} {
+		check(t, os.MkdirAll(filepath.Join(top, name), 0o700))
+	}
+	write(t, filepath.Join(top, bindings, guid(1)+"-"+guid(5)), token)
+	write(t, filepath.Join(top, bindings, partPrefix+guid(1)+"-"+guid(6)), "{")
+	write(t, filepath.Join(top, bindings, "other"), token)
+	whole := Key{Instance: guid(1), Binding: guid(5)}
+	wanted := There{Of: map[Key]Existence{
+		{Instance: guid(1)}: Whole, {Instance: guid(2)}: Part, {Instance: guid(3)}: Whole, whole: Whole,
+		{Instance: guid(1), Binding: guid(6)}: Part,
+	}, Credentials: map[Key]json.RawMessage{whole: json.RawMessage(token)}}
+	there, err := (Folders{top}).Look(background, every)
+	check(t, err)
+	diff.Check(t, there, wanted, "what exists")
+	if there, err := (Folders{top + "/none"}).Look(background, every); err != nil || len(there.Of) > 0 {
+		t.Errorf("got the error %v and %v, want nothing", err, there)
+	}
+}
+
+// Credentials give access if the file of the binding has them, and they are for the folder of its instance.
+func TestCredentialsOfFolders(t *testing.T) {
+	top := t.TempDir()
+	f, file := Folders{top}, filepath.Join(top, bindings, bound.Instance+"-"+bound.Binding)
+	given := fmt.Sprintf(`{"folder": %q, "token": "t"}`, filepath.Join(top, one.Instance))
+	elsewhere := `{"folder": "/", "token": "t"}`
+	for at, test := range []struct {
+		written, given string
+		works          bool
+	}{
+		{"", given, false}, {given, given, true}, {given + "\n", given, true}, {given, token, false}, {given, "null", false},
+		{token, given, false}, {elsewhere, elsewhere, false},
+	} {
+		if test.written != "" {
+			write(t, file, test.written)
+		}
+		if works, err := f.Works(background, bound, json.RawMessage(test.given)); err != nil || works != test.works {
+			t.Errorf("%d: got %v and the error %v, want %v", at, works, err, test.works)
+		}
+	}
+}
+
+// A folder can be used if its label says what was ordered.
+func TestLabels(t *testing.T) {
+	top := t.TempDir()
+	label := func(instance, plan string) string {
+		return fmt.Sprintf(`{"instance":%q,"plan":%q,"service":%q}`, instance, plan, service)
+	}
+	record := Record{Service: service, Plan: plan}
+	for text, wanted := range map[string]bool{
+		label(one.Instance, plan.String()): true, label(guid(9), plan.String()): false,
+		label(one.Instance, otherPlan.String()): false, "{": false,
+	} {
+		write(t, filepath.Join(top, one.Instance, "instance.json"), text)
+		if is, err := (Folders{top}).IsUsable(background, one, record); err != nil || is != wanted {
+			t.Errorf("%s: got %v and the error %v, want %v", text, is, err, wanted)
+		}
+	}
+	if is, err := (Folders{top}).IsUsable(background, Key{Instance: guid(9)}, record); err != nil || is {
+		t.Errorf("without a folder: got %v %v, want false", is, err)
+	}
+	for _, test := range []struct {
+		plan   osb.ID
+		wanted bool
+	}{{plan, true}, {otherPlan, false}} {
+		text := strings.ReplaceAll(service.String()+" "+test.plan.String(), "-", "")
+		if err := syscall.Setxattr(filepath.Join(top, one.Instance), "user.osb", []byte(text), 0); err != nil {
+			t.Logf("the file system of the temporary folder has no extended attributes: %v", err)
+			return
+		}
+		if is, err := (Folders{top}).IsUsable(background, one, record); err != nil || is != test.wanted {
+			t.Errorf("%s in an attribute: got %v %v, want %v", text, is, err, test.wanted)
+		}
+	}
+}
+
+// The rows of a broker are read from its file, which isn't created.
+func TestFile(t *testing.T) {
+	path := filepath.Join(t.TempDir(), "holdings.sqlite")
+	if all, err := File(path).Read(background); err != nil || len(all) > 0 {
+		t.Errorf("without a file: got %v %v, want none", all, err)
+	}
+	if _, err := os.Stat(path); err == nil {
+		t.Error("the file: got it created, want none")
+	}
+	write(t, path, "")
+	if all, err := File(path).Read(background); err != nil || len(all) > 0 {
+		t.Errorf("without tables: got %v %v, want none", all, err)
+	}
+	store, err := brokersqlite.Open(background, path, broker.Silent{})
+	check(t, err)
+	defer store.Close()
+	wanted := map[Key]Row{
+		one: {Holding: row(t, "ready", plan)}, bound: {Holding: row(t, "ready", plan), Object: json.RawMessage(object)},
+	}
+	for key, row := range wanted {
+		numbered, err := numericKey(key)
+		check(t, err)
+		entry := broker.Entry{Holding: row.Holding, Binding: row.Object}
+		step := func(broker.Snapshot) (*broker.Entry, error) { return &entry, nil }
+		check(t, store.Change(background, numbered, 0, step))
+	}
+	all, err := File(path).Read(background)
+	check(t, err)
+	diff.Check(t, all, wanted, "the rows")
+}
+
+// What exists at a server is read from the names of roles and databases. Credentials give access while the role may log
+// in. Nobody knows of a server that is away.
+func TestDatabases(t *testing.T) {
+	server := pgtest.URL(t)
+	db, parsed := pgtest.DB(t, server), mustParse(t, server)
+	secret := []byte("the key of a test's passwords, long enough for that")
+	d := Databases{DB: db, Server: server, Secret: secret}
+	instance, err := numericKey(one)
+	check(t, err)
+	binding, err := numericKey(bound)
+	check(t, err)
+	name, role, password := postgres.NameOf(instance), postgres.NameOf(binding), postgres.PasswordOf(secret, instance)
+	ours := func(id string) bool { return id == one.Instance }
+	look := func() map[Key]Existence {
+		there, err := d.Look(background, ours)
+		check(t, err)
+		return there.Of
+	}
+	given := func(change func(map[string]any)) json.RawMessage {
+		all := map[string]any{
+			"host": parsed.Hostname(), "port": port(t, server), "database": name, "username": role, "password": "secret",
+		}
+		change(all)
+		text, _ := json.Marshal(all)
+		return text
+	}
+	works := func(change func(map[string]any)) bool {
+		is, err := d.Works(background, bound, given(change))
+		if err != nil {
+			t.Error(err)
+		}
+		return is
+	}
+	same := func(map[string]any) {}
+	t.Cleanup(func() { _ = d.Clear(background, ours) })
+	if works(same) || len(look()) > 0 {
+		t.Error("before: got something that exists, want nothing")
+	}
+	pgtest.Exec(t, db, "CREATE ROLE "+name+" LOGIN PASSWORD '"+password+"'")
+	if fmt.Sprint(look()) != fmt.Sprint(map[Key]Existence{one: Part}) {
+		t.Errorf("a role alone: got %v, want a part", look())
+	}
+	pgtest.Exec(t, db, "CREATE DATABASE "+name+" OWNER "+name, "CREATE ROLE "+role+" LOGIN PASSWORD 'secret'")
+	diff.Check(t, look(), map[Key]Existence{one: Whole, bound: Whole}, "the instance and the binding")
+	if there, err := d.Look(background, func(string) bool { return false }); err != nil || len(there.Of) > 0 {
+		t.Errorf("somebody else's: got %v %v, want none", there, err)
+	}
+	if is, err := d.IsUsable(background, one, Record{}); err != nil || !is {
+		t.Errorf("IsUsable: got false (%v), want true", err)
+	}
+	for what, change := range map[string]func(map[string]any){
+		"the password": func(all map[string]any) { all["password"] = "other" },
+		"the database": func(all map[string]any) { all["database"] = "postgres" },
+		"the user":     func(all map[string]any) { all["username"] = "nobody" },
+	} {
+		t.Run(what, func(t *testing.T) {
+			if works(change) {
+				t.Errorf("other credentials for %s: got access, want none", what)
+			}
+		})
+	}
+	if !works(same) {
+		t.Error("the credentials: got no access, want it")
+	}
+	if _, err := d.Works(background, bound, given(func(all map[string]any) { all["port"] = 1 })); err == nil {
+		t.Error("a server that is away: got no error, want one")
+	}
+	pgtest.Exec(t, db, "ALTER ROLE "+role+" NOLOGIN", "ALTER ROLE "+name+" PASSWORD 'other'")
+	if is, err := d.IsUsable(background, one, Record{}); works(same) || look()[bound] != Part || is || err != nil {
+		t.Errorf("without the right to log in: got %v %v, want a part that can't be used", look(), err)
+	}
+	if err := d.Clear(background, ours); err != nil || len(look()) > 0 {
+		t.Errorf("after Clear: got %v %v, want none", look(), err)
+	}
+}
+
+// The rows of a broker are read from its tables.
+func TestTables(t *testing.T) {
+	db := pgtest.DB(t, pgtest.Schema(t, pgtest.URL(t), "osb_stormaudit"))
+	if all, err := (Tables{db}).Read(background); err != nil || len(all) > 0 {
+		t.Errorf("without tables: got %v %v, want none", all, err)
+	}
+	ready := row(t, "ready", plan)
+	ofBinding, err := ready.BindingText()
+	check(t, err)
+	pgtest.Exec(t, db, "CREATE TABLE osb_holdings (id uuid, holding text)",
+		"CREATE TABLE osb_bindings (instance uuid, binding uuid, holding text, object text)",
+		fmt.Sprintf("INSERT INTO osb_holdings VALUES ('%s', '%s')", one.Instance, ready),
+		fmt.Sprintf("INSERT INTO osb_bindings VALUES ('%s', '%s', '%s', '%s'), ('%s', '%s', '%s', NULL)",
+			bound.Instance, bound.Binding, ofBinding, object, bound.Instance, one.Instance, ofBinding))
+	wanted := map[Key]Row{
+		one: {Holding: ready}, bound: {Holding: ready, Object: json.RawMessage(object)},
+		{Instance: one.Instance, Binding: one.Instance}: {Holding: ready},
+	}
+	all, err := (Tables{db}).Read(background)
+	check(t, err)
+	diff.Check(t, all, wanted, "the rows")
+}
+
+func mustParse(t *testing.T, address string) *url.URL {
+	t.Helper()
+	parsed, err := url.Parse(address)
+	check(t, err)
+	return parsed
+}
+
+func port(t *testing.T, address string) int {
+	t.Helper()
+	_, text, err := pg.HostAndPort(address)
+	check(t, err)
+	var number int
+	if _, err := fmt.Sscan(text, &number); err != nil {
+		t.Fatal(err)
+	}
+	return number
+}
+
+// check ends the test at an error.
+func check(t testing.TB, err error) {
+	t.Helper()
+	if err != nil {
+		t.Fatal(err)
 	}
 }

@@ -2,11 +2,14 @@ package platform
 
 import (
 	"encoding/json"
+	"fmt"
 	"net/http"
+	"sort"
 	"strings"
 
 	"pippinterm/storm/fault"
 	"pippinterm/storm/report"
+	"pippinterm/storm/run"
 )
 
 // A belief is what a platform can know of an instance or a binding by the answers that it got (sections Provisioning,
@@ -24,7 +27,7 @@ const (
 	undeleted               // a deletion was answered with anything but a success
 )
 
-// A view is a belief, and from which request it comes.
+// A view is a belief, and the request that it is of.
 type view struct {
 	belief  belief
 	because fault.Exchange // the request whose answer has led to the belief
@@ -185,10 +188,79 @@ func kindOf(x fault.Exchange) kind {
 
 // is returns whether a kind is one of some.
 func (k kind) is(kinds ...kind) bool {
-	for _, it := range kinds {
-		if it == k {
+	for _, kind := range kinds {
+		if kind == k {
 			return true
 		}
 	}
 	return false
+}
+
+// compare finds what exists and the platform doesn't have, and the other way round. What the platform has is known from
+// its list. Without one, it follows from the answers that the platform got.
+func compare(found *result, keys []report.Key, existing map[report.Key]bool, listed list) {
+	add := func(key report.Key, kind run.DifferenceKind, what string) {
+		found.Differences = append(found.Differences, run.Difference{Key: key, Kind: kind, What: what})
+	}
+	for _, key := range keys {
+		v, exists := found.views[key], existing[key]
+		has, isListed := listed.of(key)
+		switch {
+		case exists && !has && v.isGoing() && v.last.Begun > found.calm:
+			add(key, run.Stuck, "the platform still works on it. "+v.lastRequest())
+		case isListed && exists && !has:
+			add(key, run.Lost, "it exists, and the platform doesn't have it. "+v.reason())
+		case isListed && has && !exists:
+			add(key, run.False, "the platform has it, and it doesn't exist. "+v.reason())
+		case isListed && has && isUncertain(v.belief):
+			add(key, run.False, "the platform has it, and no answer says that it exists. "+v.reason())
+		case isListed || !exists:
+		case v.belief == ready:
+			add(key, run.Present, v.lastRequest())
+		default:
+			add(key, run.Lost, "it exists. "+v.reason())
+		}
+	}
+	sort.SliceStable(found.Differences, func(one, other int) bool {
+		return found.Differences[one].Kind < found.Differences[other].Kind
+	})
+}
+
+// isGoing returns whether the platform waits for the end of an operation, or tries to delete.
+func (v view) isGoing() bool {
+	return v.belief == creating || v.belief == deleting || v.belief == undeleted || v.tried
+}
+
+// reason says what the platform did last, and what the standard says about that.
+func (v view) reason() string {
+	got := answerText(v.because)
+	switch v.belief {
+	case creating, deleting:
+		return got + ", and the platform has stopped polling"
+	case doubtful:
+		if v.tried {
+			return fmt.Sprintf("%s, and so the standard asks for a deletion. The last one, %s, got %s, and wasn't repeated",
+				got, v.last.Number, v.last.Got.Words)
+		}
+		return got + ", and so the standard asks for a deletion. None was sent"
+	case rejected, unclear:
+		return got + ". The standard asks for no deletion then"
+	case undeleted:
+		return answerText(v.last) + ", and the platform hasn't repeated it"
+	}
+	return v.lastRequest()
+}
+
+// lastRequest says what the platform did last.
+func (v view) lastRequest() string {
+	return "The platform's last request: " + answerText(v.last)
+}
+
+// answerText says what the platform got in answer to a request.
+func answerText(x fault.Exchange) string {
+	unread := ""
+	if x.Got.Status >= 200 && x.Got.Status < 300 && objectOf(x.Got) == nil {
+		unread = " that can't be read"
+	}
+	return fmt.Sprintf("%s (%s) got %s%s", x.Number, x.Method, x.Got.Words, unread)
 }

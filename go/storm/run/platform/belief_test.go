@@ -1,6 +1,7 @@
 package platform
 
 import (
+	"fmt"
 	"net/http"
 	"strings"
 	"testing"
@@ -8,11 +9,12 @@ import (
 
 	"pippinterm/storm/fault"
 	"pippinterm/storm/report"
+	"pippinterm/storm/run"
 )
 
-// asked is a request about the instance one, or the binding of it, with what the platform got. A body of "" is one that
-// was cut.
-func asked(method, path string, status int, body string) fault.Exchange {
+// requestWith is a request about the instance one, or the binding of it, with what the platform got. A body of "" is
+// one that was cut.
+func requestWith(method, path string, status int, body string) fault.Exchange {
 	x := fault.Exchange{
 		Number: fault.Number{Place: fault.Place{Instance: 1}, Request: 1}, Method: method, Instance: "one",
 		Target: "/v2/service_instances/one" + path, Fault: fault.None,
@@ -35,7 +37,7 @@ func one(all ...fault.Exchange) []fault.Exchange {
 
 // The answers to a Provision, by the table of the section Orphan Mitigation.
 func TestOrphanMitigation(t *testing.T) {
-	for _, it := range []struct {
+	for _, test := range []struct {
 		status int
 		body   string
 		wanted belief
@@ -45,32 +47,34 @@ func TestOrphanMitigation(t *testing.T) {
 		{400, "{}", rejected}, {404, "x", rejected}, {408, "{}", unclear}, {409, "{}", rejected}, {422, "{}", rejected},
 		{499, "", rejected}, {500, "{}", doubtful}, {599, "", doubtful}, {0, "", doubtful},
 	} {
-		for path, key := range map[string]report.Key{
-			"": {Instance: "one"}, "/service_bindings/two": {Instance: "one", Binding: "two"},
-		} {
-			views := viewsOf(one(asked(http.MethodPut, path, it.status, it.body)))
-			if got := views[key].belief; got != it.wanted || len(views) != 1 {
-				t.Errorf("%d %q: %d", it.status, it.body, got)
+		t.Run(fmt.Sprintf("%d %q", test.status, test.body), func(t *testing.T) {
+			for path, key := range map[string]report.Key{
+				"": {Instance: "one"}, "/service_bindings/two": {Instance: "one", Binding: "two"},
+			} {
+				views := viewsOf(one(requestWith(http.MethodPut, path, test.status, test.body)))
+				if got := views[key].belief; got != test.wanted || len(views) != 1 {
+					t.Errorf("%d %q: got the belief %d, want %d of one instance", test.status, test.body, got, test.wanted)
+				}
 			}
-		}
+		})
 	}
 }
 
-// An answer that was cut can't be read, even if what has come is an object.
+// An answer that was cut can't be read, even if what has arrived is an object.
 func TestCutObject(t *testing.T) {
 	if got := creationAnswered(fault.Got{Status: 201, Body: []byte("{}")}); got != doubtful {
-		t.Errorf("%d", got)
+		t.Errorf("got the belief %d, want %d", got, doubtful)
 	}
 }
 
 // What the platform can know after several requests.
 func TestViews(t *testing.T) {
-	put := func(status int) fault.Exchange { return asked(http.MethodPut, "", status, "{}") }
-	remove := func(status int) fault.Exchange { return asked(http.MethodDelete, "?a=b", status, "{}") }
+	put := func(status int) fault.Exchange { return requestWith(http.MethodPut, "", status, "{}") }
+	remove := func(status int) fault.Exchange { return requestWith(http.MethodDelete, "?a=b", status, "{}") }
 	polled := func(status int, state string) fault.Exchange {
-		return asked(http.MethodGet, "/last_operation", status, `{"state": "`+state+`"}`)
+		return requestWith(http.MethodGet, "/last_operation", status, `{"state": "`+state+`"}`)
 	}
-	for name, it := range map[string]struct {
+	for name, test := range map[string]struct {
 		all    []fault.Exchange
 		wanted belief
 		tried  bool
@@ -100,14 +104,16 @@ func TestViews(t *testing.T) {
 		"repeated, no more":      {one(put(201), put(422)), ready, false},
 		"rejected, then again":   {one(put(400), put(500)), doubtful, false},
 		"repeated, then a 410":   {one(put(500), remove(500), put(201), polled(410, "")), ready, false},
-		"fetched":                {one(put(500), asked(http.MethodGet, "", 200, "{}")), ready, false},
-		"not fetched":            {one(put(500), asked(http.MethodGet, "", 404, "{}")), doubtful, false},
+		"fetched":                {one(put(500), requestWith(http.MethodGet, "", 200, "{}")), ready, false},
+		"not fetched":            {one(put(500), requestWith(http.MethodGet, "", 404, "{}")), doubtful, false},
 		"again after deletion":   {one(put(500), remove(500), remove(200), put(500)), doubtful, false},
 	} {
-		got := viewsOf(it.all)[report.Key{Instance: "one"}]
-		if got.belief != it.wanted || got.tried != it.tried {
-			t.Errorf("%s: %d, tried %v", name, got.belief, got.tried)
-		}
+		t.Run(name, func(t *testing.T) {
+			got := viewsOf(test.all)[report.Key{Instance: "one"}]
+			if got.belief != test.wanted || got.tried != test.tried {
+				t.Errorf("%s: got %d, tried %v, want %d, %v", name, got.belief, got.tried, test.wanted, test.tried)
+			}
+		})
 	}
 }
 
@@ -115,10 +121,10 @@ func TestViews(t *testing.T) {
 func TestCompare(t *testing.T) {
 	key := report.Key{Instance: "one"}
 	yes, no := map[report.Key]bool{key: true}, map[report.Key]bool{}
-	put := func(status int) []fault.Exchange { return one(asked(http.MethodPut, "", status, "{}")) }
-	kept := one(append(put(201), asked(http.MethodDelete, "", 500, "{}"))...)
-	mitigated := one(append(put(500), asked(http.MethodDelete, "", 500, "{}"))...)
-	for name, it := range map[string]struct {
+	put := func(status int) []fault.Exchange { return one(requestWith(http.MethodPut, "", status, "{}")) }
+	kept := one(append(put(201), requestWith(http.MethodDelete, "", 500, "{}"))...)
+	mitigated := one(append(put(500), requestWith(http.MethodDelete, "", 500, "{}"))...)
+	for name, test := range map[string]struct {
 		all      []fault.Exchange
 		calm     time.Duration
 		existing map[report.Key]bool
@@ -146,23 +152,24 @@ func TestCompare(t *testing.T) {
 		"not listed, nothing":      {put(500), 0, no, list{instances: no}, ""},
 		"a list of bindings alone": {put(201), 0, yes, list{bindings: no}, "exists"},
 	} {
-		found := &result{views: viewsOf(it.all), calm: it.calm}
-		compare(found, []report.Key{key}, it.existing, it.listed)
-		got := ""
-		for kind, all := range map[string][]report.Found{
-			"exists": found.exists, "abandoned": found.abandoned, "false": found.false, "stuck": found.stuck,
-		} {
-			if len(all) > 0 {
-				got += kind
+		t.Run(name, func(t *testing.T) {
+			found := &result{views: viewsOf(test.all), calm: test.calm}
+			compare(found, []report.Key{key}, test.existing, test.listed)
+			names := map[run.DifferenceKind]string{
+				run.Present: "exists", run.Lost: "abandoned", run.False: "false", run.Stuck: "stuck",
 			}
-		}
-		if got != it.wanted {
-			t.Errorf("%s: %q", name, got)
-		}
+			got := ""
+			for _, difference := range found.Differences {
+				got += names[difference.Kind]
+			}
+			if got != test.wanted {
+				t.Errorf("%s: got %q, want %q", name, got, test.wanted)
+			}
+		})
 	}
 }
 
-// A method and a path are told apart from all others.
+// A method and a path are distinguished from all others.
 func TestKinds(t *testing.T) {
 	for text, wanted := range map[string]kind{
 		"GET /v2/catalog": catalogue, "POST /v2/catalog": other, "PUT /v2/service_instances/a": provision,
@@ -179,34 +186,36 @@ func TestKinds(t *testing.T) {
 	} {
 		method, target, _ := strings.Cut(text, " ")
 		if got := kindOf(fault.Exchange{Method: method, Target: target}); got != wanted {
-			t.Errorf("%s: %d", text, got)
+			t.Errorf("%s: got the kind %d, want %d", text, got, wanted)
 		}
 	}
 }
 
 // A deletion without ids breaks the rule, whether its instance is known or not, and so does one with others.
 func TestIDs(t *testing.T) {
-	put := asked(http.MethodPut, "", 201, "{}")
+	put := requestWith(http.MethodPut, "", 201, "{}")
 	put.Body = []byte(`{"service_id": "s", "plan_id": "p", "organization_guid": "o", "space_guid": "s"}`)
 	for query, wanted := range map[string]string{
 		"?accepts_incomplete=true": "service_id is missing", "?service_id=s": "plan_id is missing",
 		"?service_id=s&plan_id=q": "plan_id isn't that of the instance", "?service_id=s&plan_id=p": "",
 	} {
-		for _, all := range [][]fault.Exchange{
-			one(put, asked(http.MethodDelete, query, 200, "{}")), one(asked(http.MethodDelete, query, 410, "{}")),
-		} {
-			if len(all) == 1 && query == "?service_id=s&plan_id=q" {
-				continue
-			}
-			reason := ""
-			for _, it := range judge(all, viewsOf(all)) {
-				if it.Name == "deprovision-ids" {
-					reason = it.Reason
+		t.Run(query, func(t *testing.T) {
+			for _, all := range [][]fault.Exchange{
+				one(put, requestWith(http.MethodDelete, query, 200, "{}")), one(requestWith(http.MethodDelete, query, 410, "{}")),
+			} {
+				if len(all) == 1 && query == "?service_id=s&plan_id=q" {
+					continue
+				}
+				reason := ""
+				for _, violation := range judge(all, viewsOf(all)) {
+					if violation.Name == "deprovision-ids" {
+						reason = violation.Reason
+					}
+				}
+				if reason != wanted {
+					t.Errorf("%s: got the reason %q, want %q", query, reason, wanted)
 				}
 			}
-			if reason != wanted {
-				t.Errorf("%s: %q", query, reason)
-			}
-		}
+		})
 	}
 }

@@ -75,14 +75,14 @@ func (s *shop) openJournal(below string, catalogue *broker.Catalogue, rules brok
 	if below == "" {
 		return nil, nil
 	}
-	started, err := journal.Started(cli.Version(), catalogue.Document(), rules, s.backend.Locks().CanBeLost())
+	started, err := journal.StartMembers(cli.Version(), catalogue.Document(), rules, s.backend.Locks().CanBeLost())
 	if err != nil {
 		return nil, err
 	}
 	s.writer, err = journalfile.Open(journalfile.Options{
 		Path: filepath.Join(below, "broker") + "/", Side: "broker", Most: 64 << 20, Started: started,
 		Failed: func(err error) {
-			s.Failed(broker.Failure{Event: "journal_failed", Err: fmt.Errorf("lines are lost: %w", err)})
+			s.OnFailure(broker.Failure{Event: "journal_failed", Err: fmt.Errorf("lines are lost: %w", err)})
 		},
 	})
 	if err != nil {
@@ -100,7 +100,7 @@ func (s *shop) serve(ctx context.Context, service *broker.Service, config broker
 	if err != nil {
 		return err
 	}
-	listener, err := httpserver.Listen(ctx, "127.0.0.1:0", httpserver.Options{Observer: s})
+	listener, err := httpserver.Listen(ctx, "127.0.0.1:0", httpserver.Options{Observer: broker.ServerObserver(s)})
 	if err != nil {
 		return err
 	}
@@ -138,8 +138,8 @@ func (s *shop) closeFiles() error {
 	return err
 }
 
-// Failed notes what went wrong with the broker.
-func (s *shop) Failed(f broker.Failure) {
+// OnFailure notes what went wrong with the broker.
+func (s *shop) OnFailure(f broker.Failure) {
 	if f.IsRejection {
 		return
 	}
@@ -168,16 +168,16 @@ func (s *shop) rest(ctx context.Context) error {
 }
 
 func (s *shop) isWorking(ctx context.Context) (bool, error) {
-	unfinished, err := s.store.Unfinished(ctx)
+	unfinished, err := s.store.UnfinishedKeys(ctx)
 	if err != nil {
 		return false, err
 	}
 	for _, key := range unfinished {
-		held, err := s.store.Read(ctx, key)
+		snapshot, err := s.store.Read(ctx, key)
 		if err != nil {
 			return false, err
 		}
-		if row, isHeld := held.Holding.Row(); held.IsUnfinished() && !(isHeld && row.Phase == osb.PhaseWaiting) {
+		if row, isHeld := snapshot.Holding.Row(); snapshot.IsUnfinished() && !(isHeld && row.Phase == osb.PhaseWaiting) {
 			return true, nil
 		}
 	}

@@ -85,18 +85,19 @@ var (
 		Expected: "the deletion again, until it is answered with a success"}
 )
 
-// judge returns the first request that breaks each rule, with the numbers of all that break it, in the order in which the requests began.
-func judge(exchanges []fault.Exchange, now map[report.Key]view) []report.Broken {
+// judge returns the first request that breaks each rule, with the numbers of all that break it, in the order in which
+// the requests began.
+func judge(exchanges []fault.Exchange, now map[report.Key]view) []report.Violation {
 	b := &breaches{}
 	w := &world{views: map[report.Key]view{}, ids: map[report.Key]ids{}}
 	for _, x := range exchanges {
 		r := requestOf(x)
-		for _, it := range rules() {
-			if len(it.kinds) > 0 && !r.kind.is(it.kinds...) {
+		for _, rule := range rules() {
+			if len(rule.kinds) > 0 && !r.kind.is(rule.kinds...) {
 				continue
 			}
-			if why := it.breaks(r, w); why != "" {
-				b.add(it.Case, why, x)
+			if why := rule.breaks(r, w); why != "" {
+				b.add(rule.Case, why, x)
 			}
 		}
 		w.learn(r)
@@ -143,20 +144,20 @@ func (b *breaches) add(of conform.Case, why string, x fault.Exchange) {
 // addMitigations adds what was never cleaned up.
 func (b *breaches) addMitigations(now map[report.Key]view) {
 	var open []view
-	for _, it := range now {
-		if it.belief == doubtful {
-			open = append(open, it)
+	for _, view := range now {
+		if view.belief == doubtful {
+			open = append(open, view)
 		}
 	}
 	sort.Slice(open, func(one, other int) bool { return open[one].because.Begun < open[other].because.Begun })
-	for _, it := range open {
+	for _, view := range open {
 		switch {
-		case it.tried:
-			b.add(repeats, fmt.Sprintf("%s got %s, and no further one followed", it.last.Method, it.last.Got.Words), it.last)
-		case it.because.Binding != "":
-			b.add(mitigatesBind, "no Unbind followed", it.because)
+		case view.tried:
+			b.add(repeats, fmt.Sprintf("%s got %s, and no further one followed", view.last.Method, view.last.Got.Words), view.last)
+		case view.because.Binding != "":
+			b.add(mitigatesBind, "no Unbind followed", view.because)
 		default:
-			b.add(mitigates, "no Deprovision followed", it.because)
+			b.add(mitigates, "no Deprovision followed", view.because)
 		}
 	}
 }
@@ -205,8 +206,8 @@ func breaksVersion(r request, _ *world) string {
 }
 
 func breaksLogin(r request, _ *world) string {
-	for _, it := range r.Deliveries {
-		if it.Status == http.StatusUnauthorized {
+	for _, delivery := range r.Deliveries {
+		if delivery.Status == http.StatusUnauthorized {
 			return "the broker answered 401"
 		}
 	}
@@ -214,8 +215,8 @@ func breaksLogin(r request, _ *world) string {
 }
 
 func breaksIdentity(r request, _ *world) string {
-	for _, it := range r.Header[http.CanonicalHeaderKey(osb.OriginatingIdentityHeader)] {
-		if _, err := osb.OriginatingIdentity(it); err != nil {
+	for _, value := range r.Header[http.CanonicalHeaderKey(osb.OriginatingIdentityHeader)] {
+		if _, err := osb.OriginatingIdentity(value); err != nil {
 			return "the header has another form"
 		}
 	}
@@ -235,9 +236,9 @@ func breaksBody(members ...string) func(request, *world) string {
 		if r.body == nil {
 			return "the body isn't a JSON object"
 		}
-		for _, it := range members {
-			if textIn(r.body, it) == "" {
-				return it + " is missing, empty, or no string"
+		for _, member := range members {
+			if textIn(r.body, member) == "" {
+				return member + " is missing, empty, or no string"
 			}
 		}
 		return ""
@@ -246,20 +247,20 @@ func breaksBody(members ...string) func(request, *world) string {
 
 func breaksIDs(r request, w *world) string {
 	wanted, isKnown := w.ids[report.Key{Instance: r.Instance}]
-	for _, it := range []struct{ name, wanted string }{{"service_id", wanted.service}, {"plan_id", wanted.plan}} {
-		switch given := r.query.Get(it.name); {
+	for _, test := range []struct{ name, wanted string }{{"service_id", wanted.service}, {"plan_id", wanted.plan}} {
+		switch given := r.query.Get(test.name); {
 		case given == "":
-			return it.name + " is missing"
-		case isKnown && it.wanted != "" && given != it.wanted:
-			return it.name + " isn't that of the instance"
+			return test.name + " is missing"
+		case isKnown && test.wanted != "" && given != test.wanted:
+			return test.name + " isn't that of the instance"
 		}
 	}
 	return ""
 }
 
 func breaksOrder(r request, w *world) string {
-	for key, it := range w.views {
-		if key.Instance == r.Instance && key.Binding != "" && it.belief == ready {
+	for key, view := range w.views {
+		if key.Instance == r.Instance && key.Binding != "" && view.belief == ready {
 			return "the platform has a binding of the instance, and got no answer that the binding is deleted"
 		}
 	}
@@ -270,9 +271,9 @@ func breaksIncomplete(r request, _ *world) string {
 	if r.query.Get("accepts_incomplete") == "true" {
 		return ""
 	}
-	for _, it := range r.Deliveries {
+	for _, delivery := range r.Deliveries {
 		var answer struct{ Error string }
-		if it.Status == http.StatusUnprocessableEntity && json.Unmarshal(it.Body, &answer) == nil &&
+		if delivery.Status == http.StatusUnprocessableEntity && json.Unmarshal(delivery.Body, &answer) == nil &&
 			answer.Error == "AsyncRequired" {
 			return "the broker answered AsyncRequired"
 		}

@@ -1,13 +1,23 @@
+// Package platform is a storm for a platform of anyone's: a broker that sells folders of its own, behind a proxy
+// that loses, delays, repeats and garbles messages. At the end it finds what exists and the platform has abandoned, and
+// which requests break the standard.
 package platform
 
 import (
 	"context"
+	"errors"
 	"fmt"
+	"io"
 	"os"
+	"strings"
+	"sync"
+	"syscall"
 	"time"
 
+	"pippinterm/storm/conform"
 	"pippinterm/storm/fault"
 	"pippinterm/storm/report"
+	"pippinterm/storm/run"
 	"pippinterm/storm/run/shell"
 )
 
@@ -21,8 +31,8 @@ type Storm struct {
 	source  *fault.Source
 	places  *places
 	events  []report.Event
-	// restTime is how long the operations of the broker may take once no request comes, and how long the last look may take
-	// after a signal. Tests lower it.
+	// restTime is how long the operations of the broker may take once no request arrives, and how long the last look
+	// may take after a signal. Tests lower it.
 	restTime time.Duration
 }
 
@@ -35,7 +45,7 @@ func Start(ctx context.Context, config Config) (s *Storm, err error) {
 		return nil, err
 	}
 	s = &Storm{
-		config: config, journal: fault.NewJournal(), places: newPlaces(), source: sourceOf(config),
+		config: config, journal: fault.NewJournal(), places: newPlaces(), source: config.Source(fault.StandardWeights(false)),
 		restTime: 2*config.OperationTime + 10*time.Second,
 	}
 	if s.folder, err = os.MkdirTemp(config.Folder, "osb-storm-"); err != nil {
@@ -45,7 +55,7 @@ func Start(ctx context.Context, config Config) (s *Storm, err error) {
 		return nil, either(err, os.RemoveAll(s.folder))
 	}
 	s.proxy, err = fault.Listen(fault.Config{
-		Address: config.Address, Broker: s.shop.address, Source: s.source, Journal: s.journal, Place: s.places.place,
+		Address: config.Address, Broker: s.shop.address, Source: s.source, Journal: s.journal, Place: s.places.Place,
 		ForwardsOthers: true, RequestTime: config.RequestTime, Late: config.Late,
 		AnswerTime: config.RequestTime + config.RequestTime/10 + config.OperationTime + time.Second,
 	})
@@ -53,13 +63,6 @@ func Start(ctx context.Context, config Config) (s *Storm, err error) {
 		return nil, either(err, s.shop.close(), os.RemoveAll(s.folder))
 	}
 	return s, nil
-}
-
-func sourceOf(c Config) *fault.Source {
-	if c.List != nil {
-		return fault.ByList(c.Seed, c.List)
-	}
-	return fault.BySeed(c.Seed, c.Share, fault.StandardWeights(false))
 }
 
 // URL returns where the platform reaches the broker.
@@ -71,49 +74,71 @@ func (s *Storm) Close() error {
 	return either(s.shop.close(), os.RemoveAll(s.folder))
 }
 
-// Run starts the order command, waits for the first request about an instance, has faults befall the requests for a time
-// or until the command has ended, waits until the platform has cleaned up, and returns what it has abandoned. If
-// MinimizeTime is above 0 and something was abandoned or a record was false, further runs at the same address shrink the
-// list of faults. If ctx is done, the run ends at once. Afterwards no request is answered any more.
-func (s *Storm) Run(ctx context.Context) *Report {
-	found := s.once(ctx)
-	report := s.report(found)
-	if s.config.MinimizeTime > 0 && found.isLoser() && len(found.failed) == 0 && ctx.Err() == nil {
-		s.minimize(ctx, found, report)
+// Run starts the order command, waits for the first request about an instance, has faults befall the requests for a
+// time or until the command has ended, waits until the platform has cleaned up, and returns what it has abandoned. If
+// MinimizeTime is above 0 and something was abandoned or a record was false, further runs at the same address shrink
+// the list of faults. If ctx is done, the run ends at once. Afterwards no request is answered any more.
+func (s *Storm) Run(ctx context.Context) *run.Report {
+	into := s.newReport()
+	once := func(ctx context.Context, of *report.Candidate) (*run.Result, error) {
+		if of == nil {
+			return s.once(ctx), nil
+		}
+		return s.again(ctx, of.List)
 	}
-	if ctx.Err() != nil {
-		report.Ended = endedBefore
+	stop := func(err error) {
+		to := &into.Failed
+		if errors.Is(err, errIdle) {
+			to = &into.Notes
+		}
+		*to = append(*to, err.Error())
 	}
-	return report
+	_ = run.Core{Config: s.config.Config, Report: into, Once: once, Stop: stop}.Run(ctx) // no first run returns an error
+	return into
 }
 
-// endedBefore is why a run was ended by a signal.
-const endedBefore = "the run was ended before"
+// newReport returns the report of the Storm.
+func (s *Storm) newReport() *run.Report {
+	into := run.NewReport(s.URL(), s.config.Seed, s.config.User, s.config.Password)
+	into.IsOfPlatform, into.FirstPoll, into.Inventory = true, s.config.FirstPoll, knownByRequests
+	if s.config.Commands.List != "" {
+		into.Inventory = knownByList
+	}
+	return into
+}
+
+// The ways in which it is known what the platform has.
+const (
+	knownByList     = "the list command was run"
+	knownByRequests = "from the platform's requests alone: give --list-command to ask the platform"
+)
 
 // once is the run of the Storm.
-func (s *Storm) once(ctx context.Context) *result {
-	found := &result{}
+func (s *Storm) once(ctx context.Context) *run.Result {
+	found := &result{Result: run.Result{Keys: s.places, OrdersAll: true}}
 	ordering, err := startOrders(s.config.Commands.Order, s.URL())
 	if err != nil {
-		found.ended, found.failed = "the order command can't be run", append(found.failed, err.Error())
+		found.Ended, found.Failed = "the order command can't be run", append(found.Failed, err.Error())
 	} else {
-		found.ended = s.storm(ctx, ordering.ended())
+		found.Ended = s.storm(ctx, ordering.done())
 	}
-	if found.ended == "" {
+	if found.Ended == "" {
 		s.source.End()
 		s.note("ends the faults")
 		calm := s.journal.Now()
 		found.calm = calm
-		found.took, found.settled = s.settle(ctx, calm)
+		found.Took, found.Converged = s.settle(ctx, calm)
 	}
 	if ctx.Err() != nil {
-		found.ended = endedBefore
+		found.Ended = run.EndedBefore
 	}
 	hadEnded := ordering.hasEnded()
 	s.finish(ctx, found)
 	s.endOrders(ordering, hadEnded, found)
-	found.failed = append(found.failed, s.shop.failures()...)
-	return found
+	found.Failed = append(found.Failed, s.shop.failures()...)
+	found.Events, found.Given, found.Unmet = s.events, s.source.Faults(), s.source.Unmet()
+	found.Broken = judge(found.Exchanges, found.views)
+	return &found.Result
 }
 
 // finish ends the requests, and looks at what is left.
@@ -122,23 +147,23 @@ func (s *Storm) finish(ctx context.Context, found *result) {
 	within, cancel := context.WithTimeout(context.Background(), s.restTime)
 	defer cancel()
 	if err := s.shop.rest(within); err != nil {
-		found.failed = append(found.failed, err.Error())
+		found.Failed = append(found.Failed, err.Error())
 	}
 	s.lookLast(ctx, found)
-	if found.ended != "" { // nobody has waited
-		found.stuck = nil
+	if found.Ended != "" { // nobody has waited
+		found.LeaveOut(run.Stuck)
 	}
 }
 
 // lookLast looks at what is left. Each list command has a limit of its own. Once ctx is done, all of it has restTime.
 func (s *Storm) lookLast(ctx context.Context, found *result) {
-	failed := found.failed
+	failed := found.Failed
 	if ctx.Err() == nil {
 		s.look(ctx, found)
-		if ctx.Err() == nil || len(found.failed) == len(failed) {
+		if ctx.Err() == nil || len(found.Failed) == len(failed) {
 			return
 		}
-		found.failed, found.ended = failed, endedBefore
+		found.Failed, found.Ended = failed, run.EndedBefore
 	}
 	within, cancel := context.WithTimeout(context.Background(), s.restTime)
 	defer cancel()
@@ -173,7 +198,7 @@ func (s *Storm) storm(ctx context.Context, ordered <-chan struct{}) string {
 }
 
 // settle waits until nothing is open any more, at most for the time to settle. It returns how long that took, and
-// whether it came about.
+// whether that happened.
 func (s *Storm) settle(ctx context.Context, calm time.Duration) (took time.Duration, settled bool) {
 	within, cancel := context.WithTimeout(ctx, s.config.SettleTime)
 	defer cancel()
@@ -190,45 +215,36 @@ func (s *Storm) settle(ctx context.Context, calm time.Duration) (took time.Durat
 // isSettled returns whether nothing would be found now, and the platform doesn't wait for an operation.
 func (s *Storm) isSettled(ctx context.Context, calm time.Duration) bool {
 	exchanges := s.journal.Exchanges()
-	for _, it := range viewsOf(exchanges) {
-		if it.belief == creating || it.belief == deleting || it.belief == doubtful || it.belief == undeleted {
+	for _, view := range viewsOf(exchanges) {
+		if view.belief == creating || view.belief == deleting || view.belief == doubtful || view.belief == undeleted {
 			return false
 		}
 	}
 	found := &result{calm: calm}
 	s.look(ctx, found)
-	return len(found.failed) == 0 && len(found.abandoned) == 0 && len(found.false) == 0 && s.proxy.Pending() == 0
+	return len(found.Failed) == 0 && !found.IsLoser() && s.proxy.Pending() == 0
 }
 
-// A result is what a run has come to.
+// A result is the result of a run, and what was known on the way.
 type result struct {
-	ended            string
-	calm, took       time.Duration // when the faults ended, and until nothing was open
-	settled          bool
-	exchanges        []fault.Exchange
-	views            map[report.Key]view
-	abandoned, false []report.Found
-	stuck            []report.Found // what the platform still works on
-	exists           []report.Found // what exists, without a list command
-	failed           []string
+	run.Result
+	calm  time.Duration // when the faults ended
+	views map[report.Key]view
 }
-
-// isLoser returns whether something was abandoned, or a record was false.
-func (r *result) isLoser() bool { return len(r.abandoned)+len(r.false) > 0 }
 
 // look compares what exists with what the platform has.
 func (s *Storm) look(ctx context.Context, found *result) {
-	found.exchanges = s.journal.Exchanges()
-	found.views = viewsOf(found.exchanges)
-	keys := s.places.keys()
+	found.Exchanges = s.journal.Exchanges()
+	found.views = viewsOf(found.Exchanges)
+	keys := s.places.All()
 	existing, err := s.shop.existing(ctx, keys)
 	if err != nil {
-		found.failed = append(found.failed, "what exists can't be seen: "+err.Error())
+		found.Failed = append(found.Failed, "what exists can't be seen: "+err.Error())
 		return
 	}
-	listed, err := s.listed(ctx)
+	listed, err := s.readLists(ctx)
 	if err != nil {
-		found.failed = append(found.failed, err.Error())
+		found.Failed = append(found.Failed, err.Error())
 		return
 	}
 	compare(found, keys, existing, listed)
@@ -245,26 +261,26 @@ func (l list) of(key report.Key) (has, isKnown bool) {
 	return l.instances[key], l.instances != nil
 }
 
-func (s *Storm) listed(ctx context.Context) (l list, err error) {
-	for _, it := range []struct {
+func (s *Storm) readLists(ctx context.Context) (l list, err error) {
+	for _, test := range []struct {
 		to      *map[report.Key]bool
 		command string
 		ids     int
 	}{{&l.instances, s.config.Commands.List, 1}, {&l.bindings, s.config.Commands.ListBindings, 2}} {
-		if it.command == "" {
+		if test.command == "" {
 			continue
 		}
-		rows, err := shell.Rows(ctx, it.command, it.ids)
+		rows, err := shell.Rows(ctx, test.command, test.ids)
 		if err != nil {
-			return list{}, fmt.Errorf("the command %q: %w", it.command, err)
+			return list{}, fmt.Errorf("the command %q: %w", test.command, err)
 		}
-		*it.to = map[report.Key]bool{}
+		*test.to = map[report.Key]bool{}
 		for _, words := range rows {
 			key := report.Key{Instance: words[0]}
-			if it.ids == 2 {
+			if test.ids == 2 {
 				key.Binding = words[1]
 			}
-			(*it.to)[key] = true
+			(*test.to)[key] = true
 		}
 	}
 	return l, nil
@@ -272,10 +288,227 @@ func (s *Storm) listed(ctx context.Context) (l list, err error) {
 
 // either returns the first error that isn't nil.
 func either(all ...error) error {
-	for _, it := range all {
-		if it != nil {
-			return it
+	for _, err := range all {
+		if err != nil {
+			return err
 		}
 	}
 	return nil
+}
+
+// A Config says where a Storm listens, and within which limits. Folder is the one in which that of the broker is
+// created.
+type Config struct {
+	run.Config
+	Address        string // HOST:PORT, where the platform reaches the broker
+	User, Password string // with which the platform logs in
+	FirstPoll      bool   // the broker creates an instance of an asynchronous plan only once it is polled
+	OperationTime  time.Duration
+	WaitTime       time.Duration // for the first request about an instance
+	Commands       Commands
+	Warnings       io.Writer // gets the last lines of an order command that fails, or orders nothing; or nil
+}
+
+// Commands are commands of the shell. Each may be empty. The lists are of what the platform has.
+type Commands struct {
+	run.Lists
+	Order string // has the platform create and delete instances and bindings, with urlVariable in its environment
+}
+
+func (c Config) check() error {
+	if c.MinimizeTime > 0 && c.Commands.Order == "" {
+		return errors.New("--minimize needs --order-command: in each further run, the platform has to order the same again")
+	}
+	return either(c.Commands.Lists.Check(), c.Config.Check("this broker isn't restarted", c.WaitTime, c.OperationTime))
+}
+
+// urlVariable is the variable in which the order command gets the URL of the broker, without /v2.
+const urlVariable = "OSB_STORM_URL"
+
+// nothingOrdered is why a run has ended whose order command ended too early.
+const nothingOrdered = "no request about an instance came until the order command ended"
+
+// orders are an order command that goes on while a storm does. A nil orders is none.
+type orders struct{ command *shell.Command }
+
+// startOrders starts an order command, or returns nil if its text is empty.
+func startOrders(text, url string) (*orders, error) {
+	if text == "" {
+		return nil, nil
+	}
+	command, err := shell.Start(text, urlVariable+"="+url)
+	if err != nil {
+		return nil, failedOrders(err)
+	}
+	return &orders{command}, nil
+}
+
+func failedOrders(err error) error { return fmt.Errorf("the order command has failed: %w", err) }
+
+// done returns a channel that is closed once the command has ended. It is nil if there is none.
+func (o *orders) done() <-chan struct{} {
+	if o == nil {
+		return nil
+	}
+	return o.command.Done()
+}
+
+// hasEnded returns whether the command has ended.
+func (o *orders) hasEnded() bool {
+	select {
+	case <-o.done():
+		return true
+	default:
+		return false
+	}
+}
+
+// endOrders kills what is left of the order command. If the command had ended while the broker listened, endOrders
+// notes if it had failed: one that fails later may fail because the broker is gone. If the command had failed, or has
+// ordered nothing, endOrders writes what it has printed last.
+func (s *Storm) endOrders(o *orders, hadEnded bool, found *result) {
+	if o == nil {
+		return
+	}
+	err := o.command.End()
+	isFailure := hadEnded && err != nil
+	if isFailure {
+		found.Failed = append(found.Failed, failedOrders(err).Error())
+	}
+	if isFailure || found.Ended == nothingOrdered {
+		s.warn(o.command.LastLines(), found.Exchanges)
+	}
+}
+
+// warn writes the last lines of the order command, if there are any. The exchanges are those of the run, whose
+// credentials the command may print.
+func (s *Storm) warn(lines []string, exchanges []fault.Exchange) {
+	if len(lines) == 0 || s.config.Warnings == nil {
+		return
+	}
+	hide := report.NewHider(s.config.User, s.config.Password, exchanges)
+	fmt.Fprintln(s.config.Warnings, "osb-storm: the last lines that the order command has printed:")
+	for _, line := range lines {
+		fmt.Fprintf(s.config.Warnings, "  %s\n", conform.Printable(hide.In(line)))
+	}
+}
+
+// places are the ids that the platform has named, with their Places in the order in which it has named them. Any number
+// of goroutines use them.
+type places struct {
+	mutex    sync.Mutex
+	of       map[report.Key]fault.Place
+	bindings map[string]int // of each instance
+	order    []report.Key
+	began    chan struct{} // is closed at the first request about an instance
+}
+
+var _ run.Keys = (*places)(nil)
+
+func newPlaces() *places {
+	return &places{
+		of: map[report.Key]fault.Place{}, bindings: map[string]int{}, began: make(chan struct{}),
+	}
+}
+
+// Place returns the Place of ids, which are new or known. It is false if a path names no instance.
+func (p *places) Place(instance, binding string) (fault.Place, bool) {
+	if instance == "" {
+		return fault.Place{}, false
+	}
+	p.mutex.Lock()
+	defer p.mutex.Unlock()
+	whole := p.instance(report.Key{Instance: instance})
+	if binding == "" {
+		return whole, true
+	}
+	key := report.Key{Instance: instance, Binding: binding}
+	if _, isKnown := p.of[key]; !isKnown {
+		p.bindings[instance]++
+		p.of[key] = fault.Place{Instance: whole.Instance, Binding: p.bindings[instance]}
+		p.order = append(p.order, key)
+	}
+	return p.of[key], true
+}
+
+// instance returns the Place of an instance. The mutex is locked.
+func (p *places) instance(key report.Key) fault.Place {
+	if _, isKnown := p.of[key]; !isKnown {
+		if len(p.of) == 0 {
+			close(p.began)
+		}
+		p.of[key] = fault.Place{Instance: p.instances() + 1}
+		p.order = append(p.order, key)
+	}
+	return p.of[key]
+}
+
+// instances returns how many instances are known. The mutex is locked.
+func (p *places) instances() (count int) {
+	for _, key := range p.order {
+		if key.Binding == "" {
+			count++
+		}
+	}
+	return count
+}
+
+// hasBegun returns whether a request about an instance has arrived.
+func (p *places) hasBegun() bool {
+	select {
+	case <-p.began:
+		return true
+	default:
+		return false
+	}
+}
+
+// All returns all keys, in the order in which the platform has named them.
+func (p *places) All() []report.Key {
+	p.mutex.Lock()
+	defer p.mutex.Unlock()
+	return append([]report.Key(nil), p.order...)
+}
+
+// errIdle is the error of a further run in which no request about an instance arrived: nothing could be abandoned in
+// it.
+var errIdle = errors.New("in a further run")
+
+// again is a further run, with a list of faults and with a broker that is empty and listens at the same address.
+//
+// Errors: errIdle; the run has failed; the broker can't be opened or closed.
+func (s *Storm) again(ctx context.Context, list []fault.Entry) (*run.Result, error) {
+	config := s.config
+	config.Address, config.MinimizeTime = strings.TrimPrefix(s.URL(), "http://"), 0
+	config.List = append([]fault.Entry{}, list...)
+	storm, err := startAgain(ctx, config)
+	if err != nil {
+		return nil, err
+	}
+	found := storm.once(ctx)
+	if err := storm.Close(); err != nil {
+		return nil, err
+	}
+	switch {
+	case len(found.Failed) > 0:
+		return nil, errors.New(found.Failed[0])
+	case found.Ended != "" && ctx.Err() == nil:
+		return nil, fmt.Errorf("%w, %s", errIdle, found.Ended)
+	}
+	return found, nil
+}
+
+// portTime is for how long an address may be in use that another Storm has left: a connection of any program may have
+// its port for a moment.
+const portTime = 5 * time.Second
+
+// startAgain is Start at an address that another Storm has left. The broker goes on until it is closed, and so doesn't
+// end with ctx.
+func startAgain(ctx context.Context, config Config) (*Storm, error) {
+	for until := time.Now().Add(portTime); ; {
+		storm, err := Start(context.Background(), config)
+		if !errors.Is(err, syscall.EADDRINUSE) || time.Now().After(until) || !fault.Sleep(ctx, lookEach) {
+			return storm, err
+		}
+	}
 }

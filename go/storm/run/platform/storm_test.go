@@ -1,51 +1,61 @@
 package platform
 
 import (
+	"bufio"
 	"bytes"
 	"context"
+	"encoding/json"
+	"errors"
 	"fmt"
 	"io"
+	"net"
 	"net/http"
 	"os"
 	"path/filepath"
+	"reflect"
 	"strings"
+	"sync"
+	"syscall"
 	"testing"
 	"time"
 
+	"pippinterm/broker"
 	"pippinterm/storm/conform"
-	faults "pippinterm/storm/fault"
-	stormreport "pippinterm/storm/report"
+	"pippinterm/storm/fault"
+	"pippinterm/storm/report"
+	"pippinterm/storm/run"
 	"pippinterm/storm/run/goods"
 )
 
-// configFor is a Config of short times. A platform without a mistake settles in a second or two, and on a busy machine in
-// the time to settle.
+// configFor is a Config of short times. A platform without a mistake settles in a second or two, and on a busy machine
+// in the time to settle.
 func configFor(t *testing.T) Config {
 	t.Helper()
 	return Config{
-		Address: "127.0.0.1:0", User: "platform", Password: "secret", OperationTime: 200 * time.Millisecond, Seed: 1,
-		Share: 0.5, RequestTime: 300 * time.Millisecond, Late: 600 * time.Millisecond, WaitTime: time.Minute,
-		Time: 3 * time.Second, SettleTime: time.Minute, Folder: t.TempDir(),
+		Config: run.Config{
+			Seed: 1, Share: 0.5, RequestTime: 300 * time.Millisecond, Late: 600 * time.Millisecond, Time: 3 * time.Second,
+			SettleTime: time.Minute, Folder: t.TempDir(),
+		},
+		Address: "127.0.0.1:0", User: "platform", Password: "secret", OperationTime: 200 * time.Millisecond,
+		WaitTime: time.Minute,
 	}
 }
 
-// stormed returns the report of a storm for a model with these mistakes.
-func stormed(t *testing.T, config Config, wrong mistakes, isListed bool) *Report {
+// runStorm returns the report of a storm for a model with these mistakes.
+func runStorm(t *testing.T, config Config, wrong mistakes, isListed bool) *run.Report {
 	t.Helper()
 	lists := t.TempDir()
 	if isListed {
 		config.Commands = commandsOf(lists)
 	}
 	storm, err := Start(context.Background(), config)
-	if err != nil {
-		t.Fatal(err)
-	}
+	check(t, err)
 	m := newModel(t, storm.URL(), wrong, config.RequestTime)
 	m.folder = lists
 	m.write()
 	ctx, cancel := context.WithCancel(context.Background())
-	// The last life has ended when the faults end. A request after that could come once the storm has seen that all is
-	// settled.
+	// The last life has ended when the faults end. A request after that could arrive once the storm has seen that all
+	// is settled.
 	sending, stop := context.WithTimeout(ctx, config.Time*7/10)
 	m.run(ctx, sending)
 	report := storm.Run(context.Background())
@@ -56,20 +66,18 @@ func stormed(t *testing.T, config Config, wrong mistakes, isListed bool) *Report
 		t.Error(err)
 	}
 	if files, err := os.ReadDir(config.Folder); err != nil || len(files) > 0 {
-		t.Errorf("%v %v are left in the folder", err, files)
+		t.Errorf("got %v %v left in the folder, want none", err, files)
 	}
 	if len(report.Failed) > 0 {
-		t.Errorf("%v", report.Failed)
+		t.Errorf("got the failures %v, want none", report.Failed)
 	}
 	return report
 }
 
-func textOf(t *testing.T, report *Report) string {
+func textOf(t *testing.T, report *run.Report) string {
 	t.Helper()
 	var text bytes.Buffer
-	if err := report.WriteText(&text); err != nil {
-		t.Fatal(err)
-	}
+	check(t, report.WriteText(&text))
 	return text.String()
 }
 
@@ -80,19 +88,19 @@ func TestNothingAbandoned(t *testing.T) {
 		isListed, firstPoll := n%2 == 0, n/2 == 0
 		t.Run(fmt.Sprint(isListed, firstPoll), func(t *testing.T) {
 			t.Parallel()
-			untilEnough(t, func(seed int64) *Report {
+			untilEnough(t, func(seed int64) *run.Report {
 				config := configFor(t)
 				config.Seed, config.FirstPoll = seed, firstPoll
-				report := stormed(t, config, mistakes{}, isListed)
-				if !report.IsClean() || len(report.Broken) > 0 || !report.Settled {
-					t.Error(textOf(t, report))
+				report := runStorm(t, config, mistakes{}, isListed)
+				if !report.IsClean() || len(report.Broken) > 0 || !report.Converged {
+					t.Errorf("got\n%s\nwant a clean report that has converged", textOf(t, report))
 				}
 				var page bytes.Buffer
 				if err := report.WriteHTML(&page); err != nil || strings.Count(page.String(), "<svg") != 1 {
-					t.Errorf("%v: the storm isn't drawn once", err)
+					t.Errorf("got %v, or not one picture of the storm, want one", err)
 				}
 				if isListed != (len(report.Exists) == 0) {
-					t.Errorf("%d are to be compared", len(report.Exists))
+					t.Errorf("got %d to be compared, want none exactly if they are listed", len(report.Exists))
 				}
 				return report
 			})
@@ -100,9 +108,9 @@ func TestNothingAbandoned(t *testing.T) {
 	}
 }
 
-// untilEnough calls run with one seed after the other, until enough has happened in all storms together: on a slow machine
-// less happens in each. It fails if it isn't enough after ten.
-func untilEnough(t *testing.T, run func(seed int64) *Report) {
+// untilEnough calls run with one seed after the other, until enough has happened in all storms together: on a slow
+// machine less happens in each. It fails if it isn't enough after ten.
+func untilEnough(t *testing.T, run func(seed int64) *run.Report) {
 	t.Helper()
 	var instances, bindings, requests, given int
 	for seed := int64(1); seed <= 10 && !t.Failed(); seed++ {
@@ -116,7 +124,8 @@ func untilEnough(t *testing.T, run func(seed int64) *Report) {
 		}
 	}
 	if !t.Failed() {
-		t.Errorf("%d instances, %d bindings, %d requests, %d faults", instances, bindings, requests, given)
+		t.Errorf("got %d instances, %d bindings, %d requests and %d faults, want a failure", instances, bindings, requests,
+			given)
 	}
 }
 
@@ -124,13 +133,13 @@ func untilEnough(t *testing.T, run func(seed int64) *Report) {
 const unhurried = 20 * time.Second
 
 // listOf is a list of faults: the same for each instance and its first binding.
-func listOf(kinds map[int]faults.Kind) []faults.Numbered {
-	list := []faults.Numbered{}
+func listOf(kinds map[int]fault.Kind) []fault.Entry {
+	list := []fault.Entry{}
 	for instance := 1; instance <= 500; instance++ {
 		for _, binding := range []int{0, 1} {
 			for request, kind := range kinds {
-				place := faults.Place{Instance: instance, Binding: binding}
-				list = append(list, faults.Numbered{Number: faults.Number{Place: place, Request: request}, Kind: kind})
+				place := fault.Place{Instance: instance, Binding: binding}
+				list = append(list, fault.Entry{Number: fault.Number{Place: place, Request: request}, Kind: kind})
 			}
 		}
 	}
@@ -140,75 +149,75 @@ func listOf(kinds map[int]faults.Kind) []faults.Numbered {
 // Each mistake is found and named: what is abandoned, what the platform has in vain, and which rule it breaks. Without
 // the mistake, the same faults leave nothing.
 func TestMistakes(t *testing.T) {
-	for name, it := range map[string]struct {
+	for name, test := range map[string]struct {
 		wrong     mistakes
-		kinds     map[int]faults.Kind // the faults of the requests about an instance, by their numbers
+		kinds     map[int]fault.Kind // the faults of the requests about an instance, by their numbers
 		isListed  bool
 		abandoned string // part of what the report says of something abandoned
 		false     string // part of what the report says of a false record
 		broken    string // the rule
 	}{
 		"forgets-timeout": {
-			wrong: mistakes{forgetsTimeout: true}, kinds: map[int]faults.Kind{1: faults.AnswerLost},
+			wrong: mistakes{forgetsTimeout: true}, kinds: map[int]fault.Kind{1: fault.AnswerLost},
 			abandoned: "(PUT) got a cut connection, and so the standard asks for a deletion. None was sent",
 			broken:    "mitigates-provision",
 		},
 		"forgets-timeout-listed": {
-			wrong: mistakes{forgetsTimeout: true}, kinds: map[int]faults.Kind{1: faults.AnswerLost}, isListed: true,
+			wrong: mistakes{forgetsTimeout: true}, kinds: map[int]fault.Kind{1: fault.AnswerLost}, isListed: true,
 			abandoned: "it exists, and the platform doesn't have it. ", broken: "mitigates-provision",
 		},
 		"forgets-what-never-came": {
-			wrong: mistakes{forgetsTimeout: true}, kinds: map[int]faults.Kind{1: faults.RequestLost}, isListed: true,
+			wrong: mistakes{forgetsTimeout: true}, kinds: map[int]fault.Kind{1: fault.RequestLost}, isListed: true,
 			broken: "mitigates-provision",
 		},
 		"forgets-errors": {
-			wrong: mistakes{forgetsErrors: true}, kinds: map[int]faults.Kind{1: faults.GatewayAfter},
+			wrong: mistakes{forgetsErrors: true}, kinds: map[int]fault.Kind{1: fault.GatewayAfter},
 			abandoned: "bytes, and so the standard asks for a deletion. None was sent", broken: "mitigates-provision",
 		},
 		"one-retry": {
 			wrong:     mistakes{oneRetry: true},
-			kinds:     map[int]faults.Kind{1: faults.AnswerLost, 2: faults.RequestLost, 3: faults.GatewayBefore},
+			kinds:     map[int]fault.Kind{1: fault.AnswerLost, 2: fault.RequestLost, 3: fault.GatewayBefore},
 			abandoned: "and wasn't repeated", broken: "repeats-mitigation",
 		},
 		"one-retry-of-a-removal": {
-			wrong: mistakes{oneRetry: true}, kinds: map[int]faults.Kind{2: faults.RequestLost, 3: faults.GatewayBefore},
+			wrong: mistakes{oneRetry: true}, kinds: map[int]fault.Kind{2: fault.RequestLost, 3: fault.GatewayBefore},
 			isListed: true, abandoned: "and the platform hasn't repeated it",
 		},
 		"takes-unread": {
-			wrong: mistakes{takesUnread: true}, kinds: map[int]faults.Kind{1: faults.AnswerGarbled}, isListed: true,
+			wrong: mistakes{takesUnread: true}, kinds: map[int]fault.Kind{1: fault.AnswerGarbled}, isListed: true,
 			false:  "bytes that can't be read, and so the standard asks for a deletion. None was sent",
 			broken: "mitigates-provision",
 		},
 		"stops-polling": {
-			wrong: mistakes{stopsPolling: true}, kinds: map[int]faults.Kind{2: faults.RequestLost},
+			wrong: mistakes{stopsPolling: true}, kinds: map[int]fault.Kind{2: fault.RequestLost},
 			abandoned: "and the platform has stopped polling",
 		},
 		"believes-pages": {
-			wrong: mistakes{believesPages: true}, kinds: map[int]faults.Kind{1: faults.PageAfter},
+			wrong: mistakes{believesPages: true}, kinds: map[int]fault.Kind{1: fault.PageAfter},
 			abandoned: "The standard asks for no deletion then",
 		},
 	} {
-		it := it
+		it := test
 		t.Run(name, func(t *testing.T) {
 			t.Parallel()
 			config := configFor(t)
 			config.List, config.Time, config.RequestTime = listOf(it.kinds), time.Second, unhurried
-			if report := stormed(t, config, mistakes{}, it.isListed); !report.IsClean() || len(report.Broken) > 0 {
-				t.Errorf("without the mistake:\n%s", textOf(t, report))
+			if report := runStorm(t, config, mistakes{}, it.isListed); !report.IsClean() || len(report.Broken) > 0 {
+				t.Errorf("without the mistake: got\n%s\nwant a clean report", textOf(t, report))
 			}
 			config.SettleTime = time.Second
-			report := stormed(t, config, it.wrong, it.isListed)
+			report := runStorm(t, config, it.wrong, it.isListed)
 			if missing := lacks(report, it.abandoned, it.false, it.broken); missing != "" {
-				t.Errorf("%s\n%s", missing, textOf(t, report))
+				t.Errorf("got a report without %s, want it there:\n%s", missing, textOf(t, report))
 			}
 		})
 	}
 }
 
 // lacks returns what a report lacks of these, or "".
-func lacks(report *Report, abandoned, false, broken string) string {
+func lacks(report *run.Report, abandoned, false, broken string) string {
 	switch {
-	case !strings.Contains(whats(report.Abandoned), abandoned) || abandoned != "" && len(report.Abandoned) == 0:
+	case !strings.Contains(whats(report.Lost), abandoned) || abandoned != "" && len(report.Lost) == 0:
 		return fmt.Sprintf("nothing is abandoned because %q", abandoned)
 	case !strings.Contains(whats(report.False), false) || false != "" && len(report.False) == 0:
 		return fmt.Sprintf("no record is false because %q", false)
@@ -220,26 +229,26 @@ func lacks(report *Report, abandoned, false, broken string) string {
 	return ""
 }
 
-func whats(all []stormreport.Finding) string {
+func whats(all []report.Finding) string {
 	var text []string
-	for _, it := range all {
-		text = append(text, it.What)
+	for _, finding := range all {
+		text = append(text, finding.What)
 	}
 	return strings.Join(text, "\n")
 }
 
-func hasBinding(all []stormreport.Finding) bool {
-	for _, it := range all {
-		if it.Binding != "" {
+func hasBinding(all []report.Finding) bool {
+	for _, finding := range all {
+		if finding.Binding != "" {
 			return true
 		}
 	}
 	return false
 }
 
-func hasBroken(report *Report, name string) bool {
-	for _, it := range report.Broken {
-		if it.Name == name {
+func hasBroken(report *run.Report, name string) bool {
+	for _, violation := range report.Broken {
+		if violation.Name == name {
 			return true
 		}
 	}
@@ -262,65 +271,68 @@ func TestRules(t *testing.T) {
 			if wrong.noIDs { // the broker rejects each deletion, so nothing settles
 				config.SettleTime = time.Second
 			}
-			report := stormed(t, config, wrong, true)
-			if !hasBroken(report, rule) {
-				t.Fatalf("the rule isn't broken:\n%s", textOf(t, report))
+			got := runStorm(t, config, wrong, true)
+			if !hasBroken(got, rule) {
+				t.Fatalf("got\n%s\nwant the rule broken", textOf(t, got))
 			}
-			first := report.Broken[0]
+			first := got.Broken[0]
 			if first.Name != rule || first.Count < 2 || first.Sent == "" || first.Came == "" {
-				t.Errorf("%+v", first)
+				t.Errorf("got %+v, want the rule %s broken twice, with a request and an answer", first, rule)
 			}
 			if rule == "provision-body" && (len(first.Numbers) != first.Count || first.Numbers[0] != first.Number) {
-				t.Errorf("%+v", first)
+				t.Errorf("got %+v, want the number of each request", first)
 			}
 			isMust := rule != "content-type" && rule != "accepts-incomplete"
-			if stormreport.BreaksMust(report.Broken) != isMust || report.IsClean() == isMust {
-				t.Error(textOf(t, report))
+			if report.BreaksMust(got.Broken) != isMust || got.IsClean() == isMust {
+				t.Errorf("got\n%s\nwant the verdict of the rule's level", textOf(t, got))
 			}
 		})
 	}
 }
 
-// A report is clean only if nothing was found, and the run has come to its end.
+// A report is clean only if nothing was found, and the run has ended.
 func TestIsClean(t *testing.T) {
-	must := stormreport.Broken{Result: conform.Result{Case: conform.Case{Level: conform.Must}}}
-	should := stormreport.Broken{Result: conform.Result{Case: conform.Case{Level: conform.Should}}}
-	one := []stormreport.Finding{{}}
-	for name, it := range map[string]struct {
-		report  Report
+	must := report.Violation{Result: conform.Result{Case: conform.Case{Level: conform.Must}}}
+	should := report.Violation{Result: conform.Result{Case: conform.Case{Level: conform.Should}}}
+	one := []report.Finding{{}}
+	for name, test := range map[string]struct {
+		report  run.Report
 		isClean bool
 	}{
-		"nothing": {Report{}, true}, "abandoned": {Report{Abandoned: one}, false}, "false": {Report{False: one}, false},
-		"untried": {Report{Untried: []string{"x"}}, false}, "stuck": {Report{Stuck: one}, false}, "exists": {Report{Exists: one}, true},
-		"must": {Report{Broken: []stormreport.Broken{must}}, false}, "ended": {Report{Ended: "x"}, false},
-		"should": {Report{Broken: []stormreport.Broken{should}}, true},
+		"nothing": {run.Report{}, true}, "abandoned": {run.Report{Lost: one}, false}, "false": {run.Report{False: one}, false},
+		"untried": {run.Report{Untried: []string{"x"}}, false}, "stuck": {run.Report{Stuck: one}, false}, "exists": {run.Report{Exists: one}, true},
+		"must": {run.Report{Broken: []report.Violation{must}}, false}, "ended": {run.Report{Ended: "x"}, false},
+		"should": {run.Report{Broken: []report.Violation{should}}, true},
 	} {
-		if it.report.IsClean() != it.isClean {
-			t.Errorf("%s: %v", name, !it.isClean)
-		}
+		t.Run(name, func(t *testing.T) {
+			test.report.IsOfPlatform = true
+			if test.report.IsClean() != test.isClean {
+				t.Errorf("%s: got clean %v, want %v", name, !test.isClean, test.isClean)
+			}
+		})
 	}
 }
 
 // A storm in which no request had a fault isn't clean, unless no fault was wanted. Each form says what to do.
 func TestUntried(t *testing.T) {
-	for name, it := range map[string]struct {
+	for name, test := range map[string]struct {
 		share float64
-		list  []faults.Numbered
+		list  []fault.Entry
 		says  string
 	}{
 		"none of many": {1e-9, nil, "no request had a fault. Let the platform send more requests, "},
-		"none of list": {0.4, listOf(map[int]faults.Kind{99: faults.HangUp}), "no request had a fault. Pass the --seed "},
+		"none of list": {0.4, listOf(map[int]fault.Kind{99: fault.HangUp}), "no request had a fault. Pass the --seed "},
 		"no share":     {0, nil, ""},
-		"empty list":   {0.4, []faults.Numbered{}, ""},
+		"empty list":   {0.4, []fault.Entry{}, ""},
 	} {
-		it := it
+		it := test
 		t.Run(name, func(t *testing.T) {
 			t.Parallel()
 			config := configFor(t)
 			config.Share, config.List, config.Time, config.RequestTime = it.share, it.list, time.Second, unhurried
-			report := stormed(t, config, mistakes{}, true)
-			if report.IsClean() != (it.says == "") || len(report.Abandoned)+len(report.False)+len(report.Stuck) > 0 {
-				t.Error(textOf(t, report))
+			report := runStorm(t, config, mistakes{}, true)
+			if report.IsClean() != (it.says == "") || len(report.Lost)+len(report.False)+len(report.Stuck) > 0 {
+				t.Errorf("got\n%s\nwant the verdict of the list, and nothing lost, false or stuck", textOf(t, report))
 			}
 			for form, write := range map[string]func(io.Writer) error{
 				"\nNOT TRIED: ": report.WriteText, "\"untried\": [\n    \"": report.WriteJSON,
@@ -328,32 +340,29 @@ func TestUntried(t *testing.T) {
 			} {
 				var text bytes.Buffer
 				if err := write(&text); err != nil || strings.Contains(text.String(), form+it.says) != (it.says != "") {
-					t.Errorf("%v %s", err, text.String())
+					t.Errorf("got the error %v and %s, want that it says %q", err, text.String(), it.says)
 				}
 			}
 		})
 	}
 }
 
-// If no request comes, or the run is ended before, the report isn't clean, and nothing is left.
+// If no request arrives, or the run is ended before, the report isn't clean, and nothing is left.
 func TestEnded(t *testing.T) {
 	config := configFor(t)
 	config.WaitTime, config.Share = 100*time.Millisecond, 0
 	storm, err := Start(context.Background(), config)
-	if err != nil {
-		t.Fatal(err)
-	}
+	check(t, err)
 	report := storm.Run(context.Background())
 	if report.IsClean() || !strings.HasPrefix(report.Ended, "no request about an instance came") {
-		t.Error(textOf(t, report))
+		t.Errorf("got\n%s\nwant an end because no request came", textOf(t, report))
 	}
 	if err := storm.Close(); err != nil {
 		t.Error(err)
 	}
 	config.WaitTime = time.Minute
-	if storm, err = Start(context.Background(), config); err != nil {
-		t.Fatal(err)
-	}
+	storm, err = Start(context.Background(), config)
+	check(t, err)
 	m := newModel(t, storm.URL(), mistakes{}, unhurried)
 	body := map[string]any{
 		"service_id": goods.Service, "plan_id": goods.Later, "organization_guid": "o", "space_guid": "s",
@@ -363,13 +372,14 @@ func TestEnded(t *testing.T) {
 	cancel()
 	report = storm.Run(ctx) // nobody waits for what the platform does next
 	if report.IsClean() || report.Ended != "the run was ended before" || sent.status != 202 || len(report.Stuck) > 0 {
-		t.Errorf("%d, %d\n%s", sent.status, len(report.Stuck), textOf(t, report))
+		t.Errorf("got the status %d and %d that are stuck, want 202 and none, in a run that was ended:\n%s",
+			sent.status, len(report.Stuck), textOf(t, report))
 	}
 	if err := storm.Close(); err != nil {
 		t.Error(err)
 	}
 	if files, err := os.ReadDir(config.Folder); err != nil || len(files) > 0 {
-		t.Errorf("%v %v are left", err, files)
+		t.Errorf("got %v %v left, want none", err, files)
 	}
 }
 
@@ -378,23 +388,21 @@ func TestAfterRun(t *testing.T) {
 	config := configFor(t)
 	config.Share, config.Time, config.SettleTime = 1, 50*time.Millisecond, 50*time.Millisecond
 	storm, err := Start(context.Background(), config)
-	if err != nil {
-		t.Fatal(err)
-	}
+	check(t, err)
 	defer storm.Close()
 	m := newModel(t, storm.URL(), mistakes{}, config.RequestTime)
 	m.send(context.Background(), http.MethodGet, "/v2/service_instances/one/last_operation", nil)
-	if storm.source.Next(faults.Place{Instance: 100}).Kind == faults.None {
-		t.Error("the faults have ended before the run")
+	if storm.source.Next(fault.Place{Instance: 100}).Kind == fault.None {
+		t.Error("got an end of the faults before the run, want it after that")
 	}
 	if report := storm.Run(context.Background()); report.Ended != "" {
-		t.Error(report.Ended)
+		t.Errorf("got %v, want none", report.Ended)
 	}
-	if fault := storm.source.Next(faults.Place{Instance: 99}); fault.Kind != faults.None {
-		t.Errorf("after the run, a request has the fault %s", fault.Kind)
+	if next := storm.source.Next(fault.Place{Instance: 99}); next.Kind != fault.None {
+		t.Errorf("a request after the run: got the fault %s, want none", next.Kind)
 	}
 	if a := m.send(context.Background(), http.MethodGet, "/v2/catalog", nil); a.status != 0 {
-		t.Errorf("after the run, a request was answered with %d", a.status)
+		t.Errorf("a request after the run: got %d, want none", a.status)
 	}
 }
 
@@ -404,13 +412,12 @@ func TestListIsSlow(t *testing.T) {
 	config, _ := orderingConfig(t, 1)
 	config.Commands.List, config.SettleTime = "sleep 0.5; "+config.Commands.List, time.Minute
 	storm, err := Start(context.Background(), config)
-	if err != nil {
-		t.Fatal(err)
-	}
+	check(t, err)
 	defer storm.Close()
 	storm.restTime = 200 * time.Millisecond
-	if report := storm.Run(context.Background()); len(report.Failed) > 0 || !report.Settled || !report.IsClean() {
-		t.Errorf("%q\n%s", report.Failed, textOf(t, report))
+	if report := storm.Run(context.Background()); len(report.Failed) > 0 || !report.Converged || !report.IsClean() {
+		t.Errorf("got the failures %q, want a clean report of a storm that has converged:\n%s",
+			report.Failed, textOf(t, report))
 	}
 }
 
@@ -423,9 +430,22 @@ func TestListIsCutOff(t *testing.T) {
 		"F/", folder+"/") + config.Commands.List
 	ctx, cancel := context.WithCancel(context.Background())
 	go cancelOnce(filepath.Join(folder, "last"), cancel)
-	report, took := ordered(t, ctx, config)
-	if len(report.Failed) > 0 || report.Ended != endedBefore || report.Known != knownByList || took > time.Minute {
-		t.Errorf("%v %q\n%s", took, report.Failed, textOf(t, report))
+	report, took := runOrders(t, ctx, config)
+	if len(report.Failed) > 0 || report.Ended != run.EndedBefore || report.Inventory != knownByList || took > time.Minute {
+		t.Errorf("got an end after %v with the failures %q, want one by the signal within a minute, without any:\n%s",
+			took, report.Failed, textOf(t, report))
+	}
+}
+
+// What goes wrong at the storm's broker is noted, unless the broker has rejected a request.
+func TestBrokerFails(t *testing.T) {
+	s := &shop{}
+	for _, isRejection := range []bool{true, false} {
+		broker.Observer(s).OnFailure(broker.Failure{Event: "store", Err: errors.New("broken"), IsRejection: isRejection})
+	}
+	wanted := []string{"the broker of osb-storm: store: broken"}
+	if got := s.failures(); !reflect.DeepEqual(got, wanted) {
+		t.Errorf("got the failures %q, want %q", got, wanted)
 	}
 }
 
@@ -434,13 +454,11 @@ func TestListFails(t *testing.T) {
 	config := configFor(t)
 	config.Commands.List, config.WaitTime = "echo broken >&2; exit 3", 50*time.Millisecond
 	storm, err := Start(context.Background(), config)
-	if err != nil {
-		t.Fatal(err)
-	}
+	check(t, err)
 	defer storm.Close()
 	report := storm.Run(context.Background())
 	if len(report.Failed) != 1 || !strings.Contains(report.Failed[0], "(broken)") {
-		t.Errorf("%v", report.Failed)
+		t.Errorf("got the failures %v, want (broken)", report.Failed)
 	}
 }
 
@@ -449,62 +467,62 @@ func TestNoSecrets(t *testing.T) {
 	t.Parallel()
 	config := configFor(t)
 	config.Time, config.SettleTime, config.RequestTime = 2*time.Second, time.Second, unhurried
-	config.List = []faults.Numbered{}
+	config.List = []fault.Entry{}
 	for instance := 1; instance <= 500; instance++ { // the broker answers with credentials, and the answers are lost
-		place := faults.Place{Instance: instance, Binding: 1}
-		lost := faults.Numbered{Number: faults.Number{Place: place, Request: 1}, Kind: faults.AnswerLost}
+		place := fault.Place{Instance: instance, Binding: 1}
+		lost := fault.Entry{Number: fault.Number{Place: place, Request: 1}, Kind: fault.AnswerLost}
 		config.List = append(config.List, lost)
 	}
-	report := stormed(t, config, mistakes{forgetsTimeout: true, noType: true}, false)
-	if !hasBinding(report.Abandoned) || len(report.Broken) == 0 {
-		t.Fatal(textOf(t, report))
+	report := runStorm(t, config, mistakes{forgetsTimeout: true, noType: true}, false)
+	if !hasBinding(report.Lost) || len(report.Broken) == 0 {
+		t.Fatalf("got\n%s\nwant a binding that is lost, and a rule that is broken", textOf(t, report))
 	}
 	if len(report.Stuck) == 0 || hasBinding(report.Stuck) { // the instances can't be deleted before their bindings
-		t.Error(textOf(t, report))
+		t.Errorf("got\n%s\nwant instances that are stuck, and no binding", textOf(t, report))
 	}
 	for name, write := range map[string]func(io.Writer) error{
 		"text": report.WriteText, "JSON": report.WriteJSON, "HTML": report.WriteHTML,
 	} {
-		var text bytes.Buffer
-		if err := write(&text); err != nil {
-			t.Fatal(err)
-		}
-		for _, it := range []string{"a-secret-parameter", `"token"`, "Basic "} {
-			if strings.Contains(text.String(), it) {
-				t.Errorf("%s has %s", name, it)
+		t.Run(name, func(t *testing.T) {
+			var text bytes.Buffer
+			check(t, write(&text))
+			for _, secret := range []string{"a-secret-parameter", `"token"`, "Basic "} {
+				if strings.Contains(text.String(), secret) {
+					t.Errorf("%s: got %s in it, want no secret", name, secret)
+				}
 			}
-		}
-		for _, it := range []string{"standard asks for a deletion", "(left out)"} {
-			if !strings.Contains(text.String(), it) {
-				t.Errorf("%s doesn't have %s", name, it)
+			for _, part := range []string{"standard asks for a deletion", "(left out)"} {
+				if !strings.Contains(text.String(), part) {
+					t.Errorf("%s: got no %s, want it", name, part)
+				}
 			}
-		}
+		})
 	}
 }
 
 // The same list of faults gives the same requests the same faults. Those that no request has met are in each form.
 func TestList(t *testing.T) {
 	config := configFor(t)
-	config.List = []faults.Numbered{
-		{Number: faults.Number{Place: faults.Place{Instance: 1}, Request: 1}, Kind: faults.AnswerLost},
-		{Number: faults.Number{Place: faults.Place{Instance: 99}, Request: 1}, Kind: faults.AnswerLost},
+	config.List = []fault.Entry{
+		{Number: fault.Number{Place: fault.Place{Instance: 1}, Request: 1}, Kind: fault.AnswerLost},
+		{Number: fault.Number{Place: fault.Place{Instance: 99}, Request: 1}, Kind: fault.AnswerLost},
 	}
 	config.Time, config.SettleTime, config.RequestTime = time.Second, time.Second, unhurried
-	report := stormed(t, config, mistakes{forgetsTimeout: true}, false)
+	report := runStorm(t, config, mistakes{forgetsTimeout: true}, false)
 	if len(report.Given) != 1 || report.Given[0] != "1.1 answer-lost" {
-		t.Errorf("%v", report.Given)
+		t.Errorf("got the faults %v, want 1.1 answer-lost", report.Given)
 	}
-	if len(report.Abandoned) != 1 || report.Abandoned[0].Number != "1" {
-		t.Error(textOf(t, report))
+	if len(report.Lost) != 1 || report.Lost[0].Number != "1" {
+		t.Errorf("got\n%s\nwant instance 1 lost", textOf(t, report))
 	}
 	for _, write := range []func(io.Writer) error{report.WriteText, report.WriteJSON, report.WriteHTML} {
 		var text bytes.Buffer
 		if err := write(&text); err != nil || !strings.Contains(text.String(), "99.1 answer-lost") {
-			t.Errorf("%v %s", err, text.String())
+			t.Errorf("got the error %v and %s, want 99.1 answer-lost", err, text.String())
 		}
 	}
 	if text := textOf(t, report); !strings.Contains(text, "1 fault of the list met no request: 99.1 answer-lost\n") {
-		t.Error(text)
+		t.Errorf("got %q, want %q in it", text, "1 fault of the list met no request: 99.1 answer-lost\n")
 	}
 }
 
@@ -514,40 +532,732 @@ func TestConfigRejected(t *testing.T) {
 		"time":             func(c *Config) { c.Time = 0 },
 		"list of bindings": func(c *Config) { c.Commands.ListBindings = "x" },
 		"minimize":         func(c *Config) { c.MinimizeTime = time.Minute },
-		"restart":          func(c *Config) { c.List = []faults.Numbered{{Kind: faults.RestartAfter}} },
+		"restart":          func(c *Config) { c.List = []fault.Entry{{Kind: fault.RestartAfter}} },
 		"user":             func(c *Config) { c.User = "a:b" },
 		"address":          func(c *Config) { c.Address = "127.0.0.1:99999" },
 	} {
-		config := configFor(t)
-		change(&config)
-		if _, err := Start(context.Background(), config); err == nil {
-			t.Errorf("%s is accepted", name)
-		}
-		if files, err := os.ReadDir(config.Folder); err != nil || len(files) > 0 {
-			t.Errorf("%s: %v %v are left", name, err, files)
-		}
+		t.Run(name, func(t *testing.T) {
+			config := configFor(t)
+			change(&config)
+			if _, err := Start(context.Background(), config); err == nil {
+				t.Errorf("%s: got no error, want one", name)
+			}
+			if files, err := os.ReadDir(config.Folder); err != nil || len(files) > 0 {
+				t.Errorf("%s: got %v %v left, want none", name, err, files)
+			}
+		})
 	}
 }
 
 // docs/storm.md has each rule, with its level and its section.
 func TestDocumented(t *testing.T) {
 	text, err := os.ReadFile("../../../../docs/storm.md")
-	if err != nil {
-		t.Fatal(err)
-	}
+	check(t, err)
 	cases := []conform.Case{mitigates, mitigatesBind, repeats}
-	for _, it := range rules() {
-		cases = append(cases, it.Case)
+	for _, rule := range rules() {
+		cases = append(cases, rule.Case)
 	}
-	for _, it := range cases {
+	for _, test := range cases {
 		found := false
 		for _, line := range strings.Split(string(text), "\n") {
 			columns := strings.Split(line, " | ")
-			found = found || len(columns) == 4 && strings.Contains(columns[0], "`"+it.Name+"`") &&
-				columns[1] == string(it.Level) && strings.Contains(columns[2], it.Section)
+			found = found || len(columns) == 4 && strings.Contains(columns[0], "`"+test.Name+"`") &&
+				columns[1] == string(test.Level) && strings.Contains(columns[2], test.Section)
 		}
 		if !found {
-			t.Errorf("there is no row of %s (%s, section %s)", it.Name, it.Level, it.Section)
+			t.Errorf("%s: got no row of it (%s, section %s), want one", test.Name, test.Level, test.Section)
 		}
+	}
+}
+
+// ordering is an order command: a platform that creates some instances, one after the other, and lists those for whose
+// creation it got a 201. It forgets all others. In each run it begins again, with ids of its own.
+const ordering = `
+: >LISTED
+for number in $(seq COUNT); do
+	id=$$-$number
+	status=$(curl -s -m 5 -o BODY -w '%{http_code}' -u platform:secret -X PUT -H 'X-Broker-API-Version: 2.17' \
+		-H 'Content-Type: application/json' -d '{"service_id": "SERVICE", "plan_id": "PLAN", "organization_guid": "o",
+		"space_guid": "s"}' "$OSB_STORM_URL/v2/service_instances/$id")
+	[ "$status" != 201 ] || echo $id >>LISTED
+done
+echo $OSB_STORM_URL >>URLS
+`
+
+// orderingConfig is a Config with an order command that creates instances, and the folder of its files.
+func orderingConfig(t *testing.T, count int, list ...string) (Config, string) {
+	t.Helper()
+	config, folder := configFor(t), t.TempDir()
+	command := ordering
+	for name, value := range map[string]string{
+		"COUNT": fmt.Sprint(count), "SERVICE": goods.Service, "PLAN": goods.AtOnce,
+		"LISTED": filepath.Join(folder, "listed"), "BODY": filepath.Join(folder, "body"), "URLS": filepath.Join(folder, "urls"),
+	} {
+		command = strings.ReplaceAll(command, name, value)
+	}
+	var err error
+	config.List, err = fault.ReadList(strings.NewReader(strings.Join(list, "\n")))
+	check(t, err)
+	config.List = append([]fault.Entry{}, config.List...)
+	config.Commands = Commands{Order: command, Lists: run.Lists{List: "cat " + filepath.Join(folder, "listed")}}
+	config.Time, config.SettleTime = 5*time.Minute, 300*time.Millisecond
+	config.RequestTime, config.Journal = unhurried, filepath.Join(folder, "journals")
+	return config, folder
+}
+
+// runOrders returns the report of a storm with an order command, and how long it took. Nothing is left in its folder.
+func runOrders(t *testing.T, ctx context.Context, config Config) (*run.Report, time.Duration) {
+	t.Helper()
+	begun := time.Now()
+	storm, err := Start(context.Background(), config)
+	check(t, err)
+	report := storm.Run(ctx)
+	if err := storm.Close(); err != nil {
+		t.Error(err)
+	}
+	if files, err := os.ReadDir(config.Folder); err != nil || len(files) > 0 {
+		t.Errorf("got %v %v left in the folder, want none", err, files)
+	}
+	return report, time.Since(begun)
+}
+
+// After a run that has failed, nothing is shrunk. What the order command has abandoned before stays in the report.
+func TestOrderFails(t *testing.T) {
+	t.Parallel()
+	config, _ := orderingConfig(t, 1, "1.1 answer-lost")
+	config.Commands.Order += "exit 3"
+	config.MinimizeTime = time.Minute
+	report, _ := runOrders(t, context.Background(), config)
+	if len(report.Failed) != 1 || report.Failed[0] != "the order command has failed: exit status 3" || len(report.Lost) != 1 ||
+		report.MinimizeRuns != 0 || report.Ended != "" {
+		t.Errorf("got\n%s\nwant one command that failed, and one that is lost", textOf(t, report))
+	}
+}
+
+// If the order command ends before a request about an instance has arrived, the run ends, whether the command has
+// failed or not. A request about anything else doesn't count.
+func TestNothingOrdered(t *testing.T) {
+	for command, failure := range map[string]string{
+		"curl -s -o /dev/null -u platform:secret -H 'X-Broker-API-Version: 2.17' $OSB_STORM_URL/v2/catalog; echo nothing": "",
+		"echo nothing; exit 4": "exit status 4",
+	} {
+		t.Run(command, func(t *testing.T) {
+			config, _ := orderingConfig(t, 0)
+			config.Commands, config.List = Commands{Order: command}, nil
+			var warned bytes.Buffer
+			config.Warnings = &warned
+			report, took := runOrders(t, context.Background(), config)
+			if report.Ended != "no request about an instance came until the order command ended" || took > 50*time.Second {
+				t.Errorf("got an end after %v, want one because nothing was ordered:\n%s", took, textOf(t, report))
+			}
+			failed := strings.Join(report.Failed, "")
+			if !strings.HasSuffix(failed, failure) || (failed == "") != (failure == "") {
+				t.Errorf("got the failure %q, want %q", failed, failure)
+			}
+			if text := warned.String(); text != "osb-storm: the last lines that the order command has printed:\n  nothing\n" {
+				t.Errorf("got the warning %q, want the last line of the command", text)
+			}
+		})
+	}
+}
+
+// The faults end with the order command, or after their time if the command goes on then. At the end of the run, the
+// command is killed with its children, and so is what a command has left behind that has ended. Neither is a failure.
+func TestOrderEnds(t *testing.T) {
+	for name, test := range map[string]struct {
+		after string
+		time  time.Duration
+	}{
+		"goes on":        {"sleep 1000 & echo $! >FOLDER/child; wait", time.Second},
+		"leaves a child": {"sleep 1000 & echo $! >FOLDER/child", time.Minute},
+	} {
+		it := test
+		t.Run(name, func(t *testing.T) {
+			t.Parallel()
+			config, folder := orderingConfig(t, 1)
+			config.Commands.Order += strings.ReplaceAll(it.after, "FOLDER", folder)
+			config.Time, config.SettleTime = it.time, time.Minute
+			report, took := runOrders(t, context.Background(), config)
+			if len(report.Failed) > 0 || !report.IsClean() || !report.Converged || took > 50*time.Second {
+				t.Errorf("got an end after %v, want a clean report of a storm that has converged within 50 s:\n%s",
+					took, textOf(t, report))
+			}
+			text, err := os.ReadFile(filepath.Join(folder, "child"))
+			check(t, err)
+			for until := time.Now().Add(5 * time.Second); isRunning(string(bytes.TrimSpace(text))); time.Sleep(10 * time.Millisecond) {
+				if time.Now().After(until) {
+					t.Fatal("the child of the order command: got it still running, want its end")
+				}
+			}
+		})
+	}
+}
+
+// An order command that goes on after its time, and fails because the broker is gone at the end of the run, hasn't
+// failed. The list of faults is shrunk then, too. The list command takes so long that the order command ends before it
+// is killed.
+func TestOrderOutlivesBroker(t *testing.T) {
+	t.Parallel()
+	config, folder := minimizingConfig(t, 1, "1.1 answer-lost")
+	config.Commands.Order += "while curl -s -o " + folder + "/body $OSB_STORM_URL/v2/catalog; do sleep 0.05; done; " +
+		"echo gone >>" + folder + "/gone; exit 7"
+	config.Commands.List = "sleep 0.5; " + config.Commands.List
+	config.Time = 500 * time.Millisecond
+	report, _ := runOrders(t, context.Background(), config)
+	if len(report.Failed) > 0 || !reflect.DeepEqual(report.Minimal, []string{"1.1 answer-lost"}) {
+		t.Errorf("got the failures %q, want none, and the list 1.1 answer-lost:\n%s", report.Failed, textOf(t, report))
+	}
+	if _, err := os.Stat(filepath.Join(folder, "gone")); err != nil {
+		t.Errorf("the order command: got %v, want it to run until it has failed", err)
+	}
+}
+
+// The last lines of an order command that fails don't have the credentials that the broker has answered.
+func TestOrderPrintsCredentials(t *testing.T) {
+	t.Parallel()
+	config, _ := orderingConfig(t, 1)
+	config.Commands.Order += strings.ReplaceAll(`
+curl -s -m 5 -u platform:secret -X PUT -H 'X-Broker-API-Version: 2.17' -H 'Content-Type: application/json' \
+	-d '{"service_id": "SERVICE", "plan_id": "PLAN"}' "$OSB_STORM_URL/v2/service_instances/$id/service_bindings/b"
+exit 3`, "SERVICE", goods.Service)
+	config.Commands.Order = strings.ReplaceAll(config.Commands.Order, "PLAN", goods.AtOnce)
+	var warned bytes.Buffer
+	config.Warnings = &warned
+	report, _ := runOrders(t, context.Background(), config)
+	if len(report.Failed) != 1 || report.Bindings != 1 {
+		t.Errorf("got\n%s\nwant one failure and one binding", textOf(t, report))
+	}
+	if text := warned.String(); !strings.HasSuffix(text, `{"credentials":{"folder":"(left out)","token":"(left out)"}}`+"\n") {
+		t.Errorf("got the warning %q, want it without the credentials", text)
+	}
+}
+
+// isRunning returns whether a process runs. One that has ended may wait for its parent.
+func isRunning(pid string) bool {
+	text, err := os.ReadFile("/proc/" + pid + "/stat")
+	return err == nil && !strings.Contains(string(text), ") Z ")
+}
+
+// With a folder for journals, each request that reaches the broker is in its journal, with its answer, and so are the
+// changes and the calls of the backend. The journal has the plans, and its end.
+func TestJournal(t *testing.T) {
+	t.Parallel()
+	config := configFor(t)
+	config.Journal = filepath.Join(t.TempDir(), "journals")
+	report := runStorm(t, config, mistakes{}, true)
+	names, err := filepath.Glob(filepath.Join(config.Journal, "broker", "broker-*.jsonl"))
+	if err != nil || len(names) != 1 {
+		t.Fatalf("got the journals %v and the error %v, want one", names, err)
+	}
+	text, err := os.ReadFile(names[0])
+	check(t, err)
+	counts, instances, open := map[string]int{}, map[string]bool{}, map[int]bool{}
+	var last string
+	for lines := bufio.NewScanner(bytes.NewReader(text)); lines.Scan(); {
+		var line struct {
+			Event, Instance string
+			Visit           int
+			Plans           []any
+		}
+		check(t, json.Unmarshal(lines.Bytes(), &line))
+		counts[line.Event]++
+		switch line.Event {
+		case "started":
+			if len(line.Plans) != 4 || last != "" {
+				t.Errorf("the beginning: got %s and %s, want the four plans", last, lines.Text())
+			}
+		case "arrived":
+			instances[line.Instance], open[line.Visit] = true, true
+		case "answered":
+			delete(open, line.Visit)
+		}
+		last = line.Event
+	}
+	if last != "stopped" || len(open) > 0 || counts["work"] == 0 || counts["changed"] == 0 {
+		t.Errorf("the end: got %s, %v not answered and %v, want stopped and all answered", last, open, counts)
+	}
+	if counts["arrived"] < report.Requests/3 || len(instances) < report.Instances/2 {
+		t.Errorf("got %v of %d instances, want most of the report's %d requests and %d instances", counts, len(instances),
+			report.Requests, report.Instances)
+	}
+}
+
+// A journal that can't be opened ends the storm before it listens.
+func TestNoJournal(t *testing.T) {
+	config := configFor(t)
+	config.Journal = filepath.Join(t.TempDir(), "file")
+	check(t, os.WriteFile(config.Journal, nil, 0o600))
+	if storm, err := Start(context.Background(), config); err == nil {
+		_ = storm.Close()
+		t.Error("a file: got no error, want that it is no folder")
+	}
+	if files, err := os.ReadDir(config.Folder); err != nil || len(files) > 0 {
+		t.Errorf("got %v %v left in the folder, want none", err, files)
+	}
+}
+
+// minimizingConfig is orderingConfig with time for further runs.
+func minimizingConfig(t *testing.T, count int, list ...string) (Config, string) {
+	t.Helper()
+	config, folder := orderingConfig(t, count, list...)
+	config.MinimizeTime = time.Minute
+	return config, folder
+}
+
+// formsOf returns the report in its three forms.
+func formsOf(t *testing.T, report *run.Report) map[string]string {
+	t.Helper()
+	all := map[string]string{}
+	for name, write := range map[string]func(io.Writer) error{
+		"text": report.WriteText, "JSON": report.WriteJSON, "HTML": report.WriteHTML, "list": report.WriteFaults,
+	} {
+		var text bytes.Buffer
+		check(t, write(&text))
+		all[name] = text.String()
+	}
+	return all
+}
+
+// The list is shrunk to the fault that has the platform forget, by runs at the same address with a broker that is
+// empty. With this fault alone, an instance is abandoned again. Each run has a journal.
+func TestMinimize(t *testing.T) {
+	t.Parallel()
+	config, folder := minimizingConfig(t, 3, "1.1 answer-slow", "2.1 answer-lost", "3.1 request-lost")
+	config.Late = 100 * time.Millisecond
+	report, _ := runOrders(t, context.Background(), config)
+	if !reflect.DeepEqual(report.Minimal, []string{"2.1 answer-lost"}) || report.MinimizeEnded+report.Ended != "" {
+		t.Fatalf("got\n%s\nwant the list 2.1 answer-lost", textOf(t, report))
+	}
+	if len(report.Lost) != 1 || len(report.MinimalLost) != 1 || len(report.Given) != 3 || len(report.Failed) > 0 {
+		t.Errorf("got\n%s\nwant one life lost, with and without the minimal list", textOf(t, report))
+	}
+	again := report.MinimalLost[0]
+	if first := report.Lost[0]; again.Number != "2" || first.Number != "2" || again.Instance == first.Instance {
+		t.Errorf("got %+v and then %+v, want two instances of the number 2", first, again)
+	}
+	for form, parts := range map[string][]string{
+		"text": {
+			fmt.Sprintf("\nThe shortest list of faults that still loses one (%d runs):\n  2.1 answer-lost\n", report.MinimizeRuns),
+			"\nwith these faults: instance 2 (" + again.Instance + "): it exists, and the platform doesn't have it. ",
+			"FAULT: answer-lost",
+		},
+		"JSON": {`"minimal_fault_list": [` + "\n    \"2.1 answer-lost\"\n", `"minimal_lost": [`, `"minimize_runs": `, `"notes": []`},
+		"HTML": {"The shortest list of faults that still loses one", "Abandoned with this list of faults", again.Instance},
+		"list": {"2.1 answer-lost\n"},
+	} {
+		for _, part := range parts {
+			if text := formsOf(t, report)[form]; !strings.Contains(text, part) || form == "list" && text != part {
+				t.Errorf("%s: got no %q, want it: %s", form, part, text)
+			}
+		}
+	}
+	urls, err := os.ReadFile(filepath.Join(folder, "urls"))
+	if runs := 1 + report.MinimizeRuns; err != nil || string(urls) != strings.Repeat(report.URL+"\n", runs) {
+		t.Errorf("got %v and %d runs at %s, want each at one URL", err, runs, urls)
+	}
+	journals, err := filepath.Glob(filepath.Join(config.Journal, "broker", "broker-*.jsonl"))
+	if err != nil || len(journals) != 1+report.MinimizeRuns {
+		t.Errorf("got %v and %d journals of %d runs, want as many", err, len(journals), 1+report.MinimizeRuns)
+	}
+}
+
+// If nothing is abandoned, there is no further run. If something is abandoned without any fault, or in no further run,
+// the report says so.
+func TestMinimizeNotes(t *testing.T) {
+	const first = "[ -e FOLDER/again ] || curl -s -u platform:secret -X PUT -H 'X-Broker-API-Version: 2.17' -d '%s' " +
+		"$OSB_STORM_URL/v2/service_instances/more; touch FOLDER/again"
+	body := fmt.Sprintf(`{"service_id": "%s", "plan_id": "%s", "organization_guid": "o", "space_guid": "s"}`,
+		goods.Service, goods.AtOnce)
+	for name, test := range map[string]struct {
+		list  []string
+		after string // what the order command does after its orders
+		runs  int
+		note  string
+	}{
+		"nothing":     {[]string{"1.1 answer-slow"}, "", 0, ""},
+		"without any": {[]string{"1.1 answer-slow"}, ": >FOLDER/listed", 2, "--minimize: something is abandoned without any fault, too"},
+		"only once": {
+			[]string{"1.1 answer-slow"}, fmt.Sprintf(first, body), 6, "--minimize: in 6 further runs, nothing was abandoned",
+		},
+	} {
+		it, isWithout := test, name == "without any"
+		t.Run(name, func(t *testing.T) {
+			t.Parallel()
+			config, folder := minimizingConfig(t, 1, it.list...)
+			config.Late = 100 * time.Millisecond
+			config.Commands.Order += strings.ReplaceAll(it.after, "FOLDER", folder)
+			report, _ := runOrders(t, context.Background(), config)
+			if notes := strings.Join(report.Notes, ""); report.MinimizeRuns != it.runs || notes != it.note {
+				t.Errorf("got %d runs and %s, want %d and %q\n%s", report.MinimizeRuns, notes, it.runs, it.note, textOf(t, report))
+			}
+			if report.IsClean() != (it.note == "") || report.NeedsNoFault() != isWithout {
+				t.Errorf("got\n%s\nwant the verdict of the note", textOf(t, report))
+			}
+			for form, text := range formsOf(t, report) {
+				isNone := strings.Contains(text, "none: something is abandoned without any fault")
+				if form != "list" && !strings.Contains(text, it.note) || isNone != (isWithout && (form == "text" || form == "HTML")) {
+					t.Errorf("%s: got %s, want the note %q", form, text, it.note)
+				}
+			}
+		})
+	}
+}
+
+// If the time is over, or at a signal, the shrinking ends at once, and the report has what was found and says so.
+func TestMinimizeEnds(t *testing.T) {
+	const notFound, isCut = " before a list was found that loses something", ": the list may not be the shortest"
+	for name, test := range map[string]struct {
+		hangs    string // the run whose order command goes on
+		isSignal bool   // that run is ended by a signal
+		minimal  []string
+		ended    string
+	}{
+		"the time is over":   {"2", false, nil, "the time for --minimize was over" + notFound},
+		"at once":            {"2", true, nil, "--minimize was ended" + notFound},
+		"while it is shrunk": {"4", true, []string{"1.1 answer-lost", "1.2 answer-lost"}, "--minimize was ended" + isCut},
+	} {
+		it := test
+		t.Run(name, func(t *testing.T) {
+			t.Parallel()
+			config, folder := minimizingConfig(t, 1, "1.1 answer-lost", "1.2 answer-lost")
+			config.Commands.Order += strings.ReplaceAll("curl -s -m 5 -u platform:secret -H 'X-Broker-API-Version: 2.17' "+
+				"$OSB_STORM_URL/v2/service_instances/$id; [ $(wc -l <FOLDER/urls) != "+it.hangs+
+				" ] || { touch FOLDER/hangs; sleep 1000; }; true", "FOLDER", folder)
+			ctx, cancel := context.WithCancel(context.Background())
+			defer cancel()
+			if it.isSignal {
+				go cancelOnce(filepath.Join(folder, "hangs"), cancel)
+			} else {
+				config.MinimizeTime = time.Second
+			}
+			report, took := runOrders(t, ctx, config)
+			if !reflect.DeepEqual(report.Minimal, it.minimal) || report.MinimizeEnded != it.ended || took > time.Minute {
+				t.Errorf("got an end after %v, want the list %q and the end %q:\n%s",
+					took, it.minimal, it.ended, textOf(t, report))
+			}
+			if (report.Ended == run.EndedBefore) != it.isSignal || len(report.Failed)+len(report.Notes) > 0 || report.IsClean() {
+				t.Errorf("got the end %q and the failures %q, want an end by the signal: %v, and no failure",
+					report.Ended, report.Failed, it.isSignal)
+			}
+			for form, text := range formsOf(t, report) {
+				if form != "list" && (!strings.Contains(text, it.ended) || strings.Contains(text, "hortest list")) {
+					t.Errorf("%s: got %s, want that it says %q, and of no shortest list", form, text, it.ended)
+				}
+				if form == "text" && !strings.Contains(text, "not everything cleaned up within ") { // in the first run
+					t.Errorf("got\n%s\nwant that not everything was cleaned up", text)
+				}
+			}
+		})
+	}
+}
+
+// cancelOnce cancels once a file exists, within a time.
+func cancelOnce(path string, cancel func()) {
+	defer cancel()
+	for until := time.Now().Add(20 * time.Second); time.Now().Before(until); time.Sleep(10 * time.Millisecond) {
+		if _, err := os.Stat(path); err == nil {
+			return
+		}
+	}
+}
+
+// A further run waits until nobody else has its address, but not if it is ended.
+func TestStartAgain(t *testing.T) {
+	t.Parallel()
+	taken, err := net.Listen("tcp", "127.0.0.1:0")
+	check(t, err)
+	config := configFor(t)
+	config.Address = taken.Addr().String()
+	ctx, cancel := context.WithCancel(context.Background())
+	cancel()
+	begun := time.Now()
+	if _, err := startAgain(ctx, config); !errors.Is(err, syscall.EADDRINUSE) || time.Since(begun) > portTime/2 {
+		t.Errorf("got %v after %v, want %v at once", err, time.Since(begun), syscall.EADDRINUSE)
+	}
+	timer := time.AfterFunc(lookEach, func() { _ = taken.Close() })
+	defer timer.Stop()
+	storm, err := startAgain(context.Background(), config)
+	check(t, err)
+	if err := storm.Close(); storm.URL() != "http://"+config.Address || err != nil {
+		t.Errorf("got the error %v and the URL %s, want the address %s", err, storm.URL(), config.Address)
+	}
+}
+
+// An order command that fails in a further run ends the shrinking, and the report has that.
+func TestMinimizeFails(t *testing.T) {
+	t.Parallel()
+	config, folder := minimizingConfig(t, 1, "1.1 answer-lost")
+	config.Commands.Order += "[ $(wc -l <" + folder + "/urls) = 1 ] || { echo broken secret; exit 3; }"
+	var warned bytes.Buffer
+	config.Warnings = &warned
+	report, _ := runOrders(t, context.Background(), config)
+	if len(report.Failed) != 1 || report.Failed[0] != "--minimize: the order command has failed: exit status 3" {
+		t.Errorf("got the failures %q, want that the order command has failed", report.Failed)
+	}
+	const wanted = "--minimize was ended before a list was found that loses something"
+	if report.MinimizeRuns != 0 || report.MinimizeEnded != wanted || len(report.Notes) > 0 || len(report.Lost) != 1 {
+		t.Errorf("got\n%s\nwant no further run, because %s", textOf(t, report), wanted)
+	}
+	if text := warned.String(); text != "osb-storm: the last lines that the order command has printed:\n  broken (left out)\n" {
+		t.Errorf("got the warning %q, want the last line without the password", text)
+	}
+}
+
+// A further run in which nothing is ordered ends the shrinking: the report doesn't say that nothing was abandoned in
+// it.
+func TestMinimizeIdle(t *testing.T) {
+	t.Parallel()
+	config, folder := minimizingConfig(t, 1, "1.1 answer-lost")
+	config.Commands.Order = "[ ! -e " + folder + "/urls ] || exit 0; " + config.Commands.Order
+	report, _ := runOrders(t, context.Background(), config)
+	notes := []string{"--minimize: in a further run, no request about an instance came until the order command ended"}
+	const wanted = "--minimize was ended before a list was found that loses something"
+	if !reflect.DeepEqual(report.Notes, notes) || report.MinimizeEnded != wanted || report.MinimizeRuns != 0 {
+		t.Errorf("got\n%s\nwant no further run, because %s", textOf(t, report), wanted)
+	}
+	if len(report.Failed) > 0 || report.Ended != "" || len(report.Lost) != 1 {
+		t.Errorf("got\n%s\nwant one that is lost, and nothing else", textOf(t, report))
+	}
+}
+
+// mistakes are what a model does wrong.
+type mistakes struct {
+	forgetsTimeout bool // it forgets what it gets no answer about
+	forgetsErrors  bool // it forgets an instance after a 5xx
+	oneRetry       bool // it sends each deletion twice at most
+	takesUnread    bool // it takes a 201 as a success, whatever its body is
+	stopsPolling   bool // it forgets an instance once a Poll isn't answered
+	believesPages  bool // it takes a 404 and a 429 as a rejection, even if the body is a page: so does the standard
+	bindingsLast   bool // it deletes an instance before its bindings
+
+	// Each breaks a rule about requests.
+	noVersion, noType, noIDs, noBody, noIncomplete, badIdentity, badLogin, badRoute bool
+}
+
+// A model is a small platform. Apart from its mistakes it satisfies the standard, and loses nothing.
+type model struct {
+	mistakes
+	t      *testing.T
+	url    string
+	http   *http.Client
+	folder string
+	mutex  sync.Mutex
+	has    map[report.Key]bool
+	group  sync.WaitGroup
+}
+
+func newModel(t *testing.T, url string, wrong mistakes, within time.Duration) *model {
+	t.Helper()
+	m := &model{mistakes: wrong, t: t, url: url, folder: t.TempDir(), has: map[report.Key]bool{}}
+	m.http = &http.Client{Timeout: within, Transport: &http.Transport{DisableKeepAlives: true}}
+	m.write()
+	return m
+}
+
+// commands are those that list what the model has.
+func commandsOf(folder string) Commands {
+	return Commands{Lists: run.Lists{List: "cat " + folder + "/instances", ListBindings: "cat " + folder + "/bindings"}}
+}
+
+func (m *model) set(key report.Key, has bool) {
+	m.mutex.Lock()
+	defer m.mutex.Unlock()
+	m.has[key] = has
+	m.write()
+}
+
+// write writes the files that the commands print.
+func (m *model) write() {
+	var instances, bindings strings.Builder
+	for key, has := range m.has {
+		switch {
+		case has && key.Binding == "":
+			fmt.Fprintln(&instances, key.Instance)
+		case has:
+			fmt.Fprintln(&bindings, key.Instance, key.Binding)
+		}
+	}
+	for name, text := range map[string]string{"instances": instances.String(), "bindings": bindings.String()} {
+		path := filepath.Join(m.folder, name)
+		if os.WriteFile(path+".new", []byte(text), 0o600) != nil || os.Rename(path+".new", path) != nil {
+			m.t.Error("a list: got an error, want it written")
+		}
+	}
+}
+
+// An answer is what the model gets. Its status is 0 if nothing arrived, and its object is nil if that can't be read.
+type answer struct {
+	status int
+	object map[string]any
+}
+
+func (a answer) is(statuses ...int) bool {
+	for _, status := range statuses {
+		if status == a.status {
+			return true
+		}
+	}
+	return false
+}
+
+func (m *model) send(ctx context.Context, method, path string, body any) (a answer) {
+	var text []byte
+	if body != nil {
+		text, _ = json.Marshal(body)
+	}
+	sent, err := http.NewRequestWithContext(ctx, method, m.url+path, bytes.NewReader(text))
+	if err != nil {
+		m.t.Error(err)
+		return a
+	}
+	sent.SetBasicAuth("platform", "secret")
+	if m.badLogin {
+		sent.SetBasicAuth("platform", "wrong")
+	}
+	if !m.noVersion {
+		sent.Header.Set("X-Broker-API-Version", "2.17")
+	}
+	if !m.noType && body != nil {
+		sent.Header.Set("Content-Type", "application/json; charset=utf-8")
+	}
+	sent.Header.Set("X-Broker-API-Originating-Identity", "cloudfoundry eyJ1c2VyX2lkIjogIm1lIn0=")
+	if m.badIdentity {
+		sent.Header.Set("X-Broker-API-Originating-Identity", "me")
+	}
+	came, err := m.http.Do(sent)
+	if err != nil {
+		return a
+	}
+	defer came.Body.Close()
+	text, err = io.ReadAll(came.Body)
+	a.status = came.StatusCode
+	if err != nil || json.Unmarshal(text, &a.object) != nil {
+		a.object = nil
+	}
+	return a
+}
+
+func pathOf(key report.Key) string {
+	path := "/v2/service_instances/" + key.Instance
+	if key.Binding != "" {
+		path += "/service_bindings/" + key.Binding
+	}
+	return path
+}
+
+func (m *model) query(plan string) string {
+	query := "?service_id=" + goods.Service + "&plan_id=" + plan
+	if m.noIDs {
+		query = "?x=y"
+	}
+	if !m.noIncomplete {
+		query += "&accepts_incomplete=true"
+	}
+	return query
+}
+
+// create creates an instance or a binding, and returns whether it exists.
+func (m *model) create(ctx context.Context, key report.Key, plan string) bool {
+	body := map[string]any{
+		"service_id": goods.Service, "plan_id": plan, "organization_guid": "o", "space_guid": "s",
+		"parameters": map[string]any{"token": "a-secret-parameter"},
+	}
+	if m.noBody {
+		delete(body, "space_guid")
+		delete(body, "plan_id")
+	}
+	a := m.send(ctx, http.MethodPut, pathOf(key)+"?accepts_incomplete="+fmt.Sprint(!m.noIncomplete), body)
+	isRead := a.object != nil || m.takesUnread
+	switch {
+	case a.is(200, 201) && isRead:
+		m.set(key, true)
+		return true
+	case a.is(202) && a.object != nil:
+		if m.poll(ctx, key, "succeeded") {
+			m.set(key, true)
+			return true
+		}
+		if m.stopsPolling {
+			return false
+		}
+	case a.status == 0 && m.forgetsTimeout, a.status >= 500 && m.forgetsErrors:
+		return false
+	case a.status >= 400 && a.status < 500 && (a.object != nil || m.believesPages):
+		return false
+	}
+	m.remove(ctx, key, plan)
+	return false
+}
+
+// remove deletes until that has succeeded.
+func (m *model) remove(ctx context.Context, key report.Key, plan string) {
+	m.set(key, false)
+	for try := 0; ctx.Err() == nil && !(m.oneRetry && try >= 2); try++ {
+		a := m.send(ctx, http.MethodDelete, pathOf(key)+m.query(plan), nil)
+		if a.is(200, 410) || a.is(202) && m.poll(ctx, key, "gone") {
+			return
+		}
+		time.Sleep(50 * time.Millisecond)
+	}
+}
+
+// poll returns whether an operation has ended so.
+func (m *model) poll(ctx context.Context, key report.Key, wanted string) bool {
+	for ctx.Err() == nil {
+		a := m.send(ctx, http.MethodGet, pathOf(key)+"/last_operation", nil)
+		state, _ := a.object["state"].(string)
+		switch {
+		case a.status == 200 && state == "succeeded", a.status == 410 && wanted == "gone":
+			return true
+		case a.status == 200 && state == "failed", a.status != 200 && m.stopsPolling:
+			return false
+		}
+		time.Sleep(50 * time.Millisecond)
+	}
+	return false
+}
+
+// run creates instances of each plan, with bindings, and removes most of them. It returns at once.
+func (m *model) run(ctx, sending context.Context) {
+	for n := 1; n <= 8; n++ {
+		n := n
+		m.group.Add(1)
+		go func() {
+			defer m.group.Done()
+			for at := 0; sending.Err() == nil; at++ {
+				m.live(ctx, report.Key{Instance: fmt.Sprintf("mine-%d-%d", n, at)}, n+at)
+				time.Sleep(20 * time.Millisecond)
+			}
+		}()
+	}
+}
+
+func (m *model) live(ctx context.Context, key report.Key, n int) {
+	plan := []string{goods.AtOnce, goods.Later, goods.LaterWithBinds}[n/2%3]
+	if m.badRoute {
+		m.send(ctx, http.MethodPost, pathOf(key), map[string]any{})
+	}
+	if !m.create(ctx, key, plan) {
+		return
+	}
+	binding := report.Key{Instance: key.Instance, Binding: "b"}
+	hasBinding := n%2 == 0 && m.create(ctx, binding, plan)
+	if n%3 == 0 {
+		return
+	}
+	if hasBinding && m.bindingsLast {
+		m.send(ctx, http.MethodDelete, pathOf(key)+m.query(plan), nil)
+	}
+	if hasBinding {
+		m.remove(ctx, binding, plan)
+	}
+	m.remove(ctx, key, plan)
+}
+
+// check ends the test at an error.
+func check(t testing.TB, err error) {
+	t.Helper()
+	if err != nil {
+		t.Fatal(err)
 	}
 }

@@ -52,8 +52,8 @@ func StartHAProxy(ctx context.Context, folder, address string, brokers []string)
 		return nil, err
 	}
 	text := fmt.Sprintf(config, address)
-	for number, it := range brokers {
-		text += fmt.Sprintf("    server broker-%d %s\n", number, it)
+	for number, broker := range brokers {
+		text += fmt.Sprintf("    server broker-%d %s\n", number, broker)
 	}
 	file, logFile := filepath.Join(folder, "haproxy.cfg"), filepath.Join(folder, "haproxy.log")
 	if err := os.WriteFile(file, []byte(text), 0o600); err != nil {
@@ -81,8 +81,8 @@ func findHAProxy() (string, error) {
 	if found, err := exec.LookPath("haproxy"); err == nil {
 		return found, nil
 	}
-	for _, it := range []string{"/usr/sbin/haproxy", "/usr/local/sbin/haproxy"} {
-		if found, err := exec.LookPath(it); err == nil {
+	for _, path := range []string{"/usr/sbin/haproxy", "/usr/local/sbin/haproxy"} {
+		if found, err := exec.LookPath(path); err == nil {
 			return found, nil
 		}
 	}

@@ -1,8 +1,11 @@
+// Package servers has the servers that a storm needs besides the two programs: a PostgreSQL server of the storm's
+// own, which is killed and paused, a database of the storm's own at any server, and HAProxy in front of the brokers.
 package servers
 
 import (
 	"context"
 	"crypto/rand"
+	"database/sql"
 	"encoding/hex"
 	"errors"
 	"fmt"
@@ -19,6 +22,7 @@ import (
 	"time"
 
 	"pippinterm/internal/child"
+	"pippinterm/internal/pg"
 	"pippinterm/storm/fault"
 )
 
@@ -87,10 +91,10 @@ func programs() (string, error) {
 		return "", errNotInstalled
 	}
 	newest, latest := "", -1.0
-	for _, it := range installed {
-		version, err := strconv.ParseFloat(strings.Split(it, "/")[4], 64)
+	for _, path := range installed {
+		version, err := strconv.ParseFloat(strings.Split(path, "/")[4], 64)
 		if err == nil && version > latest {
-			newest, latest = filepath.Dir(it), version
+			newest, latest = filepath.Dir(path), version
 		}
 	}
 	return newest, nil
@@ -129,8 +133,8 @@ func (p *Postgres) create() error {
 	if err := os.WriteFile(file, []byte(p.password), 0o600); err != nil {
 		return err
 	}
-	for _, it := range []string{p.folder, file} {
-		if err := p.give(it); err != nil {
+	for _, path := range []string{p.folder, file} {
+		if err := p.give(path); err != nil {
 			return err
 		}
 	}
@@ -140,7 +144,7 @@ func (p *Postgres) create() error {
 		err = <-ended
 	}
 	if err != nil {
-		return fmt.Errorf("initdb: %w: %s", err, p.logged())
+		return fmt.Errorf("initdb: %w: %s", err, p.lastLog())
 	}
 	return nil
 }
@@ -192,8 +196,8 @@ func (p *Postgres) begin(program string, words ...string) (ended <-chan error, e
 // start starts the server, and returns once it answers.
 func (p *Postgres) start(ctx context.Context) error {
 	words := []string{"-p", strconv.Itoa(p.port), "-k", p.folder}
-	for _, it := range append(p.further(), settings...) {
-		words = append(words, "-c", it)
+	for _, setting := range append(p.further(), settings...) {
+		words = append(words, "-c", setting)
 	}
 	ctx, cancel := context.WithTimeout(ctx, startsWithin)
 	defer cancel()
@@ -208,7 +212,7 @@ func (p *Postgres) start(ctx context.Context) error {
 			return nil
 		}
 		if !fault.Sleep(ctx, startAgain) {
-			return fmt.Errorf("PostgreSQL doesn't start: %s", p.logged())
+			return fmt.Errorf("PostgreSQL doesn't start: %s", p.lastLog())
 		}
 	}
 }
@@ -260,12 +264,12 @@ func (p *Postgres) Kill(ctx context.Context, after time.Duration) error {
 func (p *Postgres) Pause(ctx context.Context, rest time.Duration) {
 	first := p.process.Process.Pid
 	stopped := stop(first) // from now on it starts no others
-	for _, it := range children(first) {
-		stopped = append(stopped, stop(it)...)
+	for _, pid := range children(first) {
+		stopped = append(stopped, stop(pid)...)
 	}
 	fault.Sleep(ctx, rest)
-	for _, it := range stopped { // one that was killed while it was stopped ends once others go on
-		_ = syscall.Kill(it, syscall.SIGCONT)
+	for _, process := range stopped { // one that was killed while it was stopped ends once others go on
+		_ = syscall.Kill(process, syscall.SIGCONT)
 	}
 	p.mutex.Lock()
 	defer p.mutex.Unlock()
@@ -286,8 +290,8 @@ func children(parent int) (pids []int) {
 	if err != nil {
 		return nil
 	}
-	for _, it := range strings.Fields(string(text)) {
-		if pid, err := strconv.Atoi(it); err == nil {
+	for _, word := range strings.Fields(string(text)) {
+		if pid, err := strconv.Atoi(word); err == nil {
 			pids = append(pids, pid)
 		}
 	}
@@ -310,8 +314,8 @@ func (p *Postgres) Close() error {
 	return os.RemoveAll(p.folder)
 }
 
-// logged returns the end of the server's log.
-func (p *Postgres) logged() string {
+// lastLog returns the end of the server's log.
+func (p *Postgres) lastLog() string {
 	const most = 2000
 	text, err := os.ReadFile(p.log)
 	if err != nil {
@@ -321,4 +325,114 @@ func (p *Postgres) logged() string {
 		text = text[len(text)-most:]
 	}
 	return string(text)
+}
+
+// sessionName is the application_name of the sessions that a storm ends at random.
+const sessionName = "storm"
+
+// A Database is a new database of a storm's own, in which nothing is. Close drops it.
+type Database struct {
+	server, name string // the URL of the database in which the new one is created, and the name of the new one
+	url          string
+	db           *sql.DB // at the new one
+}
+
+// Create creates a database of this name with the rights of a URL.
+//
+// Errors: those of the server, and pg.ErrBadAddress.
+func Create(ctx context.Context, server, name string) (*Database, error) {
+	if err := execute(ctx, server, "CREATE DATABASE "+name); err != nil {
+		return nil, fmt.Errorf("the database of the storm can't be created: %w", err)
+	}
+	d := &Database{server: server, name: name}
+	var err error
+	if d.url, err = In(server, name); err == nil {
+		d.db, err = open(d.url)
+	}
+	if err != nil {
+		_ = d.Close()
+		return nil, err
+	}
+	return d, nil
+}
+
+// In returns the URL of another database of the same server.
+func In(address, database string) (string, error) {
+	parsed, err := url.Parse(address)
+	if err != nil {
+		return "", pg.ErrBadAddress
+	}
+	asked := parsed.Query()
+	asked.Del("dbname")
+	parsed.Path, parsed.RawQuery = "/"+database, asked.Encode()
+	return parsed.String(), nil
+}
+
+// URL returns where the database is, with the password if the URL of the server has one.
+func (d *Database) URL() string { return d.url }
+
+// DB returns connections to the database. They are closed with the Database.
+func (d *Database) DB() *sql.DB { return d.db }
+
+// ForPrograms returns the URL for the programs of a storm, without a password, and the variables of their environment
+// that go with the URL. EndSession ends their sessions.
+func (d *Database) ForPrograms() (address string, environment []string) {
+	parsed, err := url.Parse(d.url)
+	if err != nil {
+		panic(err) // In has written it
+	}
+	asked := parsed.Query()
+	password, isGiven := parsed.User.Password()
+	if asked.Has("password") {
+		password, isGiven = asked.Get("password"), true
+		asked.Del("password")
+	}
+	if isGiven {
+		environment = []string{"PGPASSWORD=" + password}
+		parsed.User = url.User(parsed.User.Username())
+	}
+	asked.Set("application_name", sessionName)
+	parsed.RawQuery = asked.Encode()
+	return parsed.String(), environment
+}
+
+// A busy session comes first: then a commit breaks off of which nobody knows the result.
+const endSession = `SELECT pg_terminate_backend(pid) FROM pg_stat_activity WHERE application_name = $1
+AND datname = current_database() ORDER BY state = 'idle', random() LIMIT 1`
+
+// EndSession ends one of the sessions that the programs have, and returns whether there was one.
+func (d *Database) EndSession(ctx context.Context) (isEnded bool, err error) {
+	err = d.db.QueryRowContext(ctx, endSession, sessionName).Scan(&isEnded)
+	if err == sql.ErrNoRows {
+		err = nil
+	}
+	return isEnded, err
+}
+
+// Close drops the database, with all sessions.
+func (d *Database) Close() error {
+	if d.db != nil {
+		_ = pg.Close(d.db)
+	}
+	ctx, cancel := context.WithTimeout(context.Background(), time.Minute)
+	defer cancel()
+	return execute(ctx, d.server, "DROP DATABASE IF EXISTS "+d.name+" WITH (FORCE)")
+}
+
+// open returns connections to the server of a URL.
+func open(address string) (*sql.DB, error) {
+	return pg.Open(address, pg.Options{
+		Most: 4, Lock: 10 * time.Second, Statement: time.Minute, Idle: time.Minute,
+	})
+}
+
+// execute runs a statement in a session of its own.
+func execute(ctx context.Context, address, statement string) error {
+	db, err := open(address)
+	if err != nil {
+		return err
+	}
+	defer pg.Close(db)
+	_, err = db.ExecContext(ctx, statement)
+	return err
 }

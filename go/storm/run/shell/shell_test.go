@@ -17,10 +17,10 @@ import (
 func TestRows(t *testing.T) {
 	rows, err := Rows(context.Background(), `printf 'a b\n\n  c\td \n'`, 2)
 	if err != nil || !reflect.DeepEqual(rows, [][]string{{"a", "b"}, {"c", "d"}}) {
-		t.Errorf("%v %v", err, rows)
+		t.Errorf("got the error %v and the rows %v, want two of two words", err, rows)
 	}
 	if rows, err := Rows(context.Background(), "true", 1); err != nil || len(rows) > 0 {
-		t.Errorf("%v %v", err, rows)
+		t.Errorf("got the error %v and the rows %v, want none", err, rows)
 	}
 }
 
@@ -31,10 +31,12 @@ func TestRowsFail(t *testing.T) {
 		"echo one two": "doesn't have 1 ids",
 		"exit 4":       "exit status 4",
 	} {
-		rows, err := Rows(context.Background(), command, 1)
-		if err == nil || !strings.Contains(err.Error(), wanted) || len(rows) > 0 {
-			t.Errorf("%s: %v %v", command, err, rows)
-		}
+		t.Run(command, func(t *testing.T) {
+			rows, err := Rows(context.Background(), command, 1)
+			if err == nil || !strings.Contains(err.Error(), wanted) || len(rows) > 0 {
+				t.Errorf("%s: got the error %v and the rows %v, want the error %q", command, err, rows, wanted)
+			}
+		})
 	}
 }
 
@@ -42,7 +44,7 @@ func TestRowsFail(t *testing.T) {
 func TestRowsMuch(t *testing.T) {
 	rows, err := Rows(context.Background(), "seq 50000 >&2; seq 50000; seq 50000 >&2", 1)
 	if err != nil || len(rows) != 50000 {
-		t.Errorf("%v, %d rows", err, len(rows))
+		t.Errorf("got %v and %d rows, want 50000", err, len(rows))
 	}
 }
 
@@ -51,11 +53,11 @@ func TestRunEnds(t *testing.T) {
 	ctx, cancel := context.WithTimeout(context.Background(), 50*time.Millisecond)
 	defer cancel()
 	if err := Run(ctx, "exec sleep 60"); err == nil {
-		t.Error("a command that was killed has succeeded")
+		t.Error("a command that was killed: got no error, want one")
 	}
 	begun := time.Now()
 	if err := Run(context.Background(), "sleep 20 & true"); err != nil || time.Since(begun) > 10*time.Second {
-		t.Errorf("%v after %v", err, time.Since(begun))
+		t.Errorf("got %v after %v, want no error within 10 s", err, time.Since(begun))
 	}
 }
 
@@ -68,25 +70,27 @@ func TestEndsWhole(t *testing.T) {
 		"a new group":  "setsid sleep 90 & echo one",
 		"deaf to TERM": "trap '' TERM HUP INT; sleep 1000; sleep 1000",
 	} {
-		marked := filepath.Join(t.TempDir(), "late")
-		for _, run := range []func(context.Context) error{
-			func(ctx context.Context) error { return Run(ctx, command+"; sleep 1000; touch "+marked) },
-			func(ctx context.Context) error {
-				rows, err := Rows(ctx, command, 1)
-				if len(rows) > 0 {
-					t.Errorf("%s: %v", name, rows)
+		t.Run(name, func(t *testing.T) {
+			marked := filepath.Join(t.TempDir(), "late")
+			for _, run := range []func(context.Context) error{
+				func(ctx context.Context) error { return Run(ctx, command+"; sleep 1000; touch "+marked) },
+				func(ctx context.Context) error {
+					rows, err := Rows(ctx, command, 1)
+					if len(rows) > 0 {
+						t.Errorf("%s: got the rows %v, want none", name, rows)
+					}
+					return err
+				},
+			} {
+				ctx, cancel := context.WithTimeout(context.Background(), 100*time.Millisecond)
+				begun := time.Now()
+				err := run(ctx)
+				cancel()
+				if took := time.Since(begun); err == nil || took > time.Minute {
+					t.Errorf("%s: got %v after %v, want an error within a minute", name, err, took)
 				}
-				return err
-			},
-		} {
-			ctx, cancel := context.WithTimeout(context.Background(), 100*time.Millisecond)
-			begun := time.Now()
-			err := run(ctx)
-			cancel()
-			if took := time.Since(begun); err == nil || took > time.Minute {
-				t.Errorf("%s: %v after %v", name, err, took)
 			}
-		}
+		})
 	}
 }
 
@@ -96,20 +100,16 @@ func TestKillsGroup(t *testing.T) {
 	ctx, cancel := context.WithTimeout(context.Background(), time.Second)
 	defer cancel()
 	if _, err := Rows(ctx, "sleep 1000 & echo $! >"+pids+"; sleep 1000", 1); err == nil {
-		t.Error("a command that was killed has succeeded")
+		t.Error("a command that was killed: got no error, want one")
 	}
 	text, err := os.ReadFile(pids)
-	if err != nil {
-		t.Fatal(err)
-	}
+	check(t, err)
 	pid, err := strconv.Atoi(strings.TrimSpace(string(text)))
-	if err != nil {
-		t.Fatal(err)
-	}
+	check(t, err)
 	for until := time.Now().Add(5 * time.Second); isRunning(pid); time.Sleep(10 * time.Millisecond) {
 		if time.Now().After(until) {
 			_ = syscall.Kill(pid, syscall.SIGKILL)
-			t.Fatal("what the command has started still runs")
+			t.Fatal("what the command has started: got it still running, want its end")
 		}
 	}
 }
@@ -131,16 +131,18 @@ func TestLimit(t *testing.T) {
 			return err
 		},
 	} {
-		begun := time.Now()
-		err := run()
-		if took := time.Since(begun); err == nil || took > time.Minute || !strings.Contains(err.Error(), "within 100ms") {
-			t.Errorf("%s: %v after %v", name, err, took)
-		}
+		t.Run(name, func(t *testing.T) {
+			begun := time.Now()
+			err := run()
+			if took := time.Since(begun); err == nil || took > time.Minute || !strings.Contains(err.Error(), "within 100ms") {
+				t.Errorf("%s: got %v after %v, want an error of 100 ms within a minute", name, err, took)
+			}
+		})
 	}
 }
 
-// A command that prints too much on either output is killed with its group, and the error says so. One that prints just as
-// much as it may isn't.
+// A command that prints too much on either output is killed with its group, and the error says so. One that prints just
+// as much as it may isn't.
 func TestMostPrinted(t *testing.T) {
 	defer func(before int64) { mostPrinted = before }(mostPrinted)
 	mostPrinted = 10000
@@ -153,16 +155,125 @@ func TestMostPrinted(t *testing.T) {
 		"fails":       "head -c 100000000 /dev/zero; exit 3",
 		"a new group": "setsid sleep 90 & head -c 100000000 /dev/zero; sleep 1000",
 	} {
-		ctx, cancel := context.WithTimeout(context.Background(), 80*time.Second)
-		begun := time.Now()
-		rows, err := Rows(ctx, command, 1)
-		cancel()
-		took := time.Since(begun)
-		if err == nil || took > time.Minute || len(rows) > 0 || !strings.Contains(err.Error(), "more than 10000 bytes") {
-			t.Errorf("%s: %v after %v", name, err, took)
-		}
+		t.Run(name, func(t *testing.T) {
+			ctx, cancel := context.WithTimeout(context.Background(), 80*time.Second)
+			begun := time.Now()
+			rows, err := Rows(ctx, command, 1)
+			cancel()
+			took := time.Since(begun)
+			if err == nil || took > time.Minute || len(rows) > 0 || !strings.Contains(err.Error(), "more than 10000 bytes") {
+				t.Errorf("%s: got %v after %v, want an error of too many bytes within a minute", name, err, took)
+			}
+		})
 	}
 	if rows, err := Rows(context.Background(), "yes 123456789 | head -c 10000", 1); err != nil || len(rows) != 1000 {
-		t.Errorf("%v, %d rows", err, len(rows))
+		t.Errorf("got %v and %d rows, want 1000", err, len(rows))
+	}
+}
+
+// awaitEnd waits until a command has ended by itself.
+func awaitEnd(t *testing.T, c *Command) {
+	t.Helper()
+	if !isClosed(c.Done(), 10*time.Second) {
+		t.Fatal("the command: got no end in time, want one")
+	}
+}
+
+// A command gets the variables, and its error and the last lines of both outputs are returned once it has ended.
+func TestStart(t *testing.T) {
+	long, fitting := fmt.Sprintf("printf %%0%dd 0", 3*mostKept), fmt.Sprintf("printf '%%0%dd\\n' 0", mostKept-1)
+	for command, test := range map[string]struct {
+		failure string
+		lines   []string
+	}{
+		`echo "$ONE-$OTHER"; echo late >&2; exit 3`: {"exit status 3", []string{"1-2", "late"}},
+		"true":                          {"", nil},
+		"no-such-command 2>/dev/null":   {"exit status 127", nil},
+		"kill -9 $$":                    {"signal: killed", nil},
+		"setsid sleep 5 & echo started": {"", []string{"started"}}, // it keeps the output open
+		"yes | head -n 100000; seq 25":  {"", strings.Fields(numbers(6, 25))},
+		long + "; echo; echo last":      {"", []string{"last"}}, // of the first line, only the end is kept
+		long:                            {"", nil},
+		long + "; echo; " + fitting:     {"", []string{strings.Repeat("0", mostKept-1)}},
+	} {
+		t.Run(command, func(t *testing.T) {
+			c, err := Start(command, "ONE=1", "OTHER=2")
+			check(t, err)
+			awaitEnd(t, c)
+			begun, text := time.Now(), ""
+			if err := c.End(); err != nil {
+				text = err.Error()
+			}
+			if lines := c.LastLines(); text != test.failure || !reflect.DeepEqual(lines, test.lines) {
+				t.Errorf("%s: got the failure %q and the lines %q, want %q and %q", command, text, lines, test.failure, test.lines)
+			}
+			if took := time.Since(begun); took > 4*time.Second {
+				t.Errorf("%s: got an end after %v, want one within 4 s", command, took)
+			}
+		})
+	}
+}
+
+// numbers returns the numbers between two, with a space after each.
+func numbers(from, to int) (text string) {
+	for ; from <= to; from++ {
+		text += strconv.Itoa(from) + " "
+	}
+	return text
+}
+
+// A command that goes on is killed with all processes of its group, and so is what is left of one that has ended. That
+// is no failure.
+func TestEnd(t *testing.T) {
+	for name, command := range map[string]string{
+		"goes on": "sleep 1000 & echo $! >PIDS; sleep 1000", "deaf": "trap '' TERM; sleep 1000 & echo $! >PIDS; wait",
+		"has ended": "sleep 1000 & echo $! >PIDS",
+		"has left": `exec python3 -c 'import os, time
+os.setpgid(0, os.getpgid(os.getppid()))
+print(os.getpid(), file=open("PIDS", "w"), flush=True)
+time.sleep(1000)'`, // the command itself has left its group
+	} {
+		t.Run(name, func(t *testing.T) {
+			pids := filepath.Join(t.TempDir(), "pids")
+			c, err := Start(strings.ReplaceAll(command, "PIDS", pids))
+			check(t, err)
+			pid := pidIn(t, pids)
+			if name == "has ended" {
+				awaitEnd(t, c)
+			}
+			if !isRunning(pid) {
+				t.Errorf("%s: got the child ended before, want it to run", name)
+			}
+			if err := c.End(); err != nil {
+				t.Errorf("%s: got the error %v, want none", name, err)
+			}
+			for until := time.Now().Add(5 * time.Second); isRunning(pid); time.Sleep(10 * time.Millisecond) {
+				if time.Now().After(until) {
+					t.Fatalf("%s: got what the command has started still running, want its end", name)
+				}
+			}
+		})
+	}
+}
+
+// pidIn waits until a file has the id of a process.
+func pidIn(t *testing.T, path string) int {
+	t.Helper()
+	for until := time.Now().Add(10 * time.Second); time.Now().Before(until); time.Sleep(10 * time.Millisecond) {
+		if text, err := os.ReadFile(path); err == nil && strings.HasSuffix(string(text), "\n") {
+			pid, err := strconv.Atoi(strings.TrimSpace(string(text)))
+			check(t, err)
+			return pid
+		}
+	}
+	t.Fatal("the command: got no id of it in time, want one")
+	return 0
+}
+
+// check ends the test at an error.
+func check(t testing.TB, err error) {
+	t.Helper()
+	if err != nil {
+		t.Fatal(err)
 	}
 }

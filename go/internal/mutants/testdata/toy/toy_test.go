@@ -2,6 +2,8 @@ package toy
 
 import (
 	"os"
+	"runtime"
+	"syscall"
 	"testing"
 	"time"
 )
@@ -40,5 +42,29 @@ func TestName(t *testing.T) {
 func TestHangs(t *testing.T) {
 	for os.Getenv("TOY_HANGS") != "" && Name(0) == "none" {
 		time.Sleep(time.Millisecond)
+	}
+}
+
+// TestFails fails with any mutant, or without one, too.
+func TestFails(t *testing.T) {
+	switch os.Getenv("TOY_FAILS") {
+	case "with a mutant":
+		if os.Getenv("OSB_MUTANT") != "" {
+			t.Error("there is a mutant")
+		}
+	case "always":
+		t.Error("it always fails")
+	}
+}
+
+func TestSkips(t *testing.T) { t.Skip("it has nothing to look at") }
+
+// TestAsNobody is another user, if it may be. Its thread ends with it.
+func TestAsNobody(t *testing.T) {
+	const nobody = 65534
+	runtime.LockOSThread()
+	_, _, _ = syscall.RawSyscall(syscall.SYS_SETFSUID, nobody, 0, 0)
+	if Odd(1) != nil {
+		t.Error("got an error")
 	}
 }

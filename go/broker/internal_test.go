@@ -1,0 +1,227 @@
+package broker
+
+import (
+	"bytes"
+	"context"
+	"encoding/json"
+	"errors"
+	"fmt"
+	"strings"
+	"testing"
+	"time"
+
+	"pippinterm/internal/budget"
+	"pippinterm/osb"
+)
+
+// SetPatience sets how long a request waits until it may do work.
+func (h *Handler) SetPatience(patience time.Duration) { h.patience = patience }
+
+// SetStay sets how long a request is kept, if ids return.
+func (s *Service) SetStay(stay time.Duration) { s.stay = stay }
+
+// SetBudgets sets how many bytes of bodies may be in memory, and how many are parsed at once.
+func (h *Handler) SetBudgets(bodies, parsed int) {
+	h.bodies, h.parsed = budget.New(bodies), budget.New(parsed)
+}
+
+// Parse takes bytes of the bodies that a user may have parsed at once, as a request does while its body is parsed.
+func (h *Handler) Parse(user string, bytes int) bool { return h.parsed.Take(user, bytes, 0) }
+
+// tryLocks are locks whose TryLock a test has.
+type tryLocks struct {
+	Locks
+	try func() error
+}
+
+func (l *tryLocks) TryLock(context.Context, Key) (Lock, error) { return nil, l.try() }
+
+// While the locks are silent, one call tries, and the others fail at once.
+func TestOneCallTriesSilentLocks(t *testing.T) {
+	entered, release, ended := make(chan struct{}), make(chan struct{}), make(chan error, 1)
+	locks := &tryLocks{try: func() error { close(entered); <-release; return nil }}
+	g := newGate(locks, 4)
+	g.silent()
+	go func() { _, err := g.tryLock(context.Background(), Key{}); ended <- err }()
+	<-entered
+	locks.try = func() error { return errors.New("the locks were asked") }
+	if _, err := g.tryLock(context.Background(), Key{}); !errors.Is(err, errSilent) {
+		t.Errorf("a further call: got %v, want %v", err, errSilent)
+	}
+	close(release)
+	if err := <-ended; err != nil {
+		t.Errorf("the call that tries: got %v, want nil", err)
+	}
+}
+
+// Once a call has been answered, calls run side by side again. One that fails changes nothing.
+func TestLocksThatAnswerAgain(t *testing.T) {
+	g := newGate(&tryLocks{try: func() error { return errors.New("it failed") }}, 4)
+	g.silent()
+	for _, test := range []struct {
+		err     error
+		isProbe bool
+	}{{errors.New("it failed"), true}, {nil, false}} {
+		g.locks = &tryLocks{try: func() error { return test.err }}
+		if _, err := g.tryLock(context.Background(), Key{}); err != test.err {
+			t.Errorf("the call that tries: got %v, want %v", err, test.err)
+		}
+		isProbe, ok := g.enter()
+		if isProbe != test.isProbe || !ok {
+			t.Errorf("enter after %v: got %t, %t, want %t, true", test.err, isProbe, ok, test.isProbe)
+		}
+		g.leave(isProbe, false)
+	}
+}
+
+// A call that waits for a slot gets it, and gives it back. A busy machine may take longer than a call waits, so it
+// tries more than once.
+func TestAPlaceThatWasWaitedFor(t *testing.T) {
+	var err error
+	for tries := 0; tries < 20; tries++ {
+		g := newGate(&tryLocks{try: func() error { return nil }}, 1)
+		g.slots <- struct{}{}
+		time.AfterFunc(50*time.Millisecond, func() { <-g.slots })
+		if _, err = g.tryLock(context.Background(), Key{}); err == nil {
+			if count := len(g.slots); count > 0 {
+				t.Errorf("got %d slots that are taken, want 0", count)
+			}
+			return
+		}
+	}
+	t.Errorf("got %v, want a slot", err)
+}
+
+// The member is added at the end, and all else stays byte for byte.
+func TestWithStore(t *testing.T) {
+	for document, want := range map[string]string{
+		`{}`:                                     `{"x-osb-store":"an id"}`,
+		" {\n} \n":                               ` {"x-osb-store":"an id"}`,
+		`{"services":[ ],"b":1.0,"a":"\u00e4}"}`: `{"services":[ ],"b":1.0,"a":"\u00e4}","x-osb-store":"an id"}`,
+		"{ \"a\" : {} \n}\n":                     `{ "a" : {},"x-osb-store":"an id"}`,
+	} {
+		t.Run(document, func(t *testing.T) {
+			got := withStore([]byte(document), "an id")
+			var read map[string]any
+			if err := json.Unmarshal(got, &read); err != nil || string(got) != want || read["x-osb-store"] != "an id" {
+				t.Errorf("got %q, %v, want %q", got, err, want)
+			}
+		})
+	}
+	if got := withStore([]byte(`{}`), "a\"<"); !bytes.Contains(got, []byte(`"a\"\u003c"`)) {
+		t.Errorf("an id with a quote: got %s, want it escaped", got)
+	}
+}
+
+// Both documents of a catalogue name the store, and the catalogue that they are made of stays as it is. A document that
+// names a store itself is rejected: it would be that of another broker.
+func TestOfStore(t *testing.T) {
+	const document = `{"services": [{"id": "s", "name": "n", "description": "d", "bindable": false, "plans": [
+		{"id": "p", "name": "n", "description": "d", "x-osb-asynchronous": false}]}]}`
+	without, err := NewCatalogue([]byte(document), false)
+	if err != nil {
+		t.Fatal(err)
+	}
+	of, err := without.OfStore("the-id")
+	if err != nil {
+		t.Fatal(err)
+	}
+	for _, text := range [][]byte{of.document, of.returning, of.Document()} {
+		if bytes.Count(text, []byte(`"x-osb-store":"the-id"`)) != 1 {
+			t.Errorf("got %s, want the id once", text)
+		}
+	}
+	if bytes.Contains(without.Document(), []byte("x-osb-store")) || bytes.Contains(without.returning, []byte("x-osb-store")) {
+		t.Errorf("the catalogue without a store: got %s, want no id in it", without.Document())
+	}
+	if _, err := without.OfStore("two\r\nlines"); err == nil {
+		t.Error("an id of two lines: got no error, want one")
+	}
+	named := strings.Replace(document, "{", `{"x-osb-store": "mine", `, 1)
+	if _, err := NewCatalogue([]byte(named), false); !errors.Is(err, ErrCatalogueMember) ||
+		!strings.Contains(err.Error(), "x-osb-store") {
+		t.Errorf("a document that names a store: got %v, want %v", err, ErrCatalogueMember)
+	}
+}
+
+// The pauses double up to the longest, less a random part of at most a half.
+func TestPauses(t *testing.T) {
+	s := newSetbacks(time.Second, 10*time.Second)
+	for times, want := range []time.Duration{1, 2, 4, 8, 10, 10, 10} {
+		seen := map[time.Duration]bool{}
+		for n := 0; n < 100; n++ {
+			got := s.pause(times)
+			seen[got] = true
+			if got > want*time.Second || got < want*time.Second/2 {
+				t.Errorf("the pause after %d failures: got %v, want %v to %v", times, got, want*time.Second/2, want*time.Second)
+			}
+		}
+		if len(seen) < 50 {
+			t.Errorf("after %d failures: got %d pauses, want random ones", times, len(seen))
+		}
+	}
+	if got := newSetbacks(time.Hour, 0).pause(3); got > DefaultLongestPause {
+		t.Errorf("the pause: got %v, want %v at most", got, DefaultLongestPause)
+	}
+}
+
+func keyOfTest(n int) Key {
+	number, err := osb.IDOfText(fmt.Sprint("n", n))
+	if err != nil {
+		panic(err)
+	}
+	return InstanceKey(number)
+}
+
+// A key rests only if its work goes on. It is forgotten when its work succeeds, and some time after its last failure.
+func TestSetbacks(t *testing.T) {
+	s := newSetbacks(time.Hour, time.Hour)
+	one, other, third := keyOfTest(1), keyOfTest(2), keyOfTest(3)
+	s.add(one, wentBadly, true)
+	s.add(other, wentBadly, false)
+	s.add(third, wentNowhere, true)
+	for key, want := range map[Key][2]bool{one: {true, true}, other: {true, false}, third: {}} {
+		if s.isFailing(key) != want[0] || s.rests(key) != want[1] {
+			t.Errorf("%v: got failing %v and resting %v, want %v", key, s.isFailing(key), s.rests(key), want)
+		}
+	}
+	s.add(one, wentNowhere, true)
+	s.add(other, wentWell, false)
+	if !s.isFailing(one) || s.isFailing(other) {
+		t.Error("got other keys that fail, want only those that haven't succeeded since")
+	}
+	ago := time.Now().Add(-2 * forgetAfter)
+	s.of[one], s.of[other], s.of[third] = setback{1, ago}, setback{1, ago}, setback{1, time.Now().Add(time.Minute)}
+	s.forget(map[Key]bool{other: false})
+	if s.isFailing(one) || !s.isFailing(other) || !s.isFailing(third) {
+		t.Error("got other keys that fail, want what waits or rests, and not what failed long ago")
+	}
+	for n := 0; n < mostSetbacks+10; n++ {
+		s.add(keyOfTest(n), wentBadly, true)
+	}
+	if len(s.of) != mostSetbacks {
+		t.Errorf("got %d keys known, want %d", len(s.of), mostSetbacks)
+	}
+}
+
+// Of the keys that have failed, the one that has failed the least often comes first, and otherwise the one that waits
+// for longest.
+func TestFewestFailuresFirst(t *testing.T) {
+	s := NewSweeper(&Service{}, Silent{})
+	s.slots, s.setbacks.shortest = newSlots(20), time.Second
+	for n, times := range []int{3, 3, 1, 2, 0, 1, 0} {
+		key := keyOfTest(n)
+		s.failing = append(s.failing, key)
+		for ; times > 0; times-- {
+			s.setbacks.add(key, wentBadly, true)
+		}
+	}
+	for _, n := range []int{4, 6, 2, 5, 3, 0, 1} {
+		if run, _ := s.take(); run.key != keyOfTest(n) {
+			t.Errorf("got %v, want the key %d", run.key, n)
+		}
+	}
+	if len(s.failing) != 0 {
+		t.Errorf("got %d keys that wait, want none", len(s.failing))
+	}
+}

@@ -1,0 +1,141 @@
+package main
+
+import (
+	"math"
+	"time"
+
+	"github.com/rs/zerolog"
+
+	"pippinterm/broker"
+	"pippinterm/internal/logs"
+)
+
+// A logObserver is a broker.Observer that logs these events (this project's choice). Empty members are left out.
+//
+//	request          info: a request and its answer, with request (the id of the request), instance, binding, route,
+//	                 method, target, status, reason, milliseconds, user, address, traceparent, vcap_request_id
+//	                 and originating_identity
+//	operation_ended  info: an asynchronous operation has ended, or pending work that a dead worker had left, with
+//	                 instance, binding and succeeded
+//	Failure.Event    error: a failure, with request, instance, binding and error
+type logObserver struct{ *logs.Logger }
+
+// OnExchange logs a request.
+func (o logObserver) OnExchange(exchange broker.Exchange) {
+	event := o.Info("request")
+	add(event, "request", exchange.RequestID)
+	addKey(event, exchange.Key, exchange.IsNamed)
+	add(event, "route", exchange.Route)
+	add(event, "method", exchange.Method)
+	add(event, "target", exchange.Target)
+	event.Int("status", exchange.Status)
+	add(event, "reason", exchange.Reason)
+	event.Float64("milliseconds", milliseconds(exchange.Duration))
+	add(event, "user", exchange.User)
+	add(event, "address", exchange.Address)
+	add(event, "traceparent", exchange.Traceparent)
+	add(event, "vcap_request_id", exchange.VcapRequest)
+	add(event, "originating_identity", exchange.Identity)
+	event.Send()
+}
+
+// OnFailure logs a failure. That a backend has rejected a creation isn't an error.
+func (o logObserver) OnFailure(failure broker.Failure) {
+	level := o.Error
+	if failure.IsRejection {
+		level = o.Info
+	}
+	event := level(failure.Event)
+	add(event, "request", failure.RequestID)
+	addKey(event, failure.Key, failure.IsNamed)
+	if failure.Err != nil {
+		event.Str("error", failure.Err.Error())
+	}
+	event.Send()
+}
+
+// OnCallFailure logs nothing: what the call was for is logged once it has failed, and not again with each retry.
+func (o logObserver) OnCallFailure(string) {}
+
+// OnCommit logs nothing.
+func (o logObserver) OnCommit(int) {}
+
+// OnEnd logs the end of an operation, or of pending work.
+func (o logObserver) OnEnd(key broker.Key, ok bool) {
+	event := o.Info("operation_ended")
+	addKey(event, key, true)
+	event.Bool("succeeded", ok)
+	event.Send()
+}
+
+func add(event *zerolog.Event, name, text string) {
+	if text != "" {
+		event.Str(name, text)
+	}
+}
+
+func addKey(event *zerolog.Event, key broker.Key, isNamed bool) {
+	if !isNamed {
+		return
+	}
+	event.Str("instance", key.Instance.String())
+	if key.IsBinding {
+		event.Str("binding", key.Binding.String())
+	}
+}
+
+// milliseconds returns a time in milliseconds, rounded to tenths.
+func milliseconds(duration time.Duration) float64 {
+	return math.Round(float64(duration)/float64(time.Millisecond)*10) / 10
+}
+
+// observers are one broker.Observer, which hands each event to all of them, in this order.
+type observers []broker.Observer
+
+func (o observers) OnExchange(exchange broker.Exchange) {
+	for _, observer := range o {
+		observer.OnExchange(exchange)
+	}
+}
+
+func (o observers) OnFailure(failure broker.Failure) {
+	for _, observer := range o {
+		observer.OnFailure(failure)
+	}
+}
+
+func (o observers) OnCallFailure(call string) {
+	for _, observer := range o {
+		observer.OnCallFailure(call)
+	}
+}
+
+func (o observers) OnCommit(changes int) {
+	for _, observer := range o {
+		observer.OnCommit(changes)
+	}
+}
+
+func (o observers) OnEnd(key broker.Key, ok bool) {
+	for _, observer := range o {
+		observer.OnEnd(key, ok)
+	}
+}
+
+// returns is an observer that logs ids that return, too (this project's choice):
+//
+//	id_returned  info: a creation was let in although its id has a tombstone, with request (the id of the request),
+//	             instance, binding and ended_seconds_ago
+type returns struct {
+	broker.Observer
+	log *logs.Logger
+}
+
+// OnReturn logs an id that returns.
+func (r returns) OnReturn(it broker.Return) {
+	event := r.log.Info("id_returned").Str("request", it.RequestID).Str("instance", it.Key.Instance.String())
+	if it.Key.IsBinding {
+		event.Str("binding", it.Key.Binding.String())
+	}
+	event.Float64("ended_seconds_ago", it.EndedAgo.Truncate(time.Millisecond).Seconds()).Send()
+}

@@ -1,0 +1,80 @@
+package diff
+
+import (
+	"fmt"
+	"regexp"
+	"strings"
+	"testing"
+	"time"
+)
+
+// A number is printed by its text.
+type number [2]byte
+
+func (n number) String() string { return fmt.Sprintf("number-%d-%d", n[0], n[1]) }
+
+// A loose value equals every other one, by its method.
+type loose struct{ N int }
+
+func (loose) Equal(loose) bool { return true }
+
+type row struct {
+	Number   number
+	Name     string
+	At       time.Time
+	lines    []string
+	Settings map[string]any
+	Other    [40]string
+}
+
+func some() row {
+	return row{
+		Number: number{1, 2}, Name: "one", At: time.Unix(1, 0).UTC(), lines: []string{"a", "b"},
+		Settings: map[string]any{"size": 3.0, "name": "x"}, Other: [40]string{39: "last"},
+	}
+}
+
+// A fake keeps what a test reports.
+type fake struct {
+	testing.TB
+	failed string
+}
+
+func (f *fake) Helper() {}
+
+func (f *fake) Errorf(format string, arguments ...any) { f.failed += fmt.Sprintf(format, arguments...) }
+
+// What is equal reports nothing. Otherwise the report has what was got and what is wanted of each difference, also of a
+// field that isn't exported, and leaves out the other fields.
+func TestCheck(t *testing.T) {
+	for name, test := range map[string]struct {
+		change    func(*row)
+		want, got string // regular expressions of a line
+	}{
+		"an id":          {func(r *row) { r.Number[1] = 7 }, `Number: +s"number-1-2"`, `Number: +s"number-1-7"`},
+		"a text":         {func(r *row) { r.Name = "two" }, `Name: +"one"`, `Name: +"two"`},
+		"a time":         {func(r *row) { r.At = r.At.Add(1) }, `At: +s".*:01 \+0000 UTC"`, `At: +s".*:01.000000001 `},
+		"a zone":         {func(r *row) { r.At = r.At.In(time.FixedZone("x", 60)) }, `At: +s".* UTC"`, `At: +s".* x"`},
+		"a hidden field": {func(r *row) { r.lines = []string{"a", "c"} }, `"b"`, `"c"`},
+		"nil":            {func(r *row) { r.Settings = nil }, `Settings: +map`, `Settings: +nil`},
+		"a member":       {func(r *row) { r.Settings["size"] = 4.0 }, `"size": +float64\(3\)`, `"size": +float64\(4\)`},
+	} {
+		t.Run(name, func(t *testing.T) {
+			f, got := &fake{TB: t}, some()
+			test.change(&got)
+			Check(f, got, some(), "row %d", 5)
+			text := strings.ReplaceAll(f.failed, "\u00a0", " ") // cmp has either blank, so that nobody compares its texts
+			wanted := `(?s)^row 5: got \+, want -\n.*\n-\s+` + test.want + `.*\n\+\s+` + test.got
+			if !regexp.MustCompile(wanted).MatchString(text) || strings.Contains(text, "last") {
+				t.Errorf("got %q, want %s", text, wanted)
+			}
+		})
+	}
+	f := &fake{TB: t}
+	if Check(f, some(), some(), "row"); f.failed != "" {
+		t.Errorf("got %q of equal values, want nothing", f.failed)
+	}
+	if Check(f, loose{1}, loose{2}, "row %d", 6); f.failed != "row 6: got {N:1}, want {N:2}" {
+		t.Errorf("got %q, want both values", f.failed)
+	}
+}

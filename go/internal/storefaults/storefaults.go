@@ -1,0 +1,373 @@
+// Package storefaults makes one statement fail in the tests of stores, over SQLite and over PostgreSQL.
+package storefaults
+
+import (
+	"bufio"
+	"bytes"
+	"database/sql/driver"
+	"encoding/binary"
+	"errors"
+	"io"
+	"net"
+	"net/url"
+	"strings"
+	"sync"
+	"sync/atomic"
+	"testing"
+
+	"github.com/mattn/go-sqlite3"
+
+	"pippinterm/internal/pg"
+)
+
+// A Fault is how a statement fails.
+type Fault int
+
+const (
+	// Refused: the database answers with an error, and has done nothing.
+	Refused Fault = iota
+	// Cut: the connection ends before the database gets the statement. SQLite has none.
+	Cut
+	// Lost: the connection ends before the database answers, which has executed the statement. Of SQLite's statements
+	// only COMMITs are counted then.
+	Lost
+	// Broken: the connection ends in the middle of the answer, before its first row, or before its end if it has none.
+	Broken
+)
+
+// String is the word for it.
+func (f Fault) String() string { return [...]string{"refused", "cut", "lost", "broken"}[f] }
+
+// ErrFault is the error of a statement that is made to fail, if the database isn't asked.
+var ErrFault = errors.New("this statement was made to fail")
+
+// A Countdown has one statement of a store fail. Any number of connections use it.
+type Countdown struct {
+	turn   sync.Mutex
+	left   int // how many statements until the one that fails, and 0 if none does
+	fault  Fault
+	failed string
+}
+
+// Fail has the n-th statement from now on fail, and none if n is 0.
+func (c *Countdown) Fail(n int, fault Fault) {
+	c.turn.Lock()
+	defer c.turn.Unlock()
+	c.left, c.fault, c.failed = n, fault, ""
+}
+
+// FailedStatement returns the statement that has failed since Fail, or "".
+func (c *Countdown) FailedStatement() string {
+	c.turn.Lock()
+	defer c.turn.Unlock()
+	return c.failed
+}
+
+// next returns how the statement fails that does.
+func (c *Countdown) next() Fault {
+	c.turn.Lock()
+	defer c.turn.Unlock()
+	return c.fault
+}
+
+// fails counts a statement, and returns whether it is the one that fails.
+func (c *Countdown) fails(text string) bool {
+	c.turn.Lock()
+	defer c.turn.Unlock()
+	if c.left == 0 {
+		return false
+	}
+	if c.left--; c.left > 0 {
+		return false
+	}
+	c.failed = text
+	return true
+}
+
+// IsBegin returns whether a statement begins a transaction: if it fails, it may be tried again.
+func IsBegin(statement string) bool { return strings.HasPrefix(statement, "BEGIN") }
+
+// IsCommit returns whether a statement commits what others have written.
+func IsCommit(statement string) bool { return strings.HasPrefix(statement, "COMMIT") }
+
+// A Proxy stands between the connections of a client and a PostgreSQL server. Each statement of a client may be the one
+// that fails: what is prepared, each execution, and what a client sends as a text.
+type Proxy struct {
+	Countdown
+	listener net.Listener
+	server   string
+	running  sync.WaitGroup
+}
+
+// NewProxy starts a proxy before the server of a URL, and returns it with the URL to use. At the end of the test it
+// waits until all connections are closed.
+func NewProxy(t *testing.T, address string) (*Proxy, string) {
+	t.Helper()
+	host, port, err := pg.HostAndPort(address)
+	if err != nil {
+		t.Fatal(err)
+	}
+	parsed, err := url.Parse(address)
+	if err != nil {
+		t.Fatal(err)
+	}
+	listener, err := net.Listen("tcp", "127.0.0.1:0")
+	if err != nil {
+		t.Fatal(err)
+	}
+	p := &Proxy{listener: listener, server: net.JoinHostPort(host, port)}
+	p.running.Add(1)
+	go p.accept()
+	t.Cleanup(func() {
+		_ = listener.Close()
+		p.running.Wait()
+	})
+	asked := parsed.Query()
+	asked.Set("sslmode", "disable")
+	parsed.Host, parsed.RawQuery = listener.Addr().String(), asked.Encode()
+	return p, parsed.String()
+}
+
+func (p *Proxy) accept() {
+	defer p.running.Done()
+	for {
+		client, err := p.listener.Accept()
+		if err != nil {
+			return
+		}
+		server, err := net.Dial("tcp", p.server)
+		if err != nil {
+			_ = client.Close()
+			continue
+		}
+		it := &talk{proxy: p, client: client, server: server, texts: map[string]string{}}
+		p.running.Add(2)
+		go func() {
+			defer p.running.Done()
+			defer client.Close()
+			_ = it.answer()
+		}()
+		go func() {
+			defer p.running.Done()
+			defer server.Close()
+			_ = it.forward()
+		}()
+	}
+}
+
+// A talk is a connection, as PostgreSQL's protocol 3 says ("Message Flow").
+type talk struct {
+	proxy          *Proxy
+	client, server net.Conn
+	texts          map[string]string // of prepared statements, by their names
+	isLost         atomic.Bool       // whether the connection ends instead of the next answer
+	isBroken       atomic.Bool       // whether the connection ends in the middle of the next answer
+}
+
+// answer forwards what the server answers, until one of the connections ends.
+func (c *talk) answer() error {
+	for from := bufio.NewReader(c.server); ; {
+		message, err := read(from, 5)
+		if err != nil {
+			return err
+		}
+		kind := message[0] // D is a row, and C the end of what a statement answers
+		if c.isLost.Load() || (kind == 'D' || kind == 'C') && c.isBroken.Load() {
+			return io.EOF
+		}
+		if _, err := c.client.Write(message); err != nil {
+			return err
+		}
+	}
+}
+
+// forward forwards what a client sends, until one of the connections ends.
+func (c *talk) forward() error {
+	first, err := read(c.client, 4) // the first message has no type
+	if err != nil {
+		return err
+	}
+	if _, err := c.server.Write(first); err != nil {
+		return err
+	}
+	var round []byte // what is answered together
+	text := ""
+	for {
+		message, err := read(c.client, 5)
+		if err != nil {
+			return err
+		}
+		round = append(round, message...)
+		if it := c.statement(message); it != "" {
+			text = it
+		}
+		if kind := message[0]; kind != 'S' && kind != 'Q' && kind != 'p' && kind != 'X' {
+			continue
+		}
+		if err := c.send(round, text); err != nil {
+			return err
+		}
+		round, text = nil, ""
+	}
+}
+
+// read reads a message whose length is in the last four bytes of its head.
+func read(from io.Reader, head int) ([]byte, error) {
+	message := make([]byte, head)
+	if _, err := io.ReadFull(from, message); err != nil {
+		return nil, err
+	}
+	rest := make([]byte, binary.BigEndian.Uint32(message[head-4:])-4)
+	_, err := io.ReadFull(from, rest)
+	return append(message, rest...), err
+}
+
+// statement is the text of the statement that a message prepares or executes, or "".
+func (c *talk) statement(message []byte) string {
+	texts := bytes.Split(message[5:], []byte{0})
+	switch message[0] {
+	case 'Q':
+		return string(texts[0])
+	case 'P':
+		c.texts[string(texts[0])] = string(texts[1])
+		return "PREPARE " + string(texts[1])
+	case 'B':
+		return c.texts[string(texts[1])]
+	}
+	return ""
+}
+
+// failing is a statement that fails.
+const failing = "DO $$BEGIN RAISE EXCEPTION 'this statement was made to fail'; END$$\x00"
+
+// releases are the statements that don't fail: what they release ends with the connection anyway.
+var releases = map[string]bool{"ROLLBACK": true, "SELECT pg_advisory_unlock_all()": true}
+
+// send sends messages to the server, unless they are to fail.
+func (c *talk) send(round []byte, text string) error {
+	fault := c.proxy.next()
+	if text == "" || releases[text] || !c.proxy.fails(text) {
+		_, err := c.server.Write(round)
+		return err
+	}
+	switch fault {
+	case Refused:
+		round = binary.BigEndian.AppendUint32([]byte{'Q'}, uint32(4+len(failing)))
+		round = append(round, failing...)
+	case Cut:
+		_ = c.client.Close()
+		return io.EOF
+	case Lost:
+		c.isLost.Store(true)
+	case Broken:
+		c.isBroken.Store(true)
+	}
+	_, err := c.server.Write(round)
+	return err
+}
+
+// A Driver opens connections of SQLite. Each statement that is prepared or executed, and each row of a query, may be
+// the one that fails, but not a ROLLBACK.
+type Driver struct{ Countdown }
+
+// Open opens a connection.
+func (d *Driver) Open(name string) (driver.Conn, error) {
+	made, err := (&sqlite3.SQLiteDriver{}).Open(name)
+	if err != nil {
+		return nil, err
+	}
+	return &conn{made.(*sqlite3.SQLiteConn), d}, nil
+}
+
+// refuse returns the error of a statement that fails before it is executed, and lose that of one that fails after.
+func (d *Driver) refuse(text string) error { return d.fault(text, Refused) }
+
+func (d *Driver) lose(text string) error { return d.fault(text, Lost) }
+
+func (d *Driver) fault(text string, fault Fault) error {
+	if text == "ROLLBACK" || fault == Lost && !IsCommit(text) || d.next() != fault || !d.fails(text) {
+		return nil
+	}
+	return ErrFault
+}
+
+type conn struct {
+	*sqlite3.SQLiteConn
+	driver *Driver
+}
+
+// Exec executes statements.
+func (c *conn) Exec(text string, values []driver.Value) (driver.Result, error) {
+	return c.driver.exec(text, func() (driver.Result, error) { return c.SQLiteConn.Exec(text, values) })
+}
+
+// exec executes a statement, unless it is refused.
+func (d *Driver) exec(text string, execute func() (driver.Result, error)) (driver.Result, error) {
+	if err := d.refuse(text); err != nil {
+		return nil, err
+	}
+	done, err := execute()
+	if err == nil {
+		err = d.lose(text)
+	}
+	return done, err
+}
+
+// Query begins a query.
+func (c *conn) Query(text string, values []driver.Value) (driver.Rows, error) {
+	return c.driver.query(text, func() (driver.Rows, error) { return c.SQLiteConn.Query(text, values) })
+}
+
+// query begins a query, unless it is refused.
+func (d *Driver) query(text string, query func() (driver.Rows, error)) (driver.Rows, error) {
+	if err := d.refuse(text); err != nil {
+		return nil, err
+	}
+	found, err := query()
+	if err != nil {
+		return nil, err
+	}
+	return &rows{found, text, d}, nil
+}
+
+// Prepare prepares a statement.
+func (c *conn) Prepare(text string) (driver.Stmt, error) {
+	if err := c.driver.refuse("PREPARE " + text); err != nil {
+		return nil, err
+	}
+	made, err := c.SQLiteConn.Prepare(text)
+	if err != nil {
+		return nil, err
+	}
+	return &statement{made.(*sqlite3.SQLiteStmt), text, c.driver}, nil
+}
+
+type statement struct {
+	*sqlite3.SQLiteStmt
+	text   string
+	driver *Driver
+}
+
+// Exec executes the statement.
+func (s *statement) Exec(values []driver.Value) (driver.Result, error) {
+	return s.driver.exec(s.text, func() (driver.Result, error) { return s.SQLiteStmt.Exec(values) })
+}
+
+// Query begins the query.
+func (s *statement) Query(values []driver.Value) (driver.Rows, error) {
+	return s.driver.query(s.text, func() (driver.Rows, error) { return s.SQLiteStmt.Query(values) })
+}
+
+type rows struct {
+	driver.Rows
+	text   string
+	driver *Driver
+}
+
+// Next reads the next row.
+func (r *rows) Next(row []driver.Value) error {
+	if err := r.driver.refuse("a row of " + r.text); err != nil {
+		return err
+	}
+	return r.Rows.Next(row)
+}

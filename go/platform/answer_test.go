@@ -1,0 +1,683 @@
+package platform
+
+import (
+	"encoding/json"
+	"errors"
+	"fmt"
+	"strings"
+	"sync/atomic"
+	"testing"
+	"time"
+
+	"pippinterm/internal/diff"
+	"pippinterm/osb"
+)
+
+// A trial is a request that was recorded ten seconds after the start, and is answered a second later.
+type trial struct {
+	row   Entry
+	sent  sending
+	terms terms
+}
+
+// newTrial has a row sent what is due.
+func newTrial(t *testing.T, row Entry, terms terms) trial {
+	t.Helper()
+	instance := rowIn(anInstance, Ready)
+	got := decide(at(10), Snapshot{Entry: row, Instance: &instance}, true, terms)
+	if got.send == nil {
+		t.Fatalf("%s: got nothing sent (%v), want a request", row.State, got.err)
+	}
+	return trial{row: got.entry, sent: *got.send, terms: terms}
+}
+
+// hear is what a Client reads of an answer.
+func (it trial) hear(status int, body string) hearing {
+	heard := hearing{kind: kindOf(it.sent.out.Request.Kind, it.row.Key)}
+	heard.Incoming = (&reply{status, []byte(body)}).incoming(it.sent.out)
+	if heard.Binding != nil {
+		heard.sealed = append([]byte("sealed "), heard.Binding...)
+	}
+	return heard
+}
+
+func (it trial) take(t *testing.T, heard hearing) *Change {
+	t.Helper()
+	snapshot := Snapshot{Entry: it.row}
+	if it.row.Key.IsBinding {
+		instance := rowIn(anInstance, Ready)
+		snapshot.Instance = &instance
+	}
+	change, err := takeAnswer(at(11), snapshot, it.sent, heard)
+	check(t, err)
+	return change
+}
+
+// rest stands for a row that rests.
+const rest = -1
+
+const object, credentials = `{}`, `{"credentials": {"a": 1}}`
+
+type takenRow struct {
+	name    string
+	row     Entry
+	status  int
+	body    string
+	want    State
+	due     int
+	passing bool // whether a creation has failed for a passing reason
+	failed  bool // whether a creation has failed
+}
+
+// The states are those of the tables of docs/platform.md and docs/binding.md. due is in seconds after the answer.
+var takenRows = []takenRow{
+	{"created", rowIn(anInstance, Ordered), 201, object, Ready, rest, false, false},
+	{"was there", rowIn(anInstance, Ordered), 200, object, Ready, rest, false, false},
+	{"begun", rowIn(anInstance, Ordered), 202, object, Polling, 2, false, false},
+	{"200 unreadable", rowIn(anInstance, Ordered), 200, `x`, Unsettled, 0, false, true},
+	{"201 unreadable", rowIn(anInstance, Ordered), 201, `x`, Cleaning, 2, false, true},
+	{"202 unreadable", rowIn(anInstance, Ordered), 202, `x`, Cleaning, 2, false, true},
+	{"204", rowIn(anInstance, Ordered), 204, ``, Cleaning, 2, false, true},
+	{"302", rowIn(anInstance, Ordered), 302, ``, Cleaning, 2, false, true},
+	{"400", rowIn(anInstance, Ordered), 400, object, Gone, rest, false, true},
+	{"400 of a gateway", rowIn(anInstance, Ordered), 400, `<html>`, Cleaning, 2, true, true},
+	{"401", rowIn(anInstance, Ordered), 401, object, Cleaning, 2, true, true},
+	{"404", rowIn(anInstance, Ordered), 404, object, Cleaning, 2, true, true},
+	{"408", rowIn(anInstance, Ordered), 408, object, Cleaning, 2, true, true},
+	{"409", rowIn(anInstance, Ordered), 409, object, Unsettled, 0, false, true},
+	{"422", rowIn(anInstance, Ordered), 422, `{"error": "QuotaExceeded"}`, Unsettled, 0, false, true},
+	{"422 AsyncRequired", rowIn(anInstance, Ordered), 422, `{"error": "AsyncRequired"}`, Gone, rest, false, true},
+	{"422 concurrent", rowIn(anInstance, Ordered), 422, `{"error": "ConcurrencyError"}`, Unsettled, 0, true, true},
+	{"429", rowIn(anInstance, Ordered), 429, object, Cleaning, 2, true, true},
+	{"500", rowIn(anInstance, Ordered), 500, object, Cleaning, 2, true, true},
+	{"503", rowIn(anInstance, Ordered), 503, ``, Cleaning, 2, true, true},
+	{"600", rowIn(anInstance, Ordered), 600, object, Cleaning, 2, false, true},
+
+	{"making", rowIn(anInstance, Polling), 200, `{"state": "in progress"}`, Polling, 4, false, false},
+	{"made", rowIn(anInstance, Polling), 200, `{"state": "succeeded"}`, Ready, rest, false, false},
+	{"not made", rowIn(anInstance, Polling), 200, `{"state": "failed"}`, Cleaning, 2, false, true},
+	{"a Poll of 410", rowIn(anInstance, Polling), 410, object, Polling, 4, false, false},
+	{"a Poll of 404", rowIn(anInstance, Polling), 404, object, Polling, 4, false, false},
+	{"a Poll of 500", rowIn(anInstance, Polling), 500, object, Polling, 4, false, false},
+
+	{"deleted", rowIn(anInstance, Cleaning), 200, object, Gone, rest, false, false},
+	{"nothing was there", rowIn(anInstance, Cleaning), 410, ``, Gone, rest, false, false},
+	{"deleting", rowIn(anInstance, Cleaning), 202, object, CleaningPolling, 2, false, false},
+	{"a deletion rejected", rowIn(anInstance, Cleaning), 400, object, Cleaning, 4, false, false},
+	{"a deletion of 401", rowIn(anInstance, Cleaning), 401, object, Cleaning, 4, false, false},
+	{"a deletion busy", rowIn(anInstance, Cleaning), 422, `{"error": "ConcurrencyError"}`, Cleaning, 4, false, false},
+	{"still deleting", rowIn(anInstance, CleaningPolling), 200, `{"state": "in progress"}`, CleaningPolling, 4, false,
+		false},
+	{"deleted at last", rowIn(anInstance, CleaningPolling), 200, `{"state": "succeeded"}`, Gone, rest, false, false},
+	{"gone at last", rowIn(anInstance, CleaningPolling), 410, object, Gone, rest, false, false},
+	{"not deleted", rowIn(anInstance, CleaningPolling), 200, `{"state": "failed"}`, Cleaning, 4, false, false},
+
+	{"bound", rowIn(aBinding, Ordered), 201, credentials, Ready, rest, false, false},
+	{"was bound", rowIn(aBinding, Ordered), 200, credentials, Ready, rest, false, false},
+	{"binding", rowIn(aBinding, Ordered), 202, object, Polling, 2, false, false},
+	{"a Bind rejected", rowIn(aBinding, Ordered), 400, object, Gone, rest, false, true},
+	{"a Bind of 422", rowIn(aBinding, Ordered), 422, `{"error": "RequiresApp"}`, Unsettled, 0, false, true},
+	{"a Bind while something else goes on", rowIn(aBinding, Ordered), 422, `{"error": "ConcurrencyError"}`, Unsettled, 0,
+		true, true},
+	{"a Bind that has to be asynchronous", rowIn(aBinding, Ordered), 422, `{"error": "AsyncRequired"}`, Gone, rest, false,
+		true},
+	{"a Bind of 500", rowIn(aBinding, Ordered), 500, object, Cleaning, 2, true, true},
+	{"still binding", rowIn(aBinding, Polling), 200, `{"state": "in progress"}`, Polling, 4, false, false},
+	{"not bound", rowIn(aBinding, Polling), 200, `{"state": "failed"}`, Cleaning, 2, false, true},
+	{"unbound", rowIn(aBinding, Cleaning), 200, object, Gone, rest, false, false},
+	{"unbinding", rowIn(aBinding, Cleaning), 202, object, CleaningPolling, 2, false, false},
+}
+
+func TestTaken(t *testing.T) {
+	for _, row := range takenRows {
+		t.Run(row.name, func(t *testing.T) {
+			try := newTrial(t, row.row, plain())
+			change := try.take(t, try.hear(row.status, row.body))
+			e := change.Entry
+			want := at(11 + row.due)
+			if row.due == rest {
+				want = time.Time{}
+			}
+			if e.State != row.want || !e.Due.Equal(want) || e.Lease != (Lease{}) {
+				t.Errorf("got %s, due %v, %v; want %s, %v", e.State, e.Due, e.Lease, row.want, want)
+			}
+			if failed := e.Failure != (Reason{}); e.Passing != row.passing || failed != row.failed {
+				t.Errorf("got passing %v, failed %v, want %v, %v", e.Passing, failed, row.passing, row.failed)
+			}
+			if e.Last.Status != row.status || !e.Last.At.Equal(at(11)) {
+				t.Errorf("the reason: got %+v, want the status %d", e.Last, row.status)
+			}
+			if isReady := e.Key.IsBinding && e.State == Ready; isReady != (e.Credentials != nil) {
+				t.Errorf("the credentials: got %q, want some exactly with a binding that is ready", e.Credentials)
+			}
+			if change.WakeInstance != (e.Key.IsBinding && e.State == Gone) {
+				t.Errorf("the instance is woken: got %v, want %v", change.WakeInstance, e.Key.IsBinding && e.State == Gone)
+			}
+		})
+	}
+}
+
+// A request that got no answer: a creation is cleaned up, and everything else is sent again.
+func TestTakenLost(t *testing.T) {
+	for state, want := range map[State]State{
+		Ordered: Cleaning, Polling: Polling, Cleaning: Cleaning, CleaningPolling: CleaningPolling,
+	} {
+		for _, key := range []Key{anInstance, aBinding} {
+			try := newTrial(t, rowIn(key, state), plain())
+			e := try.take(t, hearing{kind: "kind", Incoming: Incoming{Lost: errors.New("cut")}}).Entry
+			if e.State != want || e.Passing != (state == Ordered) || e.Last.Lost != "cut" {
+				t.Errorf("from %s: got %s, passing %v, %+v, want %s and \"cut\"", state, e.State, e.Passing, e.Last, want)
+			}
+		}
+	}
+}
+
+// Nothing is written of a request that another worker has given up, or of a row that was abandoned.
+func TestTakenByAnother(t *testing.T) {
+	try := newTrial(t, rowIn(anInstance, Ordered), plain())
+	heard := try.hear(201, `{}`)
+	later := decide(at(101), Snapshot{Entry: try.row}, true, plain()).entry
+	abandoned := with(try.row, func(e *Entry) { e.State = Abandoned })
+	for name, row := range map[string]Entry{
+		"given up": later, "abandoned": abandoned, "unsent": rowIn(anInstance, Ordered),
+	} {
+		t.Run(name, func(t *testing.T) {
+			if change, err := takeAnswer(at(102), Snapshot{Entry: row}, try.sent, heard); change != nil || err != nil {
+				t.Errorf("got the change %v and the error %v, want neither", change, err)
+			}
+		})
+	}
+}
+
+// A request that was perhaps never recorded is given up. If it wasn't, another worker may have sent one of the same
+// number, and nothing is written.
+func TestTakenInDoubt(t *testing.T) {
+	try := newTrial(t, rowIn(anInstance, Ordered), plain())
+	try.sent.unsure = errors.New("the connection broke")
+	lost := hearing{kind: "provision", Incoming: Incoming{Lost: errUnsure}}
+	if e := try.take(t, lost).Entry; e.State != Cleaning || e.Lease != (Lease{}) {
+		t.Errorf("got %s and %v, want %s and %v", e.State, e.Lease, Cleaning, (Lease{}))
+	}
+	for _, lease := range []Lease{
+		{}, {Worker: "other", Until: try.row.Lease.Until},
+		{Worker: "one", Until: try.row.Lease.Until.Add(time.Millisecond)},
+	} {
+		lease.Claim = try.row.Lease.Claim
+		row := with(try.row, func(e *Entry) { e.Lease = lease })
+		if change, err := takeAnswer(at(12), Snapshot{Entry: row}, try.sent, lost); change != nil || err != nil {
+			t.Errorf("leased by %v: got %v and %v, want none and no error", lease, change, err)
+		}
+	}
+}
+
+// A removal that was asked for while a request was in flight begins at once.
+func TestTakenAndRemoved(t *testing.T) {
+	for _, test := range []struct {
+		row    Entry
+		status int
+		body   string
+	}{
+		{rowIn(anInstance, Ordered), 201, `{}`}, {rowIn(anInstance, Ordered), 202, `{}`},
+		{rowIn(anInstance, Ordered), 409, `{}`}, {rowIn(anInstance, Polling), 200, `{"state": "in progress"}`},
+	} {
+		t.Run(fmt.Sprint(test.row.State, " ", test.status), func(t *testing.T) {
+			try := newTrial(t, test.row, wait())
+			remove(&try.row)
+			if e := try.take(t, try.hear(test.status, test.body)).Entry; !e.Due.Equal(at(11)) {
+				t.Errorf("%d: got %s due %v, want it due at once", test.status, e.State, e.Due)
+			}
+		})
+	}
+	try := newTrial(t, rowIn(anInstance, Ordered), wait())
+	if e := try.take(t, try.hear(409, `{}`)).Entry; !e.Rests() {
+		t.Errorf("unsettled: got it due %v, want it at rest", e.Due)
+	}
+}
+
+// A deletion is due once the hold is over, and polling ends at the time for which it may go on.
+func TestTakenDue(t *testing.T) {
+	try := newTrial(t, rowIn(anInstance, Ordered), usualTerms())
+	if e := try.take(t, try.hear(500, `{}`)).Entry; !e.Due.Equal(at(10 + 60 + 300)) {
+		t.Errorf("the deletion: got it due %v, want it after the hold", e.Due)
+	}
+	short := plain()
+	short.longestPoll = 12 * time.Second
+	try = newTrial(t, rowIn(anInstance, Polling), short)
+	if e := try.take(t, try.hear(200, `{"state": "in progress"}`)).Entry; !e.Due.Equal(at(12)) {
+		t.Errorf("the end of the polling: got it due %v, want it at its end", e.Due)
+	}
+	try = newTrial(t, rowIn(anInstance, CleaningPolling), short)
+	if e := try.take(t, try.hear(500, `{}`)).Entry; !e.Due.Equal(at(12)) {
+		t.Errorf("the end of the polling of the deletion: got it due %v, want it at its end", e.Due)
+	}
+	for unchanged, want := range []int{4, 8, 16, 32, 64, 120, 120} {
+		try := newTrial(t, with(rowIn(anInstance, Cleaning), func(e *Entry) { e.Unchanged = unchanged }), plain())
+		if e := try.take(t, try.hear(500, `{}`)).Entry; !e.Due.Equal(at(11 + want)) {
+			t.Errorf("after %d: got it due %v, want it %v later", unchanged, e.Due, want)
+		}
+	}
+}
+
+// Every status of every request: the record is what the library's tables give, and only a creation fails.
+func TestEveryAnswer(t *testing.T) {
+	bodies := []string{``, `{}`, `{"state": "succeeded"}`, `{"state": "failed"}`, `{"error": "ConcurrencyError"}`}
+	for _, key := range []Key{anInstance, aBinding} {
+		for _, state := range []State{Ordered, Polling, Cleaning, CleaningPolling} {
+			try := newTrial(t, rowIn(key, state), plain())
+			for status := 100; status < 620; status++ {
+				for _, body := range bodies {
+					heard := try.hear(status, body)
+					e := try.take(t, heard).Entry
+					want, err := try.row.Record.Timeout(try.sent.attempt)
+					if heard.Lost == nil && (state != Polling || !key.IsBinding || e.State != Polling) {
+						want, err = try.row.Record.AnswerBinding(try.sent.attempt, heard.Answer, true)
+					}
+					must(err)
+					if key.IsBinding && want.IsReady() && heard.sealed == nil {
+						t.Errorf("%s, %d %s: got it ready without credentials, want them", state, status, body)
+					}
+					if e.Record != want || e.State != StateOf(want) {
+						t.Fatalf("%s, %d %s: got %v, want %v", state, status, body, e.Record, want)
+					}
+				}
+			}
+		}
+	}
+}
+
+// A Poll is answered in every state as docs/platform.md says, whatever the library's numbers are.
+func TestKindOf(t *testing.T) {
+	for _, test := range []struct {
+		kind osb.Kind
+		of   Key
+		want string
+	}{
+		{osb.KindProvision, anInstance, "provision"}, {osb.KindPoll, anInstance, "poll"},
+		{osb.KindDeprovision, anInstance, "deprovision"}, {osb.KindProvision, aBinding, "bind"},
+		{osb.KindPoll, aBinding, "poll"}, {osb.KindDeprovision, aBinding, "unbind"},
+	} {
+		t.Run(test.want, func(t *testing.T) {
+			if got := kindOf(test.kind, test.of); got != test.want {
+				t.Errorf("%v of %v: got %q, want %q", test.kind, test.of, got, test.want)
+			}
+		})
+	}
+}
+
+// A binding is ready only with its credentials, and a 202 to a Bind is cleaned up if nobody can fetch them.
+func TestTakenCredentials(t *testing.T) {
+	try := newTrial(t, rowIn(aBinding, Polling), plain())
+	succeeded := try.hear(200, `{"state": "succeeded"}`)
+	if e := try.take(t, succeeded).Entry; e.State != Polling || e.Credentials != nil {
+		t.Errorf("without a Fetch: got %s and %q, want %s and none", e.State, e.Credentials, Polling)
+	}
+	succeeded.sealed = []byte("those of the Fetch")
+	if e := try.take(t, succeeded).Entry; e.State != Ready || string(e.Credentials) != "those of the Fetch" {
+		t.Errorf("with a Fetch: got %s and %q, want %s and \"those of the Fetch\"", e.State, e.Credentials, Ready)
+	}
+	try = newTrial(t, rowIn(aBinding, Ordered), plain())
+	created := try.hear(201, `{"credentials": {}}`)
+	created.sealed = nil
+	if e := try.take(t, created).Entry; e.State != Cleaning {
+		t.Errorf("a 201 whose credentials can't be encrypted: got %s, want %s", e.State, Cleaning)
+	}
+	unfetchable := plain()
+	unfetchable.isRetrievable = false
+	try = newTrial(t, rowIn(aBinding, Ordered), unfetchable)
+	if e := try.take(t, try.hear(202, `{}`)).Entry; e.State != Cleaning {
+		t.Errorf("a 202 whose credentials can't be fetched: got %s, want %s", e.State, Cleaning)
+	}
+}
+
+// What a broker says of a pace, an operation, a dashboard and metadata is kept.
+func TestTakenKept(t *testing.T) {
+	try := newTrial(t, rowIn(anInstance, Ordered), plain())
+	heard := try.hear(202, `{"operation": "task 1", "dashboard_url": "https://d.example", "metadata": {"labels": {}}}`)
+	heard.RetryAfter = 70 * time.Second
+	e := try.take(t, heard).Entry
+	if e.Operation == nil || *e.Operation != "task 1" || e.Dashboard != "https://d.example" || e.Metadata == nil {
+		t.Errorf("got %+v, want its operation, dashboard and metadata", e)
+	}
+	if !e.Due.Equal(at(11+70)) || !e.PolledSince.Equal(at(11)) {
+		t.Errorf("got it due %v, polled since %v, want it after Retry-After, since now", e.Due, e.PolledSince)
+	}
+	polled := newTrial(t, with(e, func(e *Entry) { e.Due = at(9) }), plain())
+	kept := polled.take(t, polled.hear(200, `{"state": "in progress", "operation": "task 2"}`)).Entry
+	if *kept.Operation != "task 1" || kept.Dashboard != "https://d.example" || !kept.PolledSince.Equal(at(11)) {
+		t.Errorf("got %+v, want the first operation and dashboard", kept)
+	}
+	if done := polled.take(t, polled.hear(200, `{"state": "succeeded"}`)).Entry; done.Operation != nil {
+		t.Errorf("after the operation: got %q, want none", *done.Operation)
+	}
+}
+
+// A long Retry-After counts for an hour, and a long description for its front.
+func TestTakenBounds(t *testing.T) {
+	try := newTrial(t, rowIn(anInstance, Cleaning), plain())
+	heard := try.hear(500, `{"error": "E", "description": "`+strings.Repeat("é", 2000)+`"}`)
+	heard.RetryAfter = 1000 * time.Hour
+	e := try.take(t, heard).Entry
+	if !e.Due.Equal(at(11+3600)) || e.Last.Description != strings.Repeat("é", 500) || e.Last.Error != "E" {
+		t.Errorf("got it due %v, %d bytes of %q, want it in an hour, and 500 letters", e.Due, len(e.Last.Description),
+			e.Last.Error)
+	}
+}
+
+// A text with a NUL isn't kept: not every database has it.
+func TestNUL(t *testing.T) {
+	try := newTrial(t, rowIn(anInstance, Ordered), plain())
+	heard := try.hear(202, `{"operation": "a\u0000b", "dashboard_url": "https://d.example/\u0000"}`)
+	if heard.Operation == nil || heard.Details.DashboardURL == nil {
+		t.Fatal("the answer: got no operation or dashboard, want both")
+	}
+	if e := try.take(t, heard).Entry; e.State != Polling || e.Operation != nil || e.Dashboard != "" {
+		t.Errorf("got %s, the operation %v and the dashboard %q, want polling and neither",
+			e.State, e.Operation, e.Dashboard)
+	}
+}
+
+// At a broker without tombstones, one deletion more is due after the end: once the hold has passed again.
+func TestTakenHasLast(t *testing.T) {
+	for _, key := range []Key{anInstance, aBinding} {
+		row := with(rowIn(key, Cleaning), func(e *Entry) { e.SentUntil = at(-1000) })
+		try := newTrial(t, row, usualTerms())
+		if e := try.take(t, try.hear(410, `{}`)).Entry; !e.HasLast || !e.Due.Equal(at(11+300)) {
+			t.Errorf("%v: got last %v, due %v, want one after the hold", key, e.HasLast, e.Due)
+		}
+		try = newTrial(t, rowIn(key, Ordered), usualTerms()) // it may leave until 60 seconds later
+		if e := try.take(t, try.hear(400, `{}`)).Entry; !e.HasLast || !e.Due.Equal(at(10+60+300)) {
+			t.Errorf("%v: got last %v, due %v, want one after the hold", key, e.HasLast, e.Due)
+		}
+		try = newTrial(t, row, plain())
+		if e := try.take(t, try.hear(410, `{}`)).Entry; e.HasLast || !e.Rests() {
+			t.Errorf("%v: at a broker with tombstones: got last %v, due %v, want none", key, e.HasLast, e.Due)
+		}
+	}
+}
+
+// longGone is a row whose last deletion is due.
+func longGone(key Key) Entry {
+	return with(rowIn(key, Gone), func(e *Entry) { e.HasLast, e.SentUntil, e.Since = true, at(-1000), at(-900) })
+}
+
+// The table of docs/platform-guide.md about the answer to the last deletion.
+func TestTakenLast(t *testing.T) {
+	const none, found, unsure = nothingLeft, orphanFound, orphanUnknown
+	type verdict struct {
+		shown  aftermath
+		isOver bool
+	}
+	want := map[int]verdict{
+		410: {none, true}, 200: {found, true}, 202: {found, false}, 422: {none, false}, 500: {none, false},
+		503: {none, false}, 302: {none, false}, 204: {none, false}, 201: {none, false}, 400: {unsure, true},
+		402: {unsure, true}, 409: {unsure, true}, 411: {unsure, true}, 418: {unsure, true}, 499: {unsure, true},
+	}
+	for _, status := range []int{401, 403, 404, 405, 407, 408, 412, 413, 414, 415, 429, 431} {
+		want[status] = verdict{unsure, false}
+	}
+	for _, key := range []Key{anInstance, aBinding} {
+		for status, want := range want {
+			row := longGone(key)
+			try := newTrial(t, row, usualTerms())
+			heard := try.hear(status, `{}`)
+			shown, isOver := judgeLast(heard.Incoming)
+			e := try.take(t, heard).Entry
+			if shown != want.shown || isOver != want.isOver || e.HasLast == want.isOver || e.Rests() != want.isOver {
+				t.Errorf("%d: got %v, %v, %v, due %v; want %v", status, shown, isOver, e.HasLast, e.Due, want)
+			}
+			if e.State != Gone || e.Record != row.Record || e.Since != row.Since || e.Last.Status != status {
+				t.Errorf("%d: got the record changed to %s: %v, want it unchanged", status, e.State, e.Record)
+			}
+		}
+	}
+	try := newTrial(t, longGone(anInstance), usualTerms())
+	lost := hearing{Incoming: Incoming{Lost: errors.New("cut")}}
+	if e := try.take(t, lost).Entry; !e.HasLast || !e.Due.Equal(at(11+4)) {
+		t.Errorf("no answer: got last %v, due %v, want one more soon", e.HasLast, e.Due)
+	}
+	try.row.Lease.Until = try.row.Lease.Until.Add(time.Second)
+	if change := try.take(t, try.hear(410, `{}`)); change != nil {
+		t.Errorf("another worker's lease: got %v, want no change", change)
+	}
+}
+
+// The next try is ordered with the end of one that has failed for a passing reason, of an instance as of a binding.
+func TestNextTry(t *testing.T) {
+	for _, key := range []Key{anInstance, aBinding} {
+		failed := func(change func(*Entry)) Entry { return with(failedTry(key), change) }
+		for _, test := range []struct {
+			name string
+			row  Entry
+			due  int // in seconds after the end, or rest if there is none
+		}{
+			{"after the first", failed(func(*Entry) {}), 2},
+			{"after the second", failed(func(e *Entry) { e.Try = 2 }), 4},
+			{"after the last", failed(func(e *Entry) { e.Try = 3 }), rest},
+			{"of one", failed(func(e *Entry) { e.Tries = 1 }), rest},
+			{"removed", failed(remove), rest},
+			{"not passing", failed(func(e *Entry) { e.Passing = false }), rest},
+			{"Retry-After", failed(func(e *Entry) { e.After = 50 * time.Second }), 5 + 50 - 11},
+			{"a long Retry-After", failed(func(e *Entry) { e.After = 50 * time.Hour }), 5 + 3600 - 11},
+			{"under a chosen id", failed(chosenID), 2},
+		} {
+			t.Run(fmt.Sprintf("%s, binding %v", test.name, key.IsBinding), func(t *testing.T) {
+				try := newTrial(t, test.row, plain())
+				next := try.take(t, try.hear(410, `{}`)).Next
+				if test.due == rest || next == nil {
+					if test.due != rest || next != nil {
+						t.Errorf("got %+v, want no next try", next)
+					}
+					return
+				}
+				diff.Check(t, next.Order, orderAgain(test.row.Order), "the order")
+				if next.State != Ordered || next.IsSent || !next.Due.Equal(at(11+test.due)) {
+					t.Errorf("got %s, due %v, want it ordered, due %v later", next.State, next.Due, test.due)
+				}
+			})
+		}
+	}
+}
+
+// failedTry is a row whose creation has failed for a passing reason, and which is being deleted.
+func failedTry(key Key) Entry {
+	e := rowIn(key, Cleaning)
+	e.Passing, e.Failure, e.Names.Instance = true, Reason{At: at(5), Kind: "provision", Status: 503}, "a name"
+	e.Body = json.RawMessage(`{"parameters": {}}`)
+	if key.IsBinding {
+		e.Names.Binding = "another name"
+	}
+	return e
+}
+
+// orderAgain is the order of the next try, under the id 99. That of a binding is of the same instance.
+func orderAgain(order Order) Order {
+	order.Try++
+	order.IsOwnID = true
+	if order.Key.IsBinding {
+		order.Key, order.Names.Binding = BindingKey(order.Key.Instance, id("99")), id("99").String()
+		return order
+	}
+	order.Key, order.Names.Instance = InstanceKey(id("99")), id("99").String()
+	return order
+}
+
+// A creation that is refused for a passing reason and leaves nothing behind is ordered again at once.
+func TestNextTryOfUnsettled(t *testing.T) {
+	for _, key := range []Key{anInstance, aBinding} {
+		row := with(rowIn(key, Unsettled), func(e *Entry) { e.Passing = true })
+		try := newTrial(t, row, plain())
+		if next := try.take(t, try.hear(200, `{}`)).Next; next == nil {
+			t.Errorf("%v: got no next try, want one", key)
+		}
+	}
+}
+
+// A binding is ordered again only if its instance is ready and isn't removed in the same transaction.
+func TestNextTryOfBinding(t *testing.T) {
+	count := 0
+	for _, state := range everyState {
+		for _, removal := range []Removal{NotRemoved, Removed, RemovedWhole} {
+			try := newTrial(t, failedTry(aBinding), plain())
+			instance := with(rowIn(anInstance, state), func(e *Entry) { e.Removal = removal })
+			change, err := takeAnswer(at(11), Snapshot{Entry: try.row, Instance: &instance}, try.sent, try.hear(200, `{}`))
+			check(t, err)
+			if isWanted := state == Ready && removal == NotRemoved; isWanted != (change.Next != nil) {
+				t.Errorf("the instance in %s, removal %d: got the next %+v, want one exactly if it is ready", state, removal,
+					change.Next)
+			}
+			if change.Entry.State != Gone || !change.WakeInstance {
+				t.Errorf("the instance in %s: got the binding in %s, want it gone and the instance woken", state,
+					change.Entry.State)
+			}
+			count++
+		}
+	}
+	if count != 3*len(everyState) {
+		t.Errorf("got %d tried, want %d", count, 3*len(everyState))
+	}
+	try := newTrial(t, failedTry(aBinding), plain())
+	change, err := takeAnswer(at(11), Snapshot{Entry: try.row}, try.sent, try.hear(200, `{}`))
+	if err != nil || change.Next != nil {
+		t.Errorf("without a row of the instance: got %+v, %v, want no next try", change.Next, err)
+	}
+}
+
+// A binding whose credentials can't be sealed isn't ordered again: another one would end the same.
+func TestUnsealedIsNotPassing(t *testing.T) {
+	for name, vault := range map[string]Vault{"without a vault": nil, "with a vault that fails": brokenVault{}} {
+		t.Run(name, func(t *testing.T) {
+			try := newTrial(t, rowIn(aBinding, Ordered), plain())
+			engine := NewEngine(newMemory(time.Now), nil, vault, Options{}, Silent{})
+			e := try.take(t, engine.seal(try.sent, try.hear(201, credentials))).Entry
+			if e.State != Cleaning || e.Passing || e.Failure == (Reason{}) {
+				t.Errorf("got %s, passing %v, %+v, want it in cleaning with a failure that lasts", e.State, e.Passing,
+					e.Failure)
+			}
+		})
+	}
+}
+
+// A brokenVault seals nothing.
+type brokenVault struct{ seal }
+
+func (brokenVault) Seal([]byte, string) ([]byte, error) { return nil, errors.New("no random bytes") }
+
+var errFull = errors.New("the disk is full")
+
+// A claim that failed isn't taken for the next claim of the same row in the same millisecond: nothing is written of its
+// request while that of the next one is in flight.
+func TestTakenInDoubtOfTheSameMillisecond(t *testing.T) {
+	lost := hearing{kind: "provision", Incoming: Incoming{Lost: errUnsure}}
+	gone := with(rowIn(anInstance, Gone), func(e *Entry) { e.HasLast, e.Due = true, at(9) })
+	for _, row := range []Entry{rowIn(anInstance, Ordered), rowIn(aBinding, Ordered), gone} {
+		terms := plain()
+		if row.State == Gone {
+			terms = usualTerms()
+			row.Since = at(-1000)
+			row.SentUntil = at(-1000)
+		}
+		first, second := newTrial(t, row, terms), newTrial(t, row, terms)
+		first.sent.unsure = errors.New("the disk is full")
+		if change, err := takeAnswer(at(12), Snapshot{Entry: second.row}, first.sent, lost); change != nil || err != nil {
+			t.Errorf("%s: got the next claim in %s with %v (%v), want no change of it", row.State, change.Entry.State,
+				change.Entry.Lease, err)
+		}
+		if change, err := takeAnswer(at(12), Snapshot{Entry: first.row}, first.sent, lost); change == nil || err != nil {
+			t.Errorf("%s: got its own claim kept (%v), want it given up", row.State, err)
+		}
+	}
+}
+
+// An answer that failed to be written, and whose row somebody else has changed since, isn't reported as written. One
+// that was written though the commit failed is.
+func TestAnswerInDoubt(t *testing.T) {
+	for name, test := range map[string]struct {
+		isWritten bool
+		want      State // or empty if nothing is reported
+	}{"written": {true, Ready}, "not written": {false, ""}} {
+		t.Run(name, func(t *testing.T) {
+			p := newPlant(t, Options{})
+			try := newTrial(t, with(rowIn(anInstance, Ordered), func(e *Entry) { e.Broker = "shelf" }), plain())
+			try.sent.out.Until = time.Now().Add(patience)
+			p.store.rows[anInstance] = try.row
+			if test.isWritten {
+				p.store.doubt = errFull
+			} else {
+				p.store.setFull(errFull)
+			}
+			var tries atomic.Int32
+			p.store.between = func(point string, _ Key) {
+				if point != "change-begin" || tries.Add(1) != 2 {
+					return
+				}
+				p.store.setFull(nil)
+				p.store.mu.Lock()
+				defer p.store.mu.Unlock()
+				p.store.rows[anInstance] = with(p.store.rows[anInstance], func(e *Entry) { e.State, e.Lease = Abandoned, Lease{} })
+			}
+			entry, _, err := p.engine.take(background, try.sent, try.hear(201, `{}`))
+			check(t, err)
+			if got := entry != nil; got != test.isWritten || got && entry.State != test.want || tries.Load() != 2 {
+				t.Errorf("got %+v after %d tries, want %s after 2", entry, tries.Load(), test.want)
+			}
+		})
+	}
+}
+
+// While nothing can be written, the worker rests longer and longer, and one line says why. Nothing is sent, and nothing
+// is reported. Once something can be written, all orders go on.
+func TestWritesFail(t *testing.T) {
+	p := newPlant(t, Options{})
+	p.engine.retry = 50 * time.Millisecond
+	check(t, p.engine.RunOnce(background))
+	var keys []Key
+	for n := 0; n < 40; n++ {
+		keys = append(keys, p.create(NewInstance{}))
+	}
+	var claims atomic.Int32
+	p.store.between = func(point string, _ Key) {
+		if point == "claim-begin" {
+			claims.Add(1)
+		}
+	}
+	p.store.setFull(errFull)
+	p.start(background)
+	time.Sleep(2 * time.Second)
+	p.set(func() {
+		if tried := claims.Load(); tried < 2 || tried > 8 || len(p.failures) != 1 || len(p.sent)+len(p.told) > 0 {
+			t.Errorf("got %d claims, %d failures, %d requests and %v, want 2 to 8, one and none", tried, len(p.failures),
+				len(p.sent), p.told)
+		}
+	})
+	if err := p.engine.Ready(); !errors.Is(err, errFull) {
+		t.Errorf("the engine: got %v, want %v", err, errFull)
+	}
+	p.store.setFull(nil)
+	begun := time.Now()
+	for _, key := range keys {
+		p.untilState(key, Ready)
+	}
+	if took := time.Since(begun); took > time.Minute { // a lease holds for a minute and a half
+		t.Errorf("the orders: got an end after %v, want one within a minute", took)
+	}
+	if err := p.engine.Ready(); err != nil || p.hasFailed("store_failed") != 1 {
+		t.Errorf("got %v, and %d failures, want none and 1", err, p.hasFailed("store_failed"))
+	}
+}
+
+// The engine is ready again once another worker has done what this one couldn't write.
+func TestWritesFailAndAnotherWorks(t *testing.T) {
+	p := newPlant(t, Options{})
+	check(t, p.engine.RunOnce(background))
+	key := p.create(NewInstance{})
+	p.store.setFull(errFull)
+	p.start(background)
+	p.until("a failure", func() bool { return p.engine.Ready() != nil })
+	p.store.mu.Lock()
+	p.store.rows[key] = with(p.store.rows[key], func(e *Entry) { e.Due = time.Now().Add(time.Hour) })
+	p.store.mu.Unlock()
+	p.until("readiness", func() bool { return p.engine.Ready() == nil })
+	if told := p.hasFailed("store_failed"); told != 1 {
+		t.Errorf("got %d reports, want 1", told)
+	}
+}

@@ -1,0 +1,1207 @@
+package api
+
+import (
+	"bytes"
+	"context"
+	"crypto/sha256"
+	"encoding/json"
+	"errors"
+	"fmt"
+	"io"
+	"net/http"
+	"net/http/httptest"
+	"path/filepath"
+	"reflect"
+	"strconv"
+	"strings"
+	"testing"
+	"time"
+
+	"github.com/getkin/kin-openapi/openapi3"
+
+	"pippinterm/internal/budget"
+	"pippinterm/osb"
+	"pippinterm/platform"
+	"pippinterm/platform/sqlite"
+	"pippinterm/platform/vault"
+)
+
+func TestInstances(t *testing.T) {
+	each(t, func(r *rig) {
+		first := r.call("POST", "/v1/instances",
+			`{"id": "my id/no", "service": "shelf", "plan": "small"}`).want(400, "invalid")
+		if !strings.Contains(first.at("detail"), "slash") {
+			t.Errorf("the detail: got %s, want \"slash\" in it", first.at("detail"))
+		}
+		made := r.call("POST", "/v1/instances", `{"id": "my id", "broker": "shelf", "service": "shelf", "plan": "small",
+			"parameters": {"a": 1}, "context": {"b": []},
+			"organization_guid": "o", "space_guid": "s", "tries": 2}`).want(201, "")
+		if made.header.Get("Location") != "/v1/instances/my%20id" || made.at("state") != "ordered" ||
+			made.at("tries") != "2" || made.at("organization_guid") != "o" || made.at("service_id") != "a0" ||
+			made.at("plan_id") != "b1" {
+			t.Errorf("got %v %s, want the order", made.header, made.text)
+		}
+		shown := r.call("GET", made.header.Get("Location"), "").want(200, "")
+		if shown.at("number") != made.at("number") || shown.at("life", "0", "state") != "ordered" {
+			t.Errorf("got %s, want the number of the order and its life", shown.text)
+		}
+		r.call("GET", "/v1/instances/"+made.at("number"), "").want(200, "")
+		if strings.Contains(shown.text, `"a"`) || strings.Contains(shown.text, "parameters") {
+			t.Errorf("got %s, want nothing of what was sent", shown.text)
+		}
+		r.call("POST", "/v1/instances", `{"id": "my id", "service": "shelf", "plan": "small"}`).want(409, "conflict")
+		r.call("POST", "/v1/instances", `{"broker": "none", "service": "shelf"}`).want(404, "not_found")
+		r.call("POST", "/v1/instances", `{"service": "shelf", "plan": "none"}`).want(400, "invalid")
+		r.call("POST", "/v1/instances", `{"service": "shelf", "plan": "small", "parameters": []}`).want(400, "invalid")
+		r.call("POST", "/v1/instances", `{"service": "shelf", "plan": "small", "tries": 101}`).want(400, "invalid")
+		r.call("GET", "/v1/instances/none", "").want(404, "not_found")
+		r.call("GET", "/v1/instances/"+strings.Repeat("x", 256), "").want(404, "not_found")
+	})
+}
+
+func TestLife(t *testing.T) {
+	each(t, func(r *rig) {
+		id := r.ready()
+		shown := r.call("GET", "/v1/instances/"+id, "").want(200, "")
+		for n, want := range []string{"ordered", "wanted", "ready"} {
+			if got := shown.at("life", fmt.Sprint(n), "state"); got != want {
+				t.Errorf("state %d: got %s, want %s", n, got, want)
+			}
+		}
+		if shown.at("dashboard_url") != "https://shelf.example/dash" || shown.at("metadata", "labels", "a") != "b" ||
+			shown.at("last", "status") != "201" {
+			t.Errorf("got %s, want what the broker answered", shown.text)
+		}
+	})
+}
+
+func TestInFlight(t *testing.T) {
+	each(t, func(r *rig) {
+		id := r.order()
+		r.send(keyOfIDs(t, id))
+		shown := r.call("GET", "/v1/instances/"+id, "").want(200, "")
+		if shown.at("in_flight", "kind") != "provision" || shown.at("in_flight", "worker") != "one" {
+			t.Errorf("got %s, want the Provision in flight", shown.text)
+		}
+		r.call("POST", "/v1/instances/"+id+"/retry", "").want(409, "conflict")
+	})
+}
+
+// A row that can't be read is shown with the others, and why it can't be read.
+func TestUnreadable(t *testing.T) {
+	store := newFake()
+	r := newRig(t, store)
+	id, other := r.order(), r.order()
+	e := store.rows[keyOfIDs(t, id)]
+	e.Unreadable = "the record: it is wrong"
+	store.rows[e.Key] = e
+	shown := r.call("GET", "/v1/instances/"+id, "").want(200, "")
+	if shown.at("unreadable") != e.Unreadable || shown.at("state") != "ordered" {
+		t.Errorf("got %s, want why it can't be read", shown.text)
+	}
+	if all := r.call("GET", "/v1/instances", "").want(200, ""); len(all.items()) != 2 {
+		t.Errorf("the list: got %s, want 2", all.text)
+	}
+	if shown := r.call("GET", "/v1/instances/"+other, "").want(200, ""); strings.Contains(shown.text, "unreadable") {
+		t.Errorf("got %s, want no \"unreadable\" in it", shown.text)
+	}
+}
+
+func TestRemoveRetryAbandon(t *testing.T) {
+	each(t, func(r *rig) {
+		id := r.order()
+		path := "/v1/instances/" + id
+		r.call("POST", path+"/retry", "").want(202, "")
+		r.call("POST", path+"/abandon", `{"because": "no use"}`).want(409, "conflict") // it wasn't sent
+		if got := r.call("DELETE", path, "").want(202, "").at("state"); got != "withdrawn" {
+			t.Errorf("got %s, want \"withdrawn\"", got)
+		}
+		r.call("DELETE", path, "").want(202, "")
+		r.call("POST", path+"/retry", "").want(409, "conflict")
+		ready := "/v1/instances/" + r.ready()
+		if got := r.call("DELETE", ready+"?bindings=false", "").want(202, ""); got.at("removal") != "removed" {
+			t.Errorf("got %s, want it removed", got.text)
+		}
+		r.call("DELETE", ready+"?bindings=maybe", "").want(400, "malformed")
+		r.call("DELETE", ready, `{}`).want(400, "malformed")
+		r.call("POST", ready+"/abandon", `{}`).want(400, "invalid")
+		left := r.call("POST", ready+"/abandon", `{"because": "the broker is no more"}`).want(200, "")
+		if left.at("state") != "abandoned" || left.at("because") != "the broker is no more" {
+			t.Errorf("got %s, want it abandoned with the reason", left.text)
+		}
+		for _, route := range []string{"DELETE /v1/instances/none", "POST /v1/instances/none/retry"} {
+			method, target, _ := strings.Cut(route, " ")
+			r.call(method, target, "").want(404, "not_found")
+		}
+		r.call("POST", "/v1/instances/none/abandon", `{"because": "x"}`).want(404, "not_found")
+	})
+}
+
+func TestBindings(t *testing.T) {
+	each(t, func(r *rig) {
+		id := r.ready()
+		path := "/v1/instances/" + id
+		bid := r.bound(id)
+		shown := r.call("GET", path+"/bindings/"+bid, "").want(200, "")
+		if shown.at("state") != "ready" || shown.at("instance_id") != id || shown.at("life", "1", "state") != "wanted" {
+			t.Errorf("got %s, want it ready with its life", shown.text)
+		}
+		made := r.call("POST", path+"/bindings",
+			`{"id": "app", "context": {"x": 1}, "bind_resource": {}}`).want(201, "")
+		if made.header.Get("Location") != path+"/bindings/app" {
+			t.Errorf("Location: got %s, want %s", made.header.Get("Location"), path+"/bindings/app")
+		}
+		listed := r.call("GET", path+"/bindings", "").want(200, "")
+		if len(listed.items()) != 2 || strings.Contains(listed.text, "hush") {
+			t.Errorf("the list: got %s, want 2 without the credentials", listed.text)
+		}
+		if got := r.call("GET", path+"/bindings?state=ready", "").want(200, ""); len(got.items()) != 1 {
+			t.Errorf("the list: got %s, want 1", got.text)
+		}
+		r.call("POST", path+"/bindings/app/retry", "").want(202, "")
+		r.call("POST", path+"/bindings/"+bid+"/retry", "").want(409, "conflict")
+		r.call("DELETE", path, "").want(409, "conflict")
+		r.call("POST", path+"/abandon", `{"because": "x"}`).want(409, "conflict")
+		if got := r.call("DELETE", path+"/bindings/app", "").want(202, "").at("state"); got != "withdrawn" {
+			t.Errorf("got %s, want \"withdrawn\"", got)
+		}
+		whole := r.call("DELETE", path+"?bindings=true", "").want(202, "")
+		if whole.at("removal") != "removed_with_bindings" {
+			t.Errorf("got %s, want it removed with its bindings", whole.text)
+		}
+		r.call("POST", path+"/bindings", `{}`).want(409, "conflict")
+		r.call("POST", path+"/bindings/"+bid+"/abandon", `{"because": "x"}`).want(200, "")
+		r.call("GET", path+"/bindings/none", "").want(404, "not_found")
+		r.call("GET", path+"/bindings/"+strings.Repeat("x", 256), "").want(404, "not_found")
+		r.call("GET", "/v1/instances/none/bindings", "").want(404, "not_found")
+		r.call("POST", "/v1/instances/none/bindings", `{}`).want(404, "not_found")
+	})
+}
+
+func TestPlanThatIsNotBindable(t *testing.T) {
+	each(t, func(r *rig) {
+		id := r.call("POST", "/v1/instances", `{"service": "shelf", "plan": "closed"}`).want(201, "").at("id")
+		r.call("POST", "/v1/instances/"+id+"/bindings", `{}`).want(400, "invalid")
+		r.call("POST", "/v1/instances/"+id+"/bindings", `{"id": ""}`).want(400, "malformed")
+	})
+}
+
+func TestCredentials(t *testing.T) {
+	each(t, func(r *rig) {
+		id := r.ready()
+		path := "/v1/instances/" + id + "/bindings/" + r.bound(id) + "/credentials"
+		r.callAs(reading, "GET", path, "").want(403, "forbidden")
+		r.callAs(writing, "GET", path, "").want(403, "forbidden")
+		got := r.callAs(opening, "GET", path, "").want(200, "")
+		if got.at("credentials", "password") != "hush" || got.header.Get("Cache-Control") != "no-store" {
+			t.Errorf("got %v %s, want the credentials, not to be stored", got.header, got.text)
+		}
+		waiting := r.call("POST", "/v1/instances/"+id+"/bindings", `{}`).want(201, "").at("id")
+		r.callAs(opening, "GET", "/v1/instances/"+id+"/bindings/"+waiting+"/credentials", "").want(409, "conflict")
+		r.callAs(opening, "GET", "/v1/instances/"+id+"/bindings/none/credentials", "").want(404, "not_found")
+		for _, exchange := range r.exchanges {
+			if strings.Contains(fmt.Sprint(exchange), "hush") {
+				t.Errorf("the observer: got %v, want no credentials in it", exchange)
+			}
+		}
+	})
+}
+
+func TestPages(t *testing.T) {
+	each(t, func(r *rig) {
+		for n := 0; n < 7; n++ {
+			r.order()
+		}
+		r.call("DELETE", "/v1/instances/"+r.order(), "").want(202, "")
+		seen, sizes, target := map[string]bool{}, "", "/v1/instances?limit=3"
+		for target != "" {
+			page := r.call("GET", target, "").want(200, "")
+			for n := range page.items() {
+				seen[page.at("items", fmt.Sprint(n), "id")] = true
+			}
+			sizes += fmt.Sprint(len(page.items()), " ")
+			target = ""
+			if next, isThere := page.body["next"].(string); isThere {
+				target = "/v1/instances?limit=3&after=" + next
+			}
+		}
+		if len(seen) != 8 || sizes != "3 3 2 " {
+			t.Errorf("got %d instances on pages of %s, want 8 on pages of 3, 3 and 2", len(seen), sizes)
+		}
+		if got := r.call("GET", "/v1/instances?limit=8", "").want(200, ""); got.body["next"] != nil {
+			t.Errorf("the last page: got the next %s, want none", got.at("next"))
+		}
+	})
+}
+
+func TestFilters(t *testing.T) {
+	each(t, func(r *rig) {
+		id := r.ready()
+		r.bound(id) // isn't listed
+		r.call("POST", "/v1/instances", `{"id": "other", "service": "shelf", "plan": "small"}`).want(201, "")
+		for query, want := range map[string]int{
+			"": 2, "state=ready": 1, "state=ready&state=ordered": 2, "state=gone": 0, "broker=shelf": 2,
+			"broker=none": 0, "prefix=" + id[:9]: 1, "prefix=" + strings.ToUpper(strings.ReplaceAll(id, "-", "")): 1,
+			"first=" + id: 1,
+			"first=other": 1,
+		} {
+			if got := r.call("GET", "/v1/instances?"+query, "").want(200, ""); len(got.items()) != want {
+				t.Errorf("%s: got %s, want %d", query, got.text, want)
+			}
+		}
+		for _, query := range []string{
+			"state=lost", "limit=0", "limit=1001", "limit=x", "prefix=xyz", "prefix=-", "after=x", "after=e30",
+			"nothing=1", "broker=a&broker=b", "limit=1;after=2", "first=" + strings.Repeat("x", 256),
+			"prefix=" + strings.Repeat("a", 33), "broker=%00", "broker=%ff", "broker=A",
+			"latest=1", "latest=",
+		} {
+			r.call("GET", "/v1/instances?"+query, "").want(400, "malformed")
+		}
+	})
+}
+
+func TestBrokers(t *testing.T) {
+	each(t, func(r *rig) {
+		const path, put = "/v1/brokers/other", `{"url": "https://other.example/", "user": "me", "password": "sesame",
+			"settings": {"hold_seconds": 1.5, "longest_poll_seconds": 3600}}`
+		made := r.call("PUT", path, put).want(201, "")
+		if made.header.Get("Location") != path || made.at("url") != "https://other.example" ||
+			made.at("password") != "store" || made.at("settings", "hold_seconds") != "1.5" {
+			t.Errorf("got %s, want the broker as it was set", made.text)
+		}
+		changed := r.call("PUT", path, `{"url": "https://other.example", "user": "you"}`).want(200, "")
+		if changed.at("user") != "you" || changed.at("settings") != "map[]" {
+			t.Errorf("got %s, want the new user and no settings", changed.text)
+		}
+		before := r.brokerNamed("other")
+		if got, err := r.vault.Open(before.Password, platform.PasswordContext(before)); string(got) != "sesame" {
+			t.Errorf("the password: got %q, %v, want the one before", got, err)
+		}
+		r.call("PUT", path, `{"url": "https://elsewhere.example", "user": "you"}`).want(400, "password_needed")
+		r.call("PUT", path, `{"url": "https://elsewhere.example", "user": "you", "password": "new"}`).want(200, "")
+		other := r.brokerNamed("other")
+		password, err := r.vault.Open(other.Password, platform.PasswordContext(other))
+		if string(password) != "new" || err != nil {
+			t.Errorf("the password: got %q and %v, want \"new\" and no error", password, err)
+		}
+		r.call("PUT", "/v1/brokers/third", `{"url": "https://x", "user": "me"}`).want(400, "invalid")
+		r.call("PUT", "/v1/brokers/NO", put).want(400, "invalid")
+		r.call("PUT", path, `{"url": "https://x", "user": "m\u0000e", "password": "p"}`).want(400, "invalid")
+		r.call("DELETE", "/v1/brokers/%00", "").want(404, "not_found")
+		r.call("PUT", path, `{"url": "ftp://x", "user": "me", "password": "p"}`).want(400, "invalid")
+		for _, bad := range []string{"-1", "1e300", "40000000"} {
+			body := `{"url": "https://x", "user": "me", "password": "p", "settings": {"hold_seconds": ` + bad + `}}`
+			r.call("PUT", path, body).want(400, "invalid")
+		}
+		listed := r.call("GET", "/v1/brokers", "").want(200, "")
+		if len(listed.items()) != 2 || listed.at("items", "1", "catalogue_at") != "2026-01-01T00:00:00Z" {
+			t.Errorf("got %s, want 2 and the time of the catalogue", listed.text)
+		}
+		shown := r.call("GET", "/v1/brokers/shelf", "").want(200, "")
+		if shown.at("catalogue", "services", "0", "name") != "shelf" {
+			t.Errorf("got %s, want the catalogue", shown.text)
+		}
+		for _, response := range []got{made, changed, listed, shown} {
+			if strings.Contains(response.text, "sesame") || strings.Contains(response.text, string(before.Password)) {
+				t.Errorf("got %s, want no password in it", response.text)
+			}
+		}
+		r.order()
+		r.call("DELETE", "/v1/brokers/shelf", "").want(409, "conflict")
+		r.call("DELETE", path, "").want(204, "")
+		r.call("DELETE", path, "").want(404, "not_found")
+		r.call("GET", path, "").want(404, "not_found")
+	})
+}
+
+func (r *rig) brokerNamed(name string) platform.Broker {
+	r.Helper()
+	all, err := r.store.Brokers(background)
+	check(r.T, err)
+	for _, broker := range all {
+		if broker.Name == name {
+			return broker
+		}
+	}
+	r.Fatalf("got no broker %s, want one", name)
+	return platform.Broker{}
+}
+
+// A password that a worker reads from a file isn't sent elsewhere either, and the path isn't answered.
+func TestPasswordFile(t *testing.T) {
+	each(t, func(r *rig) {
+		check(t, r.orders.AddBroker(background, platform.Broker{
+			Name: "filed", URL: "https://filed.example", User: "me", PasswordFile: "/run/secret/filed",
+		}, nil))
+		shown := r.call("GET", "/v1/brokers/filed", "").want(200, "")
+		if shown.at("password") != "file" || strings.Contains(shown.text, "/run") {
+			t.Errorf("got %s, want that the password is in a file, and no path", shown.text)
+		}
+		r.call("PUT", "/v1/brokers/filed", `{"url": "https://x.example", "user": "me"}`).want(400, "password_needed")
+		r.call("PUT", "/v1/brokers/filed", `{"url": "https://filed.example", "user": "you"}`).want(200, "")
+		if got := r.brokerNamed("filed"); got.PasswordFile != "/run/secret/filed" || got.User != "you" {
+			t.Errorf("got %+v, want the file and the new user", got)
+		}
+		r.call("PUT", "/v1/brokers/filed", `{"url": "https://x.example", "user": "me", "password": "p"}`).want(200, "")
+		if got := r.brokerNamed("filed"); got.PasswordFile != "" || got.Password == nil {
+			t.Errorf("got %+v, want the password instead of the file", got)
+		}
+		r.call("PUT", "/v1/brokers/filed",
+			`{"url": "https://x.example", "user": "me", "password_file": "/etc/shadow"}`).want(400, "malformed")
+	})
+}
+
+func TestCounts(t *testing.T) {
+	each(t, func(r *rig) {
+		if got := r.call("GET", "/v1/counts", "").want(200, ""); got.at("counts") != "[]" {
+			t.Errorf("got %s, want no counts", got.text)
+		}
+		r.bound(r.ready())
+		got := r.call("GET", "/v1/counts", "").want(200, "")
+		for _, part := range []string{`"instance","state":"ready","count":1`, `"binding","state":"ready","count":1`} {
+			if !strings.Contains(got.text, part) {
+				t.Errorf("got %[2]s, want %[1]s in it", part, got.text)
+			}
+		}
+	})
+}
+
+func TestTokens(t *testing.T) {
+	r := newRig(t, newFake())
+	id := r.order()
+	for at := range routes {
+		it := routes[at]
+		target := strings.NewReplacer("{id}", id, "{bid}", "b", "{name}", "shelf").Replace(it.pattern)
+		for _, token := range []string{"", "wrong", strings.Repeat("x", ShortestToken), reading[1:], reading + "r"} {
+			got := r.callAs(token, it.method, target, "")
+			if it.needs == 0 {
+				got.want(200, "")
+				continue
+			}
+			if got.want(401, "unauthorized").header.Get("WWW-Authenticate") == "" {
+				t.Error("WWW-Authenticate: got none, want it")
+			}
+		}
+		for text, has := range map[string]Permission{reading: Read, writing: Write, opening: Credentials} {
+			if it.needs != 0 && has != it.needs {
+				r.callAs(text, it.method, target, "").want(403, "forbidden")
+			}
+		}
+	}
+	r.callAs("", "GET", "/v1/nothing", "").want(401, "unauthorized")
+	for _, fields := range [][]string{
+		{"Bearer " + reading, "Bearer " + reading}, {"Basic " + reading}, {reading}, {"Bearer  " + reading}, {""},
+	} {
+		request := httptest.NewRequest("GET", "/v1/counts", nil)
+		request.Header["Authorization"] = fields
+		r.do(request).want(401, "unauthorized")
+	}
+	request := httptest.NewRequest("GET", "/v1/counts", nil)
+	request.Header.Set("Authorization", "bearer "+reading)
+	r.do(request).want(200, "")
+}
+
+// The connection of whoever may not ask is closed.
+func TestARejectedTokenKeepsNoConnection(t *testing.T) {
+	r := newRig(t, newFake())
+	for token, want := range map[string]string{"": "close", "wrong": "close", writing: "close", reading: ""} {
+		got := r.callAs(token, "GET", "/v1/counts", "")
+		if connection := got.header.Get("Connection"); connection != want {
+			t.Errorf("%d: got Connection %q, want %q", got.status, connection, want)
+		}
+	}
+}
+
+func TestRoutes(t *testing.T) {
+	r := newRig(t, newFake())
+	for _, target := range []string{
+		"/", "/v1", "/v1/", "/v2/catalog", "/v1/instances/", "/v1//instances", "/v1/instances/a/b",
+		"/v1/instances/a/bindings/", "/v1/counts/x", "/v1/brokers/", "/v1/instances/a%2Fbindings",
+	} {
+		if got := r.call("GET", target, ""); got.status != 404 {
+			t.Errorf("%s: got %d %s, want 404", target, got.status, got.text)
+		}
+	}
+	r.call("GET", "/v1/nothing", "").want(404, "no_route")
+	got := r.call("PATCH", "/v1/instances", "").want(405, "method_not_allowed")
+	if got.header.Get("Allow") != "GET, HEAD, POST" {
+		t.Errorf("Allow: got %s, want \"GET, HEAD, POST\"", got.header.Get("Allow"))
+	}
+	head := r.call("HEAD", "/v1/counts", "").want(200, "")
+	if head.text != "" || head.header.Get("Content-Length") == "0" {
+		t.Errorf("HEAD: got %v %s, want the length and no body", head.header, head.text)
+	}
+}
+
+func TestStrictBodies(t *testing.T) {
+	r := newRig(t, newFake())
+	deep := strings.Repeat(`{"a":`, deepest+1) + "1" + strings.Repeat("}", deepest+1)
+	for _, text := range []string{
+		`[]`, `null`, `"x"`, `{`, `{}{}`, `{} x`, `{"other": 1}`, `{"Service": "shelf"}`, `{"service": 1}`,
+		`{"service": null}`, `{"service": "a", "service": "b"}`, `{"parameters": {"a": 1, "a": 2}}`,
+		`{"parameters": {"x": [{"a": 1, "\u0061": 2}]}}`,
+		"{\"service\": \"\xff\"}", `{"tries": 1.5}`, `{"tries": "1"}`, `{"parameters": ` + deep + `}`, ` `,
+		`{"parameters": {"a": 01}}`, `{"service": "shelf", "plan": "small", "id": ""}`,
+	} {
+		r.call("POST", "/v1/instances", text).want(400, "malformed")
+	}
+	for _, text := range []string{
+		`{"url": "https://x", "user": "u", "settings": {"hold": 1}}`,
+		`{"url": "https://x", "settings": {"hold_seconds": null}}`,
+		`{"url": "https://x", "settings": []}`,
+	} {
+		r.call("PUT", "/v1/brokers/x", text).want(400, "malformed")
+	}
+	if found, _ := r.store.List(background, platform.Filter{}); len(found) != 0 {
+		t.Errorf("got %v, want none", found)
+	}
+	long := `{"service": "` + strings.Repeat("x", 4096) + `"}`
+	r.call("POST", "/v1/instances", long).want(413, "body_too_large")
+	request := httptest.NewRequest("POST", "/v1/instances", strings.NewReader(`{}`))
+	request.Header.Set("Authorization", "Bearer "+all)
+	r.do(request).want(415, "unsupported_media_type")
+	request = httptest.NewRequest("POST", "/v1/instances", strings.NewReader(`{"service": "shelf", "plan": "small"}`))
+	request.Header.Set("Authorization", "Bearer "+all)
+	request.Header.Set("Content-Type", "application/json; charset=utf-8")
+	r.do(request).want(201, "")
+}
+
+func TestStoreThatFails(t *testing.T) {
+	store := newFake()
+	r := newRig(t, store)
+	for failed, want := range map[error]struct {
+		status int
+		code   string
+	}{
+		fmt.Errorf("postgres at 10.0.0.1: %w", platform.ErrAway): {503, "store_away"},
+		errors.New("disk of 10.0.0.1"):                           {500, "internal"},
+	} {
+		store.setAway(failed)
+		for _, target := range []string{
+			"/v1/instances", "/v1/instances/a", "/v1/instances/a/bindings", "/v1/brokers", "/v1/brokers/shelf",
+			"/v1/counts", "/v1/records", "/v1/records?order=newest", "/v1/in-flight",
+		} {
+			got := r.call("GET", target, "").want(want.status, want.code)
+			if strings.Contains(got.text, "10.0.0.1") {
+				t.Errorf("got %s, want nothing of the network in it", got.text)
+			}
+			if last := r.exchanges[len(r.exchanges)-1]; !errors.Is(last.Err, failed) || last.Code != want.code {
+				t.Errorf("the observer: got %+v, want the error and its code", last)
+			}
+			if isAway := want.status == 503; isAway != (got.header.Get("Retry-After") != "") {
+				t.Errorf("Retry-After: got %q, want one exactly with 503", got.header.Get("Retry-After"))
+			}
+		}
+		r.call("POST", "/v1/instances", `{"service": "shelf", "plan": "small"}`).want(want.status, want.code)
+		r.call("PUT", "/v1/brokers/shelf", `{"url": "https://shelf.example", "user": "u"}`).want(want.status, want.code)
+		r.call("DELETE", "/v1/instances/a", "").want(want.status, want.code)
+	}
+}
+
+// So many requests are carried out at once, and the others wait for their turn only so long.
+func TestAtOnce(t *testing.T) {
+	store := newFake()
+	reading, letGo := make(chan struct{}), make(chan struct{})
+	h, err := NewHandler(platform.NewOrders(store, nil), slow{store, reading, letGo}, Options{
+		Tokens: []Token{tokenOfText("all", all, Read)}, AtOnce: 1, Timeout: time.Second,
+	})
+	check(t, err)
+	ask := func() int {
+		request := httptest.NewRequest("GET", "/v1/counts", nil)
+		request.Header.Set("Authorization", "Bearer "+all)
+		recorder := httptest.NewRecorder()
+		h.ServeHTTP(recorder, request)
+		if text := recorder.Body.String(); recorder.Code == 503 && !strings.Contains(text, `"busy"`) {
+			t.Errorf("got %s, want busy", text)
+		}
+		return recorder.Code
+	}
+	first := make(chan int, 1)
+	go func() { first <- ask() }()
+	select {
+	case <-reading:
+	case got := <-first:
+		t.Fatalf("the first one: got %d before the store, want it to wait there", got)
+	}
+	if got := ask(); got != 503 {
+		t.Errorf("while one is carried out: got %d, want 503", got)
+	}
+	close(letGo)
+	if got := <-first; got != 200 {
+		t.Errorf("the first one: got %d, want 200", got)
+	}
+}
+
+// An order whose body may not be parsed in time is answered with 503, and nothing of it is done. Other tokens and
+// requests without a body don't wait.
+func TestParsedAtOnce(t *testing.T) {
+	store := newFake()
+	made, err := NewHandler(platform.NewOrders(store, nil), store, Options{
+		Tokens: []Token{tokenOfText("one", writing, Read|Write), tokenOfText("two", all, Read|Write)}, LongestBody: 1000,
+		Timeout: 50 * time.Millisecond,
+	})
+	check(t, err)
+	ask := func(token, method, target, body string) *httptest.ResponseRecorder {
+		request := httptest.NewRequest(method, target, strings.NewReader(body))
+		request.Header.Set("Authorization", "Bearer "+token)
+		request.Header.Set("Content-Type", "application/json")
+		recorder := httptest.NewRecorder()
+		made.ServeHTTP(recorder, request)
+		return recorder
+	}
+	body := `{"broker":"` + strings.Repeat("a", 900) + `"}`
+	for _, limit := range []*budget.Budget{made.(*handler).parsed, made.(*handler).bodies} {
+		taken := 0
+		for ; limit.Take("one", 900, 0); taken++ {
+		}
+		if got := ask(writing, "POST", "/v1/instances", body); got.Code != 503 || got.Header().Get("Retry-After") != "5" ||
+			!strings.Contains(got.Body.String(), `"busy"`) {
+			t.Errorf("got %d %s, want 503, busy", got.Code, got.Body)
+		}
+		if got := ask(writing, "GET", "/v1/counts", ""); got.Code != 200 {
+			t.Errorf("without a body: got %d, want 200", got.Code)
+		}
+		if got := ask(all, "POST", "/v1/instances", body); got.Code != 400 && got.Code != 404 {
+			t.Errorf("another token: got %d %s, want 400 or 404", got.Code, got.Body)
+		}
+		limit.Give("one", 900*taken)
+	}
+}
+
+// A slow store counts only once it is let go.
+type slow struct {
+	platform.Store
+	reading, letGo chan struct{}
+}
+
+func (s slow) Counts(ctx context.Context) ([]platform.Count, error) {
+	s.reading <- struct{}{}
+	<-s.letGo
+	return s.Store.Counts(ctx)
+}
+
+func TestObserver(t *testing.T) {
+	r := newRig(t, newFake())
+	request := httptest.NewRequest("GET", "/v1/instances/"+strings.Repeat("%20", 200), nil)
+	request.Header.Set("Authorization", "Bearer "+all)
+	request.RemoteAddr = "[2001:db8::1]:80"
+	r.do(request).want(404, "not_found")
+	last := r.exchanges[len(r.exchanges)-1]
+	if last.Client != "2001:db8::1" || last.Token != "all" || last.Route != "/v1/instances/{id}" ||
+		last.Status != 404 || last.Code != "not_found" || len(last.Target) != 256 || last.Method != "GET" ||
+		last.Err != nil {
+		t.Errorf("the observer: got %+v, want the whole exchange", last)
+	}
+	r.callAs("wrong", "GET", "/v1/counts", "")
+	if last := r.exchanges[len(r.exchanges)-1]; last.Token != "" || last.Status != 401 {
+		t.Errorf("the observer: got %+v, want 401 and no token", last)
+	}
+}
+
+func TestNewHandler(t *testing.T) {
+	store := newFake()
+	orders := platform.NewOrders(store, nil)
+	token := tokenOfText("a", all, Read)
+	for name, make := range map[string]func() error{
+		"no store":  func() error { _, err := NewHandler(orders, nil, Options{Tokens: []Token{token}}); return err },
+		"no orders": func() error { _, err := NewHandler(nil, store, Options{Tokens: []Token{token}}); return err },
+		"no token":  func() error { _, err := NewHandler(orders, store, Options{}); return err },
+		"two": func() error {
+			_, err := NewHandler(orders, store, Options{Tokens: []Token{token, token}})
+			return err
+		},
+		"no name": func() error { _, err := NewHandler(orders, store, Options{Tokens: []Token{{}}}); return err },
+		"a limit": func() error {
+			_, err := NewHandler(orders, store, Options{Tokens: []Token{token}, LongestBody: -1})
+			return err
+		},
+	} {
+		t.Run(name, func(t *testing.T) {
+			if make() == nil {
+				t.Error("got no error, want one")
+			}
+		})
+	}
+	if _, err := NewHandler(orders, store, Options{Tokens: []Token{token}}); err != nil {
+		t.Error(err)
+	}
+}
+
+// described is the document, and errDescribed why it can't be read.
+var described, errDescribed = openapi3.NewLoader().LoadFromData(document)
+
+// The texts of some formats are checked, too, and errors are one line.
+func init() {
+	openapi3.SchemaErrorDetailsDisabled = true
+	openapi3.DefineStringFormatCallback("date-time", func(text string) error {
+		read, err := time.Parse(time.RFC3339Nano, text)
+		if err == nil && read.Year() < 2000 {
+			err = fmt.Errorf("the year is %d", read.Year())
+		}
+		return err
+	})
+	openapi3.DefineStringFormatCallback("uuid", func(text string) error {
+		_, err := osb.ParseID(text)
+		return err
+	})
+}
+
+// checkText checks a text of JSON.
+func checkText(of *openapi3.SchemaRef, text []byte) error {
+	var value any
+	if err := json.Unmarshal(text, &value); err != nil {
+		return fmt.Errorf("%w: %.200q", err, text)
+	}
+	return of.Value.VisitJSON(value)
+}
+
+// The document has the routes of the handler, and no others, with their parameters and permissions.
+func TestDocumentHasTheRoutes(t *testing.T) {
+	check(t, errDescribed)
+	operations := map[string]*openapi3.Operation{}
+	for pattern, item := range described.Paths {
+		for method, operation := range item.Operations() {
+			operations[method+" "+pattern] = operation
+		}
+	}
+	for _, route := range routes {
+		at := route.method + " " + route.pattern
+		found := operations[at]
+		if found == nil {
+			t.Errorf("%s: got none in the document, want one", at)
+			continue
+		}
+		if found.OperationID == "" || found.Summary == "" {
+			t.Errorf("%s: got the name %q, want one with a summary", at, found.OperationID)
+		}
+		checkOperation(t, route, found)
+		delete(operations, at)
+	}
+	for at := range operations {
+		t.Errorf("%s: got no route, want one", at)
+	}
+}
+
+func checkOperation(t *testing.T, it route, found *openapi3.Operation) {
+	t.Helper()
+	at := it.method + " " + it.pattern
+	var query, path []string
+	for _, parameter := range found.Parameters {
+		switch parameter.Value.In {
+		case "query":
+			query = append(query, parameter.Value.Name)
+		case "path":
+			path = append(path, "{"+parameter.Value.Name+"}")
+		}
+	}
+	if !reflect.DeepEqual(query, it.query) {
+		t.Errorf("%s: the query: got %v, want %v", at, query, it.query)
+	}
+	for _, segment := range strings.Split(it.pattern, "/") {
+		if strings.HasPrefix(segment, "{") && !strings.Contains(strings.Join(path, ""), segment) {
+			t.Errorf("%s: got the parameters %v, want those of the path", at, path)
+		}
+	}
+	if it.hasBody != (found.RequestBody != nil && found.RequestBody.Value.Required) {
+		t.Errorf("%s: got the body %v, want one exactly if the route has it", at, found.RequestBody)
+	}
+	if (it.needs == 0) != (found.Security != nil && len(*found.Security) == 0) {
+		t.Errorf("%s: got the security %v, want none exactly if the route needs none", at, found.Security)
+	}
+	for name, permission := range permissions {
+		if (it.needs == permission) != strings.HasSuffix(found.Description, "the permission "+name+".") {
+			t.Errorf("%s: got the description %q, want the permission that the route needs", at, found.Description)
+		}
+	}
+}
+
+// The document is one of OpenAPI 3.0, and has no member that OpenAPI doesn't know. Each reference leads somewhere, each
+// schema is used, and each thing that is needed is described.
+func TestDocumentIsWhole(t *testing.T) {
+	check(t, errDescribed)
+	check(t, described.Validate(background))
+	if unknown := unknownMembers(reflect.ValueOf(described)); len(unknown) > 0 {
+		t.Errorf("got the members %q, want only those of OpenAPI", unknown)
+	}
+	text := string(document)
+	if strings.Count(text, `"type": "object"`) != strings.Count(text, `"additionalProperties": `) {
+		t.Error("got an object that doesn't say whether it may have other members, want none")
+	}
+	for name, schema := range described.Components.Schemas {
+		if !strings.Contains(text, `"#/components/schemas/`+name+`"`) {
+			t.Errorf("the schema %s: got no use, want one", name)
+		}
+		for _, needed := range schema.Value.Required {
+			if schema.Value.Properties[needed] == nil {
+				t.Errorf("the schema %s: got no %s, which it needs, want one", name, needed)
+			}
+		}
+	}
+	for name, response := range described.Components.Responses {
+		if *response.Value.Description == "" || !strings.Contains(text, `"#/components/responses/`+name+`"`) {
+			t.Errorf("the response %s: got no description or no use, want both", name)
+		}
+	}
+}
+
+// unknownMembers are the members of a part of the document that OpenAPI doesn't have.
+func unknownMembers(part reflect.Value) (found []string) {
+	switch part.Kind() {
+	case reflect.Interface, reflect.Pointer:
+		if !part.IsNil() {
+			found = unknownMembers(part.Elem())
+		}
+	case reflect.Slice:
+		for n := 0; n < part.Len(); n++ {
+			found = append(found, unknownMembers(part.Index(n))...)
+		}
+	case reflect.Map:
+		for _, name := range part.MapKeys() {
+			found = append(found, unknownMembers(part.MapIndex(name))...)
+		}
+	case reflect.Struct:
+		for n := 0; n < part.NumField(); n++ {
+			found = append(found, unknownMembers(part.Field(n))...)
+		}
+		if part.Type() == reflect.TypeOf(openapi3.ExtensionProps{}) {
+			for _, name := range part.FieldByName("Extensions").MapKeys() {
+				found = append(found, name.String())
+			}
+		}
+	}
+	return found
+}
+
+// The members of the bodies that are read and written are those of their schemas. What a Reader returns has no other
+// fields: so the page shows nothing that the API doesn't answer.
+func TestSchemasHaveTheMembers(t *testing.T) {
+	check(t, errDescribed)
+	schemas := described.Components.Schemas
+	for name, example := range map[string]any{
+		"NewInstance": newInstance{}, "NewBinding": newBinding{}, "Abandon": reasonGiven{}, "NewBroker": newBroker{},
+		"Settings": Settings{}, "Broker": Broker{}, "Binding": Record{}, "Record": Record{}, "Reason": Reason{},
+		"Flight": Flight{}, "Problem": problem{}, "Stay": Stay{}, "Instances": List{}, "Bindings": List{},
+		"Records": List{}, "Brokers": brokerList{}, "Counts": Counts{}, "": Count{},
+	} {
+		t.Run("schema "+name, func(t *testing.T) {
+			members := map[string]bool{}
+			of := reflect.TypeOf(example)
+			for at := 0; at < of.NumField(); at++ {
+				member, _, _ := strings.Cut(of.Field(at).Tag.Get("json"), ",")
+				if member != "" {
+					members[member] = true
+				} else if of.Field(at).IsExported() {
+					t.Errorf("got the field %s of %s without a member, want one", of.Field(at).Name, of)
+				}
+			}
+			schema := schemas["Counts"].Value.Properties["counts"].Value.Items
+			if name != "" {
+				schema = schemas[name]
+			}
+			for member := range schema.Value.Properties {
+				if !members[member] {
+					t.Errorf("%s: got no member %s, want one", name, member)
+				}
+				delete(members, member)
+			}
+			if len(members) > 0 {
+				t.Errorf("the schema %s: got no %v, want it", name, members)
+			}
+		})
+	}
+	states := map[any]bool{}
+	for _, state := range allStates {
+		states[string(state)] = true
+	}
+	if enum := schemas["State"].Value.Enum; len(enum) != len(states) || !states[enum[0]] {
+		t.Errorf("the states: got %v, want those of the platform", enum)
+	}
+}
+
+func TestDocumentIsAnswered(t *testing.T) {
+	r := newRig(t, newFake())
+	got := r.callAs("", http.MethodGet, "/v1/openapi.json", "").want(200, "")
+	if !json.Valid([]byte(got.text)) || got.text != string(document) {
+		t.Error("got another text, want the document")
+	}
+}
+
+// What the validator is for: it finds what is wrong.
+func TestValidator(t *testing.T) {
+	check(t, errDescribed)
+	good := `{"type": "about:blank", "title": "t", "status": 404, "code": "not_found"}`
+	of := described.Components.Schemas["Problem"]
+	check(t, checkText(of, []byte(good)))
+	for _, pair := range [][2]string{
+		{`"status": 404`, `"status": "404"`}, {`"status": 404`, `"status": 1.5`}, {`"status": 404`, `"status": -1`},
+		{"not_found", "other"}, {`, "code": "not_found"`, ""}, {`"title"`, `"more": 1, "title"`}, {`"t"`, `null`},
+	} {
+		if checkText(of, []byte(strings.Replace(good, pair[0], pair[1], 1))) == nil {
+			t.Errorf("%s: got no error, want one", pair[1])
+		}
+	}
+	for text, of := range map[string]*openapi3.Schema{
+		`"0001-01-01T00:00:00Z"`: openapi3.NewDateTimeSchema(), `"x"`: openapi3.NewUUIDSchema(),
+		`"true"`: openapi3.NewBoolSchema(), `[1]`: openapi3.NewArraySchema().WithItems(openapi3.NewObjectSchema()),
+	} {
+		if checkText(of.NewRef(), []byte(text)) == nil {
+			t.Errorf("%s of the type %s and the format %q: got no error, want one", text, of.Type, of.Format)
+		}
+	}
+}
+
+// hostile has what a terminal carries out, or what turns a text round: DEL, the C1 controls such as CSI, marks of
+// direction, a line separator, a tag outside the first plane. What a terminal shows stays.
+const hostile = "\u007f \u009b31m \u202e\u2066 \u2028 \U000e0041 \u200b | \u00e4\u4e2d\U0001f600"
+
+// No answer has a character of a broker's text that a terminal would carry out, and each text reads as it did.
+func TestNoControlsInAnswers(t *testing.T) {
+	each(t, func(r *rig) {
+		id := r.ready()
+		key := keyOfIDs(t, id)
+		check(r.T, r.store.Change(background, key, func(now time.Time, snapshot platform.Snapshot) (*platform.Change, error) {
+			e := snapshot.Entry
+			e.Last = platform.Reason{At: now, Kind: "poll", Status: 500, Description: hostile, Error: hostile}
+			e.Dashboard = "https://x/" + hostile
+			e.Metadata = json.RawMessage(`{"labels": {"a": "` + hostile + `"}}`)
+			return &platform.Change{Entry: e}, nil
+		}))
+		check(r.T, r.store.ChangeBroker(background, "shelf", func(b platform.Broker) (*platform.Broker, error) {
+			b.Reason = platform.Reason{At: b.CatalogueAt, Kind: "catalogue", Status: 500, Lost: hostile}
+			b.Catalogue = json.RawMessage(`{"services": [], "x": "` + hostile + `"}`)
+			return &b, nil
+		}))
+		for _, path := range []string{
+			"/v1/instances", "/v1/instances/" + id, "/v1/records", "/v1/brokers", "/v1/brokers/shelf",
+		} {
+			got := r.call("GET", path, "").want(200, "")
+			for _, character := range got.text {
+				if character >= 0x7f && !strings.ContainsRune("\u00e4\u4e2d\U0001f600", character) {
+					t.Errorf("%s: got the character %U raw, want it escaped", path, character)
+				}
+			}
+			if !strings.Contains(got.text, `\u007f \u009b31m \u202e\u2066 \u2028 \udb40\udc41 \u200b | `) {
+				t.Errorf("%s: got %[2]s, want the text escaped", path, got.text)
+			}
+		}
+		shown := r.call("GET", "/v1/instances/"+id, "").want(200, "")
+		if shown.at("last", "description") != hostile || shown.at("metadata", "labels", "a") != hostile {
+			t.Errorf("got %s, want the same text", shown.text)
+		}
+		wrong := r.call("GET", "/v1/instances/"+strings.Repeat("%C2%9B", 3), "").want(404, "not_found")
+		if strings.ContainsRune(wrong.text, 0x9b) {
+			t.Errorf("a problem: got %q, want no control in it", wrong.text)
+		}
+	})
+}
+
+func TestPrintable(t *testing.T) {
+	for _, text := range []string{hostile, "", "plain", "\x00\x1f\"\\/<>&", "\u0080\uffff\U0010ffff"} {
+		written, err := json.Marshal(map[string]string{text: text})
+		check(t, err)
+		var before, after any
+		check(t, json.Unmarshal(written, &before))
+		made := printable(written)
+		if err := json.Unmarshal(made, &after); err != nil || !reflect.DeepEqual(before, after) {
+			t.Errorf("%q: got %q, %v, want the same value", text, made, err)
+		}
+	}
+	if got := string(printable([]byte("\"\x9b\xff\""))); got != `"\ufffd\ufffd"` {
+		t.Errorf("bytes that aren't UTF-8: got %q, want %s", got, `"\ufffd\ufffd"`)
+	}
+	if got := string(printable([]byte("{\n \"\u00e4\": 1\t}\n"))); got != "{\n \"\u00e4\": 1\t}\n" {
+		t.Errorf("what is printable: got %q, want it unchanged", got)
+	}
+}
+
+var background = context.Background()
+
+const (
+	catalogue = `{"services": [{"id": "a0", "name": "shelf", "description": "", "bindable": true, "plans": [
+		{"id": "b1", "name": "small", "description": ""},
+		{"id": "b2", "name": "closed", "description": "", "bindable": false}
+	]}]}`
+	secret = `{"credentials": {"password": "hush"}}`
+)
+
+// The tokens of the tests, each with all of its permissions as its name.
+var (
+	reading = strings.Repeat("r", ShortestToken)
+	writing = strings.Repeat("w", ShortestToken)
+	opening = strings.Repeat("c", ShortestToken)
+	all     = strings.Repeat("a", ShortestToken)
+)
+
+func tokenOfText(name, text string, permissions Permission) Token {
+	return Token{Name: name, Permissions: permissions, Digest: sha256.Sum256([]byte(text))}
+}
+
+// A rig is the API over a store that has the broker shelf.
+type rig struct {
+	*testing.T
+	store     platform.Store
+	orders    *platform.Orders
+	vault     *vault.Vault
+	handler   http.Handler
+	exchanges []Exchange
+	checkKey  func(context.Context) error // or nil
+}
+
+// each runs a test over a fake and over SQLite.
+func each(t *testing.T, run func(*rig)) {
+	t.Helper()
+	t.Run("fake", func(t *testing.T) { run(newRig(t, newFake())) })
+	t.Run("sqlite", func(t *testing.T) {
+		store, err := sqlite.Open(background, filepath.Join(t.TempDir(), "instances.sqlite"))
+		check(t, err)
+		defer func() { check(t, store.Close()) }()
+		run(newRig(t, store))
+	})
+}
+
+func newRig(t *testing.T, store platform.Store) *rig {
+	t.Helper()
+	check(t, errDescribed)
+	sealer, err := vault.New([]byte(strings.Repeat("k", vault.ShortestKey)))
+	check(t, err)
+	r := &rig{T: t, store: store, vault: sealer, orders: platform.NewOrders(store, sealer)}
+	r.handler, err = NewHandler(r.orders, store, Options{
+		Tokens: []Token{
+			tokenOfText("reader", reading, Read), tokenOfText("writer", writing, Write),
+			tokenOfText("short", reading[1:], Read),
+			tokenOfText("opener", opening, Credentials), tokenOfText("all", all, Read|Write|Credentials),
+		},
+		LongestBody: 4096,
+		CheckKey: func(ctx context.Context) error {
+			if r.checkKey == nil {
+				return nil
+			}
+			return r.checkKey(ctx)
+		},
+		Observe: func(e Exchange) { r.exchanges = append(r.exchanges, e) },
+	})
+	check(t, err)
+	broker := platform.Broker{Name: "shelf", URL: "https://shelf.example", User: "me"}
+	check(t, r.orders.AddBroker(background, broker, []byte("sesame")))
+	check(t, store.ChangeBroker(background, "shelf", func(it platform.Broker) (*platform.Broker, error) {
+		it.Catalogue, it.CatalogueAt = json.RawMessage(catalogue), time.Date(2026, 1, 1, 0, 0, 0, 0, time.UTC)
+		return &it, nil
+	}))
+	return r
+}
+
+// check ends the test at an error.
+func check(t testing.TB, err error) {
+	t.Helper()
+	if err != nil {
+		t.Fatal(err)
+	}
+}
+
+// A got is an answer.
+type got struct {
+	*rig
+	status int
+	header http.Header
+	text   string
+	body   map[string]any
+}
+
+// call asks with the token that has all permissions. Every answer is checked against the document.
+func (r *rig) call(method, target, body string) got {
+	r.Helper()
+	return r.callAs(all, method, target, body)
+}
+
+func (r *rig) callAs(token, method, target, body string) got {
+	r.Helper()
+	request := httptest.NewRequest(method, target, strings.NewReader(body))
+	if body != "" {
+		request.Header.Set("Content-Type", "application/json")
+	}
+	if token != "" {
+		request.Header.Set("Authorization", "Bearer "+token)
+	}
+	return r.do(request)
+}
+
+func (r *rig) do(request *http.Request) got {
+	r.Helper()
+	asked, err := io.ReadAll(request.Body)
+	check(r.T, err)
+	request.Body = io.NopCloser(bytes.NewReader(asked))
+	recorder := httptest.NewRecorder()
+	r.handler.ServeHTTP(recorder, request)
+	text, err := io.ReadAll(recorder.Body)
+	check(r.T, err)
+	answered := got{rig: r, status: recorder.Code, header: recorder.Header(), text: string(text)}
+	if len(text) > 0 {
+		check(r.T, json.Unmarshal(text, &answered.body))
+	}
+	for name, want := range map[string]string{"Cache-Control": "no-store", "X-Content-Type-Options": "nosniff"} {
+		if answered.header.Get(name) != want {
+			r.Errorf("%s: got %q, want %q", name, answered.header.Get(name), want)
+		}
+	}
+	r.checkDocumented(request, asked, answered)
+	return answered
+}
+
+// checkDocumented checks an answer against the document, and so the body that was asked with, if it was accepted.
+func (r *rig) checkDocumented(request *http.Request, asked []byte, answered got) {
+	r.Helper()
+	method := request.Method
+	if method == http.MethodHead {
+		method = http.MethodGet
+	}
+	at := method + " " + request.URL.Path + " " + strconv.Itoa(answered.status)
+	found, _, _ := routeOf(method, request.URL.EscapedPath())
+	if found == nil {
+		if err := checkText(described.Components.Schemas["Problem"], []byte(answered.text)); err != nil {
+			r.Errorf("%s: got %v, want a Problem", at, err)
+		}
+		return
+	}
+	item := described.Paths[found.pattern]
+	if item == nil || item.GetOperation(method) == nil {
+		r.Fatalf("%s: got none in the document, want one", at)
+	}
+	operation := item.GetOperation(method)
+	if answered.status < 300 && operation.RequestBody != nil {
+		body := operation.RequestBody.Value.Content["application/json"]
+		if err := checkText(body.Schema, asked); err != nil {
+			r.Errorf("%s: got %v, want only bodies accepted that fit the schema\n%s", at, err, asked)
+		}
+	}
+	wanted := operation.Responses.Get(answered.status)
+	if wanted == nil {
+		r.Fatalf("%s: got a status that the document doesn't have, want one that it has: %s", at, answered.text)
+	}
+	if len(wanted.Value.Content) == 0 && answered.text != "" {
+		r.Errorf("%s: got the body %s, want none, as in the document", at, answered.text)
+	}
+	for kind, media := range wanted.Value.Content {
+		if answered.header.Get("Content-Type") != kind {
+			r.Errorf("%s: got %q, want %s", at, answered.header.Get("Content-Type"), kind)
+		}
+		if request.Method == http.MethodHead {
+			continue
+		}
+		if err := checkText(media.Schema, []byte(answered.text)); err != nil {
+			r.Errorf("%s: got %v, want an answer that fits its schema\n%s", at, err, answered.text)
+		}
+	}
+}
+
+// want fails unless the answer has this status, and of an error this code.
+func (g got) want(status int, code string) got {
+	g.Helper()
+	found, _ := g.body["code"].(string)
+	if g.status != status || found != code {
+		g.Fatalf("got %d %s, want %d %q", g.status, g.text, status, code)
+	}
+	return g
+}
+
+// at is the value at a path of members, as text.
+func (g got) at(path ...string) string {
+	g.Helper()
+	var value any = g.body
+	for _, segment := range path {
+		switch of := value.(type) {
+		case map[string]any:
+			value = of[segment]
+		case []any:
+			n, err := strconv.Atoi(segment)
+			if err != nil || n >= len(of) {
+				g.Fatalf("got no %v, want it in %s", path, g.text)
+			}
+			value = of[n]
+		}
+	}
+	return fmt.Sprint(value)
+}
+
+func (g got) items() []any {
+	g.Helper()
+	found, isList := g.body["items"].([]any)
+	if !isList {
+		g.Fatalf("got no list, want one: %s", g.text)
+	}
+	return found
+}
+
+// order creates an instance, and returns its id.
+func (r *rig) order() string {
+	r.Helper()
+	made := r.call("POST", "/v1/instances", `{"broker": "shelf", "service": "shelf", "plan": "small"}`)
+	return made.want(201, "").at("id")
+}
+
+// send has the request of an order in flight.
+func (r *rig) send(key platform.Key) {
+	r.Helper()
+	check(r.T, r.store.Change(background, key, func(now time.Time, snapshot platform.Snapshot) (*platform.Change, error) {
+		e := snapshot.Entry
+		var err error
+		if key.IsBinding {
+			e.Record, _, err = snapshot.Instance.Record.CreateBinding(key.Binding, true)
+		} else {
+			e.Record, _ = osb.Create(key.Instance, e.Service, e.Plan, true)
+		}
+		e.IsSent, e.State, e.Since = true, platform.Wanted, now
+		e.Lease = platform.Lease{Worker: "one", Until: now.Add(time.Minute)}
+		return &platform.Change{Entry: e}, err
+	}))
+}
+
+// answer has the request in flight answered.
+func (r *rig) answer(key platform.Key, status uint16, change func(*platform.Entry)) {
+	r.Helper()
+	check(r.T, r.store.Change(background, key, func(now time.Time, snapshot platform.Snapshot) (*platform.Change, error) {
+		e := snapshot.Entry
+		answer := osb.Answer{Status: status, Body: osb.BodyEmpty}
+		record, err := e.Record.Answer(e.Record.Attempt(), answer)
+		if key.IsBinding {
+			record, err = e.Record.AnswerBinding(e.Record.Attempt(), answer, true)
+		}
+		if err != nil {
+			return nil, err
+		}
+		e.Record, e.State, e.Since, e.Lease = record, platform.StateOf(record), now, platform.Lease{}
+		e.Due = time.Time{}
+		e.Last = platform.Reason{At: now, Kind: "provision", Status: int(status)}
+		change(&e)
+		return &platform.Change{Entry: e}, nil
+	}))
+}
+
+func keyOfIDs(t *testing.T, ids ...string) platform.Key {
+	t.Helper()
+	key, err := platform.ParseKey(strings.Join(ids, "/"))
+	check(t, err)
+	return key
+}
+
+// ready creates an instance that is ready.
+func (r *rig) ready() string {
+	r.Helper()
+	id := r.order()
+	r.send(keyOfIDs(r.T, id))
+	r.answer(keyOfIDs(r.T, id), 201, func(e *platform.Entry) {
+		e.Dashboard, e.Metadata = "https://shelf.example/dash", json.RawMessage(`{"labels": {"a": "b"}}`)
+	})
+	return id
+}
+
+// bound creates a binding that is ready.
+func (r *rig) bound(id string) string {
+	r.Helper()
+	bid := r.call("POST", "/v1/instances/"+id+"/bindings", `{"parameters": {}}`).want(201, "").at("id")
+	key := keyOfIDs(r.T, id, bid)
+	r.send(key)
+	sealed, err := r.vault.Seal([]byte(secret), key.String())
+	check(r.T, err)
+	r.answer(key, 201, func(e *platform.Entry) { e.Credentials = sealed })
+	return bid
+}

@@ -1,0 +1,239 @@
+package client
+
+import (
+	"context"
+	"errors"
+	"net"
+	"strconv"
+	"strings"
+	"testing"
+	"time"
+
+	"pippinterm/osb"
+	"pippinterm/platform"
+)
+
+// askedAbout are a row of an instance and one of a binding.
+func askedAbout(c *Client, url string) (instance, binding platform.Entry) {
+	return outgoingOf(c, url, osb.KindPoll, ofInstance).Entry, outgoingOf(c, url, osb.KindPoll, ofBinding).Entry
+}
+
+// A question is one GET, with the headers of every request. The answer is returned as it is, without credentials.
+func TestQuestions(t *testing.T) {
+	const credentials = `{"credentials": {"password": "hunter3"}}`
+	const target = "/v2/service_instances/an%20instance"
+	for _, row := range []struct {
+		isFetch, isBinding bool
+		status, body       string
+		target             string
+		want               Answer
+	}{
+		{false, false, "200 OK", `{"state": "succeeded", "description": "done"}`, target + "/last_operation?",
+			Answer{Status: 200, State: "succeeded", Description: "done"}},
+		{false, false, "200 OK", `{"state": "in progress"}`, target + "/last_operation?",
+			Answer{Status: 200, State: "in progress"}},
+		{false, true, "200 OK", `{"state": "failed"}`, target + "/service_bindings/a%20binding/last_operation?",
+			Answer{Status: 200, State: "failed"}},
+		{false, false, "200 OK", `{}`, target + "/last_operation?", Answer{Status: 200}},
+		{false, false, "200 OK", `{"state": "done"}`, target + "/last_operation?", Answer{Status: 200}},
+		{false, false, "410 Gone", `{}`, target + "/last_operation?", Answer{Status: 410}},
+		{false, false, "410 Gone", ``, target + "/last_operation?", Answer{Status: 410}},
+		{false, false, "410 Gone", `<html>`, target + "/last_operation?", Answer{Status: 410, IsUnsure: true}},
+		{false, false, "200 OK", ``, target + "/last_operation?", Answer{Status: 200, IsUnsure: true}},
+		{false, false, "400 Bad Request", `{"error": "Odd", "description": "no"}`, target + "/last_operation?",
+			Answer{Status: 400, Error: "Odd", Description: "no"}},
+		{false, false, "404 Not Found", `<html>`, target + "/last_operation?", Answer{Status: 404, IsUnsure: true}},
+		{true, false, "200 OK", `{"service_id": "a service"}`, target + "?", Answer{Status: 200}},
+		{true, true, "200 OK", credentials, target + "/service_bindings/a%20binding?", Answer{Status: 200}},
+		{true, true, "404 Not Found", `{"description": "none"}`, target + "/service_bindings/a%20binding?",
+			Answer{Status: 404, Description: "none"}},
+		{true, false, "404 Not Found", `<html>`, target + "?", Answer{Status: 404, IsUnsure: true}},
+		{true, false, "200 OK", `null`, target + "?", Answer{Status: 200, IsUnsure: true}},
+	} {
+		t.Run(row.status+" "+row.target, func(t *testing.T) {
+			server := serve(t, returning(row.status, row.body))
+			c := newClient(t, Options{})
+			entry, binding := askedAbout(c, server.url)
+			if row.isBinding {
+				entry = binding
+			}
+			ask := c.LastOperation
+			if row.isFetch {
+				ask = c.Fetch
+			}
+			got, err := ask(context.Background(), at(server.url), entry)
+			if err != nil || got != row.want {
+				t.Errorf("%s: got %+v, %v, want %+v", row.target, got, err, row.want)
+			}
+			requests, _ := server.arrivals()
+			if len(requests) != 1 || !strings.HasPrefix(requests[0], "GET "+row.target) {
+				t.Fatalf("got %q, want %s", requests, row.target)
+			}
+			line, head, _ := strings.Cut(requests[0], "\r\n")
+			for _, text := range []string{"service_id=a+service", "plan_id=a+plan"} {
+				if !row.isFetch && !strings.Contains(line, text) {
+					t.Errorf("got %q, want %s in it", line, text)
+				}
+			}
+			for _, text := range []string{"Authorization: Basic ", "X-Broker-Api-Version: 2.17\r\n"} {
+				if !strings.Contains(head, text) {
+					t.Errorf("got %q, want %s in it", head, text)
+				}
+			}
+			if !strings.HasSuffix(head, "\r\n\r\n") {
+				t.Errorf("got %q, want no body", head)
+			}
+		})
+	}
+}
+
+// A question without an answer is an error that has no password.
+func TestUnansweredQuestion(t *testing.T) {
+	server := serve(t, always("HTTP/1.1 200 OK\r\n"))
+	c := newClient(t, Options{})
+	instance, binding := askedAbout(c, server.url)
+	for _, entry := range []platform.Entry{instance, binding} {
+		last, err := c.LastOperation(context.Background(), at(server.url), entry)
+		fetched, failed := c.Fetch(context.Background(), at(server.url), entry)
+		for _, err := range []error{err, failed} {
+			if err == nil || strings.Contains(err.Error(), secret) {
+				t.Error(err)
+			}
+		}
+		if last != (Answer{}) || fetched != (Answer{}) {
+			t.Errorf("got %+v and %+v, want no answers", last, fetched)
+		}
+	}
+}
+
+const document = `{"services":[{"id":"a","name":"a","description":"a","bindable":false,` +
+	`"plans":[{"id":"b","name":"b","description":"b"}]}]}`
+
+// The catalogue is asked for with the headers of every request, and is returned as it is.
+func TestCatalogue(t *testing.T) {
+	server := serve(t, returning("200 OK", document))
+	c := newClient(t, Options{LongestAnswer: 10})
+	got, status, err := c.Catalogue(context.Background(), at(server.url+"/postgres"))
+	if string(got) != document || status != 200 || err != nil {
+		t.Errorf("got %s, %d, %v, want %s, 200", got, status, err, document)
+	}
+	requests, _ := server.arrivals()
+	for _, wanted := range []string{
+		"GET /postgres/v2/catalog HTTP/1.1\r\n", "X-Broker-Api-Version: 2.17\r\n", "X-Broker-Api-Request-Identity: ",
+		"Authorization: Basic ",
+	} {
+		if !strings.Contains(requests[0], wanted) {
+			t.Errorf("got %q, want %q in it", requests[0], wanted)
+		}
+	}
+}
+
+// Why the catalogue couldn't be fetched, and what to do.
+func TestNoCatalogue(t *testing.T) {
+	for what, row := range map[string]struct {
+		status, body, said string
+	}{
+		"401":          {"401 Unauthorized", "", "rejects the user or the password (401)"},
+		"403":          {"403 Forbidden", "", "another user"},
+		"404":          {"404 Not Found", "<html>", "up to before /v2"},
+		"412":          {"412 Precondition Failed", `{"description":"2.13 only"}`, `version 2.17 of the API (412)`},
+		"description":  {"412 Precondition Failed", `{"description":"2.13 only"}`, `It says: "2.13 only"`},
+		"429":          {"429 Too Many Requests", "", "asked again"},
+		"503":          {"503 Service Unavailable", "", "asked again"},
+		"500":          {"500 Internal Server Error", "", "(500)"},
+		"201":          {"201 Created", document, "(201)"},
+		"301":          {"301 Moved Permanently", "", "redirects"},
+		"no JSON":      {"200 OK", "<html>", "can't be read"},
+		"no services":  {"200 OK", "{}", "can't be read"},
+		"a plan twice": {"200 OK", strings.Replace(document, "]}]}", `,{"id":"b","name":"c"}]}]}`, 1), "can't be read"},
+		"too long":     {"200 OK", strings.Repeat(" ", LongestCatalogue+1), "too long"},
+	} {
+		t.Run(what, func(t *testing.T) {
+			server := serve(t, always(text(row.status, row.body, "")))
+			got, status, err := newClient(t, Options{}).Catalogue(context.Background(), at(server.url))
+			if got != nil || strconv.Itoa(status) != row.status[:3] || err == nil ||
+				!strings.Contains(err.Error(), row.said) || !strings.Contains(err.Error(), "postgres") ||
+				strings.Contains(err.Error(), secret) {
+				t.Errorf("%s: got %s, %d, %v, want %s, and an error with %q and without the secret",
+					what, got, status, err, row.status, row.said)
+			}
+		})
+	}
+}
+
+// A broker that doesn't answer is waited for no longer than the option says, and a long description is cut.
+func TestCatalogueTime(t *testing.T) {
+	server := swallow(t)
+	c := newClient(t, Options{CatalogueTime: 200 * time.Millisecond})
+	begun := time.Now()
+	_, status, err := c.Catalogue(context.Background(), at("http://"+server.url))
+	if passed := time.Since(begun); !errors.Is(err, ErrTimeOver) || status != 0 || passed > patience/2 {
+		t.Errorf("got %v after %v, want %v at its time", err, passed, ErrTimeOver)
+	}
+	if long := reason([]byte(`{"description":"` + strings.Repeat("ü", 9999) + `"}`)); len(long) > 3*longestReason {
+		t.Errorf("got %d bytes, want at most %v", len(long), 3*longestReason)
+	}
+	_, _, err = c.Catalogue(context.Background(), platform.Broker{Name: "postgres", URL: "broker.example"})
+	if err == nil || !strings.Contains(err.Error(), "https://") {
+		t.Error(err)
+	}
+}
+
+// The catalogue has a connection of its own, however many of the others are kept.
+func TestCatalogueAlone(t *testing.T) {
+	server := serve(t, returning("200 OK", document))
+	c := patient(t)
+	for range [3]int{} {
+		if _, _, err := c.Catalogue(context.Background(), at(server.url)); err != nil {
+			t.Error(err)
+		}
+	}
+	if requests, connections := server.arrivals(); len(requests) != 3 || connections != 3 {
+		t.Errorf("got %d requests on %d connections, want 3 on 3", len(requests), connections)
+	}
+}
+
+// What a connection that breaks means, and what to check.
+func TestBrokenConnections(t *testing.T) {
+	answers := func(text string) func(net.Conn) {
+		return func(c net.Conn) { _, _ = c.Write([]byte(text)) }
+	}
+	reset := func(c net.Conn) { _ = c.(*net.TCPConn).SetLinger(0) }
+	for what, test := range map[string]struct {
+		scheme string
+		does   func(net.Conn)
+		says   string
+	}{
+		"closed":            {"http", answers(""), "closed without an answer: check that a broker listens there"},
+		"reset":             {"http", reset, "closed without an answer: check that a broker listens there"},
+		"closed in between": {"http", answers("HTTP/1.1 200 OK\r\nContent-Length: 9\r\n\r\n{"), "answer, of status 200"},
+		"no HTTP":           {"http", answers("SSH-2.0-OpenSSH_9.2\r\n"), "doesn't speak HTTP"},
+		"TLS at http":       {"http", answers("\x15\x03\x01\x00\x02\x02\x28"), "whether it wants https://"},
+		"http at TLS":       {"https", answers("HTTP/1.1 400 Bad Request\r\n\r\n"), "doesn't speak TLS"},
+		"closed in TLS":     {"https", answers(""), "closed in the TLS handshake"},
+		"reset in TLS":      {"https", reset, "closed in the TLS handshake"},
+	} {
+		t.Run(what, func(t *testing.T) {
+			listener, err := net.Listen("tcp", "127.0.0.1:0")
+			check(t, err)
+			it := test
+			go func() {
+				for {
+					conn, err := listener.Accept()
+					if err != nil {
+						return
+					}
+					_, _ = conn.Read(make([]byte, 4096))
+					it.does(conn)
+					_ = conn.Close()
+				}
+			}()
+			url := it.scheme + "://" + listener.Addr().String()
+			_, _, err = newClient(t, Options{}).Catalogue(context.Background(), at(url))
+			if err == nil || !strings.Contains(err.Error(), it.says) || strings.Contains(err.Error(), secret) {
+				t.Errorf("got %v, want %s", err, it.says)
+			}
+			_ = listener.Close()
+		})
+	}
+}

@@ -1,0 +1,475 @@
+package page
+
+import (
+	"context"
+	"database/sql/driver"
+	"net/http"
+	"net/url"
+	"path/filepath"
+	"sort"
+	"strings"
+	"testing"
+	"time"
+
+	"github.com/mattn/go-sqlite3"
+
+	"pippinterm/internal/diff"
+	"pippinterm/osb"
+	"pippinterm/platform"
+	"pippinterm/platform/api"
+	"pippinterm/platform/sqlite"
+)
+
+func TestFind(t *testing.T) {
+	store := shelf()
+	named := entryOf(platform.InstanceKey(idOf(0x77)), platform.Ready)
+	named.Names.Instance = "zebra"
+	number, err := platform.ParseKey("zebra")
+	check(t, err)
+	named.Key = number
+	store.rows = append(store.rows, named)
+	hex := named // an id that is hexadecimal digits, too
+	hex.Names.Instance = "fee1"
+	hex.Key, err = platform.ParseKey("fee1")
+	check(t, err)
+	store.rows = append(store.rows, hex)
+	h := pageOf(t, store, Options{})
+	for find, want := range map[string]int{
+		"0000000": 10, "00000005": 1, "00000005-0000": 1, "000000050000": 1, "+00000005+": 1, "00000051": 1, "fff": 0,
+		"zebra": 1, "fee1": 1, "0000000A": 1, "00000005-0000-4000-8000-000000000005": 1, "nothing": 0, "a/b/c": 0, "%22": 0, "%00": 0,
+	} {
+		t.Run(find, func(t *testing.T) {
+			text := got(t, h, "/?find="+find)
+			if ids := rowsIn(text); len(ids) != want {
+				t.Errorf("got %v, want %d", ids, want)
+			}
+		})
+	}
+	has(t, got(t, h, "/?find=00000051"), "of "+idOf(5).String())
+}
+
+// many are rows in three states, some of which changed to it at the same time.
+func many(number int) *fake {
+	store := &fake{now: now}
+	for n := 0; n < number; n++ {
+		e := entryOf(platform.InstanceKey(idOf(number-n)), platform.State(states[n%3]))
+		e.Since = began.Add(time.Duration(n/7) * time.Second)
+		store.rows = append(store.rows, e)
+	}
+	return store
+}
+
+// walk are the rows of all pages from a target on, by the links of this id. captions are those of the pages.
+func walk(t *testing.T, h http.Handler, target, by string) (rows [][]string, captions []string) {
+	t.Helper()
+	for len(rows) <= 100 && target != "" {
+		text := got(t, h, target)
+		rows = append(rows, rowsIn(text))
+		_, caption, _ := strings.Cut(part(t, text, "instances"), "<caption>")
+		caption, _, _ = strings.Cut(caption, ",")
+		captions, target = append(captions, caption), linkOf(text, by)
+	}
+	return rows, captions
+}
+
+func join(pages [][]string) (all []string) {
+	for _, page := range pages {
+		all = append(all, page...)
+	}
+	return all
+}
+
+func backwards[T any](all []T) (found []T) {
+	for at := range all {
+		found = append(found, all[len(all)-1-at])
+	}
+	return found
+}
+
+// Each row is listed once, in either order and in either direction.
+func TestPages(t *testing.T) {
+	store := many(121)
+	h := pageOf(t, store, Options{})
+	want := []string{} // the oldest first
+	for n := 0; n < 121; n += 7 {
+		for m := 120; m >= 0; m-- {
+			if m/7 == n/7 {
+				want = append(want, idOf(121-m).String())
+			}
+		}
+	}
+	byNumber := append([]string{}, want...)
+	sort.Strings(byNumber)
+	for target, wanted := range map[string][]string{
+		"/": backwards(want), "/?order=oldest": want, "/?order=number": byNumber,
+	} {
+		t.Run(target, func(t *testing.T) {
+			pages, captions := walk(t, h, target, "page-next")
+			diff.Check(t, join(pages), wanted, "the rows")
+			diff.Check(t, captions, []string{"1 to 50 of 121", "51 to 100 of 121", "101 to 121 of 121"}, "the pages")
+			if isSaid := strings.Contains(got(t, h, target), "while you turn pages"); isSaid == (target == "/?order=number") {
+				t.Errorf("got %t, want it to say that pages may leave out rows, but in the order of the number", isSaid)
+			}
+			last := linkOf(got(t, h, target), "page-last")
+			pages, captions = walk(t, h, last, "page-previous")
+			diff.Check(t, join(backwards(pages[:2])), wanted[21:], "backwards the last rows")
+			diff.Check(t, pages[2], wanted[:50], "backwards the first rows")
+			diff.Check(t, captions, []string{"72 to 121 of 121", "22 to 71 of 121", "1 to 50 of 121"}, "backwards the pages")
+			begin, end := got(t, h, target), got(t, h, last)
+			if first := linkOf(end, "page-first"); first != target {
+				t.Errorf("the first page: got %q, want %q", first, target)
+			}
+			for text, names := range map[string][]string{
+				begin: {"page-first", "page-previous"}, end: {"page-next", "page-last"},
+			} {
+				for _, name := range names {
+					if to := linkOf(text, name); to != "" {
+						t.Errorf("%s: got a link to %s, want none", name, to)
+					}
+				}
+			}
+		})
+	}
+}
+
+// The rows of one state have pages in both orders too, and so have bindings.
+func TestPagesOfOneState(t *testing.T) {
+	store := many(300)
+	for n := 0; n < 60; n++ {
+		e := entryOf(platform.BindingKey(idOf(1), idOf(0x1000+n)), platform.Ready)
+		e.Since = began.Add(time.Duration(n) * time.Second)
+		store.rows = append(store.rows, e)
+	}
+	h := pageOf(t, store, Options{})
+	for target, number := range map[string]int{"/?state=ordered": 100, "/?kind=bindings": 60} {
+		t.Run(target, func(t *testing.T) {
+			newest, _ := walk(t, h, target, "page-next")
+			oldest, _ := walk(t, h, linkOf(got(t, h, target), "order-oldest"), "page-next")
+			if len(join(newest)) != number {
+				t.Errorf("got %d rows, want %d", len(join(newest)), number)
+			}
+			diff.Check(t, join(newest), backwards(join(oldest)), "the rows in one order and in the other")
+		})
+	}
+}
+
+// What fits on one page has no links to others, and a page that rows have left still has its links.
+func TestFewRows(t *testing.T) {
+	store := many(50)
+	h := pageOf(t, store, Options{})
+	for _, target := range []string{"/", "/?page=last", "/?find=0"} {
+		if text := got(t, h, target); strings.Contains(text, `class="pages"`) || len(rowsIn(text)) != 50 {
+			t.Errorf("%s: got %s, want 50 rows and no links to pages", target, mainOf(text))
+		}
+	}
+	store.rows = append(store.rows, many(51).rows[0]) // the second page has the oldest row alone, until it is gone
+	store.rows[50].Key, store.rows[50].Since = platform.InstanceKey(idOf(0x51)), began.Add(-time.Hour)
+	behind := linkOf(got(t, h, "/"), "page-next")
+	store.rows = store.rows[:50]
+	text := got(t, h, behind)
+	if rows := rowsIn(got(t, h, linkOf(text, "page-first"))); len(rowsIn(text)) != 0 || len(rows) != 50 {
+		t.Errorf("the first page: got %v, want 50 rows", rows)
+	}
+}
+
+// What is asked for is written as what it is read from.
+func TestTargets(t *testing.T) {
+	const at = "eyJz-_0+ &="
+	for _, a := range []target{
+		{}, {state: "gone"}, {state: inFlight}, {find: "a b&c=<"}, {order: api.Oldest},
+		{state: "ready", after: at, skipped: 3}, {order: api.ByNumber, isLast: true},
+		{before: at, skipped: 50, order: api.Oldest}, {isLast: true, bindings: true}, {state: "gone", isStill: true},
+	} {
+		target, err := url.Parse(a.target())
+		check(t, err)
+		read, err := readAsked(target.Query())
+		check(t, err)
+		diff.Check(t, read, a, "%v", target)
+	}
+}
+
+// A page that isn't refreshed stays so by all its links but one.
+func TestStill(t *testing.T) {
+	h := pageOf(t, shelf(), Options{})
+	for _, target := range []string{"/", "/?state=ready", pageOn(platform.InstanceKey(idOf(5)))} {
+		text := got(t, h, target)
+		has(t, text, `data-refresh="5"`, `http-equiv="refresh" content="15"`)
+		still := got(t, h, linkOf(text, "refresh"))
+		if strings.Contains(still, "data-refresh") || strings.Contains(still, "http-equiv") {
+			t.Errorf("%s: got a page that is refreshed, want one that stays", target)
+		}
+		if back := linkOf(still, "refresh"); back != target {
+			t.Errorf("got the way back to %s, want %s", back, target)
+		}
+	}
+	text := got(t, h, "/?still=1")
+	has(t, text, `<input type="hidden" name="still" value="1">`)
+	for _, match := range links.FindAllStringSubmatch(text, -1) {
+		if match[2] != "refresh" && !strings.Contains(match[1], "still=1") {
+			t.Errorf("the link %s: got %s, which is refreshed, want one that stays", match[2], match[1])
+		}
+	}
+}
+
+func TestNoSuchPage(t *testing.T) {
+	h := pageOf(t, shelf(), Options{})
+	for _, target := range []string{
+		"/x", "/instance/", "/instance/" + strings.Repeat("a", 256), "/instance/none", "/instance/a/b",
+		"/instance/a/binding/", "/instance/a/binding/b/c", "/instance/" + idOf(5).String() + "?x=1", "/?state=lost",
+		"/?x=1",
+		"/?state=a&state=b", "/?after=x", "/?after=1_", "/?after=1e400_a", "/?from=-1", "/?from=x", "/?kind=x",
+		"/?order=newest", "/?page=first", "/?before=x", "/?page=last&after=0_a", "/?before=0_a&after=0_a",
+		"/?a=1;b",
+		"/?find=" + strings.Repeat("a", 256),
+		"/?after=" + strings.Repeat("9", 5000) + "_a",
+	} {
+		if answered := answerTo(h, request("GET", target)); answered.Code != 404 {
+			t.Errorf("%.80s: got %d, want 404", target, answered.Code)
+		}
+	}
+}
+
+func openStore(t *testing.T, path string) *sqlite.Store {
+	t.Helper()
+	store, err := sqlite.Open(background, path)
+	check(t, err)
+	t.Cleanup(func() { check(t, store.Close()) })
+	return store
+}
+
+// The page shows of a store in a file what it shows of a fake with the same rows.
+func TestOverSQLite(t *testing.T) {
+	kept := shelf()
+	store := openStore(t, filepath.Join(t.TempDir(), "instances.sqlite"))
+	for _, broker := range kept.brokers {
+		check(t, store.AddBroker(background, broker))
+	}
+	for _, e := range kept.rows {
+		if e.Key.IsBinding {
+			e.IsOwnID = false
+		}
+		check(t, store.Insert(background, e, func(platform.Snapshot) error { return nil }))
+	}
+	one, other := pageOf(t, kept, Options{}), pageOf(t, store, Options{})
+	for _, target := range []string{
+		"/", "/?state=ready", "/?kind=bindings", "/?find=0000000", "/?state=in-flight", "/?state=gone",
+	} {
+		a, b := rowsIn(got(t, one, target)), rowsIn(got(t, other, target))
+		if strings.Join(a, " ") != strings.Join(b, " ") {
+			t.Errorf("%s: got the list %v of the fake, and %v of the file, want the same", target, a, b)
+		}
+	}
+	text := got(t, other, "/")
+	for _, state := range states {
+		has(t, text, `id="go-`+string(state)+`"><strong>1</strong>`)
+	}
+	has(t, part(t, text, "waiting"), "1 unsettled", "The broker shut rejects")
+	has(t, part(t, text, "flights"), "Provision", "worker-1")
+	has(t, got(t, other, pageOn(platform.InstanceKey(idOf(5)))), `id="bindings"`, "1 binding")
+	clean := func(now time.Time, snapshot platform.Snapshot) (*platform.Change, error) {
+		snapshot.Entry.State, snapshot.Entry.Since = platform.Cleaning, now
+		return &platform.Change{Entry: snapshot.Entry}, nil
+	}
+	check(t, store.Change(background, platform.InstanceKey(idOf(5)), clean))
+	has(t, got(t, other, pageOn(platform.InstanceKey(idOf(5)))), "2 states", `<span class="state ready">`)
+}
+
+// copies makes copies of the rows of a file, until there are so many. Each has another id and another time.
+const copies = `WITH RECURSIVE n(at) AS (SELECT 1 UNION ALL SELECT at + 1 FROM n WHERE at < 99990)
+	INSERT INTO osb_instances (id, service, plan, further, record, state, since, removal, tries, broker, organization,
+		space)
+	SELECT lower(printf('%08x-0000-4000-8000-%012x', at * 2654435761 % 4294967296, at)), service, plan, further, record,
+		state, since - at, removal, tries, broker, organization, space
+	FROM n JOIN osb_instances AS i
+		ON i.id = (SELECT id FROM osb_instances WHERE id LIKE printf('%08x-%%', at % 10 + 1))`
+
+// large is a store with many rows, in all states.
+func large(t *testing.T) *sqlite.Store {
+	t.Helper()
+	path := filepath.Join(t.TempDir(), "instances.sqlite")
+	first := openStore(t, path)
+	check(t, first.AddBroker(background, shelf().brokers[0]))
+	for _, e := range shelf().rows {
+		if e.Key.IsBinding {
+			continue
+		}
+		e.Record, _ = osb.Create(e.Key.Instance, e.Service, e.Plan, true)
+		e.IsSent, e.Lease = true, platform.Lease{}
+		check(t, first.Insert(background, e, func(platform.Snapshot) error { return nil }))
+	}
+	raw, err := (&sqlite3.SQLiteDriver{}).Open("file:" + path + "?_synchronous=OFF")
+	check(t, err)
+	defer raw.Close()
+	for _, text := range []string{
+		copies,
+		"INSERT INTO osb_lives SELECT id, 1, 'ordered', since - 60 FROM osb_instances",
+		"INSERT INTO osb_lives SELECT id, 2, 'wanted', since - 30 FROM osb_instances",
+	} {
+		_, err = raw.(driver.ExecerContext).ExecContext(background, text, nil) //nolint:staticcheck // no sql.DB here
+		check(t, err)
+	}
+	return first
+}
+
+// A page is served soon, however many rows there are: the limit is that of a busy machine, with the race detector.
+// checks/page measures the program.
+func TestLargeStore(t *testing.T) {
+	if testing.Short() {
+		t.Skip("it makes 100,000 rows")
+	}
+	h := pageOf(t, large(t), Options{})
+	text := got(t, h, "/")
+	has(t, text, "<title>100,000 instances, 10,000 unsettled", "The first 5 of 10,000", "1 to 50 of 100,000")
+	deep := got(t, h, "/?state=gone")
+	for n := 0; n < 20; n++ {
+		deep = got(t, h, linkOf(deep, "page-next"))
+	}
+	has(t, deep, "1,001 to 1,050 of 10,000")
+	for _, target := range []string{
+		"/", "/?state=gone", linkOf(deep, "page-next"), linkOf(text, "page-next"), "/?find=a", "/?find=00000005",
+		linkOf(text, "i-"+rowsIn(text)[0]), "/?state=in-flight", "/?kind=bindings", "/?page=last", "/?order=oldest",
+		"/?state=gone&order=oldest&page=last",
+	} {
+		var times []time.Duration
+		for n := 0; n < 5; n++ {
+			began := time.Now()
+			got(t, h, target)
+			times = append(times, time.Since(began))
+		}
+		sort.Slice(times, func(a, b int) bool { return times[a] < times[b] })
+		t.Logf("%s: %v", target, times[0])
+		if times[0] > 2*time.Second {
+			t.Errorf("%s: got %v, want at most 2 s each", target, times)
+		}
+	}
+	checkEveryPage(t, h)
+}
+
+// The first ten pages and the last ten, in both orders, have no row twice. The last ones of an order are the first ones
+// of the other.
+func checkEveryPage(t *testing.T, h http.Handler) {
+	t.Helper()
+	seen := map[string]int{}
+	for target, by := range map[string]string{
+		"/": "page-next", "/?order=oldest": "page-next", "/?page=last": "page-previous",
+		"/?order=oldest&page=last": "page-previous",
+	} {
+		for n := 0; n < 10; n++ {
+			text := got(t, h, target)
+			for _, row := range rowsIn(text) {
+				seen[row]++
+			}
+			target = linkOf(text, by)
+		}
+	}
+	for id, times := range seen {
+		if times != 2 {
+			t.Errorf("%s: got it %d times, want twice", id, times)
+		}
+	}
+	if len(seen) != 1000 {
+		t.Errorf("got %d rows on ten pages from each end, want 1000", len(seen))
+	}
+}
+
+// A fake is a Store that can only be read. What writes is nil, and panics.
+type fake struct {
+	platform.Store
+
+	now     time.Time
+	rows    []platform.Entry
+	lives   map[platform.Key][]platform.Stay
+	brokers []platform.Broker
+	err     error                       // of each call, or nil
+	wait    func(context.Context) error // called at the beginning of each request
+}
+
+func (f *fake) NextDue(ctx context.Context, _ []string) (due, now time.Time, err error) {
+	if f.wait != nil {
+		if err := f.wait(ctx); err != nil {
+			return due, now, err
+		}
+	}
+	return due, f.now, f.err
+}
+
+func (f *fake) Counts(context.Context) ([]platform.Count, error) {
+	var found []platform.Count
+	for _, e := range f.rows {
+		found = append(found, platform.Count{
+			Broker: e.Broker, IsBinding: e.Key.IsBinding, State: e.State, Count: 1, Oldest: e.Since,
+		})
+	}
+	return found, f.err
+}
+
+func (f *fake) Read(_ context.Context, key platform.Key) (platform.Entry, error) {
+	for _, e := range f.rows {
+		if e.Key == key {
+			return e, f.err
+		}
+	}
+	return platform.Entry{}, platform.ErrUnknown
+}
+
+func (f *fake) Life(_ context.Context, key platform.Key) ([]platform.Stay, error) {
+	return f.lives[key], f.err
+}
+
+func (f *fake) Brokers(context.Context) ([]platform.Broker, error) { return f.brokers, f.err }
+
+func (f *fake) InFlight(_ context.Context, most int) (found []platform.Entry, err error) {
+	for _, e := range f.rows {
+		if e.Lease.Worker != "" && len(found) < most {
+			found = append(found, e)
+		}
+	}
+	return found, f.err
+}
+
+func less(order platform.Ordering, a, b platform.Place) bool {
+	if a.State != b.State && order == platform.ByState {
+		return a.State < b.State
+	}
+	if !a.Since.Equal(b.Since) && order != platform.ByKey {
+		return a.Since.Before(b.Since)
+	}
+	return a.Key.String() < b.Key.String()
+}
+
+// comesBefore is whether a place comes before another one in the order of a filter.
+func comesBefore(filter platform.Filter, a, b platform.Place) bool {
+	if filter.Latest {
+		a, b = b, a
+	}
+	return less(filter.Order, a, b)
+}
+
+func placeIn(e platform.Entry) platform.Place {
+	return platform.Place{State: e.State, Since: e.Since, Key: e.Key}
+}
+
+func (f *fake) List(_ context.Context, filter platform.Filter) (found []platform.Entry, err error) {
+	for _, e := range f.rows {
+		if isChosen(filter, e) {
+			found = append(found, e)
+		}
+	}
+	sort.Slice(found, func(a, b int) bool { return comesBefore(filter, placeIn(found[a]), placeIn(found[b])) })
+	if filter.Most > 0 && len(found) > filter.Most {
+		found = found[:filter.Most]
+	}
+	return found, f.err
+}
+
+func isChosen(filter platform.Filter, e platform.Entry) bool {
+	isOf := len(filter.States) == 0
+	for _, state := range filter.States {
+		isOf = isOf || state == e.State
+	}
+	return isOf && (filter.Bindings == nil || *filter.Bindings == e.Key.IsBinding) &&
+		(filter.Instance == nil || e.Key.IsBinding && *filter.Instance == e.Key.Instance) &&
+		(filter.First == nil || *filter.First == e.First) &&
+		strings.HasPrefix(e.Key.ID().String(), filter.Prefix) &&
+		(filter.After == nil || comesBefore(filter, *filter.After, placeIn(e)))
+}

@@ -1,0 +1,236 @@
+package postgres
+
+import (
+	"context"
+	"database/sql"
+	"encoding/json"
+	"errors"
+	"math/rand"
+	"runtime"
+	"strings"
+	"testing"
+	"time"
+
+	"pippinterm/internal/pg/pgtest"
+	"pippinterm/platform"
+)
+
+// A time is read as it was written, to the microsecond, and a place in a list finds its row again.
+func TestTimes(t *testing.T) {
+	random := rand.New(rand.NewSource(1))
+	for n := 0; n < 10000; n++ {
+		at := time.UnixMicro(random.Int63n(4e15)).UTC() // until 2096
+		text, err := json.Marshal(seconds(at.Add(time.Duration(random.Intn(1000)))))
+		check(t, err)
+		var read seconds
+		if err := json.Unmarshal(text, &read); err != nil || !time.Time(read).Equal(at) {
+			t.Fatalf("%[1]v, written as %[2]s: got %[3]v, %[4]v, want %[1]v", at, text, time.Time(read), err)
+		}
+		if again, err := json.Marshal(read); err != nil || string(again) != string(text) {
+			t.Fatalf("%s: got %s, %v, want the same text", text, again, err)
+		}
+	}
+	for text, want := range map[string]time.Time{
+		"null": {}, "0": time.Unix(0, 0), "1.5": time.UnixMilli(1500), "-0.25": time.UnixMilli(-250),
+		"1700000000.1234567": time.UnixMicro(1700000000123457), // version 0.2 has written fractions of microseconds
+	} {
+		t.Run(text, func(t *testing.T) {
+			var read seconds
+			if err := json.Unmarshal([]byte(text), &read); err != nil || !time.Time(read).Equal(want) {
+				t.Errorf("got %v, %v, want %v", time.Time(read), err, want)
+			}
+		})
+	}
+	if text, err := json.Marshal(seconds{}); err != nil || string(text) != "null" {
+		t.Errorf("the zero time: got %s, %v, want null", text, err)
+	}
+}
+
+// What has to be looked at stays due if it was, and is due now otherwise.
+func TestSoonest(t *testing.T) {
+	now := time.Unix(100, 0)
+	for _, test := range []struct{ due, want time.Time }{
+		{time.Time{}, now}, {now.Add(time.Hour), now}, {now, now}, {now.Add(-time.Hour), now.Add(-time.Hour)},
+	} {
+		if got := soonest(test.due, now); !got.Equal(test.want) {
+			t.Errorf("due at %v: got %v, want %v", test.due, got, test.want)
+		}
+	}
+}
+
+func TestSealed(t *testing.T) {
+	for _, sealed := range []bytea{nil, {}, {0, 255, 7}} {
+		text, err := json.Marshal(sealed)
+		check(t, err)
+		read := bytea{1}
+		err = json.Unmarshal(text, &read)
+		if err != nil || string(read) != string(sealed) || (read == nil) != (sealed == nil) {
+			t.Errorf("%[1]v, written as %[2]s: got %[3]v, %[4]v, want %[1]v", []byte(sealed), text, []byte(read), err)
+		}
+	}
+	if err := json.Unmarshal([]byte(`"\\xzz"`), new(bytea)); err == nil {
+		t.Error("what isn't hexadecimal: got no error, want one")
+	}
+}
+
+func TestPadded(t *testing.T) {
+	for prefix, want := range map[string]string{
+		"":           "ffffffff-ffff-ffff-ffff-ffffffffffff",
+		"12345678-9": "12345678-9fff-ffff-ffff-ffffffffffff",
+		"1\x00":      "1\uFFFDffff-ffff-ffff-ffff-ffffffffffff", // no id begins so
+		"longer than any of the ids that there are": "longer than any of the ids that there are",
+	} {
+		t.Run(prefix, func(t *testing.T) {
+			if got := pad(prefix, "f"); got != want {
+				t.Errorf("got %q, want %q", got, want)
+			}
+		})
+	}
+}
+
+// Once a call has returned because its context has ended, no function is called that its caller has passed.
+func TestACallThatIsLeft(t *testing.T) {
+	ctx, cancel := context.WithCancel(context.Background())
+	release, left := make(chan struct{}), make(chan error, 1)
+	isCalled := false
+	store := &Store{}
+	err := store.run(ctx, func(this *call) error {
+		cancel()
+		<-release
+		err := this.do(func() error {
+			isCalled = true
+			return nil
+		})
+		left <- err
+		return err
+	})
+	if !errors.Is(err, platform.ErrAway) || !errors.Is(err, context.Canceled) {
+		t.Errorf("the call: got %v, want %v", err, context.Canceled)
+	}
+	close(release)
+	if err := <-left; !errors.Is(err, errOver) || isCalled {
+		t.Errorf("after the call: got %v and a call %t, want %v and none", err, isCalled, errOver)
+	}
+	store.running.Wait() // Close doesn't wait for what was left
+}
+
+// A call whose context ends returns what its work returns soon after.
+func TestACallThatEndsItself(t *testing.T) {
+	ctx, cancel := context.WithCancel(context.Background())
+	wrong := errors.New("wrong")
+	value, err := within(ctx, &Store{}, func(this *call) (int, error) {
+		cancel()
+		time.Sleep(10 * time.Millisecond)
+		return 7, this.do(func() error { return wrong })
+	})
+	if value != 7 || !errors.Is(err, wrong) {
+		t.Errorf("got %d, %v, want 7, %v", value, err, wrong)
+	}
+}
+
+// A function that panics, or that ends its goroutine, is an error.
+func TestAFunctionThatDoesNotReturn(t *testing.T) {
+	ctx, cancel := context.WithCancel(context.Background())
+	defer cancel()
+	for name, passed := range map[string]func() error{
+		"panics": func() error { panic("a bug") }, "ends": func() error { runtime.Goexit(); return nil },
+	} {
+		t.Run(name, func(t *testing.T) {
+			if err := (&Store{}).run(ctx, func(this *call) error { return this.do(passed) }); err == nil {
+				t.Errorf("one that %s: got no error, want one", name)
+			}
+		})
+	}
+}
+
+// Rows of which few are due, and few are leased. All have the same order.
+const manyRows = `
+INSERT INTO osb_brokers (name, url, username, password_file, settings) VALUES ('one', 'http://one', '', '', '{}');
+INSERT INTO osb_instances (id, service, plan, further, names, state, since, removal, tries, due, broker, worker,
+        leased_until, record)
+    SELECT '00000000-0000-4000-8000-' || lpad(to_hex(n), 12, '0'), 's', 'p', '{}', '{}', 'ready', n, 0, 0,
+        CASE WHEN n % 1000 = 0 THEN n END, 'one', CASE WHEN n % 2000 = 0 THEN 'me' END, n, '{}'
+    FROM generate_series(1, 20000) AS n;
+INSERT INTO osb_bound (id, binding, service, plan, further, names, state, since, removal, tries, due, broker,
+        organization, space, own_id, try_number, most_tries, first, has_last, passing, after, worker, leased_until, record)
+    SELECT id, id, service, plan, further, names, state, since, removal, tries, due, broker,
+        organization, space, own_id, try_number, most_tries, id, has_last, passing, after, worker, leased_until, record
+    FROM osb_instances;
+INSERT INTO osb_lives SELECT id, 1, state, since FROM osb_instances;
+`
+
+// What is asked for often is read from an index, whether the server plans for the parameters or for any: it takes as
+// long with many rows as with few.
+func TestQueriesUseIndexes(t *testing.T) {
+	url := pgtest.Schema(t, pgtest.URL(t), "osb_platform_plans")
+	store, err := Open(context.Background(), url, 1)
+	check(t, err)
+	defer store.Close()
+	db := pgtest.DB(t, url)
+	pgtest.Exec(t, db, manyRows, "ANALYZE osb_instances, osb_bound, osb_lives")
+	conn, err := db.Conn(context.Background())
+	check(t, err)
+	defer conn.Close()
+	const key = "00000000-0000-4000-8000-000000000007"
+	const row = `[{"id": "` + key + `"}]`
+	byKey, _ := listing(platform.Filter{Order: platform.ByKey, Most: 10}, "row_to_json(t)", "line")
+	queries := map[string]string{
+		lockDue:        "'{one}', 16, 96",
+		nextDue:        "'{one}'",
+		oldestDue:      "",
+		lockInstance:   quote(key),
+		lockBinding:    quote(key, key),
+		writeRows:      quote(row, row, row, "{"+key+"}", "{"+key+"}"),
+		boundOf:        quote("{"+key+"}", "{}"),
+		removeBindings: quote("{"+key+"}") + ", 1",
+		wakeInstances:  quote("{"+key+"}") + ", 1",
+		inFlight:       "10",
+		readAll:        quote("{"+key+"}", "{"+key+"}"),
+		byKey:          "",
+		leasedBy:       quote("me"),
+	}
+	for query, values := range queries {
+		for _, mode := range []string{"force_custom_plan", "force_generic_plan"} {
+			wantIndexed(t, conn, query, values, mode)
+		}
+	}
+}
+
+func quote(texts ...string) string { return "'" + strings.Join(texts, "', '") + "'" }
+
+// wantIndexed fails if a plan reads a table from end to end.
+func wantIndexed(t *testing.T, conn *sql.Conn, query, values, mode string) {
+	t.Helper()
+	ctx := context.Background()
+	for _, statement := range []string{"SET plan_cache_mode = " + mode, "PREPARE planned AS " + query} {
+		if _, err := conn.ExecContext(ctx, statement); err != nil {
+			t.Fatalf("%s: got %v, want no error", statement, err)
+		}
+	}
+	if values != "" {
+		values = "(" + values + ")"
+	}
+	rows, err := conn.QueryContext(ctx, "EXPLAIN EXECUTE planned "+values)
+	plan := []string{}
+	err = each(rows, err, func(rows *sql.Rows) error {
+		var step string
+		err := rows.Scan(&step)
+		plan = append(plan, step)
+		return err
+	})
+	if err == nil {
+		_, err = conn.ExecContext(ctx, "DEALLOCATE planned")
+	}
+	check(t, err)
+	if text := strings.Join(plan, "\n"); strings.Contains(text, "Seq Scan on osb_") {
+		t.Errorf("%s, of %s: got\n%s\nwant no scan of a whole table", mode, query, text)
+	}
+}
+
+// check ends the test at an error.
+func check(t testing.TB, err error) {
+	t.Helper()
+	if err != nil {
+		t.Fatal(err)
+	}
+}

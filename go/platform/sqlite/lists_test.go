@@ -1,0 +1,474 @@
+package sqlite
+
+import (
+	"context"
+	"database/sql/driver"
+	"encoding/json"
+	"fmt"
+	"path/filepath"
+	"strings"
+	"sync"
+	"sync/atomic"
+	"testing"
+	"time"
+
+	"github.com/mattn/go-sqlite3"
+
+	"pippinterm/internal/sqlitefile"
+	"pippinterm/osb"
+	"pippinterm/platform"
+	"pippinterm/platform/storetest"
+)
+
+// reads are the calls of a store that only read.
+func reads(s *Store, key platform.Key) map[string]func(context.Context) error {
+	return map[string]func(context.Context) error{
+		"Read":     func(ctx context.Context) error { _, err := s.Read(ctx, key); return err },
+		"List":     func(ctx context.Context) error { _, err := s.List(ctx, platform.Filter{}); return err },
+		"Life":     func(ctx context.Context) error { _, err := s.Life(ctx, key); return err },
+		"Counts":   func(ctx context.Context) error { _, err := s.Counts(ctx); return err },
+		"InFlight": func(ctx context.Context) error { _, err := s.InFlight(ctx, 10); return err },
+		"NextDue":  func(ctx context.Context) error { _, _, err := s.NextDue(ctx, []string{"one"}); return err },
+		"Brokers":  func(ctx context.Context) error { _, err := s.Brokers(ctx); return err },
+		"HasWorkers": func(ctx context.Context) error {
+			_, err := s.HasWorkers(ctx)
+			return err
+		},
+		"Fingerprint": func(ctx context.Context) error { _, err := s.Fingerprint(ctx, ""); return err },
+	}
+}
+
+// While another process writes, what only reads goes on, and so does the opening of a file. So no command that reads
+// waits for a worker, and none keeps a worker waiting.
+func TestReadingLocksNothing(t *testing.T) {
+	path := filepath.Join(t.TempDir(), "store")
+	check(t, withBroker(t, open(t, path)).Insert(background, order(1), nil))
+	made, err := (&sqlite3.SQLiteDriver{}).Open("file:" + path)
+	check(t, err)
+	defer made.Close()
+	writer := made.(*sqlite3.SQLiteConn)
+	for _, text := range []string{"BEGIN IMMEDIATE", "UPDATE osb_instances SET tries = 7"} {
+		if _, err := writer.Exec(text, nil); err != nil {
+			t.Fatal(err)
+		}
+	}
+	begun := time.Now()
+	second := open(t, path)
+	for name, call := range reads(second, keyOf(1)) {
+		if err := call(background); err != nil {
+			t.Errorf("%s: got %v, want no error", name, err)
+		}
+	}
+	if took := time.Since(begun); took > 15*time.Second { // a lock that another has is waited for 30 seconds
+		t.Errorf("got an end after %v, want one within 15 s", took)
+	}
+	if entry, err := second.Read(background, keyOf(1)); err != nil || entry.Unchanged != 0 {
+		t.Errorf("what isn't committed: got %d, %v, want it unread", entry.Unchanged, err)
+	}
+	if _, err := writer.Exec("COMMIT", nil); err != nil {
+		t.Errorf("the writer: got %v, want no error", err)
+	}
+}
+
+// A row that can't be read hides no other one. One without a time or an id has no place in a list.
+func TestUnreadableRows(t *testing.T) {
+	path := filepath.Join(t.TempDir(), "store")
+	s := withBroker(t, open(t, path))
+	spoil := func(t *testing.T, key platform.Key, column string) {
+		table, where := "osb_instances", "id = '"+key.Instance.String()+"'"
+		if key.IsBinding {
+			table = "osb_bindings"
+			where = "instance = '" + key.Instance.String() + "' AND id = '" + key.Binding.String() + "'"
+		}
+		executeIn(t, path, "UPDATE "+table+" SET "+column+" = 'x' WHERE "+where)
+	}
+	storetest.TestUnreadable(t, s, func(t *testing.T, key platform.Key) { spoil(t, key, "record") })
+	check(t, s.Insert(background, order(1000), nil))
+	spoil(t, keyOf(1000), "since")
+	if entries, err := s.List(background, platform.Filter{}); err == nil {
+		t.Errorf("got %d rows listed, want an error", len(entries))
+	}
+	executeIn(t, path, "UPDATE osb_instances SET since = 1 WHERE since = 'x'")
+	if _, err := s.List(background, platform.Filter{}); err != nil {
+		t.Error(err)
+	}
+	spoil(t, keyOf(1000), "id")
+	if entries, err := s.List(background, platform.Filter{}); err == nil {
+		t.Errorf("got %d rows listed, one without an id, want an error", len(entries))
+	}
+}
+
+// No step decides by a row of which a column can't be read.
+func TestUnreadableColumns(t *testing.T) {
+	path := filepath.Join(t.TempDir(), "store")
+	s := withBroker(t, open(t, path))
+	for n, column := range []string{
+		"service", "plan", "first", // ids
+		"is_own", "try", "most_tries", "removal", "has_last", "tries", "is_passing", "after_ms",
+		"since", "sent_until", "polled_since", "due", "leased_until",
+		"record", "last", "failure", // JSON
+	} {
+		check(t, s.Insert(background, order(n), nil))
+		executeIn(t, path, fmt.Sprintf("UPDATE osb_instances SET %s = 'x' WHERE id = '%s'", column, keyOf(n).Instance))
+		isCalled := false
+		err := s.Change(background, keyOf(n), func(time.Time, platform.Snapshot) (*platform.Change, error) {
+			isCalled = true
+			return nil, nil
+		})
+		if err == nil || isCalled {
+			t.Errorf("%s: got %v, the step called: %t; want an error, and no call", column, err, isCalled)
+		}
+	}
+}
+
+// A broker whose row can't be read isn't changed: its URL and its password would be lost.
+func TestUnreadableBroker(t *testing.T) {
+	path := filepath.Join(t.TempDir(), "store")
+	s := withBroker(t, open(t, path))
+	executeIn(t, path, "UPDATE osb_brokers SET settings = 'x'")
+	isCalled := false
+	err := s.ChangeBroker(background, "one", func(it platform.Broker) (*platform.Broker, error) {
+		isCalled = true
+		return &platform.Broker{Name: it.Name}, nil
+	})
+	if err == nil || isCalled {
+		t.Errorf("got %v, the change called: %t; want an error, and no call", err, isCalled)
+	}
+	if found := query(t, path, "SELECT url FROM osb_brokers"); len(found) != 1 || found[0] != "http://one" {
+		t.Errorf("got the URL %v, want http://one", found)
+	}
+}
+
+// No call changes the tables, which would have every other process read the schema again.
+func TestNoCallChangesTables(t *testing.T) {
+	path := filepath.Join(t.TempDir(), "store")
+	s := withBroker(t, open(t, path))
+	const schema = "PRAGMA schema_version"
+	before := query(t, path, schema)
+	calls := reads(s, keyOf(1))
+	for name, call := range writes(s) {
+		calls[name] = call
+	}
+	check(t, s.Insert(background, order(1), nil))
+	for name, call := range calls {
+		if err := call(background); err != nil {
+			t.Errorf("%s: got %v, want no error", name, err)
+		}
+		if after := query(t, path, schema); len(after) != 1 || after[0] != before[0] {
+			t.Fatalf("%s: got the schema %v, want %v", name, after, before)
+		}
+	}
+}
+
+// writes are the calls of a store that write.
+func writes(s *Store) map[string]func(context.Context) error {
+	gone := func(_ time.Time, snapshot platform.Snapshot) (*platform.Change, error) {
+		snapshot.Entry.State = platform.Withdrawn
+		return &platform.Change{Entry: snapshot.Entry, RemoveBindings: true}, nil
+	}
+	return map[string]func(context.Context) error{
+		"Insert": func(ctx context.Context) error { return s.Insert(ctx, order(2), nil) },
+		"Claim": func(ctx context.Context) error {
+			_, err := s.Claim(ctx, []string{"one"}, 10, gone)
+			return err
+		},
+		"Change": func(ctx context.Context) error { return s.Change(ctx, keyOf(1), gone) },
+		"Free":   func(ctx context.Context) error { return s.Free(ctx, "me") },
+		"Ready":  s.Ready,
+		"AddBroker, ChangeBroker and DropBroker": func(ctx context.Context) error {
+			if err := s.AddBroker(ctx, platform.Broker{Name: "b", URL: "http://b"}); err != nil {
+				return err
+			}
+			move := func(it platform.Broker) (*platform.Broker, error) { it.URL = "http://c"; return &it, nil }
+			if err := s.ChangeBroker(ctx, "b", move); err != nil {
+				return err
+			}
+			return s.DropBroker(ctx, "b")
+		},
+		"Fingerprint and ReplaceFingerprint": func(ctx context.Context) error {
+			was, err := s.Fingerprint(ctx, "x")
+			if err != nil {
+				return err
+			}
+			return s.ReplaceFingerprint(ctx, was, "y")
+		},
+		"Only": func(ctx context.Context) error {
+			end, _, err := s.Only(ctx, "me")
+			if end != nil {
+				end()
+			}
+			return err
+		},
+	}
+}
+
+// A seller is a broker that answers at once: each request has created what was ordered.
+type seller struct{}
+
+func (seller) Exchange(context.Context, platform.Outgoing) platform.Incoming {
+	return platform.Incoming{Answer: osb.Answer{Status: 201, Body: osb.BodyEmpty}, Status: 201}
+}
+
+func (seller) Catalogue(context.Context, platform.Broker) (json.RawMessage, int, error) {
+	return json.RawMessage(`{"services": [{"id": "` + service.String() + `", "name": "s", "description": "d",
+		"bindable": true, "plans": [{"id": "` + plan.String() + `", "name": "p", "description": "d"}]}]}`), 200, nil
+}
+
+func (seller) Clock() time.Time { return time.Now() }
+
+// A quiet observer fails a test if something goes wrong.
+type quiet struct {
+	platform.Observer
+	t *testing.T
+}
+
+func (quiet) OnRequest(platform.Exchange)                           {}
+func (quiet) OnAnswer(platform.Exchange)                            {}
+func (quiet) OnChange(platform.Key, platform.State, platform.State) {}
+func (quiet) OnCatalogue(string)                                    {}
+func (q quiet) OnFailure(it platform.Failure)                       { q.t.Errorf("got the failure %+v, want none", it) }
+
+// A meter counts what the connections of a store execute. SQLite counts how often each prepared statement has run, and
+// the triggers that it has fired with it.
+type meter struct {
+	conns        []*sqlitefile.Conn
+	transactions atomic.Int64
+}
+
+// openMetered opens a store with a meter.
+func openMetered(t *testing.T) (*Store, *meter) {
+	t.Helper()
+	m := &meter{}
+	file, err := sqlitefile.Open(background, filepath.Join(t.TempDir(), "store"), sqlitefile.Options[*connection]{
+		Readers: readers, Together: together, Migrate: migrate,
+		Prepare: func(ctx context.Context, conn *sqlitefile.Conn) (*connection, error) {
+			m.conns = append(m.conns, conn)
+			return prepare(ctx, conn)
+		},
+		Committed: func(int) { m.transactions.Add(1) },
+	})
+	check(t, err)
+	s := &Store{file: file}
+	t.Cleanup(func() {
+		if err := s.Close(); err != nil {
+			t.Error(err)
+		}
+	})
+	return s, m
+}
+
+// statements are how many statements and triggers have run that read or write rows, without BEGIN, COMMIT and the like.
+// Nobody uses the store meanwhile.
+func (m *meter) statements(t *testing.T) (count int64) {
+	t.Helper()
+	for _, conn := range m.conns {
+		err := conn.Each("SELECT sql, run FROM sqlite_stmt", nil, func(row []driver.Value) error {
+			text, run := row[0].(string), row[1].(int64)
+			for _, verb := range []string{"SELECT ", "INSERT ", "UPDATE ", "DELETE "} {
+				if strings.HasPrefix(text, verb) && !strings.HasSuffix(text, "sqlite_stmt") {
+					count += run
+				}
+			}
+			return nil
+		})
+		if err != nil {
+			t.Fatalf("got %v, want a SQLite that was built with SQLITE_ENABLE_STMTVTAB", err)
+		}
+	}
+	return count
+}
+
+// What a step of an engine takes if none shares its claim with another: what many steps take more than few. Each step
+// changes the state twice, which fires the trigger that counts the rows of a state. So 8 statements are 10 with triggers.
+func TestAStepOfAnEngine(t *testing.T) {
+	s, m := openMetered(t)
+	withBroker(t, s)
+	options := platform.Options{Worker: "one", AtOnce: 1}
+	const few, many = 10, 30
+	took, next := map[int][2]int64{}, 0
+	for _, rows := range []int{few, many} {
+		for n := 0; n < rows; n++ {
+			check(t, s.Insert(background, order(next), nil))
+			next++
+		}
+		statements, transactions := m.statements(t), m.transactions.Load()
+		check(t, platform.NewEngine(s, seller{}, nil, options, quiet{t: t}).RunOnce(background))
+		took[rows] = [2]int64{m.statements(t) - statements, m.transactions.Load() - transactions}
+	}
+	for n := 0; n < next; n++ {
+		if entry, err := s.Read(background, keyOf(n)); err != nil || entry.State != platform.Ready {
+			t.Errorf("%v: got %s, %v, want ready", keyOf(n), entry.State, err)
+		}
+	}
+	for rows, duration := range took {
+		// No two claims are in one transaction, because each follows the answer to the one before. The end of a step may
+		// be in that of the next claim, so only the last end is one more.
+		if got := duration[1]; got < int64(rows)+1 {
+			t.Errorf("got %d transactions for %d steps, want at least one for each and one more", got, rows)
+		}
+	}
+	const steps = many - few
+	statements, transactions := took[many][0]-took[few][0], took[many][1]-took[few][1]
+	if statements < 4*steps || statements > 10*steps {
+		t.Errorf("%d steps: got %d statements and triggers, want 4 to 10 each", steps, statements)
+	}
+	if transactions > 3*steps {
+		t.Errorf("%d steps: got %d transactions, want at most 3 each", steps, transactions)
+	}
+	t.Logf("%d steps take %d statements and triggers in %d transactions", steps, statements, transactions)
+}
+
+const (
+	workers = 16
+	batch   = 4 // as many rows are claimed at once
+)
+
+// fill is a store with so many rows: of ten, eight are ready or gone, one is polled and due later, and one is due.
+func fill(b *testing.B, rows int) *Store {
+	b.Helper()
+	s := withBroker(b, open(b, filepath.Join(b.TempDir(), "store")))
+	var all sync.WaitGroup
+	var next atomic.Int64
+	for n := 0; n < 64; n++ {
+		all.Add(1)
+		go func() {
+			defer all.Done()
+			for row := int(next.Add(1)); row <= rows; row = int(next.Add(1)) {
+				if err := s.Insert(background, benchRow(row), nil); err != nil {
+					b.Error(err)
+				}
+			}
+		}()
+	}
+	all.Wait()
+	return s
+}
+
+// benchRow is the row of a number.
+func benchRow(n int) platform.Entry {
+	record, sent := osb.Create(keyOf(n).Instance, service, plan, true)
+	statuses := []uint16{201, 201, 400, 201, 202, 400, 201, 202, 400, 201}
+	record, err := record.Answer(sent.Attempt, osb.Answer{Status: statuses[n%10], Body: osb.BodyEmpty})
+	if err != nil {
+		panic(err)
+	}
+	entry := order(n)
+	entry.Record, entry.IsSent, entry.State = record, true, platform.StateOf(record)
+	entry.Since, entry.Due = at(1.6e12+int64(n)), time.Time{}
+	entry.Body = json.RawMessage(`{"context":{"platform":"osb-platform"},"parameters":{"size":3}}`)
+	entry.Last = platform.Reason{
+		At: at(1.6e12), Kind: "provision", Status: int(statuses[n%10]), Description: "as it was asked for",
+	}
+	if entry.State == platform.Polling {
+		entry.PolledSince = time.Now()
+	}
+	switch n % 10 {
+	case 4:
+		entry.Due = at(1.6e12 + int64(n))
+	case 7:
+		entry.Due = at(4e12)
+	}
+	return entry
+}
+
+// BenchmarkSteps has an engine step rows, with 16 connections to a broker that answers at once.
+//
+//	scripts/go test -run xxx -bench Steps -benchtime 20000x ./platform/sqlite
+func BenchmarkSteps(b *testing.B) {
+	for _, rows := range []int{1000, 100000} {
+		s := fill(b, rows)
+		b.Run(fmt.Sprint(rows, " rows"), func(b *testing.B) { storetest.BenchmarkSteps(b, s) })
+	}
+}
+
+// The transactions of a step alone: a Claim, which records a Poll, and a Change, which takes its answer.
+func BenchmarkTransactions(b *testing.B) {
+	for _, rows := range []int{1000, 100000} {
+		s := fill(b, rows)
+		b.Run(fmt.Sprint(rows, " rows"), func(b *testing.B) {
+			var left, all = int64(b.N), sync.WaitGroup{}
+			b.ResetTimer()
+			begun := time.Now()
+			for n := 0; n < workers; n++ {
+				all.Add(1)
+				go func(worker string) {
+					defer all.Done()
+					for atomic.LoadInt64(&left) > 0 {
+						done, err := runSteps(s, worker)
+						if err != nil {
+							b.Error(err)
+							return
+						}
+						atomic.AddInt64(&left, -int64(done))
+					}
+				}(fmt.Sprint("worker ", n))
+			}
+			all.Wait()
+			b.ReportMetric(float64(int64(b.N)-left)/time.Since(begun).Seconds(), "steps/s")
+		})
+	}
+}
+
+// runSteps claims rows, and takes an answer for each.
+func runSteps(s *Store, worker string) (steps int, err error) {
+	claimed, err := s.Claim(background, []string{"one"}, batch,
+		func(now time.Time, snapshot platform.Snapshot) (*platform.Change, error) {
+			entry := snapshot.Entry
+			next, _, err := entry.Record.Send(entry.Key.Instance)
+			entry.Record, entry.Lease = next, platform.Lease{Worker: worker, Until: now.Add(time.Minute)}
+			return &platform.Change{Entry: entry}, err
+		})
+	if err != nil {
+		return 0, err
+	}
+	var all sync.WaitGroup
+	errs := make([]error, len(claimed))
+	for n, row := range claimed {
+		if row.Err != nil {
+			return 0, row.Err
+		}
+		all.Add(1)
+		go func(n int, key platform.Key) {
+			defer all.Done()
+			errs[n] = s.Change(background, key, takeStep)
+		}(n, row.Key)
+	}
+	all.Wait()
+	for _, failure := range errs {
+		if failure != nil {
+			err = failure
+		}
+	}
+	return len(claimed), err
+}
+
+// takeStep takes an answer that says that the operation goes on. The row is due again at once.
+func takeStep(now time.Time, snapshot platform.Snapshot) (*platform.Change, error) {
+	entry := snapshot.Entry
+	next, err := entry.Record.Answer(entry.Record.Attempt(), osb.Answer{Status: 200, Body: osb.BodyInProgress})
+	entry.Record, entry.Lease, entry.Due = next, platform.Lease{}, now
+	entry.Last = platform.Reason{At: now, Kind: "poll", Status: 200, Description: "it goes on"}
+	return &platform.Change{Entry: entry}, err
+}
+
+// What is read beside the steps takes as long with many rows as with few.
+func BenchmarkReading(b *testing.B) {
+	for _, rows := range []int{1000, 100000} {
+		s := fill(b, rows)
+		for name, call := range map[string]func() error{
+			"NextDue": func() error { _, _, err := s.NextDue(background, []string{"one"}); return err },
+			"Counts":  func() error { _, err := s.Counts(background); return err },
+			"List of 50": func() error {
+				_, err := s.List(background, platform.Filter{Most: 50, States: []platform.State{platform.Ready}})
+				return err
+			},
+			"InFlight": func() error { _, err := s.InFlight(background, 50); return err },
+		} {
+			b.Run(fmt.Sprint(name, " ", rows, " rows"), func(b *testing.B) {
+				for n := 0; n < b.N; n++ {
+					check(b, call())
+				}
+			})
+		}
+	}
+}

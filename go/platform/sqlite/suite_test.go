@@ -1,0 +1,42 @@
+package sqlite_test
+
+import (
+	"context"
+	"os"
+	"path/filepath"
+	"testing"
+
+	"pippinterm/platform"
+	"pippinterm/platform/sqlite"
+	"pippinterm/platform/storetest"
+)
+
+// What every store must do.
+func TestStore(t *testing.T) {
+	folder, err := os.MkdirTemp("", "osb-sqlite")
+	check(t, err)
+	t.Cleanup(func() { _ = os.RemoveAll(folder) })
+	storetest.Test(t, func(t *testing.T) platform.Store {
+		store, err := sqlite.Open(context.Background(), filepath.Join(folder, storetest.NameOf(t)))
+		check(t, err)
+		return store
+	})
+}
+
+// A worker that is paused between two statements, while another one goes on over the same file.
+func TestPausedWorker(t *testing.T) {
+	folder := t.TempDir()
+	storetest.TestPausedWorker(t, func(t *testing.T) platform.Store {
+		store, err := sqlite.Open(context.Background(), filepath.Join(folder, storetest.NameOf(t)))
+		check(t, err)
+		return store
+	})
+}
+
+// check ends the test at an error.
+func check(t testing.TB, err error) {
+	t.Helper()
+	if err != nil {
+		t.Fatal(err)
+	}
+}

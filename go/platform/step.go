@@ -1,0 +1,282 @@
+package platform
+
+import (
+	"context"
+	"errors"
+	"fmt"
+	"net/http"
+	"sort"
+	"time"
+
+	"pippinterm/osb"
+)
+
+var (
+	errLate    = errors.New("it wasn't sent: the time of the exchange was over")
+	errUnsure  = errors.New("it wasn't sent: nobody knows whether it is recorded")
+	errNoVault = errors.New("there is no key to seal the credentials with")
+)
+
+// claimResult is the result of a claim.
+type claimResult struct {
+	sendings []*sending // what is to be sent
+	claimed  int        // the rows that were stepped
+	err      error
+}
+
+// claim is the first transaction of a step, over all rows that are due as far as there are free places. The time of
+// their exchanges begins before it, so that a worker that is paused in or after it sends nothing that is late.
+func (e *Engine) claim(
+	ctx context.Context, sites *sites, names []string, most int, spare *spare,
+) (found claimResult) {
+	until := e.client.Clock().Add(e.Exchange)
+	decisions := map[Key]decision{}
+	rows, err := e.store.Claim(ctx, names, most, func(now time.Time, snapshot Snapshot) (*Change, error) {
+		delete(decisions, snapshot.Key)
+		made, err := sites.decide(now, snapshot)
+		if err != nil || made == nil {
+			return nil, err
+		}
+		spare.besides(now, snapshot.Entry, made, decisions)
+		decisions[snapshot.Key] = *made
+		point("claim-next").at()
+		return made.change(), nil
+	})
+	found.err, found.claimed = err, len(rows)
+	if e.health.wrote(len(decisions) > 0, err) {
+		found.sendings = inDoubt(decisions, most, err)
+		return found
+	}
+	point("claim-written").at()
+	for _, row := range rows {
+		made, isMade := decisions[row.Key]
+		e.stepFailed(row.Key, either(row.Err, made.err))
+		switch {
+		case !isMade || row.Err != nil:
+		case made.send != nil:
+			made.send.out.Until = until
+			found.sendings = append(found.sendings, made.send)
+		case made.entry.State != made.before:
+			e.observer.OnChange(row.Key, made.before, made.entry.State)
+		}
+	}
+	return found
+}
+
+// stepFailed reports a row of which nothing could be decided. It isn't due at once any more, so it keeps no other
+// waiting.
+func (e *Engine) stepFailed(key Key, err error) {
+	if err != nil {
+		e.observer.OnFailure(Failure{Event: "step_failed", Key: key, IsNamed: true, Err: brief(err)})
+	}
+}
+
+func either(one, other error) error {
+	if one != nil {
+		return one
+	}
+	return other
+}
+
+// inDoubt are the requests that may have been recorded as in flight though the transaction has failed. They aren't
+// sent: they are given up at once.
+func inDoubt(decisions map[Key]decision, most int, err error) (sendings []*sending) {
+	for _, decision := range decisions {
+		if decision.send != nil {
+			decision.send.unsure = err
+			sendings = append(sendings, decision.send)
+		}
+	}
+	sort.Slice(sendings, func(one, other int) bool {
+		return sendings[one].out.Entry.Key.String() < sendings[other].out.Entry.Key.String()
+	})
+	if len(sendings) > most {
+		sendings = sendings[:most]
+	}
+	return sendings
+}
+
+// exchange sends one request, and takes its result. In between it calls answered, with whether there is an answer.
+func (e *Engine) exchange(ctx context.Context, sites *sites, s *sending, answered func(isAnswered bool)) again {
+	heard := e.hear(ctx, s)
+	answered(heard.Lost == nil)
+	switch {
+	case isRefusal(heard.Status):
+		sites.lose(s.out.Broker, "broker_refuses", fmt.Errorf("status %d", heard.Status))
+	case errors.Is(heard.Lost, ErrOtherStore) && heard.Status < http.StatusInternalServerError:
+		sites.lose(s.out.Broker, "other_store", brief(heard.Lost))
+	case errors.Is(heard.Lost, ErrUnreachable):
+		sites.lose(s.out.Broker, "broker_unreached", brief(heard.Lost))
+	}
+	entry, now, err := e.take(ctx, *s, heard)
+	switch {
+	case err != nil:
+		e.fail("answer_not_written", *s, err)
+		return again{}
+	case entry == nil && s.unsure != nil: // it wasn't recorded
+		return again{isDue: true}
+	case entry == nil:
+		e.fail("lease_lost", *s, osb.ErrNotInFlight)
+		return again{}
+	}
+	if entry.State != s.before {
+		e.observer.OnChange(entry.Key, s.before, entry.State)
+	}
+	if s.isLast() {
+		if shown, _ := judgeLast(heard.Incoming); shown != nothingLeft {
+			e.observer.OnOrphan(entry.Key, heard.Status, shown == orphanFound)
+		}
+	}
+	return again{in: entry.Due.Sub(now), isDue: !entry.Due.IsZero()}
+}
+
+// isRefusal is whether a broker refuses the user or the password.
+func isRefusal(status int) bool {
+	return status == http.StatusUnauthorized || status == http.StatusForbidden
+}
+
+func (e *Engine) fail(event string, s sending, err error) {
+	e.observer.OnFailure(Failure{
+		Event: event, Broker: s.out.Entry.Broker, Key: s.out.Entry.Key, IsNamed: true, RequestID: s.out.RequestID,
+		Err: brief(err),
+	})
+}
+
+// hear sends a request and, if it is a Poll after which credentials can be fetched, the Fetch.
+func (e *Engine) hear(ctx context.Context, s *sending) hearing {
+	key := s.out.Entry.Key
+	heard := hearing{kind: kindOf(s.out.Request.Kind, key)}
+	heard.Incoming = e.send(ctx, s, heard.kind)
+	if !key.IsBinding || heard.Lost != nil {
+		return heard
+	}
+	if s.out.Request.Kind == osb.KindPoll {
+		if osb.DecidePoll(s.out.Entry.Record.State(), heard.Answer) != osb.StateReady {
+			return heard
+		}
+		point("fetch-next").at()
+		fetch := *s
+		fetch.out.IsFetch, fetch.attempt = true, 0
+		fetched := e.send(ctx, &fetch, "fetch")
+		if fetched.Lost == nil && fetched.Binding == nil {
+			fetched.Lost = fmt.Errorf("status %d: %w", fetched.Status, osb.ErrNoBinding)
+		}
+		if fetched.Lost != nil {
+			return hearing{kind: "fetch", Incoming: fetched}
+		}
+		heard.Binding, heard.Metadata = fetched.Binding, fetched.Metadata
+	}
+	return e.seal(*s, heard)
+}
+
+// seal seals the object of a binding. If that fails, the answer counts as lost, since nobody could use the binding.
+func (e *Engine) seal(s sending, heard hearing) hearing {
+	if heard.Binding == nil {
+		return heard
+	}
+	sealed, err := []byte(nil), errNoVault
+	if e.vault != nil {
+		sealed, err = e.vault.Seal(heard.Binding, s.out.Entry.Key.String())
+	}
+	if err != nil {
+		heard.Lost, heard.isUnsealed = fmt.Errorf("the credentials can't be sealed: %w", err), true
+		e.fail("credentials_lost", s, err)
+		return heard
+	}
+	heard.sealed = sealed
+	return heard
+}
+
+// send is one exchange.
+func (e *Engine) send(ctx context.Context, s *sending, kind string) Incoming {
+	if s.unsure != nil {
+		return Incoming{Lost: fmt.Errorf("%w: %v", errUnsure, s.unsure)}
+	}
+	id, err := newID()
+	if err != nil {
+		return Incoming{Lost: err}
+	}
+	point("send-next").at()
+	if !e.client.Clock().Before(s.out.Until) {
+		return Incoming{Lost: errLate}
+	}
+	s.out.RequestID = id.String()
+	told := Exchange{
+		RequestID: s.out.RequestID, Broker: s.out.Entry.Broker, Key: s.out.Entry.Key, Kind: kind, Attempt: s.attempt,
+	}
+	e.observer.OnRequest(told)
+	point("send-running").soon()
+	in := e.client.Exchange(ctx, s.out)
+	told.Status, told.Lost, told.RetryAfter, told.Duration = in.Status, brief(in.Lost), in.RetryAfter, in.Duration
+	told.Error, told.Description = textOf(in.Details.Error), textOf(in.Details.Description)
+	e.observer.OnAnswer(told)
+	return in
+}
+
+// longestRetry is the longest time until an answer is written again.
+const longestRetry = time.Second
+
+// take is the second transaction of a step. If it fails, it is tried again until the lease is over, or ctx is done.
+// entry is what was written, or nil if another worker has given the request up, or the request wasn't recorded.
+func (e *Engine) take(ctx context.Context, s sending, heard hearing) (entry *Entry, at time.Time, err error) {
+	var read Entry
+	step := func(now time.Time, snapshot Snapshot) (*Change, error) {
+		entry, at, read = nil, now, snapshot.Entry
+		change, err := takeAnswer(now, snapshot, s, heard)
+		if err != nil || change == nil {
+			return nil, err
+		}
+		entry = &change.Entry
+		point("take-next").at()
+		return change, nil
+	}
+	until := e.client.Clock().Add(e.Exchange + e.Margin)
+	if s.unsure == nil {
+		until = s.out.Until.Add(e.Margin)
+	}
+	var maybe *Entry // what may be written though its transaction failed
+	again := e.health.trying()
+	defer again.end()
+	for rest := (backOff{first: e.retry}); ; {
+		err = e.store.Change(ctx, s.out.Entry.Key, step)
+		if err == nil && entry == nil && maybe != nil && read.hasTaken(*maybe) {
+			entry = maybe
+		}
+		if !e.health.wrote(entry != nil, err) {
+			point("take-written").at()
+			return entry, at, nil
+		}
+		if entry != nil {
+			maybe = entry
+		}
+		again.begin()
+		if !e.waits(ctx, rest.next(), until) {
+			return nil, at, err
+		}
+	}
+}
+
+// waits waits, and returns false at once if ctx is done, or if it were longer than until a time.
+func (e *Engine) waits(ctx context.Context, rest time.Duration, until time.Time) bool {
+	return e.client.Clock().Add(rest).Before(until) && sleep(ctx, rest)
+}
+
+// hasTaken is whether a row shows that an answer was written. Whatever else has changed in the row since, the last
+// reason stays until the next answer. Times count to the millisecond, as databases keep them.
+func (e Entry) hasTaken(written Entry) bool {
+	got, want := e.Last, written.Last
+	return got.Kind == want.Kind && got.Status == want.Status &&
+		got.At.Truncate(time.Millisecond).Equal(want.At.Truncate(time.Millisecond))
+}
+
+// sleep waits, and returns false at once if ctx is done.
+func sleep(ctx context.Context, rest time.Duration) bool {
+	timer := time.NewTimer(rest)
+	defer timer.Stop()
+	select {
+	case <-ctx.Done():
+		return false
+	case <-timer.C:
+		return true
+	}
+}

@@ -1,0 +1,299 @@
+package report
+
+import (
+	"bytes"
+	"context"
+	"encoding/json"
+	"errors"
+	"fmt"
+	"reflect"
+	"strings"
+	"testing"
+	"time"
+
+	"pippinterm/internal/diff"
+	"pippinterm/storm/conform"
+	"pippinterm/storm/fault"
+)
+
+// Each instance and each binding is one finding, with all that was found of it, in its order.
+func TestFindings(t *testing.T) {
+	one, two := Key{Instance: "one"}, Key{Instance: "one", Binding: "two"}
+	run := Run{Place: func(instance, binding string) (fault.Place, bool) {
+		return fault.Place{Instance: 7}, binding == ""
+	}}
+	all := run.Findings([]Discovery{{one, "a"}, {two, "b"}, {one, "c"}, {one, "a"}})
+	var got []string
+	for _, finding := range all {
+		got = append(got, finding.Number+" "+finding.Name()+" "+finding.What)
+	}
+	diff.Check(t, got, []string{"7 instance 7 (one) a; c", "? binding ? (two of instance one) b"}, "the findings")
+}
+
+// A life has what is about the instance, its binding, or all. It doesn't begin with what was before.
+func TestLifeOf(t *testing.T) {
+	key := Key{Instance: "one", Binding: "two"}
+	events := []Event{
+		{At: time.Second, Who: WhoBroker, What: "is killed"},
+		{At: 2 * time.Second, Key: key.InstanceKey(), Who: "record", What: "ready"},
+		{At: 4 * time.Second, Who: WhoPlatform, What: "is paused"},
+		{At: 5 * time.Second, Key: Key{Instance: "other"}, Who: "record", What: "gone"},
+		{At: 6 * time.Second, Key: Key{Instance: "one", Binding: "other"}, Who: "record", What: "gone"},
+	}
+	x := fault.Exchange{Instance: "one", Binding: "two", Method: "PUT", Target: "/x", Begun: 3 * time.Second}
+	var got []string
+	for _, line := range LifeOf(key, []fault.Exchange{x}, events, Hider{}) {
+		got = append(got, line.What)
+	}
+	if wanted := "ready|PUT /x|doesn't get the request|is paused"; strings.Join(got, "|") != wanted {
+		t.Errorf("got %q, want %q", got, wanted)
+	}
+	x.Ended, x.Got.Words = 7*time.Second, "no answer"
+	life := LifeOf(key, []fault.Exchange{x}, events, Hider{})
+	if last := life[len(life)-1]; len(life) != len(got)+1 || last.What != "gives the platform no answer" {
+		t.Errorf("got %+v, want one more line, that the platform gets no answer", life)
+	}
+}
+
+// A life says what the broker has got of a request.
+func TestDeliveriesOfALife(t *testing.T) {
+	for kind, wanted := range map[fault.Kind][]string{
+		fault.None:           {"gets the request", "gets the request once more"},
+		fault.RequestCut:     {"gets half of the request", "gets the request once more"},
+		fault.RequestGarbled: {"gets the request with a body that isn't JSON", "gets the request once more"},
+	} {
+		x := fault.Exchange{Instance: "one", Method: "PUT", Target: "/x", Fault: kind, Deliveries: make([]fault.Delivery, 2)}
+		var got []string
+		for _, line := range LifeOf(Key{Instance: "one"}, []fault.Exchange{x}, nil, Hider{}) {
+			if strings.HasPrefix(line.What, "gets ") {
+				got = append(got, line.What)
+			}
+		}
+		diff.Check(t, got, wanted, "%s", kind)
+	}
+}
+
+// Only a MUST that is broken counts.
+func TestBreaksMust(t *testing.T) {
+	of := func(level conform.Level) Violation {
+		return Violation{Result: conform.Result{Case: conform.Case{Level: level}}}
+	}
+	if BreaksMust(nil) || BreaksMust([]Violation{of(conform.Should), of(conform.May)}) {
+		t.Error("got a MUST that is broken, want none")
+	}
+	if !BreaksMust([]Violation{of(conform.Should), of(conform.Must)}) {
+		t.Error("got no MUST that is broken, want one")
+	}
+}
+
+// Each rule stands once, with the first request, how often it was broken, and the number of each request that has one.
+func TestBreaches(t *testing.T) {
+	var b Breaches
+	for _, pair := range [][2]string{
+		{"a", "1.1"}, {"b", ""}, {"a", "1.2"}, {"a", "1.1"}, {"b", ""}, {"c", ""}, {"c", "2/1.1"}, {"a", "10.3"},
+	} {
+		b.Add(conform.Result{Case: conform.Case{Name: pair[0]}}, pair[1], "none")
+	}
+	var got []string
+	for _, violation := range b.All() {
+		text, err := json.Marshal(violation.Numbers)
+		check(t, err)
+		got = append(got, fmt.Sprint(violation.Name, " ", violation.Number, " ", violation.Count, " ", string(text)))
+	}
+	if wanted := []string{`a 1.1 4 ["1.1","1.2","10.3"]`, `b none 2 []`, `c none 2 ["2/1.1"]`}; !reflect.DeepEqual(got, wanted) {
+		t.Errorf("got %q, want %q", got, wanted)
+	}
+}
+
+// All marks of a picture are within it.
+func TestPicture(t *testing.T) {
+	life := []Line{
+		{Seconds: 1, Number: "1.1", Who: "request", What: "PUT", Fault: "hang-up", Until: 2},
+		{Seconds: 1.5, Number: "1.1", Who: "broker", What: "answers"}, {Seconds: 2, Who: "record", What: "ready"},
+		{Seconds: 1.3, Who: "platform", What: "takes no answer"},
+	}
+	kills := []Line{
+		{Seconds: 0.9, Who: "broker"}, {Seconds: 1.2, Who: "broker", What: "is killed"}, {Seconds: 3, Who: "broker"},
+	}
+	p := draw([]Finding{{Number: "1", Life: life}}, kills)
+	if len(p.Lanes) != 1 || len(p.Lanes[0].Spans) != 1 || len(p.Lanes[0].Points) != 2 || len(p.Restarts) != 1 {
+		t.Fatalf("got %+v, want one lane with one span and two points, and one restart", p)
+	}
+	if it := p.Restarts[0]; it.Label != "the broker is killed" || it.X <= p.Left || it.X >= p.Right {
+		t.Errorf("got %+v, want the kill of the broker within the picture", it)
+	}
+	for _, point := range p.Lanes[0].Points {
+		if point.X < p.Left || point.X > p.Right || point.Y > p.Height {
+			t.Errorf("got %+v, want it within the picture", point)
+		}
+	}
+	if it := p.Lanes[0].Spans[0]; it.X != p.Left || it.X+it.Width > p.Right+0.1 || len(p.Ticks) < 5 {
+		t.Errorf("got %+v and %d ticks, want it within the picture, and at least 5", it, len(p.Ticks))
+	}
+}
+
+// runOf returns a run with a request about each of some instances, a second after the other. Some have a fault.
+func runOf(instances int, hasFault map[int]bool) Run {
+	run := Run{
+		Place: func(instance, _ string) (fault.Place, bool) {
+			place := fault.Place{}
+			_, err := fmt.Sscanf(instance, "id-%d", &place.Instance)
+			return place, err == nil
+		},
+		Events: []Event{
+			{At: 1500 * time.Millisecond, Who: WhoBroker, What: "is killed"},
+			{At: 2500 * time.Millisecond, Who: WhoPlatform, What: "is paused"},
+			{At: 2600 * time.Millisecond, Who: "osb-storm", What: "ends the faults"},
+			{At: 2700 * time.Millisecond, Who: WhoBroker, Key: Key{Instance: "id-1"}, What: "is asked"},
+		},
+	}
+	for number := instances; number > 0; number-- {
+		x := fault.Exchange{
+			Instance: fmt.Sprint("id-", number), Method: "PUT", Begun: time.Duration(number) * time.Second, Fault: fault.None,
+		}
+		if x.Ended = x.Begun + time.Second/2; hasFault[number] {
+			x.Fault = fault.HangUp
+		}
+		run.Exchanges = append(run.Exchanges, x, fault.Exchange{Instance: "another's", Fault: fault.HangUp})
+	}
+	return run
+}
+
+// Kills before the creation of the first finding are drawn if they are within the picture.
+func TestPictureOfAllKills(t *testing.T) {
+	run := runOf(3, nil)
+	found := run.Findings([]Discovery{{Key{Instance: "id-3"}, "a"}, {Key{Instance: "id-1"}, "b"}})
+	var page bytes.Buffer
+	written := &Page{Sections: []Section{{"Lost", found, run.Kills()}}, Course: run.Course(), Kills: run.Kills()}
+	check(t, written.Write(&page))
+	text := page.String()
+	for _, title := range []string{"<title>the broker is killed</title>", "<title>the platform is paused</title>"} {
+		if strings.Count(text, title) != 1 {
+			t.Errorf("%q: got it not once, want it once", title)
+		}
+	}
+	if strings.Count(text, "<svg") != 1 || strings.Count(text, `class="restart"`) != 2 ||
+		strings.Contains(text, "<h2>The storm") {
+		t.Errorf("got %s, want two restarts in one picture without a title", text)
+	}
+}
+
+// If nothing was found, the lives with the most faults are drawn, in their order, and at most a few.
+func TestCourse(t *testing.T) {
+	run := runOf(30, map[int]bool{29: true, 7: true, 30: true, 2: true})
+	var numbers []string
+	for _, finding := range run.Course() {
+		numbers = append(numbers, finding.Number)
+	}
+	if text := strings.Join(numbers, " "); text != "2 7 21 22 23 24 25 26 27 28 29 30" {
+		t.Errorf("got %q, want \"2 7 21 22 23 24 25 26 27 28 29 30\"", text)
+	}
+	var page bytes.Buffer
+	check(t, (&Page{Course: run.Course(), Kills: run.Kills()}).Write(&page))
+	text := page.String()
+	if strings.Count(text, `<rect class="request fault"`) != 4 || strings.Count(text, `<rect class="request"`) != 8 ||
+		strings.Count(text, `class="restart"`) != 1 || !strings.Contains(text, "each of the 12 with") {
+		t.Errorf("got %s, want 4 of 12 requests with a fault, and one restart", text)
+	}
+	page.Reset()
+	if err := (&Page{}).Write(&page); err != nil || strings.Contains(page.String(), "<svg") {
+		t.Errorf("got %v, or a picture of nothing, want neither", err)
+	}
+}
+
+// listOf returns a list of faults.
+func listOf(t *testing.T, text string) []fault.Entry {
+	t.Helper()
+	list, err := fault.ReadList(strings.NewReader(text))
+	check(t, err)
+	return list
+}
+
+// The first candidate that loses something is shrunk. A list that loses nothing is tried twice, and none is tried again
+// once it is known that nothing is lost without faults.
+func TestShrink(t *testing.T) {
+	const one, other = "1.1 hang-up\n1.2 answer-lost\n", "2.1 hang-up\n2.2 answer-slow\n2.3 answer-lost\n2.4 hang-up\n"
+	for name, test := range map[string]struct {
+		needed  string // without these faults, nothing is lost
+		minimal []string
+		runs    int
+	}{
+		"the second": {"2.3 answer-lost", []string{"2.3 answer-lost"}, 9},
+		"two faults": {"2.1 hang-up 2.4 hang-up", []string{"2.1 hang-up", "2.4 hang-up"}, 33},
+		"no fault":   {"", []string{}, 2},
+		"nothing":    {"3.1 hang-up", nil, 4},
+	} {
+		t.Run(name, func(t *testing.T) {
+			shrunk := Minimum{}
+			shrunk.Shrink(context.Background(), []Candidate{
+				{listOf(t, one), map[int]bool{1: true}}, {listOf(t, other), map[int]bool{2: true}},
+			}, func(_ context.Context, of Candidate) (Loss, error) {
+				if len(of.List) > 0 && !of.Only[of.List[0].Number.Instance] {
+					t.Errorf("%s: got %v tried with the lives of %v, want its own", name, of.List, of.Only)
+				}
+				if contains(of.List, test.needed) {
+					return Loss{Lost: []Finding{{What: "they disagree"}}}, nil
+				}
+				return Loss{}, nil
+			})
+			if !reflect.DeepEqual(shrunk.Minimal, test.minimal) || shrunk.MinimizeRuns != test.runs ||
+				len(shrunk.ReplayList(nil)) != len(test.minimal) {
+				t.Errorf("%s: got %v after %d runs, want %v after %d", name, shrunk.Minimal, shrunk.MinimizeRuns, test.minimal,
+					test.runs)
+			}
+			if shrunk.NeedsNoFault() != (name == "no fault") || shrunk.HasTriedAll() != (name == "nothing") {
+				t.Errorf("%s: got no fault %v and all tried %v, want what the name says", name, shrunk.NeedsNoFault(),
+					shrunk.HasTriedAll())
+			}
+			if hasLife := len(shrunk.MinimalLost) == 1; hasLife != (test.minimal != nil) {
+				t.Errorf("%s: got the lives %v, want one exactly with a list", name, shrunk.MinimalLost)
+			}
+		})
+	}
+}
+
+// contains returns whether a list has these faults.
+func contains(list []fault.Entry, needed string) bool {
+	words := strings.Fields(needed)
+	for at := 0; at < len(words); at += 2 {
+		if !strings.Contains(fmt.Sprint(list), words[at]+" "+words[at+1]) {
+			return false
+		}
+	}
+	return true
+}
+
+// A run that fails loses nothing.
+func TestShrinkFailing(t *testing.T) {
+	shrunk := Minimum{}
+	shrunk.Shrink(context.Background(), []Candidate{{listOf(t, "1.1 hang-up"), nil}},
+		func(context.Context, Candidate) (Loss, error) {
+			return Loss{Lost: []Finding{{What: "a part"}}}, errors.New("no")
+		})
+	if shrunk.Minimal != nil || shrunk.MinimizeRuns != tries {
+		t.Errorf("got %v after %d runs, want none after %d", shrunk.Minimal, shrunk.MinimizeRuns, tries)
+	}
+}
+
+// The faults of each instance are tried alone, the fewest first, and of five instances at most. Then come those of all.
+func TestCandidates(t *testing.T) {
+	given := listOf(t, "1.1 hang-up\n1.2 hang-up\n2.1 hang-up\n3.1 hang-up\n4/1.1 hang-up\n4/1.2 hang-up\n4.3 hang-up")
+	var lists []string
+	for _, candidate := range Candidates(given, []int{4, 1, 2, 1, 9}) {
+		lists = append(lists, strings.Join(ListLines(candidate.List), " "))
+	}
+	two, three := "1.1 hang-up 1.2 hang-up", "4/1.1 hang-up 4/1.2 hang-up 4.3 hang-up"
+	wanted := []string{"", "2.1 hang-up", two, three, two + " 2.1 hang-up " + three}
+	diff.Check(t, lists, wanted, "the lists")
+	if all := Candidates(given, []int{1, 2, 3, 4, 5, 6, 7}); len(all) != mostCandidates+1 {
+		t.Errorf("got %d candidates, want %d", len(all), mostCandidates+1)
+	}
+}
+
+// check ends the test at an error.
+func check(t testing.TB, err error) {
+	t.Helper()
+	if err != nil {
+		t.Fatal(err)
+	}
+}

@@ -1,0 +1,222 @@
+package run
+
+import (
+	"context"
+	"errors"
+	"fmt"
+	"time"
+
+	"pippinterm/storm/conform"
+	"pippinterm/storm/fault"
+	"pippinterm/storm/report"
+)
+
+// A Config says which faults a storm of any kind has, and within which limits it goes on.
+type Config struct {
+	Seed  int64
+	Share float64       // how many of all requests have a fault, from 0 to 1
+	List  []fault.Entry // the faults of the run, in place of those by the seed; or nil
+	// RequestTime is how long the platform waits for an answer, and Late is the bound of every delay.
+	RequestTime, Late time.Duration
+	Time, SettleTime  time.Duration // with faults, and then without
+	MinimizeTime      time.Duration // for the runs that shrink the list of faults; 0 for none
+	Folder            string        // in which the folders of the runs are created; empty for the system's
+	Journal           string        // the folder below which the journals are written, or empty for none
+}
+
+// Check returns an error if a limit isn't above 0, or the faults can't happen. more are further limits. noRestart is
+// why a fault can't restart the broker, or empty if it can.
+func (c Config) Check(noRestart string, more ...time.Duration) error {
+	if c.Share < 0 || c.Share > 1 {
+		return errors.New("the share of requests with a fault is between 0 and 1")
+	}
+	for _, limit := range append(more, c.RequestTime, c.Late, c.Time, c.SettleTime) {
+		if limit <= 0 {
+			return errors.New("every limit must be above 0")
+		}
+	}
+	for _, numbered := range c.List {
+		if numbered.Kind.IsRestart() && noRestart != "" {
+			return errors.New("the list of faults has a restart: " + noRestart)
+		}
+	}
+	return nil
+}
+
+// Source returns the faults of the run.
+func (c Config) Source(weights fault.Weights) *fault.Source {
+	if c.List != nil {
+		return fault.ByList(c.Seed, c.List)
+	}
+	return fault.BySeed(c.Seed, c.Share, weights)
+}
+
+// Lists are commands of the shell that print ids. Each may be empty.
+type Lists struct {
+	List         string // prints the id of each instance, one on a line
+	ListBindings string // prints the ids of the instance and the binding for each binding
+}
+
+// Check returns an error if bindings are listed, and instances aren't.
+func (l Lists) Check() error {
+	if l.ListBindings != "" && l.List == "" {
+		return errors.New("a list of bindings needs a list of instances")
+	}
+	return nil
+}
+
+// Keys are the ids of a run.
+type Keys interface {
+	// All returns all keys in their order.
+	All() []Key
+	// Place returns the place of ids, if they have one.
+	Place(instance, binding string) (fault.Place, bool)
+}
+
+// A Result is the result of one run.
+type Result struct {
+	Keys        Keys
+	Exchanges   []fault.Exchange
+	Events      []Event
+	Differences []Difference
+	Broken      []Violation
+	Given       []fault.Entry
+	Unmet       []fault.Entry // of the list that was given
+	Restarts    int
+	Ended       string // why the run was ended before, or empty
+	Converged   bool
+	Took        time.Duration // until everything had converged, after the faults
+	Failed      []string      // what went wrong with the run itself
+	Leftovers   []conform.Leftover
+	Unknown     int // how many instances and bindings nobody could ask for
+	// OrdersAll is set if a further run can't leave out the instances that a list of faults isn't about.
+	OrdersAll bool
+
+	end time.Duration // when the run ended, since its start
+}
+
+// losses are the differences in which something is lost or false.
+var losses = []DifferenceKind{Lost, False, Disagree}
+
+// IsLoser returns whether something was lost, or a record was false.
+func (r *Result) IsLoser() bool {
+	for _, difference := range r.Differences {
+		if isOneOf(difference.Kind, losses) {
+			return true
+		}
+	}
+	return false
+}
+
+// LeaveOut leaves out the differences of a kind.
+func (r *Result) LeaveOut(kind DifferenceKind) {
+	r.Differences = differences(r.Differences).without(kind)
+}
+
+// A Core runs a storm of any kind.
+type Core struct {
+	Config
+	Report *Report
+	// Once is a run: the first one if the candidate is nil, or a further one with the faults of the candidate.
+	Once func(ctx context.Context, of *report.Candidate) (*Result, error)
+	// Add adds to the report what only this kind of storm knows of its first run. It may be nil.
+	Add func(*Result)
+	// Stop gets the error of a further run. If it isn't nil, such an error ends the further runs.
+	Stop func(error)
+}
+
+// EndedBefore is why a run was ended by a signal.
+const EndedBefore = "the run was ended before"
+
+// Run runs the storm, and writes its result into the report. If MinimizeTime is above 0 and something was lost, further
+// runs shrink the list of faults. If ctx is done, it ends. It returns the error of the first run.
+func (c Core) Run(ctx context.Context) error {
+	found, err := c.Once(ctx, nil)
+	c.Report.take(found)
+	if err == nil && c.Add != nil {
+		c.Add(found)
+	}
+	if err == nil && c.MinimizeTime > 0 && found.IsLoser() && !c.fails(found) && ctx.Err() == nil {
+		c.minimize(ctx, found)
+	}
+	if ctx.Err() != nil {
+		c.Report.Ended = EndedBefore
+	}
+	c.Report.takeUntried(c.Config)
+	return err
+}
+
+// fails returns whether a further run would fail as the first one did.
+func (c Core) fails(found *Result) bool { return c.Stop != nil && len(found.Failed) > 0 }
+
+// minimize shrinks the list of faults to the shortest one that still loses one, and writes it into the report.
+func (c Core) minimize(ctx context.Context, found *Result) {
+	limited, cancel := context.WithTimeout(ctx, c.MinimizeTime)
+	defer cancel()
+	c.Report.shrink(limited, candidates(found), func(ctx context.Context, of report.Candidate) (*Result, error) {
+		again, err := c.Once(ctx, &of)
+		if err != nil && c.Stop != nil && ctx.Err() == nil {
+			c.Stop(fmt.Errorf("--minimize: %w", err))
+			cancel()
+		}
+		return again, err
+	})
+}
+
+// shrink shrinks the list of the first candidate that loses something, and writes it into the report. once is a run.
+func (r *Report) shrink(
+	ctx context.Context, candidates []report.Candidate,
+	once func(context.Context, report.Candidate) (*Result, error),
+) {
+	r.Shrink(ctx, candidates, func(ctx context.Context, of report.Candidate) (report.Loss, error) {
+		again, err := once(ctx, of)
+		if err != nil {
+			return report.Loss{}, err
+		}
+		return report.Loss{Lost: r.findings(again, losses...), Kills: r.runOf(again).Kills()}, nil
+	})
+	words := r.words()
+	switch {
+	case r.NeedsNoFault():
+		r.Notes = append(r.Notes, fmt.Sprintf("--minimize: something is %s without any fault, too", words.lost))
+	case r.HasTriedAll():
+		r.Notes = append(r.Notes, fmt.Sprintf("--minimize: in %d %s, nothing was %s", r.MinimizeRuns, words.runs, words.lost))
+	}
+}
+
+// candidates returns the faults of each instance of which something was lost, the shortest list first. The next one has
+// the faults of all these instances. If there were restarts, the last ones have all restarts, and all faults: a restart
+// is the fault of one instance, and another one may be lost by it. If each run has all instances, the last one has all
+// faults, too.
+func candidates(found *Result) []report.Candidate {
+	var numbers []int
+	for _, difference := range found.Differences {
+		place, is := found.Keys.Place(difference.Key.Instance, "")
+		if is && isOneOf(difference.Kind, losses) && place.Instance < firstOther {
+			numbers = append(numbers, place.Instance)
+		}
+	}
+	all := report.Candidates(found.Given, numbers)
+	if found.Restarts > 0 {
+		lost, restarted := all[len(all)-1].Only, map[int]bool{}
+		for _, numbered := range found.Given {
+			number := numbered.Number.Instance
+			restarted[number] = lost[number] || numbered.Kind.IsRestart() || restarted[number]
+		}
+		all = append(all, report.Candidate{List: report.Part(found.Given, restarted), Only: restarted})
+	}
+	if found.Restarts > 0 || found.OrdersAll {
+		all = append(all, report.Candidate{List: found.Given})
+	}
+	return all
+}
+
+// either returns the first error that isn't nil.
+func either(all ...error) error {
+	for _, err := range all {
+		if err != nil {
+			return err
+		}
+	}
+	return nil
+}

@@ -1,0 +1,208 @@
+package servers
+
+import (
+	"context"
+	"fmt"
+	"io"
+	"net"
+	"net/http"
+	"net/http/httptest"
+	"os"
+	"strings"
+	"testing"
+	"time"
+
+	"pippinterm/internal/pg/pgtest"
+)
+
+// rows returns what a query prints, or the error.
+func rows(t *testing.T, address, query string) string {
+	t.Helper()
+	db, err := open(address)
+	check(t, err)
+	defer db.Close()
+	var text string
+	if err := db.QueryRow(query).Scan(&text); err != nil {
+		return "error: " + err.Error()
+	}
+	return text
+}
+
+// states are the states of the server's processes, as /proc has them, except those that have ended.
+func states(p *Postgres) (all string) {
+	pid := p.process.Process.Pid
+	for _, child := range append([]int{pid}, children(pid)...) {
+		text, err := os.ReadFile(fmt.Sprintf("/proc/%d/stat", child))
+		if err != nil {
+			continue
+		}
+		_, rest, _ := strings.Cut(string(text), ") ")
+		if rest[:1] != "Z" && !strings.Contains(all, rest[:1]) {
+			all += rest[:1]
+		}
+	}
+	return all
+}
+
+// A server is killed, the first process alone and then all, and still has what it had committed. It is paused, and goes
+// on. At the end nothing is left.
+func TestPostgres(t *testing.T) {
+	pgtest.URL(t) // PostgreSQL is installed
+	ctx, folder := context.Background(), t.TempDir()
+	p, err := StartPostgres(ctx, openedTo(t, folder))
+	check(t, err)
+	url := p.URL("postgres")
+	check(t, execute(ctx, url, "CREATE TABLE kept (number integer)"))
+	for kills := 1; kills <= 2; kills++ {
+		check(t, execute(ctx, url, fmt.Sprintf("INSERT INTO kept VALUES (%d)", kills)))
+		before := p.process.Process.Pid
+		check(t, p.Kill(ctx, 0))
+		if p.process.Process.Pid == before {
+			t.Error("got the same process, want another")
+		}
+		if found := rows(t, url, "SELECT count(*) || ' ' || max(number) FROM kept"); found != fmt.Sprint(kills, kills) {
+			t.Errorf("after %d kills: got %s, want %s", kills, found, fmt.Sprint(kills, kills))
+		}
+	}
+	paused := make(chan struct{})
+	go func() {
+		defer close(paused)
+		p.Pause(ctx, time.Second)
+	}()
+	for end := time.Now().Add(10 * time.Second); states(p) != "T"; time.Sleep(5 * time.Millisecond) {
+		if time.Now().After(end) {
+			t.Fatalf("got %s, want it paused", states(p))
+		}
+	}
+	<-paused
+	if found := rows(t, url, "SHOW recovery_init_sync_method"); found != "syncfs" {
+		t.Errorf("the synchronisation of files: got %s, want \"syncfs\"", found)
+	}
+	if found := rows(t, url, "SHOW fsync"); found != "on" || strings.Contains(states(p), "T") {
+		t.Errorf("after the pause: got fsync %s and the states %s, want on and none paused", found, states(p))
+	}
+	if kills, pauses := p.Counts(); kills != 2 || pauses != 1 {
+		t.Errorf("got %d kills and %d pauses, want 2 and 1", kills, pauses)
+	}
+	if err := p.Close(); err != nil || !strings.HasPrefix(rows(t, url, "SELECT 1"), "error: ") {
+		t.Errorf("Close: got %v, or a server that still runs, want its end", err)
+	}
+	if left, err := os.ReadDir(folder); err != nil || len(left) > 0 {
+		t.Errorf("got %v %v left, want none", err, left)
+	}
+}
+
+// openedTo gives the user postgres access to a folder of a test.
+func openedTo(t *testing.T, folder string) string {
+	t.Helper()
+	for at := folder; strings.HasPrefix(at, os.TempDir()+"/"); at = at[:strings.LastIndexByte(at, '/')] {
+		check(t, os.Chmod(at, 0o755))
+	}
+	return folder
+}
+
+// A storm has a database of its own at a server. The sessions of its programs are ended, and no others. It is dropped.
+func TestDatabase(t *testing.T) {
+	server, ctx := pgtest.URL(t), context.Background()
+	d, err := Create(ctx, server, "storm_of_a_test")
+	check(t, err)
+	if found := rows(t, d.URL(), "SELECT current_database()"); found != "storm_of_a_test" {
+		t.Errorf("got %q, want \"storm_of_a_test\"", found)
+	}
+	if isEnded, err := d.EndSession(ctx); isEnded || err != nil {
+		t.Errorf("got ended %v, %v, want false", isEnded, err)
+	}
+	address, environment := d.ForPrograms()
+	for _, variable := range environment {
+		name, value, _ := strings.Cut(variable, "=")
+		t.Setenv(name, value)
+	}
+	db := pgtest.DB(t, address)
+	check(t, db.Ping())
+	if isEnded, err := d.EndSession(ctx); !isEnded || err != nil {
+		t.Errorf("got ended %v, %v, want true", isEnded, err)
+	}
+	if err := d.Close(); err != nil {
+		t.Error(err)
+	}
+	if found := rows(t, d.URL(), "SELECT 1"); !strings.Contains(found, "does not exist") {
+		t.Errorf("got %q, want \"does not exist\" in it", found)
+	}
+}
+
+// No password stands in the URL that the programs get, since everybody can read command lines.
+func TestForPrograms(t *testing.T) {
+	for given, wanted := range map[string]string{
+		"postgresql://u@h:1/d":                      "postgresql://u@h:1/own?application_name=storm []",
+		"postgresql://u:p%40q@h:1/d?sslmode=verify": "postgresql://u@h:1/own?application_name=storm&sslmode=verify [PGPASSWORD=p@q]",
+		"postgresql://u@h/d?password=p&dbname=e":    "postgresql://u@h/own?application_name=storm [PGPASSWORD=p]",
+	} {
+		t.Run(given, func(t *testing.T) {
+			at, err := In(given, "own")
+			check(t, err)
+			address, environment := (&Database{url: at}).ForPrograms()
+			if found := fmt.Sprint(address, " ", environment); found != wanted {
+				t.Errorf("%s: got %s, want %s", given, found, wanted)
+			}
+		})
+	}
+}
+
+// What isn't there is an error that says so, and leaves nothing.
+func TestNoServer(t *testing.T) {
+	ctx, folder := context.Background(), t.TempDir()
+	if _, err := Create(ctx, "postgresql://u@127.0.0.1:1/d", "x"); err == nil {
+		t.Error("a server that isn't there: got no error, want one")
+	}
+	if _, err := Create(ctx, "nowhere", "x"); err == nil {
+		t.Error("no server: got no error, want one")
+	}
+	if _, err := StartHAProxy(ctx, folder, "not an address", nil); err == nil || !strings.Contains(err.Error(), "haproxy") {
+		t.Errorf("haproxy at no address: got %v, want an error that names it", err)
+	}
+}
+
+// HAProxy forwards to whichever broker lives, and ends.
+func TestHAProxy(t *testing.T) {
+	var addresses []string
+	var brokers []*httptest.Server
+	for _, name := range []string{"one", "other"} {
+		name := name
+		it := httptest.NewServer(http.HandlerFunc(func(w http.ResponseWriter, _ *http.Request) {
+			_, _ = io.WriteString(w, name)
+		}))
+		defer it.Close()
+		brokers, addresses = append(brokers, it), append(addresses, strings.TrimPrefix(it.URL, "http://"))
+	}
+	listener, err := net.Listen("tcp", "127.0.0.1:0")
+	check(t, err)
+	at := listener.Addr().String()
+	_ = listener.Close()
+	proxy, err := StartHAProxy(context.Background(), t.TempDir(), at, addresses)
+	check(t, err)
+	defer proxy.Close()
+	said := func() string {
+		answer, err := http.Get("http://" + at)
+		if err != nil {
+			return err.Error()
+		}
+		defer answer.Body.Close()
+		text, _ := io.ReadAll(answer.Body)
+		return string(text)
+	}
+	if first, second := said(), said(); first == second || first+second != "oneother" && first+second != "otherone" {
+		t.Errorf("got %s and %s, want one and other", first, second)
+	}
+	brokers[0].Close()
+	if first, second := said(), said(); first != "other" || second != "other" {
+		t.Errorf("with one broker: got %s and %s, want \"other\" twice", first, second)
+	}
+}
+
+// check ends the test at an error.
+func check(t testing.TB, err error) {
+	t.Helper()
+	if err != nil {
+		t.Fatal(err)
+	}
+}
