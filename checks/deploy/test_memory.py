@@ -1,6 +1,7 @@
 """How much memory 64 bodies of the largest size take at once: no more than the guides say, and than Kubernetes allows.
 
-The bodies have the shapes that take most while they are parsed: many arrays, many objects, many members.
+The bodies have the shapes that take most while they are parsed: many arrays, many objects, many members. One has
+characters that JSON in HTML has six bytes for, each.
 """
 
 from __future__ import annotations
@@ -30,6 +31,7 @@ SHAPES: dict[str, Callable[[int], str]] = {
     "arrays": lambda size: '{"a":' + "[" * 50 + ",".join(["[1]"] * ((size - 110) // 4)) + "]" * 50 + "}",
     "objects": lambda size: '{"a":[' + ",".join(["{}"] * ((size - 10) // 3)) + "]}",
     "members": lambda size: "{" + ",".join(f'"{number:05x}":1' for number in range((size - 10) // 10)) + "}",
+    "escapes": lambda size: '{"a":"' + "<" * (size - 8) + '"}',
 }
 
 
