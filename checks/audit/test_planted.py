@@ -40,14 +40,14 @@ class Slip(NamedTuple):
 
 
 END = "\treturn s.end(ctx, key, fence, work, done)\n"
-BEGIN = "\t\tnext, given, err = s.begin(held, asked)\n"
+BEGIN = "\t\tnext, given, err = s.begin(snapshot, visit)\n"
 SLIPS = {
     "an answer before the commit": Slip(
         END,
         """
         time.AfterFunc(time.Hour, func() { _, _ = s.end(ctx, key, fence, work, done) })
         _, answer, err := due.entry.Holding.End(mode, done.outcome)
-        return Answered{Answer: answer}, err
+        return Response{Answer: answer}, err
         """,
         {"event": "answered", "status": 201},
         "",
@@ -60,7 +60,7 @@ SLIPS = {
         BEGIN
         + """
         if err == nil && given.work != osb.WorkNone {
-            early, _ := given.pending.requestOf(asked.Key)
+            early, _ := given.pending.requestOf(visit.Key)
             _, err = s.worker.do(ctx, given.work, early)
         }
         """,
@@ -72,7 +72,7 @@ SLIPS = {
     ),
     "other attributes than the request's": Slip(
         BEGIN,
-        "\t\tasked.Attributes[0] = 5\n" + BEGIN,
+        "\t\tvisit.Attributes[0] = 5\n" + BEGIN,
         {"event": "changed", "before": ""},
         "",
         "what is held has another service, plan or attributes than the request that began it",
@@ -82,10 +82,10 @@ SLIPS = {
     "end twice": Slip(
         END,
         """
-        if answered, err = s.end(ctx, key, fence, work, done); err != nil {
-            return answered, err
+        if response, err = s.end(ctx, key, fence, work, done); err != nil {
+            return response, err
         }
-        return answered, s.change(ctx, key, fence, func(Held) (*Entry, error) {
+        return response, s.change(ctx, key, fence, func(Snapshot) (*Entry, error) {
             due.entry.Holding, _, err = due.entry.Holding.End(mode, osb.OutcomeBefore)
             return &due.entry, err
         })
@@ -132,26 +132,26 @@ EAGER = Slip(
 """A platform that sends before it commits. If the commit then fails, nobody knows of the request."""
 
 
-READ = "func (s store) Read(ctx context.Context, key broker.Key) (broker.Held, error) {\n"
+READ = "func (s store) Read(ctx context.Context, key broker.Key) (broker.Snapshot, error) {\n"
 STALE = Slip(
-    READ + "\theld, err := s.Store.Read(ctx, key)\n",
+    READ + "\tsnapshot, err := s.Store.Read(ctx, key)\n",
     """
     var (
         staleTurn sync.Mutex
-        stale     = map[broker.Key]broker.Held{}
+        stale     = map[broker.Key]broker.Snapshot{}
     )
 
     """
     + READ
     + """
-        held, err := s.Store.Read(ctx, key)
+        snapshot, err := s.Store.Read(ctx, key)
         if err == nil && visitOf(ctx) != 0 {
             staleTurn.Lock()
             before, isKnown := stale[key]
-            stale[key] = held
+            stale[key] = snapshot
             staleTurn.Unlock()
             if isKnown {
-                held = before
+                snapshot = before
             }
         }
     """,
@@ -279,7 +279,7 @@ def test_planted_without_locks(audit: Audit, broker: Path, platform: Path, tmp_p
 @pytest.mark.long(10)
 def test_planted_in_platform(audit: Audit, broker: Path, tmp_path: Path) -> None:
     """Each request is sent once before its claim is committed, and once after it."""
-    at, eager = free_address(), built(EAGER, tmp_path, "osb-platform", "platform/exchange.go")
+    at, eager = free_address(), built(EAGER, tmp_path, "osb-platform", "platform/step.go")
     with serving(broker, tmp_path, at):
         it = Platform(eager, tmp_path, at)
         it.once()  # it asks for the catalogue

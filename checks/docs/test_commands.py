@@ -10,7 +10,7 @@ from pathlib import Path
 import pytest
 from docs.pages import TOP, blocks, covers, packages, read
 from docs.workdir import Workdir, needs, wait_for
-from go.toolchain import NEEDS, TOOLS, needs_packages
+from go.toolchain import NEEDS, TESTS_NEED, TOOLS, needs_packages
 
 ONE = "00000000-0000-0000-0000-000000000001"
 
@@ -165,15 +165,17 @@ def served_in_go(build: str, port: int) -> str:
 
 @covers("docs/go.md", "sudo apt-get install ")
 def test_packages_of_the_example_in_go(texts: list[str]) -> None:
-    """They are those of the tools and of the driver of SQLite, and curl."""
+    """They are those of the tools and of the libraries that the example imports, and curl."""
     tools = set(" ".join(TOOLS.values()).split())
-    assert packages(texts[0]) == tools | {NEEDS["github.com/mattn/go-sqlite3"], "curl"}
+    libraries = {NEEDS[it] for it in ("github.com/mattn/go-sqlite3", "github.com/pires/go-proxyproto")}
+    assert packages(texts[0]) == tools | libraries | {"curl"}
 
 
 def test_packages_of_go() -> None:
-    """The table has each library that the packages in go/ import, with Debian's package."""
+    """The table has each library that the packages in go/ import, with Debian's package. The gate installs them."""
     rows = re.findall(r"^\| (golang-\S+) \| (\S+) \|", read("docs/go.md"), re.MULTILINE)
-    assert {library: package for package, library in rows} == NEEDS
+    assert {library: package for package, library in rows} == {**NEEDS, **TESTS_NEED}
+    assert {package for package, _ in rows} - installed() == set()
 
 
 @pytest.mark.long(15)

@@ -151,10 +151,3 @@ def test_options_of_the_broker() -> None:
     named = set(re.findall(r"(?<![\w-])--[a-z][a-z-]*", read(BROKER)))
     assert len(named) > 20
     assert named - options == set()
-
-
-def test_metrics_of_the_broker() -> None:
-    """The guide names each metric of the program with its labels, and no other."""
-    program = re.findall(r"^//\t(osb_broker_\S+)", read("go/cmd/osb-broker/metrics/metrics.go"), re.MULTILINE)
-    assert len(program) > 10
-    assert sorted(re.findall(r"^\| `(osb_broker_\S+)` \|", read(BROKER), re.MULTILINE)) == sorted(program)
