@@ -13,8 +13,9 @@ has, too:
    `rt ci` has just proved and built. If the ledger says that this was so, and without --anew, only
    `scripts/prebuilt --fits`: they are undamaged, and of these sources.
 3. pytest, several tests at once. Beside them, few at once, those that go by the clock: all others leave the processors
-   to them. If one of these fails, it is tried again, with nothing beside it. If it fails three times, a slow machine
-   may be the cause, so it is a skip that is named; with --anew or --tests, it has failed.
+   to them. If a few tests fail, each is tried again with nothing beside it, since a busy machine may be the cause. What
+   fails three times has failed. If it goes by the clock, a slow machine may be the cause, so it is a skip that is named;
+   with --anew or --tests, it has failed, too.
 
 Hosts differ, so the cost is also given in units: one is what `rt check` of osb_message takes from nothing, in processor
 seconds. It is measured before the steps, by itself.
@@ -64,7 +65,9 @@ BUILD = "for it in osb-broker osb-platform osb-storm; do [ ! -x $it ] || ./$it -
 NICENESS = 10
 """That of the tests that leave the processors to those that go by the clock."""
 TRIES = 3
-"""So often a test is tried that goes by the clock and fails."""
+"""So often a test is tried that fails."""
+FEW = 5
+"""If more tests fail than this, a busy machine isn't the cause, and none is tried again."""
 # PostgreSQL's clients take what a URL leaves out from variables that begin so, such as PGHOSTADDR and PGPASSWORD.
 LIBPQ = "PG"
 
@@ -89,11 +92,14 @@ class Ran(NamedTuple):
 
 @contextlib.contextmanager
 def started(
-    command: list[str], output: int | IO[bytes], folder: Path | None = None
+    command: list[str], output: int | IO[bytes], folder: Path | None = None, gives_way: bool = False
 ) -> Iterator[subprocess.Popen[bytes]]:
-    """Runs a command beside the block, in this folder or at the top. Whatever it started ends with the block."""
+    """Runs a command beside the block, in this folder or at the top. Whatever it started ends with the block. One that
+    gives way leaves the processors to the others.
+    """
+    nice = ["nice", "-n", str(NICENESS)] if gives_way else []
     with subprocess.Popen(
-        command,
+        [*nice, *command],
         cwd=folder or TOP,
         stdin=subprocess.DEVNULL,
         stdout=output,
@@ -101,20 +107,17 @@ def started(
         start_new_session=True,
     ) as process:
         try:
+            if gives_way:
+                lower(process.pid)
             yield process
         finally:
             with contextlib.suppress(ProcessLookupError):
                 os.killpg(process.pid, signal.SIGKILL)
 
 
-def run(command: list[str], gives_way: bool = False, folder: Path | None = None) -> Ran:
-    """Runs a command, and shows its output as it comes. Whatever it started ends with it. One that gives way leaves the
-    processors to the others.
-    """
-    nice = ["nice", "-n", str(NICENESS)] if gives_way else []
-    with started([*nice, *command], subprocess.PIPE, folder) as process:
-        if gives_way:
-            lower(process.pid)
+def run(command: list[str], folder: Path | None = None) -> Ran:
+    """Runs a command, and shows its output as it comes. Whatever it started ends with it."""
+    with started(command, subprocess.PIPE, folder) as process:
         assert process.stdout is not None
         output = bytearray()
         while part := os.read(process.stdout.fileno(), 1 << 16):
@@ -219,6 +222,11 @@ def name_of(failure: str) -> str:
     return name if name and "]" not in group else failure
 
 
+def few(result: Result) -> bool:
+    """Whether some tests failed, and so few that each is worth another try."""
+    return 0 < len(result.failures) <= FEW and all(test_of(TOP, it) for it in result.failures)
+
+
 def test_of(top: Path, failure: str) -> str | None:
     """What pytest calls the test of this name in a report, or None if it is no test's name."""
     classes, _, name = name_of(failure).partition("::")
@@ -252,34 +260,43 @@ class Tests:
             self._by_the_clock = self._begin_by_the_clock()
         # More tests than there are processors: many wait most of their time, and fewer with the race detector.
         many = os.environ.get("PYTEST_XDIST_AUTO_NUM_WORKERS") or str(self._processors + (1 if self._whole else 3))
-        line = self._line("others", "-n", many, "-m", self._marked("not alone"))
-        return by_report(run(line, gives_way=True), self._report("others"))
+        process = self._begin("others", "-n", many, "-m", self._marked("not alone"), gives_way=True)
+        result = self._end("others", process, may_fail=True)
+        if result.failures and self._by_the_clock:
+            self._by_the_clock.wait()
+        return self._tried_again(result, fails=True)
 
     def by_the_clock(self) -> Result:
-        """Waits for those that go by the clock, or runs them. Then it tries those that failed again, one by one."""
-        result = self._end_by_the_clock(self._by_the_clock or self._begin_by_the_clock(), may_fail=True)
-        for turn in range(2, TRIES + 1):
-            tests = [test_of(TOP, it) for it in result.failures]
-            if not tests or None in tests:
-                return result
-            process = self._begin("alone", "-n", "0", *filter(None, tests))
-            again = self._end_by_the_clock(process, may_fail=turn < TRIES or not self._clock_decides)
-            late = [name_of(it) for it in result.failures if name_of(it) not in map(name_of, again.failures)]
-            result = Result(result.passed + again.passed, again.failures, result.skips, [*result.late, *late])
-        if self._clock_decides:
+        """Waits for those that go by the clock, or runs them."""
+        process = self._by_the_clock or self._begin_by_the_clock()
+        result = self._tried_again(self._end("alone", process, may_fail=True), fails=self._clock_decides)
+        if self._clock_decides or not few(result):
             return result
         skips = [f"{name_of(it)}: it goes by the clock, and failed {TRIES} times" for it in result.failures]
         return Result(result.passed, [], [*result.skips, *skips], result.late)
 
+    def _tried_again(self, result: Result, fails: bool) -> Result:
+        """Tries the tests that failed again, one by one, with nothing beside them, if they are few. Unless those that
+        fail each time fail the gate, their output is marked.
+        """
+        for turn in range(2, TRIES + 1):
+            if not few(result):
+                return result
+            process = self._begin("again", "-n", "0", *[test_of(TOP, it) or it for it in result.failures])
+            again = self._end("again", process, may_fail=turn < TRIES or not fails)
+            late = [name_of(it) for it in result.failures if name_of(it) not in map(name_of, again.failures)]
+            result = Result(result.passed + again.passed, again.failures, result.skips, [*result.late, *late])
+        return result
+
     def _begin_by_the_clock(self) -> subprocess.Popen[bytes]:
         return self._begin("alone", "-n", "2" if self._processors >= 4 else "1", "-m", self._marked("alone"))
 
-    def _end_by_the_clock(self, process: subprocess.Popen[bytes], may_fail: bool) -> Result:
-        """Waits for a run, and shows its output. If it may fail, and does, the lines at its end are marked: it fails
-        nothing.
+    def _end(self, name: str, process: subprocess.Popen[bytes], may_fail: bool) -> Result:
+        """Waits for a run, and shows its output. If it may fail, and few tests do, the lines at its end are marked: it
+        fails nothing.
         """
         text, shown, status = b"", 0, None
-        with open(self._folder / "alone", "rb") as output:
+        with open(self._folder / name, "rb") as output:
             while status is None:
                 with contextlib.suppress(subprocess.TimeoutExpired):
                     status = process.wait(0.2)
@@ -287,22 +304,20 @@ class Tests:
                 end = match.start() if (match := END.search(text)) else len(text)
                 show(text[shown:end])
                 shown = max(shown, end)
-        result = by_report(Ran(status, []), self._report("alone"))
+        result = by_report(Ran(status, []), self._report(name))
         lines = text[shown:].splitlines(keepends=True)
-        show(b"".join(b"| " + line if may_fail and result.failures else line for line in lines))
+        show(b"".join(b"| " + line if may_fail and few(result) else line for line in lines))
         return result
 
-    def _begin(self, name: str, *options: str) -> subprocess.Popen[bytes]:
+    def _begin(self, name: str, *options: str, gives_way: bool = False) -> subprocess.Popen[bytes]:
         output = self._stack.enter_context(open(self._folder / name, "wb"))
-        return self._stack.enter_context(started(self._line(name, *options), output))
+        report = f"--junitxml={self._report(name)}"
+        command = [self._python, "-m", "pytest", "-q", "--dist", "loadgroup", report, *options]
+        return self._stack.enter_context(started(command, output, gives_way=gives_way))
 
     def _marked(self, these: str) -> str:
         """The expression for these tests."""
         return these if self._whole else f"{these} and not whole"
-
-    def _line(self, name: str, *options: str) -> list[str]:
-        report = f"--junitxml={self._report(name)}"
-        return [self._python, "-m", "pytest", "-q", "--dist", "loadgroup", report, *options]
 
     def _report(self, name: str) -> Path:
         return self._folder / f"{name}.xml"

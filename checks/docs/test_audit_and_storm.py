@@ -179,7 +179,11 @@ def test_conform(texts: list[str], workdir: Workdir, port: int) -> None:
 
 
 AUDITED = re.compile("^[1-9][0-9]* instances?, [0-9,]+ events, 0 differences$", re.MULTILINE)
-SHORT = "--seconds 1", "--instances 5", "--request-seconds 0.5", "--late-seconds 0.8", "--poll-seconds 0.1", "--seed=1"
+# Few requests are sent in a second on a busy machine. Nearly all have a fault, since a storm without one reports that.
+SHORT = (
+    *("--seconds 1", "--instances 5", "--request-seconds 0.5", "--late-seconds 0.8", "--poll-seconds 0.1", "--seed=1"),
+    "--fault-percent 90",
+)
 RESTART = """#!/bin/sh
 kill -KILL "$(cat pid)"
 %s 2>>log &

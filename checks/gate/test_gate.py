@@ -326,9 +326,8 @@ def counts(repository: Repository, monkeypatch: pytest.MonkeyPatch, processors: 
 
 FAILS = """
 import pathlib, pytest
-from os import environ
 
-pytestmark = [pytest.mark.alone, pytest.mark.xdist_group("clock")]
+pytestmark = [pytest.mark.{mark}, pytest.mark.xdist_group("clock")]
 
 @pytest.mark.parametrize("times", [0, {times}], ids=["never", "a@b"])
 def test_clock(times):
@@ -339,13 +338,15 @@ def test_clock(times):
 
 
 @pytest.mark.slow
-def test_clock_that_fails_once_is_tried_again(repository: Repository) -> None:
+@pytest.mark.parametrize("mark, step", [("alone", "alone"), ("slow", "'not alone'")])
+def test_a_test_that_fails_once_is_tried_again(repository: Repository, mark: str, step: str) -> None:
     """It counts as passed then, and is named. No line of the failure looks like one of a test that failed."""
-    (repository.top / "test_alone.py").write_text(FAILS.format(times=1))
-    assert repository.check("--tests") == (0, "3 passed, 0 failed, 0 skipped", [])
-    assert repository.report[-1] == "pytest -m alone: test_alone::test_clock[a@b] passed when it was tried again"
+    (repository.top / f"test_{mark}.py").write_text(FAILS.format(mark=mark, times=1))
+    status, last, _ = repository.check("--tests")
+    assert (status, last) == (0, f"{3 if mark == 'alone' else 4} passed, 0 failed, 0 skipped")
+    assert f"pytest -m {step}: test_{mark}::test_clock[a@b] passed when it was tried again" in repository.report
     assert [len((repository.top / name).read_text()) for name in ("tries0", "tries1")] == [1, 2]
-    assert "\n| FAILED test_alone.py::test_clock[a@b]@clock" in repository.output
+    assert f"\n| FAILED test_{mark}.py::test_clock[a@b]@clock" in repository.output
     assert "\nFAILED" not in repository.output
 
 
@@ -353,7 +354,7 @@ def test_clock_that_fails_once_is_tried_again(repository: Repository) -> None:
 @pytest.mark.parametrize("options", [[], ["--tests"], ["--anew"]])
 def test_clock_that_always_fails(repository: Repository, options: list[str]) -> None:
     """It decides nothing where a slow machine could, and is named there."""
-    (repository.top / "test_alone.py").write_text(FAILS.format(times=9))
+    (repository.top / "test_alone.py").write_text(FAILS.format(mark="alone", times=9))
     status, _, lines = repository.check(*options)
     name = "test_alone::test_clock[a@b]"
     if options:
@@ -363,6 +364,29 @@ def test_clock_that_always_fails(repository: Repository, options: list[str]) -> 
         assert (status, lines) == (0, [f"skipped: {name}: it goes by the clock, and failed 3 times"])
         assert "\nFAILED" not in repository.output
     assert [len((repository.top / name).read_text()) for name in ("tries0", "tries9")] == [1, 3]
+
+
+@pytest.mark.slow
+@pytest.mark.parametrize("options", [[], ["--tests"], ["--anew"]])
+def test_another_test_that_always_fails(repository: Repository, options: list[str]) -> None:
+    """Three failures are a failure."""
+    (repository.top / "test_slow.py").write_text(FAILS.format(mark="slow", times=9))
+    status, _, lines = repository.check(*options)
+    assert (status, lines) == (1, ["FAILED: pytest -m 'not alone': test_slow::test_clock[a@b]"])
+    assert "\nFAILED test_slow.py::test_clock[a@b] " in repository.output
+    assert [len((repository.top / name).read_text()) for name in ("tries0", "tries9")] == [1, 3]
+
+
+@pytest.mark.slow
+@pytest.mark.parametrize("many, tries", [(5, 2), (6, 1)])
+def test_many_failures_are_not_tried_again(repository: Repository, many: int, tries: int) -> None:
+    text = FAILS.format(mark="slow", times=1).replace("[0, 1]", str([1] * many)).replace(', ids=["never", "a@b"]', "")
+    text = text.replace('f"tries{times}"', 'f"tries-{request.node.name}"').replace("(times)", "(request, times)")
+    (repository.top / "test_slow.py").write_text(text)
+    assert repository.check("--tests")[0] == (0 if tries == 2 else 1)
+    assert ("\nFAILED test_slow.py::" in repository.output) == (tries == 1)
+    found = [len(it.read_text()) for it in repository.top.glob("tries-*")]
+    assert found == [tries] * many
 
 
 @pytest.mark.slow
