@@ -234,6 +234,46 @@ def test_a_journal_under_two_names(audit: Audit, tmp_path: Path) -> None:
     assert ran == Ran(78, "", f"osb-audit: {platform}: line 1: {platform}.gz, line 1 {why}\n")
 
 
+# ---- journals of version 0.3
+
+OF_03 = Path(__file__).with_name("journals-0.3")
+"""What osb-broker and osb-platform 0.3.0 wrote while an instance and a binding of it were created and deleted."""
+
+
+def lines_of_03() -> list[str]:
+    """Those of the broker."""
+    return gzip.decompress((OF_03 / "broker.jsonl.gz").read_bytes()).decode().splitlines(keepends=True)
+
+
+@pytest.mark.parametrize("visit, right, wrong", [(2, "200-in-progress", "410"), (4, "201", "200"), (6, "202", "200")])
+def test_journals_of_03(audit: Audit, tmp_path: Path, visit: int, right: str, wrong: str) -> None:
+    """They are judged to their end, and a wrong answer in them is found."""
+    assert audit(OF_03, options=TEXT) == Ran(0, "1 instance, 38 events, 0 differences\n", "")
+    lines = lines_of_03()
+    answer = next(at for at, it in enumerate(lines) if f'"answered","visit":{visit},' in it)
+    lines[answer] = lines[answer].replace(f'"status":{right[:3]}', f'"status":{wrong}')
+    (tmp_path / "broker.jsonl").write_text("".join(lines))
+    ran = audit(tmp_path / "broker.jsonl", OF_03 / "platform.jsonl.gz")
+    found = [(it["model"], it["journal"].split("-")[0]) for it in ran.report["differences"]]
+    assert (ran.status, ran.err, found) == (1, "", [(f"answer {right}", f"answer {wrong}")])
+
+
+@pytest.mark.parametrize("locks, differences", [("", 0), ("true", 0), ("false", 1)])
+def test_two_workers_of_03(audit: Audit, tmp_path: Path, locks: str, differences: int) -> None:
+    """Version 0.3 doesn't write whether locks can be lost, so two workers at once may have broken no rule."""
+    lines = lines_of_03()
+    assert not [it for it in lines if "locks_can_be_lost" in it or "committed" in it]
+    if locks:
+        lines[0] = lines[0].replace('"plans"', f'"locks_can_be_lost":{locks},"plans"')
+    begun = next(at for at, it in enumerate(lines) if '"call":"create","stage":"begun"' in it)
+    moment, process = (json.loads(lines[begun])[it] for it in ("time", "process"))
+    other = [lines[0], *(at(it.encode(), moment + 1).decode() for it in lines[begun : begun + 2])]
+    (tmp_path / "one.jsonl").write_text("".join(lines))
+    (tmp_path / "two.jsonl").write_text("".join(other).replace(process, process[::-1]))
+    ran = audit(tmp_path, OF_03 / "platform.jsonl.gz")
+    assert (ran.status, ran.err, len(ran.report["differences"])) == (differences, "", differences)
+
+
 # ---- the form of a line
 
 
