@@ -277,21 +277,22 @@ func TestConnectionsOfAnAddress(t *testing.T) {
 		c.until("GET /a ;")
 		return c
 	}
+	isRejected := func() bool {
+		further := from(t, "127.0.0.1", listener)
+		_, _ = io.WriteString(further, whole) // it may be closed already
+		return further.isClosed()
+	}
 	first, _ := ask(from(t, "127.0.0.1", listener)), ask(from(t, "127.0.0.1", listener))
 	for count := 0; count < 3; count++ {
-		if !from(t, "127.0.0.1", listener).isClosed() {
-			t.Fatal("the third connection of an address: got it open, want it closed")
+		if !isRejected() {
+			t.Fatal("the third connection of an address: got an answer, want it closed")
 		}
 	}
 	ask(from(t, "127.0.0.2", listener))
 	want := []string{"address_at_limit: 127.0.0.1/32 has 2 connections, and gets no further one"}
 	diff.Check(t, observer.events(), want, "the events")
 	first.Close()
-	waitUntil(t, "one more is served", func() bool {
-		next := from(t, "127.0.0.1", listener)
-		_, _ = io.WriteString(next, whole) // it may be closed already
-		return !next.isClosed()
-	})
+	waitUntil(t, "one more is served", func() bool { return !isRejected() })
 }
 
 func TestAddressesAreForgotten(t *testing.T) {
