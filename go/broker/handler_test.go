@@ -879,6 +879,8 @@ func TestSlowBodiesOfAnotherUser(t *testing.T) {
 			s := twoUsers(t)
 			s.SetBudgets(test.bodies, 1000)
 			s.slowly(t, test.count, test.read)
+			for s.TakeBody("u", 1000) { // all that the user may have, also if not all bodies have arrived
+			}
 			status := make(chan int, 1)
 			go func() {
 				given, _ := s.ask("PUT", instances+"i", bodyOf(now, ""), asOther)

@@ -25,6 +25,9 @@ func (h *Handler) SetBudgets(bodies, parsed int) {
 	h.bodies, h.parsed = budget.New(bodies), budget.New(parsed)
 }
 
+// TakeBody takes bytes of the bodies that a user may have in memory, as a request does while its body is read.
+func (h *Handler) TakeBody(user string, bytes int) bool { return h.bodies.Take(user, bytes, 0) }
+
 // Parse takes bytes of the bodies that a user may have parsed at once, as a request does while its body is parsed.
 func (h *Handler) Parse(user string, bytes int) bool { return h.parsed.Take(user, bytes, 0) }
 
