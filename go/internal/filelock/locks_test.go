@@ -119,6 +119,60 @@ func TestOpenFileIsUsedAgain(t *testing.T) {
 	}
 }
 
+// Of the open files of locks that have ended, mostSpare are kept, and the others are closed: no Unlock waits.
+func TestMostOpenFilesAreKept(t *testing.T) {
+	locks := newLocks(t, filepath.Join(t.TempDir(), "locks"))
+	before, taken := openFiles(t), []*Lock{}
+	for n := 0; n < mostSpare+2; n++ {
+		taken = append(taken, mustLock(t, locks, fmt.Sprint("key ", n)))
+	}
+	unlocked := make(chan struct{})
+	go func() {
+		defer close(unlocked)
+		for _, lock := range taken {
+			lock.Unlock()
+		}
+	}()
+	select {
+	case <-unlocked:
+	case <-time.After(10 * time.Second):
+		t.Fatal("got an Unlock that waits, want none")
+	}
+	if kept := openFiles(t) - before; kept != mostSpare {
+		t.Errorf("got %d open files kept, want %d", kept, mostSpare)
+	}
+}
+
+// A turns context calls with the number of each look at its end, which Lock takes before each of its tries.
+type turns struct {
+	context.Context
+	count int
+	call  func(turn int)
+}
+
+func (t *turns) Err() error {
+	t.count++
+	t.call(t.count)
+	return t.Context.Err()
+}
+
+// Whoever has waited for a lock for some time gets it soon after it is free: the pauses don't grow without an end.
+func TestLockIsTakenSoonAfterALongWait(t *testing.T) {
+	locks := newLocks(t, filepath.Join(t.TempDir(), "locks"))
+	held := mustLock(t, locks, one)
+	ctx, cancel := context.WithTimeout(context.Background(), 10*time.Second)
+	defer cancel()
+	lock, err := locks.Lock(&turns{Context: ctx, call: func(turn int) {
+		if turn == 9 { // the pauses before are 1, 2, 4, 8 and 16 ms, and then the longest one
+			held.Unlock()
+		}
+	}}, one)
+	if err != nil {
+		t.Fatalf("got %v, want the lock", err)
+	}
+	lock.Unlock()
+}
+
 func TestLockWaitsUntilItsContextIsDone(t *testing.T) {
 	locks := newLocks(t, filepath.Join(t.TempDir(), "locks"))
 	lock := mustLock(t, locks, one)
