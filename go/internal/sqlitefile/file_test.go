@@ -231,6 +231,42 @@ func TestTransactionFails(t *testing.T) {
 	}
 }
 
+// A call whose transaction was rolled back returns ErrBroken, and not that the commit is unknown, also if it has no error
+// of its own. Nothing is written, and neither is what it would write after that, without a transaction.
+func TestRolledBack(t *testing.T) {
+	ends := func(n *notes) error { return first(note("lost")(n), n.Exec("ROLLBACK")) }
+	undoing := func(n *notes) error { return n.Undoing(func() error { return ends(n) }) }
+	goesOn := func(n *notes) error {
+		return first(ends(n), n.Undoing(func() error { return note("alone")(n) }))
+	}
+	transaction := func(n *notes) error { return n.Transaction(background, func() error { return ends(n) }) }
+	for _, test := range []struct {
+		name         string
+		oneStatement bool
+		call         func(*File[*notes]) error
+	}{
+		{"Write", false, func(file *File[*notes]) error { return file.Write(background, ends) }},
+		{"Write of one statement", true, func(file *File[*notes]) error { return file.Write(background, ends) }},
+		{"Undoing in a Write", false, func(file *File[*notes]) error { return file.Write(background, undoing) }},
+		{"Undoing after the end", false, func(file *File[*notes]) error { return file.Write(background, goesOn) }},
+		{"Transaction", false, func(file *File[*notes]) error { return file.Read(background, transaction) }},
+	} {
+		t.Run(test.name, func(t *testing.T) {
+			with := options()
+			with.OneStatement = test.oneStatement
+			file := open(t, filepath.Join(t.TempDir(), "file"), with)
+			if err := test.call(file); !errors.Is(err, ErrBroken) || errors.Is(err, ErrUnknownCommit) {
+				t.Errorf("got %v, want %v alone", err, ErrBroken)
+			}
+			wantNotes(t, file)
+			if err := file.Write(background, note("next")); err != nil {
+				t.Errorf("the next write: got %v, want nil", err)
+			}
+			wantNotes(t, file, "next")
+		})
+	}
+}
+
 // A Transaction that fails or panics leaves no transaction open, so that it keeps no lock, and writes nothing.
 func TestTransactionThatFails(t *testing.T) {
 	file := open(t, filepath.Join(t.TempDir(), "file"), options())
@@ -535,6 +571,21 @@ func TestPatiently(t *testing.T) {
 	calls = 0
 	if err := Patiently(ending, busy(1e9)); !errors.Is(err, context.DeadlineExceeded) || calls < 2 {
 		t.Errorf("got %v after %d calls, want %v after at least 2", err, calls, context.DeadlineExceeded)
+	}
+}
+
+// A call that another process is in the way of for half a minute fails with ErrBusy.
+func TestPatientlyForLong(t *testing.T) {
+	if testing.Short() {
+		t.Skip("it takes half a minute")
+	}
+	t.Parallel() // it only waits
+	ending, cancel := context.WithTimeout(background, 3*wait)
+	defer cancel()
+	begun := time.Now()
+	err := Patiently(ending, func() error { return sqlite3.Error{Code: sqlite3.ErrBusy} })
+	if took := time.Since(begun); !errors.Is(err, ErrBusy) || took < wait {
+		t.Errorf("got %v after %v, want %v after %v", err, took, ErrBusy, wait)
 	}
 }
 
