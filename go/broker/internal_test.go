@@ -147,6 +147,21 @@ func TestOfStore(t *testing.T) {
 	}
 }
 
+// The body of an answer in words of this package is written once.
+func TestBodiesAreWrittenOnce(t *testing.T) {
+	h := &Handler{}
+	for _, sentence := range []string{"", "It can't be done now."} {
+		it := wording{osb.Answer{Status: 500, Body: osb.BodyOtherError}, sentence}
+		first, err := h.wordingBody(it)
+		if err != nil || !strings.Contains(string(first), sentence) {
+			t.Fatalf("got %s and %v, want an error with %q", first, err, sentence)
+		}
+		if second, err := h.wordingBody(it); err != nil || &second[0] != &first[0] {
+			t.Errorf("%q once more: got %s and %v, want the body that was written before", sentence, second, err)
+		}
+	}
+}
+
 // The pauses double up to the longest, less a random part of at most a half.
 func TestPauses(t *testing.T) {
 	s := newSetbacks(time.Second, 10*time.Second)

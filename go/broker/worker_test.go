@@ -22,6 +22,7 @@ type scriptedBackend struct {
 	made, deleted broker.There // what exists after such a call
 	failure       error        // of such a call
 	blindness     error        // of each Look
+	blinded       error        // of each Look after such a call
 	calls         []string
 	looks         int
 }
@@ -34,12 +35,12 @@ func (s *scriptedBackend) Look(context.Context, broker.Request) (broker.There, e
 func (s *scriptedBackend) Sync(context.Context, broker.Request) error { return nil }
 
 func (s *scriptedBackend) Create(context.Context, broker.Request) error {
-	s.calls, s.there = append(s.calls, "create"), s.made
+	s.calls, s.there, s.blindness = append(s.calls, "create"), s.made, s.blinded
 	return s.failure
 }
 
 func (s *scriptedBackend) Delete(context.Context, broker.Request) error {
-	s.calls, s.there = append(s.calls, "delete"), s.deleted
+	s.calls, s.there, s.blindness = append(s.calls, "delete"), s.deleted, s.blinded
 	return s.failure
 }
 
@@ -68,7 +69,7 @@ const (
 	whole = broker.Whole
 )
 
-var errScripted = errors.New("it failed")
+var errScripted, errBlinded = errors.New("it failed"), errors.New("it can't be seen any more")
 
 type script struct {
 	name    string
@@ -89,6 +90,9 @@ var creations = []script{
 	{"a part can't be deleted", scriptedBackend{made: part, deleted: part, failure: errScripted}, pending,
 		[]string{"create", "delete"}, part},
 	{"it can't be seen", scriptedBackend{blindness: errScripted}, pending, nil, none},
+	{"it can't be seen any more", scriptedBackend{made: whole, blinded: errBlinded}, pending, []string{"create"}, whole},
+	{"it fails, and can't be seen any more", scriptedBackend{made: part, failure: errScripted, blinded: errBlinded},
+		pending, []string{"create"}, part},
 }
 
 var deletions = []script{
@@ -103,6 +107,7 @@ var deletions = []script{
 	{"a part is left, with an error", scriptedBackend{there: whole, deleted: part, failure: errScripted}, pending,
 		[]string{"delete"}, part},
 	{"it can't be seen", scriptedBackend{there: whole, blindness: errScripted}, pending, nil, whole},
+	{"it can't be seen any more", scriptedBackend{there: whole, blinded: errBlinded}, pending, []string{"delete"}, none},
 }
 
 // A lone broker has one backend, and no sweeper.
@@ -198,11 +203,20 @@ func (l *lone) operates(t *testing.T, it script, key broker.Key, succeeded strin
 	if len(l.backend.calls) > 0 {
 		t.Errorf("got %v called before the operation is recorded, want none", l.backend.calls)
 	}
+	before := len(l.observed.finished)
 	err := l.TakeUp(context.Background(), key)
 	isUnknown := errors.Is(err, broker.ErrNobodyKnows)
 	if isUnknown != (it.outcome == pending) || !isUnknown && err != nil {
 		t.Errorf("got %v, want it unknown exactly while it is pending", err)
 	}
+	if blinded := it.backend.blinded; blinded != nil && (err == nil || !strings.Contains(err.Error(), blinded.Error())) {
+		t.Errorf("got %v, want %v in it", err, blinded)
+	}
+	ends := []operationEnd{}
+	if it.outcome != pending {
+		ends = append(ends, operationEnd{key, it.outcome == done})
+	}
+	diff.Check(t, append([]operationEnd{}, l.observed.finished[before:]...), ends, "the ends that are reported")
 	l.follows(t, it)
 	given := l.ask("GET", instances+"i/last_operation", "")
 	var poll struct{ State string }
@@ -216,6 +230,47 @@ func (l *lone) operates(t *testing.T, it script, key broker.Key, succeeded strin
 	}
 	if given.status != 200 || poll.State != state {
 		t.Errorf("got %d %s, want %s", given.status, given.body, state)
+	}
+}
+
+// A scribe is a Journal that keeps the answers.
+type scribe struct{ given []broker.Response }
+
+func (s *scribe) OnArrival(ctx context.Context, _ *http.Request, _ string, _ broker.Visit) context.Context {
+	return ctx
+}
+
+func (s *scribe) OnAnswer(_ context.Context, _ http.Header, given broker.Response) {
+	s.given = append(s.given, given)
+}
+
+// A Journal gets each answer as it leaves, with the object of a binding. That of a request that has failed is an error.
+func TestAnswersOfAJournal(t *testing.T) {
+	l, journal := newLone(t), &scribe{}
+	l.handler.Journal = journal
+	one := instances + "i"
+	for _, it := range []struct {
+		method, target, body string
+		blindness            error
+		want                 osb.Answer
+		object               string
+	}{
+		{"PUT", one, bodyOf(now, ""), nil, osb.Answer{Status: 201, Body: osb.BodyEmpty}, ""},
+		{"PUT", one + "/service_bindings/b", bodyOf(now, ""), nil, osb.Answer{Status: 201, Body: osb.BodyEmpty},
+			`{"credentials":"new"}`},
+		{"PUT", instances + "j" + query, bodyOf(later, ""), nil, osb.Answer{Status: 202, Body: osb.BodyEmpty}, ""},
+		{"GET", instances + "j/last_operation", "", nil, osb.Answer{Status: 200, Body: osb.BodyInProgress}, ""},
+		{"PUT", instances + "k", bodyOf(later, ""), nil, osb.Answer{Status: 422, Body: osb.BodyAsyncRequired}, ""},
+		{"PUT", instances + "l", bodyOf(now, ""), errScripted, osb.Answer{Status: 500, Body: osb.BodyOtherError}, ""},
+	} {
+		t.Run(it.method+" "+it.target, func(t *testing.T) {
+			l.backend.there, l.backend.blindness = none, it.blindness
+			l.expect(t, int(it.want.Status), it.method, it.target, it.body)
+			given := journal.given[len(journal.given)-1]
+			if given.Answer != it.want || string(given.Binding) != it.object {
+				t.Errorf("got %+v with %s, want %+v with %s", given.Answer, given.Binding, it.want, it.object)
+			}
+		})
 	}
 }
 
