@@ -8,6 +8,7 @@ import (
 	"sync"
 	"sync/atomic"
 	"testing"
+	"time"
 
 	"pippinterm/broker"
 	"pippinterm/internal/diff"
@@ -115,10 +116,11 @@ func TestOneCallForAllWhoWait(t *testing.T) {
 		t.Errorf("the first call: got %v, want no error", err)
 	}
 	<-s.begun
+	time.Sleep(20 * time.Millisecond) // whoever doesn't wait for the end of the call returns meanwhile
 	for n, returned := range late {
 		select {
 		case err := <-returned:
-			t.Errorf("%d: got %v of a call that had begun before, want it to wait", n, err)
+			t.Fatalf("%d: got %v before the end of a call that began after it, want it to wait", n, err)
 		default:
 		}
 	}
