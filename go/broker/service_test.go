@@ -560,6 +560,21 @@ func TestARequestWaitsTenSecondsForALock(t *testing.T) {
 	}
 }
 
+// Locks that are left are taken at first, and free for whoever waits.
+type leftLocks struct{ *memoryLocks }
+
+func (leftLocks) TryLock(context.Context, broker.Key) (broker.Lock, error) { return nil, nil }
+
+// A request whose lock somebody else has does its work once it has the lock.
+func TestARequestThatWaitsForItsLock(t *testing.T) {
+	b := newBench(t, newShelf(calm), leftLocks{newMemoryLocks()})
+	create := provision(now)
+	given, err := b.Handle(context.Background(), create)
+	if err != nil || given.Status != 201 || b.isPending(t, create.Key) {
+		t.Errorf("got %+v and the error %v, want 201 and nothing pending", given, err)
+	}
+}
+
 // check ends the test at an error.
 func check(t testing.TB, err error) {
 	t.Helper()
