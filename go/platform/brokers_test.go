@@ -221,6 +221,52 @@ func TestRunUnreachable(t *testing.T) {
 	p.until("the next try", func() bool { return p.countIn(Ready) == 2 })
 }
 
+// An answer over another store costs what is in flight. Nothing more is sent until the catalogue is that of the recorded
+// store. An answer of a proxy that the broker can't be reached says nothing about the store.
+func TestRunAtAnotherStore(t *testing.T) {
+	another := Broker{Name: "shelf", Store: "one"}.CheckStore([]string{"two"})
+	for _, status := range []int{200, 410, 502} {
+		t.Run(fmt.Sprint(status), func(t *testing.T) {
+			p := newPlant(t, Options{})
+			isOther, sent := &atomic.Bool{}, &atomic.Int32{}
+			usual := p.line.exchange
+			p.line.exchange = func(ctx context.Context, out Outgoing) Incoming {
+				if sent.Add(1); isOther.Load() {
+					return Incoming{Status: status, Lost: another}
+				}
+				return usual(ctx, out)
+			}
+			p.line.catalogue = func(Broker) (string, int, error) {
+				if isOther.Load() && status < 500 {
+					return "", 200, another
+				}
+				return sold, 200, nil
+			}
+			p.start(background)
+			p.until("the catalogue", p.hasCatalogue)
+			isOther.Store(true)
+			first := p.create(NewInstance{})
+			p.untilState(first, Cleaning)
+			if isLost := p.hasFailed("other_store") > 0; isLost != (status < 500) {
+				t.Errorf("got it reported %t, want %t", isLost, status < 500)
+			}
+			if status >= 500 {
+				p.until("a further request", func() bool { return sent.Load() > 1 })
+				return
+			}
+			later := p.create(NewInstance{})
+			time.Sleep(30 * time.Millisecond)
+			if sent.Load() != 1 {
+				t.Fatalf("got %d requests sent, want 1", sent.Load())
+			}
+			isOther.Store(false)
+			if e := p.untilState(later, Ready); e.Try != 1 {
+				t.Errorf("what was ordered meanwhile: got it ready at try %d, want 1", e.Try)
+			}
+		})
+	}
+}
+
 // refuses has the broker answer this status to everything while isRefusing, and counts the requests.
 func (p *plant) refuses(status int) (isRefusing *atomic.Bool, sent *atomic.Int32) {
 	isRefusing, sent = &atomic.Bool{}, &atomic.Int32{}
