@@ -624,6 +624,20 @@ func TestAnswerInDoubt(t *testing.T) {
 	}
 }
 
+// The rest after a failure doubles up to the longest one, and begins anew after a success.
+func TestBackOff(t *testing.T) {
+	rest := backOff{first: 300 * time.Millisecond}
+	for n, want := range []time.Duration{300, 600, 1000, 1000} {
+		if got := rest.next(); got != want*time.Millisecond {
+			t.Errorf("the rest %d: got %v, want %v", n+1, got, want*time.Millisecond)
+		}
+	}
+	rest.end()
+	if got := rest.next(); got != rest.first {
+		t.Errorf("after a success: got %v, want %v", got, rest.first)
+	}
+}
+
 // While nothing can be written, the worker rests longer and longer, and one line says why. Nothing is sent, and nothing
 // is reported. Once something can be written, all orders go on.
 func TestWritesFail(t *testing.T) {

@@ -82,6 +82,17 @@ func TestCreate(t *testing.T) {
 	diff.Check(t, e.Order, want, "the order")
 }
 
+// An order counts since now, to the millisecond: databases keep no more.
+func TestSinceOfAnOrder(t *testing.T) {
+	d := newDesk(t)
+	d.dial.forward(987654321 * time.Nanosecond)
+	e, err := d.orders.Create(background, NewInstance{Service: "shelf", Plan: "later"})
+	check(t, err)
+	if want := d.dial.time().Truncate(time.Millisecond); !e.Since.Equal(want) || !e.Due.Equal(want) {
+		t.Errorf("got it ordered at %v and due at %v, want both at %v", e.Since, e.Due, want)
+	}
+}
+
 func TestCreateNamed(t *testing.T) {
 	d := newDesk(t)
 	identity := longIdentity("six")

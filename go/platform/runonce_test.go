@@ -257,7 +257,7 @@ func TestRunOnceOverAShyStore(t *testing.T) {
 		state  State
 		atMost time.Duration
 	}{
-		{"once", shy{claims: 1}, nil, Ready, patience},
+		{"once", shy{claims: 1}, nil, Ready, 8 * time.Second},
 		{"always", shy{claims: 1 << 30}, ErrLocked, Ordered, patience},
 		{"beside a busy worker", shy{claims: 1 << 30, isBusy: true}, nil, Ordered, patience},
 	} {
@@ -279,6 +279,46 @@ func TestRunOnceOverAShyStore(t *testing.T) {
 				t.Errorf("got %s (%v), want %s", e.State, err, test.state)
 			}
 		})
+	}
+}
+
+// A locking store passes over all rows after each row that is claimed, until it is asked when the next one is due.
+type locking struct {
+	*memory
+	isFree bool
+	looks  int
+	rest   time.Duration // before the answer to the second such question
+}
+
+func (l *locking) Claim(ctx context.Context, brokers []string, most int, step Step) ([]ClaimedRow, error) {
+	if !l.isFree {
+		return nil, nil
+	}
+	l.isFree = false
+	return l.memory.Claim(ctx, brokers, most, step)
+}
+
+func (l *locking) NextDue(ctx context.Context, brokers []string) (due, now time.Time, err error) {
+	if len(brokers) > 0 {
+		if l.looks++; l.looks == 2 {
+			time.Sleep(l.rest)
+		}
+		l.isFree = true
+	}
+	return l.memory.NextDue(ctx, brokers)
+}
+
+// A row that others have locked is waited for as long as an exchange may last, however long ago another row was.
+func TestRunOnceBesideLocksOneAfterTheOther(t *testing.T) {
+	p := newPlant(t, Options{Exchange: time.Second, AtOnce: 1})
+	check(t, p.engine.RunOnce(background)) // it has the catalogue
+	keys := []Key{p.create(NewInstance{}), p.create(NewInstance{})}
+	p.engine.store = &locking{memory: p.store, rest: 1100 * time.Millisecond}
+	check(t, p.engine.RunOnce(background))
+	for _, key := range keys {
+		if e, err := p.store.Read(background, key); err != nil || e.State != Ready {
+			t.Errorf("%v: got %s (%v), want %s", key, e.State, err, Ready)
+		}
 	}
 }
 

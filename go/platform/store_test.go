@@ -399,6 +399,9 @@ func TestParseKey(t *testing.T) {
 			if got, err := ParseKey(text); err != nil || got != want {
 				t.Errorf("got %v, %v, want %v", got, err, want)
 			}
+			if got := want.String(); got != text { // with another text, nobody could open the credentials in the store
+				t.Errorf("the text: got %s, want %s", got, text)
+			}
 		})
 	}
 	for _, text := range []string{"", "/", "a/", "/b", "\xff", "a/\xff", strings.Repeat("a", 256)} {
