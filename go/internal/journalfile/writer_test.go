@@ -451,6 +451,36 @@ func TestDiskHangs(t *testing.T) {
 	}
 }
 
+// Of lines that are written at once to a disk that hangs, none waits for another one.
+func TestLinesAtOnceWhileTheDiskHangs(t *testing.T) {
+	const count = 8
+	w, err := Open(Options{Path: filepath.Join(t.TempDir(), "journal"), Side: "broker", Most: 1 << 30, Failed: func(error) {}})
+	check(t, err)
+	disk, read := full(t)
+	w.patience, w.file = 50*time.Millisecond, disk
+	written := make(chan struct{}, count)
+	for n := 1; n <= count; n++ {
+		n := n
+		go func() {
+			w.Write("made", member{n, ""})
+			written <- struct{}{}
+		}()
+	}
+	late := time.After(10 * time.Second)
+	for n := 0; n < count; n++ {
+		select {
+		case <-written:
+		case <-late:
+			t.Fatalf("got %d lines that still wait, want none", count-n)
+		}
+	}
+	if w.LostLines() != count {
+		t.Errorf("got %d lines lost, want %d", w.LostLines(), count)
+	}
+	go read()
+	w.Close()
+}
+
 // A journal is closed although its disk hangs.
 func TestCloseAtADiskThatHangs(t *testing.T) {
 	w, err := Open(Options{Path: filepath.Join(t.TempDir(), "journal"), Side: "broker", Most: 1 << 30, Failed: func(error) {}})
