@@ -137,6 +137,23 @@ func TestHTTPAtAPortOfTLS(t *testing.T) {
 	}
 }
 
+// What is neither TLS nor HTTP isn't answered.
+func TestAnotherProtocolAtAPortOfTLS(t *testing.T) {
+	observer := &recorder{}
+	listener, _ := startTLS(t, newAuthority(t).issue("server"), Options{Observer: observer}, Server{})
+	for n, sent := range []string{"SSH-2.0-OpenSSH_9.2\r\n", "get /a HTTP/1.1\r\n\r\n", "\x00\x00\x00\x08\x04\xd2\x16\x2f"} {
+		client := dial(t, listener)
+		client.send(sent)
+		if got := client.rest(); got != "" {
+			t.Errorf("%q: got the answer %q, want none", sent, got)
+		}
+		waitUntil(t, "an event", func() bool { return len(observer.events()) > n })
+		if got := observer.events()[n]; !strings.HasSuffix(got, "does not look like a TLS handshake") {
+			t.Errorf("%q: got %q for the observer, want that it is no TLS", sent, got)
+		}
+	}
+}
+
 func TestAProbeOfThePortIsNoFailure(t *testing.T) {
 	observer := &recorder{}
 	listener, _ := startTLS(t, newAuthority(t).issue("server"), Options{Silent: short, Observer: observer}, Server{})
@@ -204,19 +221,24 @@ func TestCertificatesThatCantBeUsed(t *testing.T) {
 	authority := newAuthority(t)
 	files, other := authority.issue("server"), authority.issue("other")
 	none := authority.path("none")
-	for name, files := range map[string]CertificateFiles{
-		"nothing":                    {},
-		"no key":                     {Certificate: files.Certificate},
-		"no certificate":             {Key: files.Key, ClientCA: files.Certificate},
-		"a file that is missing":     {Certificate: none, Key: files.Key},
-		"the key of another":         {Certificate: files.Certificate, Key: other.Key},
-		"a certificate that is none": {Certificate: files.Key, Key: files.Key},
-		"no authority":               {Certificate: files.Certificate, Key: files.Key, ClientCA: none},
-		"an authority that is none":  {Certificate: files.Certificate, Key: files.Key, ClientCA: files.Key},
+	for name, test := range map[string]struct {
+		files CertificateFiles
+		has   string
+	}{
+		"nothing":                    {CertificateFiles{}, "both a certificate and a key"},
+		"no key":                     {CertificateFiles{Certificate: files.Certificate}, "both a certificate and a key"},
+		"no certificate":             {CertificateFiles{Key: files.Key, ClientCA: files.Certificate}, "both a certificate and a key"},
+		"a file that is missing":     {CertificateFiles{Certificate: none, Key: files.Key}, none + ": no such file"},
+		"the key of another":         {CertificateFiles{Certificate: files.Certificate, Key: other.Key}, other.Key},
+		"a certificate that is none": {CertificateFiles{Certificate: files.Key, Key: files.Key}, files.Key},
+		"no authority": {
+			CertificateFiles{Certificate: files.Certificate, Key: files.Key, ClientCA: none}, none + ": no such file"},
+		"an authority that is none": {
+			CertificateFiles{Certificate: files.Certificate, Key: files.Key, ClientCA: files.Key}, files.Key + " has no certificate"},
 	} {
 		t.Run(name, func(t *testing.T) {
-			if _, err := LoadCertificates(files); err == nil {
-				t.Error("got no error, want one")
+			if _, err := LoadCertificates(test.files); err == nil || !strings.Contains(err.Error(), test.has) {
+				t.Errorf("got %v, want an error with %q", err, test.has)
 			}
 		})
 	}
