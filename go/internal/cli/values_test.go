@@ -23,8 +23,9 @@ func TestSeconds(t *testing.T) {
 		t.Run(text, func(t *testing.T) {
 			var got time.Duration
 			value := Seconds(&got, 7*time.Second)
-			if err := value.Set(text); (err == nil) != (want > 0) {
-				t.Errorf("got the error %v, want one for wrong values alone", err)
+			err := value.Set(text)
+			if (err == nil) != (want > 0) || err != nil && err.Error() != "want a number of seconds from 0.001 to 86400" {
+				t.Errorf("got the error %v, want one for wrong values alone, with the bounds", err)
 			}
 			if want == 0 {
 				want = 7 * time.Second
@@ -47,8 +48,9 @@ func TestCount(t *testing.T) {
 	} {
 		t.Run(text, func(t *testing.T) {
 			var got int
-			if err := Count(&got, 4, 1, 1024).Set(text); (err == nil) != (want > 0) {
-				t.Errorf("got the error %v, want one for wrong values alone", err)
+			err := Count(&got, 4, 1, 1024).Set(text)
+			if (err == nil) != (want > 0) || err != nil && err.Error() != "want a number from 1 to 1024" {
+				t.Errorf("got the error %v, want one for wrong values alone, with the bounds", err)
 			}
 			if want == 0 {
 				want = 4
