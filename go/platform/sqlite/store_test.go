@@ -567,6 +567,28 @@ func TestOnlyFollowsNoLink(t *testing.T) {
 	}
 }
 
+// That nobody can see whether workers run isn't taken for none: HasWorkers fails, and nothing is migrated.
+func TestWorkersThatCannotBeSeen(t *testing.T) {
+	folder := filepath.Join(t.TempDir(), "folder")
+	check(t, os.Mkdir(folder, 0o700))
+	path := filepath.Join(folder, "store")
+	s := open(t, path)
+	check(t, os.Symlink("other", path+".me"+lockEnd))
+	if has, err := s.HasWorkers(background); has || !errors.Is(err, syscall.ELOOP) {
+		t.Errorf("a lock that is a link: got %t, %v, want %v", has, err, syscall.ELOOP)
+	}
+	check(t, os.Rename(folder, folder+"-elsewhere"))
+	if has, err := s.HasWorkers(background); has || !errors.Is(err, os.ErrNotExist) {
+		t.Errorf("a folder that is gone: got %t, %v, want %v", has, err, os.ErrNotExist)
+	}
+	check(t, os.Rename(folder+"-elsewhere", folder))
+	before := old(t)
+	check(t, os.Symlink("other", before+".me"+lockEnd))
+	if _, err := Open(background, before); !errors.Is(err, syscall.ELOOP) {
+		t.Errorf("the file of an older version: got %v, want %v", err, syscall.ELOOP)
+	}
+}
+
 // What every store must do if one of its statements fails.
 func TestFaults(t *testing.T) {
 	folder, err := os.MkdirTemp("", "osb-sqlite")
