@@ -222,6 +222,33 @@ func TestSetbacks(t *testing.T) {
 	}
 }
 
+// When a run is slow follows what runs take that succeed, and no others.
+func TestSlowFollowsWhatRunsTake(t *testing.T) {
+	p := newSlots(1)
+	for _, test := range []struct {
+		runs            int
+		took            time.Duration
+		went            went
+		shortest, after time.Duration
+	}{
+		{1, 100 * time.Millisecond, wentWell, 400 * time.Millisecond, time.Second},
+		{30, time.Minute, wentBadly, 400 * time.Millisecond, time.Second},
+		{30, time.Second, wentWell, 3 * time.Second, longestSlow},
+		{30, time.Minute, wentWell, longestSlow, longestSlow},
+		{100, time.Millisecond, wentWell, shortestSlow, time.Second},
+	} {
+		for n := 0; n < test.runs; n++ {
+			r := p.begin(keyOfTest(n), false)
+			r.begun, r.timer = r.begun.Add(-test.took), time.NewTimer(0)
+			p.end(r, test.went)
+		}
+		if after := p.slowAfter(); after < test.shortest || after > test.after {
+			t.Errorf("%d runs of %v, %v: got slow after %v, want from %v to %v",
+				test.runs, test.took, test.went, after, test.shortest, test.after)
+		}
+	}
+}
+
 // Of the keys that have failed, the one that has failed the least often comes first, and otherwise the one that waits
 // for longest.
 func TestFewestFailuresFirst(t *testing.T) {
