@@ -249,6 +249,17 @@ func TestSlowFollowsWhatRunsTake(t *testing.T) {
 	}
 }
 
+// The text of a key names locks, and stands in the log: brokers of two versions need the same.
+func TestTextOfAKey(t *testing.T) {
+	const one = "00000000-0000-0000-0000-000000000001"
+	number := osb.MustParseID(one)
+	for want, key := range map[string]Key{one: InstanceKey(number), one + "/" + one: BindingKey(number, number)} {
+		if got := key.String(); got != want {
+			t.Errorf("got %s, want %s", got, want)
+		}
+	}
+}
+
 // Of the keys that have failed, the one that has failed the least often comes first, and otherwise the one that waits
 // for longest.
 func TestFewestFailuresFirst(t *testing.T) {
