@@ -145,6 +145,19 @@ func TestRunOnceRefusedAtFirst(t *testing.T) {
 	}
 }
 
+// A broker that hasn't answered its catalogue in time wasn't reached, and the error names it.
+func TestRunOnceOfASilentBroker(t *testing.T) {
+	p := newPlant(t, Options{})
+	p.engine.Exchange = 20 * time.Millisecond
+	p.line.catalogue = func(Broker) (string, int, error) {
+		time.Sleep(10 * p.engine.Exchange)
+		return "", 0, errors.New("it is silent")
+	}
+	if err := p.engine.RunOnce(background); !errors.Is(err, ErrUnreached) || !strings.Contains(err.Error(), "shelf") {
+		t.Errorf("got %v, want %v of shelf", err, ErrUnreached)
+	}
+}
+
 // A broker that isn't there yet is waited for.
 func TestRunOnceWaits(t *testing.T) {
 	p := newPlant(t, Options{})
