@@ -390,6 +390,29 @@ func TestCatalogueBesideSetBroker(t *testing.T) {
 	}
 }
 
+// A catalogue is compared with that of the store, and not with the one that the broker had when the worker read it: it
+// isn't written twice, and one that is offered again after another one is written again.
+func TestCatalogueThatIsOfferedAgain(t *testing.T) {
+	p := newPlant(t, Options{})
+	sites := newSites(background, p.engine, &sync.WaitGroup{})
+	defer sites.stop()
+	check(t, sites.keep(background, p.brokerNamed("shelf"), json.RawMessage(sold), Reason{}))
+	asked := p.brokerNamed("shelf")
+	other := strings.ReplaceAll(sold, `"bindable": true`, `"bindable": false`)
+	before := asked
+	for n, document := range []string{other, other, sold} {
+		check(t, sites.keep(background, asked, json.RawMessage(document), Reason{}))
+		got := p.brokerNamed("shelf")
+		if string(got.Catalogue) != document {
+			t.Errorf("answer %d: got the catalogue %s, want %s", n, got.Catalogue, document)
+		}
+		if string(before.Catalogue) == document && !got.CatalogueAt.Equal(before.CatalogueAt) {
+			t.Errorf("answer %d: got the same catalogue written again, want it as it was", n)
+		}
+		before = got
+	}
+}
+
 func (p *plant) brokerNamed(name string) Broker {
 	p.t.Helper()
 	brokers, err := p.store.Brokers(background)
