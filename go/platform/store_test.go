@@ -188,6 +188,21 @@ func TestNotReadyWhileAnAnswerIsNotWritten(t *testing.T) {
 	p.until("an engine that is ready", func() bool { return p.engine.Ready() == nil })
 }
 
+// A claim that has nothing to write doesn't make the engine ready while something can't be written.
+func TestNotReadyAfterAClaimOfNothing(t *testing.T) {
+	p := newPlant(t, Options{})
+	sites := newSites(background, p.engine, &sync.WaitGroup{})
+	defer sites.stop()
+	full := errors.New("the disk is full")
+	p.engine.health.wrote(true, full)
+	if found := p.engine.claim(background, sites, []string{"shelf"}, 1, nil); found.err != nil || found.claimed > 0 {
+		t.Errorf("got %d rows claimed, and %v, want none", found.claimed, found.err)
+	}
+	if err := p.engine.Ready(); !errors.Is(err, full) {
+		t.Errorf("got %v, want %v", err, full)
+	}
+}
+
 // However often an answer is written again, it counts as one, and as none once it is written.
 func TestAnswersThatAreWrittenAgain(t *testing.T) {
 	failed := errors.New("the disk is full")
