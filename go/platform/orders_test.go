@@ -597,6 +597,12 @@ func TestBrokers(t *testing.T) {
 	if password, err := (seal{}).Open(changed.Password, PasswordContext(changed)); string(password) != "secret" {
 		t.Errorf("the password for the new user: got %q, %v, want the one before", password, err)
 	}
+	withoutKey := NewOrders(d.store, nil)
+	toSame := func(b *Broker) error { b.URL += "/"; return nil } // needs no key, as the URL stays
+	check(t, withoutKey.SetBroker(background, "shelf", toSame, nil))
+	if got := d.store.brokers["shelf"].URL; got != changed.URL {
+		t.Errorf("with a slash: got the URL %q, want %q", got, changed.URL)
+	}
 	moved := changed
 	moved.URL = "https://evil" // by somebody who can write the store
 	d.store.brokers["shelf"] = moved
