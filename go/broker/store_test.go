@@ -177,6 +177,12 @@ func TestFailedBindingsThatAreNotDeleted(t *testing.T) {
 	if got := b.observed.failures; len(got) != 1 || got[0].Event != "failed_binding_not_deleted" || !errors.Is(got[0].Err, errStore) {
 		t.Errorf("got %+v, want failed_binding_not_deleted with the error of the store", got)
 	}
+	l.handler = handlerFor(t, b.Service)
+	l.handler.Observer = b.observed
+	l.expect(t, 422, "DELETE", instances+"i"+names(now), "")
+	if got := b.observed.failures; len(got) != 1 {
+		t.Errorf("with a store that can say it: got %+v, want no further failure", got)
+	}
 }
 
 // A store that fails at any one call ends a TakeUp with the error, and the next one does the work.
