@@ -168,6 +168,11 @@ func TestSentencesOfWhatHasFailed(t *testing.T) {
 	l.expect(t, 202, "PUT", one+query, bodyOf(later, ""))
 	takeUp()
 	says("no space")
+	given := l.ask("PUT", one+query, bodyOf(later, `,"parameters":{"a":1}`))
+	if description, _ := descriptionIn(t, string(given.body)); given.status != 409 ||
+		!strings.Contains(description, "with other parameters") {
+		t.Errorf("with other parameters: got %d %s, want 409 and that these differ", given.status, given.body)
+	}
 	*l.backend = scriptedBackend{there: whole, deleted: whole, failure: broker.Public(errScripted, "in use")}
 	l.expect(t, 202, "DELETE", one+names(later)+"&accepts_incomplete=true", "")
 	takeUp()
