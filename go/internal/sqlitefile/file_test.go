@@ -589,6 +589,25 @@ func TestPatientlyForLong(t *testing.T) {
 	}
 }
 
+// One returns the first row, however many there are, and nil if there is none.
+func TestOne(t *testing.T) {
+	file := open(t, filepath.Join(t.TempDir(), "file"), options())
+	wantOne := func(want []driver.Value) {
+		t.Helper()
+		err := file.Read(background, func(n *notes) error {
+			row, err := n.get.One()
+			if err != nil || fmt.Sprint(row) != fmt.Sprint(want) {
+				t.Errorf("got %v, %v, want %v", row, err, want)
+			}
+			return nil
+		})
+		check(t, err)
+	}
+	wantOne(nil)
+	check(t, file.Write(background, note("b", "a", "c")))
+	wantOne([]driver.Value{"a"})
+}
+
 // Queries of a snapshot read the same state, whatever is written meanwhile.
 func TestSnapshot(t *testing.T) {
 	file := open(t, filepath.Join(t.TempDir(), "file"), options())
