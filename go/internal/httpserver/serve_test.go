@@ -162,6 +162,27 @@ func TestStopAnswersWhatRuns(t *testing.T) {
 	}
 }
 
+// A Server without times of its own has limits all the same.
+func TestDefaultTimes(t *testing.T) {
+	const half = 30 * time.Second
+	for _, test := range []struct {
+		name                string
+		server              Server
+		request, idle, stop time.Duration
+	}{
+		{"none", Server{}, half, half, half},
+		{"a request", Server{Request: time.Minute}, time.Minute, time.Minute, half},
+		{"all", Server{Request: 1, Idle: 2, Stop: 3}, 1, 2, 3},
+	} {
+		t.Run(test.name, func(t *testing.T) {
+			got := test.server.withDefaults()
+			if got.Request != test.request || got.Idle != test.idle || got.Stop != test.stop {
+				t.Errorf("got %v, %v, %v, want %v, %v, %v", got.Request, got.Idle, got.Stop, test.request, test.idle, test.stop)
+			}
+		})
+	}
+}
+
 func TestStopHasALimit(t *testing.T) {
 	handler := newPause()
 	listener := listen(t, Options{})
