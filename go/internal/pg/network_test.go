@@ -6,6 +6,8 @@ import (
 	"net"
 	"net/url"
 	"os"
+	"path/filepath"
+	"syscall"
 	"testing"
 	"time"
 )
@@ -72,6 +74,36 @@ func TestADeadline(t *testing.T) {
 	check(t, short.SetDeadline(time.Time{}))
 	if _, err := short.Read(make([]byte, 1)); !errors.Is(err, os.ErrDeadlineExceeded) {
 		t.Errorf("Read without a deadline: got %v, want %v", err, os.ErrDeadlineExceeded)
+	}
+}
+
+// What was sent and isn't confirmed fails a connection of TCP after userTimeout. One of a socket file has no such option.
+func TestUserTimeout(t *testing.T) {
+	for network, address := range map[string]string{
+		"tcp": "127.0.0.1:0", "unix": filepath.Join(t.TempDir(), "socket"),
+	} {
+		t.Run(network, func(t *testing.T) {
+			listener, err := net.Listen(network, address)
+			check(t, err)
+			defer listener.Close()
+			conn, err := newDialer(time.Minute).DialContext(context.Background(), network, listener.Addr().String())
+			check(t, err)
+			defer conn.Close()
+			tcp, isTCP := conn.(*limitedConn).Conn.(*net.TCPConn)
+			if !isTCP {
+				return
+			}
+			raw, err := tcp.SyscallConn()
+			check(t, err)
+			const tcpUserTimeout = 18
+			var got int
+			check(t, raw.Control(func(descriptor uintptr) {
+				got, err = syscall.GetsockoptInt(int(descriptor), syscall.IPPROTO_TCP, tcpUserTimeout)
+			}))
+			if want := int(userTimeout.Milliseconds()); err != nil || got != want {
+				t.Errorf("got %d ms, %v, want %d ms", got, err, want)
+			}
+		})
 	}
 }
 
