@@ -45,6 +45,18 @@ func TestEndOfStandardError(t *testing.T) {
 	}
 }
 
+// What a run may take, and what the supervisor of a run adds: it kills the run a few seconds after the broker would have.
+func TestLimitsOfTheSupervisor(t *testing.T) {
+	for limit, want := range map[time.Duration]string{0: "305.000", 90 * time.Second: "95.000"} {
+		t.Run(want, func(t *testing.T) {
+			backend := newBackend(t, Options{Limit: limit}, "")
+			if got := backend.command("create", nil, nil).Args[2]; got != want {
+				t.Errorf("got %s seconds, want %s", got, want)
+			}
+		})
+	}
+}
+
 // A program may leave the input unread, though it is larger than what a pipe takes.
 func TestInputThatIsNotRead(t *testing.T) {
 	request := instance
