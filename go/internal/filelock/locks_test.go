@@ -191,6 +191,34 @@ func TestLockWaitsUntilItsContextIsDone(t *testing.T) {
 	}
 }
 
+// A counted context counts the looks at its end: Lock takes one before each try.
+type counted struct {
+	context.Context
+	looks int
+}
+
+func (c *counted) Err() error {
+	c.looks++
+	return c.Context.Err()
+}
+
+// Whoever waits for a lock rests after each try: for 1, 2, 4, 8 and 16 ms, and then for as long as the longest pause.
+func TestLockRestsBetweenItsTries(t *testing.T) {
+	locks := newLocks(t, filepath.Join(t.TempDir(), "locks"))
+	lock := mustLock(t, locks, one)
+	defer lock.Unlock()
+	begun := time.Now()
+	ctx, cancel := context.WithTimeout(context.Background(), 100*time.Millisecond)
+	defer cancel()
+	waiting := &counted{Context: ctx}
+	if _, err := locks.Lock(waiting, one); !errors.Is(err, context.DeadlineExceeded) {
+		t.Errorf("got %v, want %v", err, context.DeadlineExceeded)
+	}
+	if most := 8 + int(time.Since(begun)/longestPause); waiting.looks < 2 || waiting.looks > most {
+		t.Errorf("got %d tries, want from 2 to %d", waiting.looks, most)
+	}
+}
+
 // openFiles returns how many files are open, without those that were deleted: the locks of an earlier test leave some
 // open until they are collected as garbage.
 func openFiles(t *testing.T) (count int) {
