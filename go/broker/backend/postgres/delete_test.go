@@ -84,6 +84,9 @@ func TestAPreparedTransaction(t *testing.T) {
 	if err := r.customer(it.request.Key).Ping(); err == nil {
 		t.Error("a login of the customer: got no error, want one")
 	}
+	if r.exists("pg_roles WHERE rolname = $1 AND rolcanlogin", name) {
+		t.Error("got a role that can log in to other databases, want it closed")
+	}
 	pgtest.Exec(t, r.admin, "ALTER DATABASE "+name+" ALLOW_CONNECTIONS true")
 	operator := pgtest.DB(t, pgtest.In(t, pgtest.URL(t), name))
 	pgtest.Exec(t, operator, "ROLLBACK PREPARED '"+name+"'")
