@@ -15,6 +15,26 @@ import (
 	"pippinterm/platform"
 )
 
+// A statement that brings the tables up to date may run for longer than others, but not for ever. Whoever waits until
+// another platform has done so changes nothing.
+func TestExtensionOfTheTables(t *testing.T) {
+	url := pgtest.Schema(t, pgtest.URL(t), "osb_platform_extension")
+	store := &Store{url: url, db: pgtest.DB(t, url)}
+	err := store.migrate(context.Background(), func(ctx context.Context, tx *sql.Tx) (bool, error) {
+		var limit string
+		if err := tx.QueryRowContext(ctx, "SHOW statement_timeout").Scan(&limit); err != nil || limit != "15min" {
+			t.Errorf("the longest statement: got %s, %v, want 15min", limit, err)
+		}
+		for _, want := range []bool{true, false} {
+			if has, err := extend(ctx, tx); has != want || err != nil {
+				t.Errorf("got %v, %v, want %v", has, err, want)
+			}
+		}
+		return true, nil
+	})
+	check(t, err)
+}
+
 // A time is read as it was written, to the microsecond, and a place in a list finds its row again.
 func TestTimes(t *testing.T) {
 	random := rand.New(rand.NewSource(1))
