@@ -380,7 +380,7 @@ func TestRowsThatCannotBeRead(t *testing.T) {
 	storetest.TestUnreadable(t, store, func(t *testing.T, key platform.Key) { spoil(t, key, "record") })
 	spoil(t, instance(4), "names")
 	got, err := store.Read(background, instance(4))
-	if err != nil || got.Unreadable == "" || got.Names.Instance != id(4).String() || !got.IsSent {
+	if err != nil || !strings.Contains(got.Unreadable, "the column names of ") || got.Names.Instance != id(4).String() || !got.IsSent {
 		t.Errorf("got %+v, %v, want an unreadable row that was sent, with its number for an id", got, err)
 	}
 }
