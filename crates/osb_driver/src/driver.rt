@@ -1,0 +1,290 @@
+//! What a driver does next: pure decisions over the row that its transaction reads.
+ghost use Rattle.std.specs.Prelude.{◌≡◌};
+ghost use Rattle.osb_driver.specs.Driver as spec;
+ghost use Rattle.osb_instance.specs.Begin.{begun};
+
+use osb_instance::{Begun, Digest, Holding, WorkOutcome};
+use osb_message::{Answer, Mode, Request};
+
+/// The work of a driver (this project's choice, and so is all of this crate).
+#[derive(Clone, Copy, Debug, PartialEq, Eq)]
+pub enum Task {
+    /// The pending work of this request.
+    Pending(Request),
+    /// The operation that runs.
+    Operation,
+}
+
+/// Where a driver stands: the one action that the program around it carries out next.
+#[derive(Clone, Copy, Debug, PartialEq, Eq)]
+pub enum Stage {
+    /// Take the lock of the key, if it is free.
+    TryLock,
+    /// Run the first transaction: [`Driver::first`] of a request, [`Driver::take_up`] of a take-up.
+    Begin {
+        /// Whether the driver has the lock.
+        locked: bool,
+    },
+    /// Wait for the lock of the key.
+    AwaitLock,
+    /// Do the work, under the lock.
+    Work {
+        /// The work.
+        task: Task,
+    },
+    /// Run the last transaction of pending work: [`Driver::end`].
+    End {
+        /// How the work ended.
+        outcome: WorkOutcome,
+        /// The answer of an earlier try, if nobody knows whether that was committed.
+        before: Option<Answer>,
+    },
+    /// Run the last transaction of an operation: [`Driver::finish`].
+    Finish {
+        /// Whether the operation succeeded.
+        ok: bool,
+    },
+    /// Read the row, since nobody knows whether the first transaction was committed: [`Driver::resume`].
+    Unsure,
+    /// Free the lock, and send the answer.
+    Answer {
+        /// The answer.
+        answer: Answer,
+    },
+    /// Free the lock. If a request isn't answered yet, answer 500 or 503.
+    Done,
+}
+
+/// The event of the network that a transaction is, once it is committed.
+#[derive(Clone, Copy, Debug, PartialEq, Eq)]
+pub enum Effect {
+    /// No event.
+    Nothing,
+    /// The request arrives.
+    Arrive,
+    /// The pending work ends.
+    End(WorkOutcome),
+    /// The operation that runs ends. The value is whether it succeeded.
+    Finish(bool),
+    /// The instance has waited too long for its first Poll.
+    GiveUpWaiting,
+}
+
+/// What a transaction writes, and what follows once its commit has returned.
+#[derive(Clone, Copy, Debug, PartialEq, Eq)]
+pub struct Transaction {
+    /// The row to write.
+    pub row: Holding,
+    /// Whether the number of the driver becomes that of the row.
+    pub takes_over: bool,
+    /// The stage once the commit has returned.
+    pub stage: Stage,
+    /// The event of the network.
+    pub effect: Effect,
+}
+
+/// The way of one request through the broker, or of one take-up, which goes on with what a dead worker has left.
+#[derive(Clone, Copy, Debug, PartialEq, Eq)]
+pub struct Driver {
+    /// The attempt of the request that the driver answers; none of a take-up. A broker doesn't know the attempt: it
+    /// stands for the connection that the request came by.
+    pub attempt: Option<u64>,
+    /// Where the driver stands.
+    pub stage: Stage,
+}
+
+// A transaction that writes nothing.
+fn nothing(row: Holding, stage: Stage) -> Transaction
+    ensures tx { result ≡ spec.nothing row stage }
+{
+    Transaction {
+        row,
+        takes_over: false,
+        stage,
+        effect: Effect::Nothing,
+    }
+}
+
+// A request is answered at once.
+fn answered(row: Holding, answer: Answer) -> Transaction
+    ensures tx { result ≡ spec.answered row answer }
+{
+    Transaction {
+        row,
+        takes_over: false,
+        stage: Stage::Answer { answer },
+        effect: Effect::Arrive,
+    }
+}
+
+// A take-up goes on with work that is pending, or with the operation that runs.
+fn taken_over(row: Holding, task: Task) -> Transaction
+    ensures tx { result ≡ spec.taken_over row task }
+{
+    let takes_over = true;
+    Transaction {
+        row,
+        takes_over,
+        stage: Stage::Work { task },
+        effect: Effect::Nothing,
+    }
+}
+
+impl Driver {
+    /// Returns the first transaction of a request, by the row that it reads. If work is due, its request is pending
+    /// under the driver's number then; without the lock, nothing is written, since the lock comes first.
+    ///
+    /// `is_owner` is whether the row has the driver's number. No row has it before the driver has written it, so the
+    /// driver is done if it has. `mode`, `first_poll` and `attributes` are those of [`Holding::begin`].
+    pub fn first(
+        locked: bool,
+        is_owner: bool,
+        mode: Option<Mode>,
+        first_poll: bool,
+        row: Holding,
+        request: &Request,
+        attributes: Digest,
+    ) -> Transaction
+        ensures tx { result ≡ spec.first locked is_owner row request.now (begun mode first_poll row request.now attributes) }
+    {
+        if is_owner {
+            return nothing(row, Stage::Done);
+        }
+        let (after, begun) = row.begin(mode, first_poll, request, attributes);
+        match begun {
+            Begun::Answered(answer) => answered(after, answer),
+            Begun::Work(_) => {
+                if !locked {
+                    return nothing(row, Stage::AwaitLock);
+                }
+                let task = Task::Pending(*request);
+                Transaction {
+                    row: after,
+                    takes_over: true,
+                    stage: Stage::Work { task },
+                    effect: Effect::Arrive,
+                }
+            }
+        }
+    }
+
+    /// Returns the first transaction of a take-up, by the row that it reads: pending work or the operation that runs is
+    /// the driver's then, or the wait for the first Poll is given up.
+    pub fn take_up(row: Holding) -> Transaction
+        ensures tx { result ≡ spec.take_up row }
+    {
+        if let Some(request) = row.work() {
+            return taken_over(row, Task::Pending(request));
+        }
+        if row.is_operating() {
+            return taken_over(row, Task::Operation);
+        }
+        match row.give_up_waiting() {
+            Ok(after) => Transaction {
+                row: after,
+                takes_over: false,
+                stage: Stage::Done,
+                effect: Effect::GiveUpWaiting,
+            },
+            Err(_) => nothing(row, Stage::Done),
+        }
+    }
+
+    /// Returns what follows for a driver that doesn't know whether its first transaction was committed. If the row has
+    /// the driver's number (`is_owner`), it was: the pending work is the driver's. Otherwise the driver begins anew.
+    /// Nothing is written.
+    pub fn resume(is_owner: bool, row: Holding) -> Transaction
+        ensures tx { result ≡ spec.resume is_owner row row.work }
+    {
+        match (is_owner, row.work()) {
+            (false, _) => nothing(row, Stage::Begin { locked: true }),
+            (true, None) => nothing(row, Stage::Done),
+            (true, Some(request)) => {
+                let task = Task::Pending(request);
+                nothing(row, Stage::Work { task })
+            }
+        }
+    }
+
+    // What follows the end of work: the answer, or, of a take-up, a look at what else there is.
+    fn after(attempt: Option<u64>, answer: Answer) -> Stage
+        ensures stage { result ≡ spec.after attempt answer }
+    {
+        match attempt {
+            Some(_) => Stage::Answer { answer },
+            None => Stage::Begin { locked: true },
+        }
+    }
+
+    /// Returns the last transaction of pending work. If the row has another driver's number (not `is_owner`), nothing is
+    /// written: another worker goes on. If no work is pending any more, an earlier try was committed, and `before` is
+    /// what it answered.
+    pub fn end(
+        attempt: Option<u64>,
+        is_owner: bool,
+        mode: Option<Mode>,
+        row: Holding,
+        outcome: WorkOutcome,
+        before: Option<Answer>,
+    ) -> Transaction
+        ensures tx { result ≡ spec.end attempt is_owner mode row outcome before row.work }
+    {
+        if !is_owner {
+            return nothing(row, Stage::Done);
+        }
+        if row.work().is_none() {
+            return match before {
+                None => nothing(row, Stage::Done),
+                Some(answer) => nothing(row, Stage::Answer { answer }),
+            };
+        }
+        match row.end(mode, outcome) {
+            Ok((after, answer)) => Transaction {
+                row: after,
+                takes_over: false,
+                stage: Driver::after(attempt, answer),
+                effect: Effect::End(outcome),
+            },
+            Err(_) => nothing(row, Stage::Done),
+        }
+    }
+
+    /// Returns the last transaction of an operation. If the row has another driver's number (not `is_owner`), or no
+    /// operation runs, nothing is written.
+    pub fn finish(is_owner: bool, row: Holding, ok: bool) -> Transaction
+        ensures tx { result ≡ spec.finish is_owner row ok }
+    {
+        match row.finish(ok) {
+            Ok(after) if is_owner => Transaction {
+                row: after,
+                takes_over: false,
+                stage: Stage::Done,
+                effect: Effect::Finish(ok),
+            },
+            _ => nothing(row, Stage::Done),
+        }
+    }
+
+    /// Returns the stage of this driver if nobody knows whether `transaction` was committed. A request's driver reads
+    /// the row again, and goes on. A take-up is done, since nobody waits for its answer.
+    pub fn unsure(&self, transaction: &Transaction) -> Stage
+        ensures stage { result ≡ spec.unsure self.now.attempt self.now.stage transaction.now }
+    {
+        if self.attempt.is_none() {
+            return Stage::Done;
+        }
+        match self.stage {
+            Stage::Begin { .. } if transaction.takes_over => Stage::Unsure,
+            Stage::Begin { locked } => Stage::Begin { locked },
+            Stage::Unsure => Stage::Unsure,
+            Stage::End { outcome, before } => {
+                let before = match transaction.stage {
+                    Stage::Answer { answer } => Some(answer),
+                    _ => before,
+                };
+                Stage::End { outcome, before }
+            }
+            _ => Stage::Done,
+        }
+    }
+}
