@@ -44,7 +44,7 @@ func TestStore(t *testing.T) {
 // A server hangs while the store has idle sessions, whose statements are closed with them: each would be waited for a
 // minute.
 func TestClosingWhileTheServerHangs(t *testing.T) {
-	proxy, url := pgtest.NewProxy(t, pgtest.Schema(t, pgtest.URL(t), "osb_store_hangs"))
+	proxy, url := storefaults.NewProxy(t, pgtest.Schema(t, pgtest.URL(t), "osb_store_hangs"))
 	store := open(t, url)
 	openAll(t, store, 4)
 	proxy.Hang(true)
@@ -377,7 +377,7 @@ func TestOpeningThatFails(t *testing.T) {
 // answered. Other errors aren't that one. Once the server is back, the store is too.
 func TestServerThatIsAway(t *testing.T) {
 	ctx, calls := context.Background(), 0
-	proxy, through := pgtest.NewProxy(t, pgtest.Schema(t, pgtest.URL(t), "osb_away"))
+	proxy, through := storefaults.NewProxy(t, pgtest.Schema(t, pgtest.URL(t), "osb_away"))
 	store, err := postgres.Open(ctx, through, 2, broker.Silent{})
 	check(t, err)
 	t.Cleanup(func() { _ = store.Close() })
@@ -423,7 +423,7 @@ func TestServerThatIsAway(t *testing.T) {
 // idle, on new ones, and while they wait for one.
 func TestServerThatIsSilent(t *testing.T) {
 	ctx, calls := context.Background(), 0
-	proxy, through := pgtest.NewProxy(t, pgtest.Schema(t, pgtest.URL(t), "osb_silent"))
+	proxy, through := storefaults.NewProxy(t, pgtest.Schema(t, pgtest.URL(t), "osb_silent"))
 	store, err := postgres.Open(ctx, through, 3, broker.Silent{})
 	check(t, err)
 	t.Cleanup(func() { _ = store.Close() })
@@ -471,7 +471,7 @@ func TestServerThatIsSilent(t *testing.T) {
 // While the server is silent, a binding isn't read as one that was never there.
 func TestReadOfASilentServer(t *testing.T) {
 	ctx, calls := context.Background(), 0
-	proxy, through := pgtest.NewProxy(t, pgtest.Schema(t, pgtest.URL(t), "osb_silent_read"))
+	proxy, through := storefaults.NewProxy(t, pgtest.Schema(t, pgtest.URL(t), "osb_silent_read"))
 	store := open(t, through)
 	t.Cleanup(func() { _ = store.Close() })
 	instance := osb.MustParseID("00000000-0000-0000-0000-000000000001")
@@ -552,7 +552,7 @@ func TestACommitThatFails(t *testing.T) {
 }
 
 func TestACommitWhoseAnswerIsLost(t *testing.T) {
-	proxy, url := pgtest.NewProxy(t, pgtest.Schema(t, pgtest.URL(t), "osb_store_lost"))
+	proxy, url := storefaults.NewProxy(t, pgtest.Schema(t, pgtest.URL(t), "osb_store_lost"))
 	store := open(t, url)
 	defer store.Close()
 	proxy.Cut("COMMIT\x00")

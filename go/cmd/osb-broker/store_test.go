@@ -16,6 +16,7 @@ import (
 	"golang.org/x/sys/unix"
 
 	"pippinterm/internal/pg/pgtest"
+	"pippinterm/internal/storefaults"
 )
 
 // postgresql is where the tests' server is, for a broker: its URL has no password.
@@ -113,12 +114,12 @@ func TestSocketOfTheBackend(t *testing.T) {
 func TestStoreGoesAwayBeforeItIsTied(t *testing.T) {
 	address, environment := postgresql(t)
 	schema := pgtest.Schema(t, pgtest.URL(t), "osb_tied")
-	_, through := pgtest.NewProxy(t, pgtest.With(t, address, "search_path", "osb_tied"))
+	_, through := storefaults.NewProxy(t, pgtest.With(t, address, "search_path", "osb_tied"))
 	s := start(t, environment, "--state", t.TempDir(), "--store", through)
 	s.stop()
 	pgtest.Exec(t, pgtest.DB(t, schema), "TRUNCATE osb_store")
 	for _, at := range []string{"SELECT name FROM osb_store", "INSERT INTO osb_store"} {
-		proxy, through := pgtest.NewProxy(t, pgtest.With(t, address, "search_path", "osb_tied"))
+		proxy, through := storefaults.NewProxy(t, pgtest.With(t, address, "search_path", "osb_tied"))
 		proxy.Cut(at)
 		runToEnd(t, 75, "the store and the backend can't be used together",
 			osbBroker(environment, "serve", "--state", t.TempDir(), "--store", through))
@@ -130,7 +131,7 @@ func TestStoreGoesAwayBeforeItIsTied(t *testing.T) {
 func TestStoreGoesAway(t *testing.T) {
 	address, environment := postgresql(t)
 	pgtest.Schema(t, pgtest.URL(t), "osb_gone")
-	proxy, through := pgtest.NewProxy(t, pgtest.With(t, address, "search_path", "osb_gone"))
+	proxy, through := storefaults.NewProxy(t, pgtest.With(t, address, "search_path", "osb_gone"))
 	s := start(t, environment, "--state", t.TempDir(), "--store", through)
 	s.expect(201, "PUT", one, order)
 	proxy.Cut("\x00") // a byte of every message
@@ -160,7 +161,7 @@ func TestMetricsWhileTheStoreHangs(t *testing.T) {
 	db := pgtest.DB(t, pgtest.URL(t))
 	pgtest.Exec(t, db, "DROP SCHEMA IF EXISTS "+schema+" CASCADE", "CREATE SCHEMA "+schema)
 	t.Cleanup(func() { pgtest.Exec(t, db, "DROP SCHEMA "+schema+" CASCADE") })
-	proxy, address := pgtest.NewProxy(t, pgtest.With(t, address, "search_path", schema))
+	proxy, address := storefaults.NewProxy(t, pgtest.With(t, address, "search_path", schema))
 	s := start(t, environment, "--state", t.TempDir(), "--store", address)
 	s.expect(200, "GET", "/v2/catalog", "")
 	metrics := func(up string) time.Duration {

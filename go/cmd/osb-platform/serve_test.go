@@ -517,11 +517,8 @@ func TestRowsCannotBeWritten(t *testing.T) {
 }
 
 func TestRowsCannotBeWrittenInPostgreSQL(t *testing.T) {
-	_, address, environment := newWire(t, "osb_program_full")
-	for _, variable := range environment {
-		name, value, _ := strings.Cut(variable, "=")
-		t.Setenv(name, value)
-	}
+	_, address, environment := newProxy(t, "osb_program_full")
+	setenv(t, environment)
 	execute := func(statement string) { pgtest.Exec(t, pgtest.DB(t, address), statement) }
 	checkUnwritten(t, address, environment, execute,
 		"CREATE FUNCTION no_space() RETURNS trigger LANGUAGE plpgsql AS $$ BEGIN RAISE 'no space'; END $$; "+

@@ -5,16 +5,13 @@ import (
 	"database/sql"
 	"errors"
 	"fmt"
-	"io"
 	"io/fs"
-	"net"
 	"net/http"
 	"net/http/httptest"
 	"net/url"
 	"os"
 	"path/filepath"
 	"strings"
-	"sync"
 	"sync/atomic"
 	"syscall"
 	"testing"
@@ -25,9 +22,9 @@ import (
 	"github.com/spf13/cobra"
 
 	"pippinterm/internal/cli"
-	pgsession "pippinterm/internal/pg"
 	"pippinterm/internal/pg/pgtest"
 	"pippinterm/internal/sqlitefile"
+	"pippinterm/internal/storefaults"
 	"pippinterm/platform"
 )
 
@@ -109,104 +106,29 @@ func TestOpenFolder(t *testing.T) {
 	}
 }
 
-// A wire stands between a worker and PostgreSQL, and may hang: then nothing that the server answers gets through.
-type wire struct {
-	server  string
-	running sync.WaitGroup
-
-	mutex   sync.Mutex
-	hangs   bool
-	asked   bool // whether the server has answered anything
-	resumes *sync.Cond
-}
-
-// newWire returns a wire before the tests' server, and the URL to use for a schema of its own, without a password.
-func newWire(t *testing.T, schema string) (w *wire, address string, environment []string) {
+// newProxy returns a proxy before the tests' server, the URL to use for a schema of its own, without a password, and the
+// environment with the passwords.
+func newProxy(t *testing.T, schema string) (proxy *storefaults.Proxy, address string, environment []string) {
 	t.Helper()
-	address = pgtest.With(t, pgtest.Schema(t, pgtest.URL(t), schema), "application_name", schema)
-	host, port, err := pgsession.HostAndPort(address)
-	check(t, err)
-	listener, err := net.Listen("tcp", "127.0.0.1:0")
-	check(t, err)
-	w = &wire{server: net.JoinHostPort(host, port)}
-	w.resumes = sync.NewCond(&w.mutex)
-	w.running.Add(1)
-	go w.accept(listener)
-	t.Cleanup(func() {
-		w.hang(false)
-		_ = listener.Close()
-		w.running.Wait()
-	})
-	parsed, err := url.Parse(pgtest.With(t, address, "sslmode", "disable"))
+	named := pgtest.With(t, pgtest.Schema(t, pgtest.URL(t), schema), "application_name", schema)
+	proxy, address = storefaults.NewProxy(t, named)
+	parsed, err := url.Parse(address)
 	check(t, err)
 	secret := os.Getenv("PGPASSWORD")
 	if given, has := parsed.User.Password(); has {
 		secret = given
 	}
-	parsed.User, parsed.Host = url.User(parsed.User.Username()), listener.Addr().String()
-	return w, parsed.String(), []string{"PGPASSWORD=" + secret, "OSB_PLATFORM_PASSWORD=secret"}
+	parsed.User = url.User(parsed.User.Username())
+	return proxy, parsed.String(), []string{"PGPASSWORD=" + secret, "OSB_PLATFORM_PASSWORD=secret"}
 }
 
-func (w *wire) accept(listener net.Listener) {
-	defer w.running.Done()
-	for {
-		client, err := listener.Accept()
-		if err != nil {
-			return
-		}
-		server, err := net.Dial("tcp", w.server)
-		if err != nil {
-			_ = client.Close()
-			continue
-		}
-		w.running.Add(2)
-		go w.answers(client, server)
-		go func() {
-			defer w.running.Done()
-			_, _ = io.Copy(server, client)
-			_ = server.Close()
-		}()
+// setenv has this process have variables, too.
+func setenv(t *testing.T, environment []string) {
+	t.Helper()
+	for _, variable := range environment {
+		name, value, _ := strings.Cut(variable, "=")
+		t.Setenv(name, value)
 	}
-}
-
-// answers forwards what the server answers.
-func (w *wire) answers(client, server net.Conn) {
-	defer w.running.Done()
-	defer client.Close()
-	buffer := make([]byte, 1<<16)
-	for {
-		count, err := server.Read(buffer)
-		if err != nil {
-			return
-		}
-		w.wait()
-		if _, err := client.Write(buffer[:count]); err != nil {
-			return
-		}
-	}
-}
-
-func (w *wire) wait() {
-	w.mutex.Lock()
-	defer w.mutex.Unlock()
-	w.asked = true
-	for w.hangs {
-		w.resumes.Wait()
-	}
-}
-
-// isAsked is whether the server has answered anything.
-func (w *wire) isAsked() bool {
-	w.mutex.Lock()
-	defer w.mutex.Unlock()
-	return w.asked
-}
-
-func (w *wire) hang(is bool) {
-	w.mutex.Lock()
-	defer w.mutex.Unlock()
-	w.hangs = is
-	w.resumes.Broadcast()
 }
 
 // SIGTERM ends a worker within 10 seconds, with the status 0, while the database hangs: also without --stop-seconds.
@@ -216,10 +138,10 @@ func TestStopWhileTheDatabaseHangs(t *testing.T) {
 	} {
 		t.Run(schema, func(t *testing.T) {
 			s := newSite(t)
-			w, address, environment := newWire(t, schema)
+			proxy, address, environment := newProxy(t, schema)
 			p := start(t, address, environment, append(options, "--broker", s.url)...)
 			p.event("broker_reached")
-			w.hang(true)
+			proxy.Hang(true)
 			begun := time.Now()
 			if rest := p.stop(); !strings.Contains(rest, `"event":"stopped"`) {
 				t.Errorf("the log: got %s, want %q in it", rest, `"event":"stopped"`)
@@ -233,11 +155,11 @@ func TestStopWhileTheDatabaseHangs(t *testing.T) {
 
 // SIGTERM ends a worker that waits for a database that hangs from the start.
 func TestStopBeforeTheDatabaseAnswers(t *testing.T) {
-	w, address, environment := newWire(t, "osb_program_silent")
-	w.hang(true)
+	proxy, address, environment := newProxy(t, "osb_program_silent")
+	proxy.Hang(true)
 	command := osbPlatform(environment, "run", "--store", address, "--stop-seconds", "1")
 	check(t, command.Start())
-	for !w.isAsked() {
+	for !proxy.IsUsed() {
 		time.Sleep(5 * time.Millisecond)
 	}
 	begun := time.Now()
@@ -253,11 +175,8 @@ func TestStopBeforeTheDatabaseAnswers(t *testing.T) {
 // A worker whose sessions the server has ended goes on, under its name.
 func TestSessionsThatAreEnded(t *testing.T) {
 	s := newSite(t)
-	_, address, environment := newWire(t, "osb_program_ended")
-	for _, variable := range environment {
-		name, value, _ := strings.Cut(variable, "=")
-		t.Setenv(name, value)
-	}
+	_, address, environment := newProxy(t, "osb_program_ended")
+	setenv(t, environment)
 	p := start(t, address, environment, "--broker", s.url, "--worker", "one")
 	p.event("broker_reached")
 	endSessions(t, "osb_program_ended")
@@ -284,11 +203,8 @@ func TestSessionsThatAreEndedInFlight(t *testing.T) {
 	} {
 		t.Run(schema, func(t *testing.T) {
 			s := newSite(t)
-			_, address, environment := newWire(t, schema)
-			for _, variable := range environment {
-				name, value, _ := strings.Cut(variable, "=")
-				t.Setenv(name, value)
-			}
+			_, address, environment := newProxy(t, schema)
+			setenv(t, environment)
 			password := filepath.Join(t.TempDir(), "password")
 			write(t, password, "secret")
 			wantLines(t, address, []line{
@@ -342,11 +258,8 @@ func TestStatusOfPostgreSQL(t *testing.T) {
 // the store.
 func TestEmptyDatabase(t *testing.T) {
 	const schema = "osb_program_empty"
-	_, address, environment := newWire(t, schema)
-	for _, variable := range environment {
-		name, value, _ := strings.Cut(variable, "=")
-		t.Setenv(name, value)
-	}
+	_, address, environment := newProxy(t, schema)
+	setenv(t, environment)
 	t.Setenv(passwordVariable, "")
 	for _, arguments := range ofExistingStores(t) {
 		wantLines(t, address, []line{{arguments, 78, ``, noStore}})

@@ -19,6 +19,7 @@ import (
 
 	"pippinterm/internal/pg"
 	"pippinterm/internal/pg/pgtest"
+	"pippinterm/internal/storefaults"
 )
 
 // table is a URL with an empty table t, whose name is that of a schema.
@@ -148,7 +149,7 @@ func TestACommitWithANotice(t *testing.T) {
 
 func TestACommitWhoseAnswerIsLost(t *testing.T) {
 	direct := table(t, "osb_session_lost")
-	proxy, url := pgtest.NewProxy(t, direct)
+	proxy, url := storefaults.NewProxy(t, direct)
 	proxy.Cut("COMMIT\x00")
 	err := transaction(t, context.Background(), url, insert(context.Background()))
 	if !errors.Is(err, pg.ErrUnknownCommit) {
@@ -164,7 +165,7 @@ func TestACommitWhoseAnswerIsLost(t *testing.T) {
 
 func TestATransactionThatCannotBegin(t *testing.T) {
 	direct := table(t, "osb_session_unbegun")
-	proxy, url := pgtest.NewProxy(t, direct)
+	proxy, url := storefaults.NewProxy(t, direct)
 	proxy.Cut("BEGIN")
 	called := false
 	err := transaction(t, context.Background(), url, func(*sql.Tx) (bool, error) {

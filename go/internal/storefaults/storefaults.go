@@ -91,17 +91,31 @@ func IsBegin(statement string) bool { return strings.HasPrefix(statement, "BEGIN
 func IsCommit(statement string) bool { return strings.HasPrefix(statement, "COMMIT") }
 
 // A Proxy stands between the connections of a client and a PostgreSQL server. Each statement of a client may be the one
-// that fails: what is prepared, each execution, and what a client sends as a text.
+// that fails: what is prepared, each execution, and what a client sends as a text. It counts what the server answers.
 type Proxy struct {
 	Countdown
 	listener net.Listener
 	server   string
 	running  sync.WaitGroup
+
+	mutex   sync.Mutex
+	cut     []byte
+	hangs   bool
+	isUsed  bool
+	resumes *sync.Cond
+	answers Answers
+}
+
+// Answers are what the server has answered.
+type Answers struct {
+	Trips        int // that end a round trip
+	Statements   int // that end a statement, such as BEGIN, COMMIT and what is between them
+	Transactions int // that end a transaction with BEGIN
 }
 
 // NewProxy starts a proxy before the server of a URL, and returns it with the URL to use. At the end of the test it
 // waits until all connections are closed.
-func NewProxy(t *testing.T, address string) (*Proxy, string) {
+func NewProxy(t testing.TB, address string) (*Proxy, string) {
 	t.Helper()
 	host, port, err := pg.HostAndPort(address)
 	if err != nil {
@@ -116,9 +130,11 @@ func NewProxy(t *testing.T, address string) (*Proxy, string) {
 		t.Fatal(err)
 	}
 	p := &Proxy{listener: listener, server: net.JoinHostPort(host, port)}
+	p.resumes = sync.NewCond(&p.mutex)
 	p.running.Add(1)
 	go p.accept()
 	t.Cleanup(func() {
+		p.Hang(false)
 		_ = listener.Close()
 		p.running.Wait()
 	})
@@ -126,6 +142,67 @@ func NewProxy(t *testing.T, address string) (*Proxy, string) {
 	asked.Set("sslmode", "disable")
 	parsed.Host, parsed.RawQuery = listener.Addr().String(), asked.Encode()
 	return p, parsed.String()
+}
+
+// Cut has the connection closed that sends these bytes: the server gets the message, and the client no answer. With no
+// bytes none is closed.
+func (p *Proxy) Cut(at string) {
+	p.mutex.Lock()
+	defer p.mutex.Unlock()
+	p.cut = []byte(at)
+}
+
+// Hang has the proxy forward nothing in either direction, or forward again, also what came meanwhile.
+func (p *Proxy) Hang(is bool) {
+	p.mutex.Lock()
+	defer p.mutex.Unlock()
+	p.hangs = is
+	p.resumes.Broadcast()
+}
+
+// IsUsed is whether a client has sent anything.
+func (p *Proxy) IsUsed() bool {
+	p.mutex.Lock()
+	defer p.mutex.Unlock()
+	return p.isUsed
+}
+
+// Tally is what the server has answered since the last call.
+func (p *Proxy) Tally() Answers {
+	p.mutex.Lock()
+	defer p.mutex.Unlock()
+	counted := p.answers
+	p.answers = Answers{}
+	return counted
+}
+
+// sent notes that a client has sent messages, waits while the proxy hangs, and returns whether the connection is cut.
+func (p *Proxy) sent(round []byte) (isCut bool) {
+	p.mutex.Lock()
+	defer p.mutex.Unlock()
+	p.isUsed = true
+	for p.hangs {
+		p.resumes.Wait()
+	}
+	return len(p.cut) > 0 && bytes.Contains(round, p.cut)
+}
+
+// answered counts a message of the server, and waits while the proxy hangs.
+func (p *Proxy) answered(message []byte) {
+	p.mutex.Lock()
+	defer p.mutex.Unlock()
+	for p.hangs {
+		p.resumes.Wait()
+	}
+	switch message[0] {
+	case 'Z': // ReadyForQuery
+		p.answers.Trips++
+	case 'C': // CommandComplete, with the name of the command
+		p.answers.Statements++
+		if name := string(message[5:]); name == "COMMIT\x00" || name == "ROLLBACK\x00" {
+			p.answers.Transactions++
+		}
+	}
 }
 
 func (p *Proxy) accept() {
@@ -171,6 +248,7 @@ func (c *talk) answer() error {
 		if err != nil {
 			return err
 		}
+		c.proxy.answered(message)
 		kind := message[0] // D is a row, and C the end of what a statement answers
 		if c.isLost.Load() || (kind == 'D' || kind == 'C') && c.isBroken.Load() {
 			return io.EOF
@@ -184,10 +262,10 @@ func (c *talk) answer() error {
 // forward forwards what a client sends, until one of the connections ends.
 func (c *talk) forward() error {
 	first, err := read(c.client, 4) // the first message has no type
-	if err != nil {
-		return err
+	if err == nil {
+		err = c.send(first, "")
 	}
-	if _, err := c.server.Write(first); err != nil {
+	if err != nil {
 		return err
 	}
 	var round []byte // what is answered together
@@ -246,6 +324,11 @@ var releases = map[string]bool{"ROLLBACK": true, "SELECT pg_advisory_unlock_all(
 // send sends messages to the server, unless they are to fail.
 func (c *talk) send(round []byte, text string) error {
 	fault := c.proxy.next()
+	if c.proxy.sent(round) {
+		_ = c.client.Close() // before the messages are forwarded: the answer can't be faster
+		_, _ = c.server.Write(round)
+		return io.EOF
+	}
 	if text == "" || releases[text] || !c.proxy.fails(text) {
 		_, err := c.server.Write(round)
 		return err

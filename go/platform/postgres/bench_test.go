@@ -13,6 +13,7 @@ import (
 
 	"pippinterm/internal/pg"
 	"pippinterm/internal/pg/pgtest"
+	"pippinterm/internal/storefaults"
 	"pippinterm/osb"
 	"pippinterm/platform"
 	"pippinterm/platform/postgres"
@@ -225,21 +226,21 @@ func (q quiet) OnFailure(it platform.Failure)                       { q.t.Errorf
 
 // What a step of an engine takes if none shares its claim with another: what many steps take more than few.
 func TestAStepOfAnEngine(t *testing.T) {
-	wire, url := newWire(t, schemaNamed(t, "osb_platform_step"))
+	proxy, url := storefaults.NewProxy(t, schemaNamed(t, "osb_platform_step"))
 	store := open(t, url)
 	defer store.Close()
 	options := platform.Options{Worker: "one", AtOnce: 1}
-	took, next := map[int]answers{}, 0
+	took, next := map[int]storefaults.Answers{}, 0
 	const warm, few, many = 5, 10, 30
 	for _, rows := range []int{warm, few, many} { // at first the sessions are opened, and their statements prepared
 		for n := 0; n < rows; n++ {
 			insert(t, store, instance(next))
 			next++
 		}
-		wire.tally()
+		proxy.Tally()
 		engine := platform.NewEngine(store, seller{}, nil, options, quiet{t: t})
 		check(t, engine.RunOnce(background))
-		took[rows] = wire.tally()
+		took[rows] = proxy.Tally()
 	}
 	for n := 0; n < next; n++ {
 		if entry, err := store.Read(background, instance(n)); err != nil || entry.State != platform.Ready {
@@ -247,7 +248,7 @@ func TestAStepOfAnEngine(t *testing.T) {
 		}
 	}
 	const steps = many - few
-	statements, transactions := took[many].statements-took[few].statements, took[many].transactions-took[few].transactions
+	statements, transactions := took[many].Statements-took[few].Statements, took[many].Transactions-took[few].Transactions
 	if statements < 4*steps || statements > 8*steps {
 		t.Errorf("%d steps: got %d statements, want 4 to 8 each", steps, statements)
 	}

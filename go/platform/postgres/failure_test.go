@@ -13,6 +13,7 @@ import (
 
 	"pippinterm/internal/pg"
 	"pippinterm/internal/pg/pgtest"
+	"pippinterm/internal/storefaults"
 	"pippinterm/osb"
 	"pippinterm/platform"
 	"pippinterm/platform/postgres"
@@ -75,7 +76,7 @@ func TestACommitWhoseAnswerIsLost(t *testing.T) {
 	for of, call := range transactions {
 		t.Run(of, func(t *testing.T) {
 			direct := schemaNamed(t, "osb_platform_lost_"+strings.ToLower(of))
-			proxy, url := pgtest.NewProxy(t, direct)
+			proxy, url := storefaults.NewProxy(t, direct)
 			store := open(t, url)
 			defer store.Close()
 			insert(t, store, instance(1))
@@ -454,11 +455,11 @@ func TestTheNameOfAWorkerOf02(t *testing.T) {
 
 // While the server hangs, a call returns soon after its context has ended, and so does Close.
 func TestAServerThatHangs(t *testing.T) {
-	wire, url := newWire(t, schemaNamed(t, "osb_platform_hangs"))
+	proxy, url := storefaults.NewProxy(t, schemaNamed(t, "osb_platform_hangs"))
 	store := open(t, url)
 	insert(t, store, instance(1))
 	step := func(time.Time, platform.Snapshot) (*platform.Change, error) { return nil, nil }
-	wire.hang(true)
+	proxy.Hang(true)
 	begun := time.Now()
 	for name, call := range map[string]func(context.Context) error{
 		"Change":  func(ctx context.Context) error { return store.Change(ctx, instance(1), step) },
@@ -489,11 +490,11 @@ func wantQuick(t *testing.T, begun time.Time) {
 
 // A server hangs while the store has idle sessions, whose statements are closed with them.
 func TestClosingWhileTheServerHangs(t *testing.T) {
-	wire, url := newWire(t, schemaNamed(t, "osb_platform_hangs_idle"))
+	proxy, url := storefaults.NewProxy(t, schemaNamed(t, "osb_platform_hangs_idle"))
 	store := open(t, url)
 	insert(t, store, instance(1))
 	openAll(t, store, 4)
-	wire.hang(true)
+	proxy.Hang(true)
 	begun := time.Now()
 	if err := store.Close(); err != nil {
 		t.Error(err)
@@ -503,13 +504,13 @@ func TestClosingWhileTheServerHangs(t *testing.T) {
 
 // The end of a right doesn't wait for long for a server that hangs.
 func TestEndOfARightWhileTheServerHangs(t *testing.T) {
-	wire, url := newWire(t, schemaNamed(t, "osb_platform_hangs_right"))
+	proxy, url := storefaults.NewProxy(t, schemaNamed(t, "osb_platform_hangs_right"))
 	store := open(t, url)
 	end, _, err := store.Only(background, "one")
 	if err != nil || end == nil {
 		t.Fatalf("got %t, %v, want a right", end != nil, err)
 	}
-	wire.hang(true)
+	proxy.Hang(true)
 	begun := time.Now()
 	end()
 	check(t, store.Close())
@@ -518,13 +519,13 @@ func TestEndOfARightWhileTheServerHangs(t *testing.T) {
 
 // A server hangs while a step asks it for the bindings of an instance.
 func TestAServerThatHangsInAStep(t *testing.T) {
-	wire, url := newWire(t, schemaNamed(t, "osb_platform_hangs_step"))
+	proxy, url := storefaults.NewProxy(t, schemaNamed(t, "osb_platform_hangs_step"))
 	store := open(t, url)
 	insert(t, store, instance(1))
 	ctx, cancel := context.WithCancel(background)
 	begun := time.Now()
 	err := store.Change(ctx, instance(1), func(_ time.Time, snapshot platform.Snapshot) (*platform.Change, error) {
-		wire.hang(true)
+		proxy.Hang(true)
 		time.AfterFunc(50*time.Millisecond, cancel)
 		is, err := snapshot.AllGone()
 		if err == nil {

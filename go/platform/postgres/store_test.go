@@ -3,10 +3,7 @@ package postgres_test
 import (
 	"context"
 	"database/sql"
-	"encoding/binary"
 	"fmt"
-	"io"
-	"net"
 	"net/url"
 	"os"
 	"sync"
@@ -141,127 +138,6 @@ func run(t *testing.T, tx *sql.Tx, statement string, parameters ...any) {
 	}
 }
 
-// Answers are what the server has answered.
-type answers struct {
-	trips        int // that end a round trip
-	statements   int // that end a statement, such as BEGIN, COMMIT and what is between them
-	transactions int // that end a transaction with BEGIN
-}
-
-// A wire stands between a store and the server. It counts what the server answers, and may hang.
-type wire struct {
-	listener net.Listener
-	server   string
-	running  sync.WaitGroup
-
-	turn    sync.Mutex
-	counts  answers
-	hangs   bool
-	resumes *sync.Cond
-}
-
-// newWire returns a wire before the server of a URL, and the URL to use.
-func newWire(t testing.TB, address string) (*wire, string) {
-	t.Helper()
-	host, port, err := pg.HostAndPort(address)
-	check(t, err)
-	listener, err := net.Listen("tcp", "127.0.0.1:0")
-	check(t, err)
-	w := &wire{listener: listener, server: net.JoinHostPort(host, port)}
-	w.resumes = sync.NewCond(&w.turn)
-	w.running.Add(1)
-	go w.accept()
-	t.Cleanup(func() {
-		w.hang(false)
-		_ = listener.Close()
-		w.running.Wait()
-	})
-	parsed, err := url.Parse(address)
-	check(t, err)
-	parsed.Host = listener.Addr().String()
-	asked := parsed.Query()
-	asked.Set("sslmode", "disable")
-	parsed.RawQuery = asked.Encode()
-	return w, parsed.String()
-}
-
-func (w *wire) accept() {
-	defer w.running.Done()
-	for {
-		client, err := w.listener.Accept()
-		if err != nil {
-			return
-		}
-		server, err := net.Dial("tcp", w.server)
-		if err != nil {
-			_ = client.Close()
-			continue
-		}
-		w.running.Add(2)
-		go w.answers(client, server)
-		go func() {
-			defer w.running.Done()
-			_, _ = io.Copy(server, client)
-			_ = server.Close()
-		}()
-	}
-}
-
-// answers forwards what the server answers, message by message: a byte, the length of the rest, and the rest.
-func (w *wire) answers(client, server net.Conn) {
-	defer w.running.Done()
-	defer client.Close()
-	head := make([]byte, 5)
-	for {
-		if _, err := io.ReadFull(server, head); err != nil {
-			return
-		}
-		rest := make([]byte, binary.BigEndian.Uint32(head[1:])-4)
-		if _, err := io.ReadFull(server, rest); err != nil {
-			return
-		}
-		w.pass(head[0], rest)
-		if _, err := client.Write(append(append([]byte{}, head...), rest...)); err != nil {
-			_ = server.Close()
-			return
-		}
-	}
-}
-
-// pass counts a message, and waits while the wire hangs.
-func (w *wire) pass(kind byte, rest []byte) {
-	w.turn.Lock()
-	defer w.turn.Unlock()
-	for w.hangs {
-		w.resumes.Wait()
-	}
-	switch kind {
-	case 'Z': // ReadyForQuery
-		w.counts.trips++
-	case 'C': // CommandComplete, with the name of the command
-		w.counts.statements++
-		if name := string(rest); name == "COMMIT\x00" || name == "ROLLBACK\x00" {
-			w.counts.transactions++
-		}
-	}
-}
-
-func (w *wire) hang(is bool) {
-	w.turn.Lock()
-	defer w.turn.Unlock()
-	w.hangs = is
-	w.resumes.Broadcast()
-}
-
-// counted is what the server has answered since the last call.
-func (w *wire) tally() answers {
-	w.turn.Lock()
-	defer w.turn.Unlock()
-	counts := w.counts
-	w.counts = answers{}
-	return counts
-}
-
 // inDatabase runs the tests in a database of their own, on the server that the environment names. Some of them look for
 // workers in the whole of their database, and the tests of other packages run workers meanwhile.
 func inDatabase(m *testing.M) int {
@@ -358,7 +234,7 @@ func TestOpeningThatFails(t *testing.T) {
 // How many round trips the calls of a step take, once the store has a session with its statements. A step is a claim,
 // together with others, and a change.
 func TestRoundTrips(t *testing.T) {
-	wire, url := newWire(t, schemaNamed(t, "osb_platform_trips"))
+	proxy, url := storefaults.NewProxy(t, schemaNamed(t, "osb_platform_trips"))
 	store := open(t, url)
 	defer store.Close()
 	for n := 0; n < 20; n++ {
@@ -415,11 +291,11 @@ func TestRoundTrips(t *testing.T) {
 			return err
 		}},
 	} {
-		wire.tally()
+		proxy.Tally()
 		if err := test.call(); err != nil {
 			t.Errorf("%s: got %v, want no error", test.name, err)
 		}
-		if got := wire.tally().trips; got != test.want {
+		if got := proxy.Tally().Trips; got != test.want {
 			t.Errorf("%s: got %d round trips, want %d", test.name, got, test.want)
 		}
 	}

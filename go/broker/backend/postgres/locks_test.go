@@ -10,6 +10,7 @@ import (
 	"pippinterm/broker"
 	"pippinterm/broker/backend/postgres"
 	"pippinterm/internal/pg/pgtest"
+	"pippinterm/internal/storefaults"
 )
 
 func take(t *testing.T, d *postgres.Databases, key broker.Key) broker.Lock {
@@ -166,7 +167,7 @@ func TestCallsWithoutTheLock(t *testing.T) {
 func TestALockThatOutlivesItsClient(t *testing.T) {
 	r := newRig(t)
 	r.open()
-	proxy, url := pgtest.NewProxy(t, r.url)
+	proxy, url := storefaults.NewProxy(t, r.url)
 	d, err := postgres.Open(context.Background(), url, postgres.Options{Key: secret, Sessions: 1})
 	check(t, err)
 	defer d.Close()
@@ -245,7 +246,7 @@ func TestSessions(t *testing.T) {
 func TestLocksOfAServerThatIsAway(t *testing.T) {
 	r := newRig(t)
 	r.open()
-	proxy, url := pgtest.NewProxy(t, r.url)
+	proxy, url := storefaults.NewProxy(t, r.url)
 	d, err := postgres.Open(context.Background(), url, postgres.Options{Key: secret, Sessions: 2})
 	check(t, err)
 	defer d.Close()
@@ -272,7 +273,7 @@ func TestLocksOfAServerThatIsAway(t *testing.T) {
 func TestLocksOfAServerThatIsSilent(t *testing.T) {
 	r := newRig(t)
 	r.open()
-	proxy, url := pgtest.NewProxy(t, r.url)
+	proxy, url := storefaults.NewProxy(t, r.url)
 	d, err := postgres.Open(context.Background(), url, postgres.Options{Key: secret, Sessions: 3})
 	check(t, err)
 	defer d.Close()
