@@ -101,36 +101,35 @@ func TestHosts(t *testing.T) {
 
 // A token that may write adds no broker at another host, moves none there, and doesn't learn what listens there.
 func TestBrokerHosts(t *testing.T) {
-	each(t, func(r *rig) {
-		hosts, err := ParseHosts([]string{"*.example"})
-		check(r.T, err)
-		r.handler.(*handler).BrokerHosts = hosts
-		const inside = `{"url": "https://127.0.0.1:22", "user": "me", "password": "p"}`
-		const outside = `{"url": "https://new.example", "user": "me", "password": "p"}`
-		got := r.call("PUT", "/v1/brokers/scan", inside).want(400, "invalid")
-		if !strings.Contains(got.at("detail"), "--broker-hosts") {
-			r.Errorf("the detail: got %s, want the option in it", got.text)
+	r := newRig(t)
+	hosts, err := ParseHosts([]string{"*.example"})
+	check(r.T, err)
+	r.handler.(*handler).BrokerHosts = hosts
+	const inside = `{"url": "https://127.0.0.1:22", "user": "me", "password": "p"}`
+	const outside = `{"url": "https://new.example", "user": "me", "password": "p"}`
+	got := r.call("PUT", "/v1/brokers/scan", inside).want(400, "invalid")
+	if !strings.Contains(got.at("detail"), "--broker-hosts") {
+		r.Errorf("the detail: got %s, want the option in it", got.text)
+	}
+	r.call("GET", "/v1/brokers/scan", "").want(404, "not_found")
+	r.call("PUT", "/v1/brokers/new", outside).want(201, "")
+	r.call("PUT", "/v1/brokers/new", inside).want(400, "invalid")
+	if of := r.brokerNamed("new"); of.URL != "https://new.example" {
+		r.Errorf("the URL: got %s, want \"https://new.example\"", of.URL)
+	}
+	const was = "https://10.0.0.1" // an operator has given it
+	check(r.T, r.store.ChangeBroker(background, "new", func(b platform.Broker) (*platform.Broker, error) {
+		b.URL = was
+		const refused = "dial tcp 10.0.0.1:22: connection refused"
+		b.Reason = platform.Reason{At: time.Unix(1_770_000_000, 0), Kind: "catalogue", Lost: refused}
+		return &b, nil
+	}))
+	r.call("PUT", "/v1/brokers/new", `{"url": "`+was+`", "user": "me", "password": "p"}`).want(200, "")
+	for _, path := range []string{"/v1/brokers", "/v1/brokers/new"} {
+		got := r.call("GET", path, "").want(200, "")
+		if strings.Contains(got.text, "dial") || strings.Contains(got.text, "refused") ||
+			!strings.Contains(got.text, "osb-platform broker list") {
+			r.Errorf("%s: the reason: got %s, want the command and nothing of the network", path, got.text)
 		}
-		r.call("GET", "/v1/brokers/scan", "").want(404, "not_found")
-		r.call("PUT", "/v1/brokers/new", outside).want(201, "")
-		r.call("PUT", "/v1/brokers/new", inside).want(400, "invalid")
-		if of := r.brokerNamed("new"); of.URL != "https://new.example" {
-			r.Errorf("the URL: got %s, want \"https://new.example\"", of.URL)
-		}
-		const was = "https://10.0.0.1" // an operator has given it
-		check(r.T, r.store.ChangeBroker(background, "new", func(b platform.Broker) (*platform.Broker, error) {
-			b.URL = was
-			const refused = "dial tcp 10.0.0.1:22: connection refused"
-			b.Reason = platform.Reason{At: time.Unix(1_770_000_000, 0), Kind: "catalogue", Lost: refused}
-			return &b, nil
-		}))
-		r.call("PUT", "/v1/brokers/new", `{"url": "`+was+`", "user": "me", "password": "p"}`).want(200, "")
-		for _, path := range []string{"/v1/brokers", "/v1/brokers/new"} {
-			got := r.call("GET", path, "").want(200, "")
-			if strings.Contains(got.text, "dial") || strings.Contains(got.text, "refused") ||
-				!strings.Contains(got.text, "osb-platform broker list") {
-				r.Errorf("%s: the reason: got %s, want the command and nothing of the network", path, got.text)
-			}
-		}
-	})
+	}
 }

@@ -10,7 +10,6 @@ import (
 	"io"
 	"net/http"
 	"net/http/httptest"
-	"path/filepath"
 	"reflect"
 	"strconv"
 	"strings"
@@ -22,81 +21,75 @@ import (
 	"pippinterm/internal/budget"
 	"pippinterm/osb"
 	"pippinterm/platform"
-	"pippinterm/platform/sqlite"
 	"pippinterm/platform/vault"
 )
 
 func TestInstances(t *testing.T) {
-	each(t, func(r *rig) {
-		first := r.call("POST", "/v1/instances",
-			`{"id": "my id/no", "service": "shelf", "plan": "small"}`).want(400, "invalid")
-		if !strings.Contains(first.at("detail"), "slash") {
-			t.Errorf("the detail: got %s, want \"slash\" in it", first.at("detail"))
-		}
-		made := r.call("POST", "/v1/instances", `{"id": "my id", "broker": "shelf", "service": "shelf", "plan": "small",
-			"parameters": {"a": 1}, "context": {"b": []},
-			"organization_guid": "o", "space_guid": "s", "tries": 2}`).want(201, "")
-		if made.header.Get("Location") != "/v1/instances/my%20id" || made.at("state") != "ordered" ||
-			made.at("tries") != "2" || made.at("organization_guid") != "o" || made.at("service_id") != "a0" ||
-			made.at("plan_id") != "b1" {
-			t.Errorf("got %v %s, want the order", made.header, made.text)
-		}
-		shown := r.call("GET", made.header.Get("Location"), "").want(200, "")
-		if shown.at("number") != made.at("number") || shown.at("life", "0", "state") != "ordered" {
-			t.Errorf("got %s, want the number of the order and its life", shown.text)
-		}
-		r.call("GET", "/v1/instances/"+made.at("number"), "").want(200, "")
-		if strings.Contains(shown.text, `"a"`) || strings.Contains(shown.text, "parameters") {
-			t.Errorf("got %s, want nothing of what was sent", shown.text)
-		}
-		r.call("POST", "/v1/instances", `{"id": "my id", "service": "shelf", "plan": "small"}`).want(409, "conflict")
-		r.call("POST", "/v1/instances", `{"broker": "none", "service": "shelf"}`).want(404, "not_found")
-		r.call("POST", "/v1/instances", `{"service": "shelf", "plan": "none"}`).want(400, "invalid")
-		r.call("POST", "/v1/instances", `{"service": "shelf", "plan": "small", "parameters": []}`).want(400, "invalid")
-		r.call("POST", "/v1/instances", `{"service": "shelf", "plan": "small", "tries": 101}`).want(400, "invalid")
-		r.call("GET", "/v1/instances/none", "").want(404, "not_found")
-		r.call("GET", "/v1/instances/"+strings.Repeat("x", 256), "").want(404, "not_found")
-	})
+	r := newRig(t)
+	first := r.call("POST", "/v1/instances",
+		`{"id": "my id/no", "service": "shelf", "plan": "small"}`).want(400, "invalid")
+	if !strings.Contains(first.at("detail"), "slash") {
+		t.Errorf("the detail: got %s, want \"slash\" in it", first.at("detail"))
+	}
+	made := r.call("POST", "/v1/instances", `{"id": "my id", "broker": "shelf", "service": "shelf", "plan": "small",
+		"parameters": {"a": 1}, "context": {"b": []},
+		"organization_guid": "o", "space_guid": "s", "tries": 2}`).want(201, "")
+	if made.header.Get("Location") != "/v1/instances/my%20id" || made.at("state") != "ordered" ||
+		made.at("tries") != "2" || made.at("organization_guid") != "o" || made.at("service_id") != "a0" ||
+		made.at("plan_id") != "b1" {
+		t.Errorf("got %v %s, want the order", made.header, made.text)
+	}
+	shown := r.call("GET", made.header.Get("Location"), "").want(200, "")
+	if shown.at("number") != made.at("number") || shown.at("life", "0", "state") != "ordered" {
+		t.Errorf("got %s, want the number of the order and its life", shown.text)
+	}
+	r.call("GET", "/v1/instances/"+made.at("number"), "").want(200, "")
+	if strings.Contains(shown.text, `"a"`) || strings.Contains(shown.text, "parameters") {
+		t.Errorf("got %s, want nothing of what was sent", shown.text)
+	}
+	r.call("POST", "/v1/instances", `{"id": "my id", "service": "shelf", "plan": "small"}`).want(409, "conflict")
+	r.call("POST", "/v1/instances", `{"broker": "none", "service": "shelf"}`).want(404, "not_found")
+	r.call("POST", "/v1/instances", `{"service": "shelf", "plan": "none"}`).want(400, "invalid")
+	r.call("POST", "/v1/instances", `{"service": "shelf", "plan": "small", "parameters": []}`).want(400, "invalid")
+	r.call("POST", "/v1/instances", `{"service": "shelf", "plan": "small", "tries": 101}`).want(400, "invalid")
+	r.call("GET", "/v1/instances/none", "").want(404, "not_found")
+	r.call("GET", "/v1/instances/"+strings.Repeat("x", 256), "").want(404, "not_found")
 }
 
 func TestLife(t *testing.T) {
-	each(t, func(r *rig) {
-		id := r.ready()
-		shown := r.call("GET", "/v1/instances/"+id, "").want(200, "")
-		for n, want := range []string{"ordered", "wanted", "ready"} {
-			if got := shown.at("life", fmt.Sprint(n), "state"); got != want {
-				t.Errorf("state %d: got %s, want %s", n, got, want)
-			}
+	r := newRig(t)
+	id := r.ready()
+	shown := r.call("GET", "/v1/instances/"+id, "").want(200, "")
+	for n, want := range []string{"ordered", "wanted", "ready"} {
+		if got := shown.at("life", fmt.Sprint(n), "state"); got != want {
+			t.Errorf("state %d: got %s, want %s", n, got, want)
 		}
-		if shown.at("dashboard_url") != "https://shelf.example/dash" || shown.at("metadata", "labels", "a") != "b" ||
-			shown.at("last", "status") != "201" {
-			t.Errorf("got %s, want what the broker answered", shown.text)
-		}
-	})
+	}
+	if shown.at("dashboard_url") != "https://shelf.example/dash" || shown.at("metadata", "labels", "a") != "b" ||
+		shown.at("last", "status") != "201" {
+		t.Errorf("got %s, want what the broker answered", shown.text)
+	}
 }
 
 func TestInFlight(t *testing.T) {
-	each(t, func(r *rig) {
-		id := r.order()
-		r.send(keyOfIDs(t, id))
-		shown := r.call("GET", "/v1/instances/"+id, "").want(200, "")
-		if shown.at("in_flight", "kind") != "provision" || shown.at("in_flight", "worker") != "one" {
-			t.Errorf("got %s, want the Provision in flight", shown.text)
-		}
-		r.call("POST", "/v1/instances/"+id+"/retry", "").want(409, "conflict")
-	})
+	r := newRig(t)
+	id := r.order()
+	r.send(keyOfIDs(t, id))
+	shown := r.call("GET", "/v1/instances/"+id, "").want(200, "")
+	if shown.at("in_flight", "kind") != "provision" || shown.at("in_flight", "worker") != "one" {
+		t.Errorf("got %s, want the Provision in flight", shown.text)
+	}
+	r.call("POST", "/v1/instances/"+id+"/retry", "").want(409, "conflict")
 }
 
 // A row that can't be read is shown with the others, and why it can't be read.
 func TestUnreadable(t *testing.T) {
-	store := newFake()
-	r := newRig(t, store)
+	store := newStore(t)
+	r := newRigOver(t, store)
 	id, other := r.order(), r.order()
-	e := store.rows[keyOfIDs(t, id)]
-	e.Unreadable = "the record: it is wrong"
-	store.rows[e.Key] = e
+	store.rows[keyOfIDs(t, id)] = isUnreadable
 	shown := r.call("GET", "/v1/instances/"+id, "").want(200, "")
-	if shown.at("unreadable") != e.Unreadable || shown.at("state") != "ordered" {
+	if shown.at("unreadable") != whyUnreadable || shown.at("state") != "ordered" {
 		t.Errorf("got %s, want why it can't be read", shown.text)
 	}
 	if all := r.call("GET", "/v1/instances", "").want(200, ""); len(all.items()) != 2 {
@@ -107,211 +100,209 @@ func TestUnreadable(t *testing.T) {
 	}
 }
 
+const whyUnreadable = "the record: it is wrong"
+
+// isUnreadable has a row not be readable.
+func isUnreadable(e *platform.Entry) { e.Unreadable = whyUnreadable }
+
 func TestRemoveRetryAbandon(t *testing.T) {
-	each(t, func(r *rig) {
-		id := r.order()
-		path := "/v1/instances/" + id
-		r.call("POST", path+"/retry", "").want(202, "")
-		r.call("POST", path+"/abandon", `{"because": "no use"}`).want(409, "conflict") // it wasn't sent
-		if got := r.call("DELETE", path, "").want(202, "").at("state"); got != "withdrawn" {
-			t.Errorf("got %s, want \"withdrawn\"", got)
-		}
-		r.call("DELETE", path, "").want(202, "")
-		r.call("POST", path+"/retry", "").want(409, "conflict")
-		ready := "/v1/instances/" + r.ready()
-		if got := r.call("DELETE", ready+"?bindings=false", "").want(202, ""); got.at("removal") != "removed" {
-			t.Errorf("got %s, want it removed", got.text)
-		}
-		r.call("DELETE", ready+"?bindings=maybe", "").want(400, "malformed")
-		r.call("DELETE", ready, `{}`).want(400, "malformed")
-		r.call("POST", ready+"/abandon", `{}`).want(400, "invalid")
-		left := r.call("POST", ready+"/abandon", `{"because": "the broker is no more"}`).want(200, "")
-		if left.at("state") != "abandoned" || left.at("because") != "the broker is no more" {
-			t.Errorf("got %s, want it abandoned with the reason", left.text)
-		}
-		for _, route := range []string{"DELETE /v1/instances/none", "POST /v1/instances/none/retry"} {
-			method, target, _ := strings.Cut(route, " ")
-			r.call(method, target, "").want(404, "not_found")
-		}
-		r.call("POST", "/v1/instances/none/abandon", `{"because": "x"}`).want(404, "not_found")
-	})
+	r := newRig(t)
+	id := r.order()
+	path := "/v1/instances/" + id
+	r.call("POST", path+"/retry", "").want(202, "")
+	r.call("POST", path+"/abandon", `{"because": "no use"}`).want(409, "conflict") // it wasn't sent
+	if got := r.call("DELETE", path, "").want(202, "").at("state"); got != "withdrawn" {
+		t.Errorf("got %s, want \"withdrawn\"", got)
+	}
+	r.call("DELETE", path, "").want(202, "")
+	r.call("POST", path+"/retry", "").want(409, "conflict")
+	ready := "/v1/instances/" + r.ready()
+	if got := r.call("DELETE", ready+"?bindings=false", "").want(202, ""); got.at("removal") != "removed" {
+		t.Errorf("got %s, want it removed", got.text)
+	}
+	r.call("DELETE", ready+"?bindings=maybe", "").want(400, "malformed")
+	r.call("DELETE", ready, `{}`).want(400, "malformed")
+	r.call("POST", ready+"/abandon", `{}`).want(400, "invalid")
+	left := r.call("POST", ready+"/abandon", `{"because": "the broker is no more"}`).want(200, "")
+	if left.at("state") != "abandoned" || left.at("because") != "the broker is no more" {
+		t.Errorf("got %s, want it abandoned with the reason", left.text)
+	}
+	for _, route := range []string{"DELETE /v1/instances/none", "POST /v1/instances/none/retry"} {
+		method, target, _ := strings.Cut(route, " ")
+		r.call(method, target, "").want(404, "not_found")
+	}
+	r.call("POST", "/v1/instances/none/abandon", `{"because": "x"}`).want(404, "not_found")
 }
 
 func TestBindings(t *testing.T) {
-	each(t, func(r *rig) {
-		id := r.ready()
-		path := "/v1/instances/" + id
-		bid := r.bound(id)
-		shown := r.call("GET", path+"/bindings/"+bid, "").want(200, "")
-		if shown.at("state") != "ready" || shown.at("instance_id") != id || shown.at("life", "1", "state") != "wanted" {
-			t.Errorf("got %s, want it ready with its life", shown.text)
-		}
-		made := r.call("POST", path+"/bindings",
-			`{"id": "app", "context": {"x": 1}, "bind_resource": {}}`).want(201, "")
-		if made.header.Get("Location") != path+"/bindings/app" {
-			t.Errorf("Location: got %s, want %s", made.header.Get("Location"), path+"/bindings/app")
-		}
-		listed := r.call("GET", path+"/bindings", "").want(200, "")
-		if len(listed.items()) != 2 || strings.Contains(listed.text, "hush") {
-			t.Errorf("the list: got %s, want 2 without the credentials", listed.text)
-		}
-		if got := r.call("GET", path+"/bindings?state=ready", "").want(200, ""); len(got.items()) != 1 {
-			t.Errorf("the list: got %s, want 1", got.text)
-		}
-		r.call("POST", path+"/bindings/app/retry", "").want(202, "")
-		r.call("POST", path+"/bindings/"+bid+"/retry", "").want(409, "conflict")
-		r.call("DELETE", path, "").want(409, "conflict")
-		r.call("POST", path+"/abandon", `{"because": "x"}`).want(409, "conflict")
-		if got := r.call("DELETE", path+"/bindings/app", "").want(202, "").at("state"); got != "withdrawn" {
-			t.Errorf("got %s, want \"withdrawn\"", got)
-		}
-		whole := r.call("DELETE", path+"?bindings=true", "").want(202, "")
-		if whole.at("removal") != "removed_with_bindings" {
-			t.Errorf("got %s, want it removed with its bindings", whole.text)
-		}
-		r.call("POST", path+"/bindings", `{}`).want(409, "conflict")
-		r.call("POST", path+"/bindings/"+bid+"/abandon", `{"because": "x"}`).want(200, "")
-		r.call("GET", path+"/bindings/none", "").want(404, "not_found")
-		r.call("GET", path+"/bindings/"+strings.Repeat("x", 256), "").want(404, "not_found")
-		r.call("GET", "/v1/instances/none/bindings", "").want(404, "not_found")
-		r.call("POST", "/v1/instances/none/bindings", `{}`).want(404, "not_found")
-	})
+	r := newRig(t)
+	id := r.ready()
+	path := "/v1/instances/" + id
+	bid := r.bound(id)
+	shown := r.call("GET", path+"/bindings/"+bid, "").want(200, "")
+	if shown.at("state") != "ready" || shown.at("instance_id") != id || shown.at("life", "1", "state") != "wanted" {
+		t.Errorf("got %s, want it ready with its life", shown.text)
+	}
+	made := r.call("POST", path+"/bindings",
+		`{"id": "app", "context": {"x": 1}, "bind_resource": {}}`).want(201, "")
+	if made.header.Get("Location") != path+"/bindings/app" {
+		t.Errorf("Location: got %s, want %s", made.header.Get("Location"), path+"/bindings/app")
+	}
+	listed := r.call("GET", path+"/bindings", "").want(200, "")
+	if len(listed.items()) != 2 || strings.Contains(listed.text, "hush") {
+		t.Errorf("the list: got %s, want 2 without the credentials", listed.text)
+	}
+	if got := r.call("GET", path+"/bindings?state=ready", "").want(200, ""); len(got.items()) != 1 {
+		t.Errorf("the list: got %s, want 1", got.text)
+	}
+	r.call("POST", path+"/bindings/app/retry", "").want(202, "")
+	r.call("POST", path+"/bindings/"+bid+"/retry", "").want(409, "conflict")
+	r.call("DELETE", path, "").want(409, "conflict")
+	r.call("POST", path+"/abandon", `{"because": "x"}`).want(409, "conflict")
+	if got := r.call("DELETE", path+"/bindings/app", "").want(202, "").at("state"); got != "withdrawn" {
+		t.Errorf("got %s, want \"withdrawn\"", got)
+	}
+	whole := r.call("DELETE", path+"?bindings=true", "").want(202, "")
+	if whole.at("removal") != "removed_with_bindings" {
+		t.Errorf("got %s, want it removed with its bindings", whole.text)
+	}
+	r.call("POST", path+"/bindings", `{}`).want(409, "conflict")
+	r.call("POST", path+"/bindings/"+bid+"/abandon", `{"because": "x"}`).want(200, "")
+	r.call("GET", path+"/bindings/none", "").want(404, "not_found")
+	r.call("GET", path+"/bindings/"+strings.Repeat("x", 256), "").want(404, "not_found")
+	r.call("GET", "/v1/instances/none/bindings", "").want(404, "not_found")
+	r.call("POST", "/v1/instances/none/bindings", `{}`).want(404, "not_found")
 }
 
 func TestPlanThatIsNotBindable(t *testing.T) {
-	each(t, func(r *rig) {
-		id := r.call("POST", "/v1/instances", `{"service": "shelf", "plan": "closed"}`).want(201, "").at("id")
-		r.call("POST", "/v1/instances/"+id+"/bindings", `{}`).want(400, "invalid")
-		r.call("POST", "/v1/instances/"+id+"/bindings", `{"id": ""}`).want(400, "malformed")
-	})
+	r := newRig(t)
+	id := r.call("POST", "/v1/instances", `{"service": "shelf", "plan": "closed"}`).want(201, "").at("id")
+	r.call("POST", "/v1/instances/"+id+"/bindings", `{}`).want(400, "invalid")
+	r.call("POST", "/v1/instances/"+id+"/bindings", `{"id": ""}`).want(400, "malformed")
 }
 
 func TestCredentials(t *testing.T) {
-	each(t, func(r *rig) {
-		id := r.ready()
-		path := "/v1/instances/" + id + "/bindings/" + r.bound(id) + "/credentials"
-		r.callAs(reading, "GET", path, "").want(403, "forbidden")
-		r.callAs(writing, "GET", path, "").want(403, "forbidden")
-		got := r.callAs(opening, "GET", path, "").want(200, "")
-		if got.at("credentials", "password") != "hush" || got.header.Get("Cache-Control") != "no-store" {
-			t.Errorf("got %v %s, want the credentials, not to be stored", got.header, got.text)
+	r := newRig(t)
+	id := r.ready()
+	path := "/v1/instances/" + id + "/bindings/" + r.bound(id) + "/credentials"
+	r.callAs(reading, "GET", path, "").want(403, "forbidden")
+	r.callAs(writing, "GET", path, "").want(403, "forbidden")
+	got := r.callAs(opening, "GET", path, "").want(200, "")
+	if got.at("credentials", "password") != "hush" || got.header.Get("Cache-Control") != "no-store" {
+		t.Errorf("got %v %s, want the credentials, not to be stored", got.header, got.text)
+	}
+	waiting := r.call("POST", "/v1/instances/"+id+"/bindings", `{}`).want(201, "").at("id")
+	r.callAs(opening, "GET", "/v1/instances/"+id+"/bindings/"+waiting+"/credentials", "").want(409, "conflict")
+	r.callAs(opening, "GET", "/v1/instances/"+id+"/bindings/none/credentials", "").want(404, "not_found")
+	for _, exchange := range r.exchanges {
+		if strings.Contains(fmt.Sprint(exchange), "hush") {
+			t.Errorf("the observer: got %v, want no credentials in it", exchange)
 		}
-		waiting := r.call("POST", "/v1/instances/"+id+"/bindings", `{}`).want(201, "").at("id")
-		r.callAs(opening, "GET", "/v1/instances/"+id+"/bindings/"+waiting+"/credentials", "").want(409, "conflict")
-		r.callAs(opening, "GET", "/v1/instances/"+id+"/bindings/none/credentials", "").want(404, "not_found")
-		for _, exchange := range r.exchanges {
-			if strings.Contains(fmt.Sprint(exchange), "hush") {
-				t.Errorf("the observer: got %v, want no credentials in it", exchange)
-			}
-		}
-	})
+	}
 }
 
 func TestPages(t *testing.T) {
-	each(t, func(r *rig) {
-		for n := 0; n < 7; n++ {
-			r.order()
+	r := newRig(t)
+	for n := 0; n < 7; n++ {
+		r.order()
+	}
+	r.call("DELETE", "/v1/instances/"+r.order(), "").want(202, "")
+	seen, sizes, target := map[string]bool{}, "", "/v1/instances?limit=3"
+	for target != "" {
+		page := r.call("GET", target, "").want(200, "")
+		for n := range page.items() {
+			seen[page.at("items", fmt.Sprint(n), "id")] = true
 		}
-		r.call("DELETE", "/v1/instances/"+r.order(), "").want(202, "")
-		seen, sizes, target := map[string]bool{}, "", "/v1/instances?limit=3"
-		for target != "" {
-			page := r.call("GET", target, "").want(200, "")
-			for n := range page.items() {
-				seen[page.at("items", fmt.Sprint(n), "id")] = true
-			}
-			sizes += fmt.Sprint(len(page.items()), " ")
-			target = ""
-			if next, isThere := page.body["next"].(string); isThere {
-				target = "/v1/instances?limit=3&after=" + next
-			}
+		sizes += fmt.Sprint(len(page.items()), " ")
+		target = ""
+		if next, isThere := page.body["next"].(string); isThere {
+			target = "/v1/instances?limit=3&after=" + next
 		}
-		if len(seen) != 8 || sizes != "3 3 2 " {
-			t.Errorf("got %d instances on pages of %s, want 8 on pages of 3, 3 and 2", len(seen), sizes)
-		}
-		if got := r.call("GET", "/v1/instances?limit=8", "").want(200, ""); got.body["next"] != nil {
-			t.Errorf("the last page: got the next %s, want none", got.at("next"))
-		}
-	})
+	}
+	if len(seen) != 8 || sizes != "3 3 2 " {
+		t.Errorf("got %d instances on pages of %s, want 8 on pages of 3, 3 and 2", len(seen), sizes)
+	}
+	if got := r.call("GET", "/v1/instances?limit=8", "").want(200, ""); got.body["next"] != nil {
+		t.Errorf("the last page: got the next %s, want none", got.at("next"))
+	}
 }
 
 func TestFilters(t *testing.T) {
-	each(t, func(r *rig) {
-		id := r.ready()
-		r.bound(id) // isn't listed
-		r.call("POST", "/v1/instances", `{"id": "other", "service": "shelf", "plan": "small"}`).want(201, "")
-		for query, want := range map[string]int{
-			"": 2, "state=ready": 1, "state=ready&state=ordered": 2, "state=gone": 0, "broker=shelf": 2,
-			"broker=none": 0, "prefix=" + id[:9]: 1, "prefix=" + strings.ToUpper(strings.ReplaceAll(id, "-", "")): 1,
-			"first=" + id: 1,
-			"first=other": 1,
-		} {
-			if got := r.call("GET", "/v1/instances?"+query, "").want(200, ""); len(got.items()) != want {
-				t.Errorf("%s: got %s, want %d", query, got.text, want)
-			}
+	r := newRig(t)
+	id := r.ready()
+	r.bound(id) // isn't listed
+	r.call("POST", "/v1/instances", `{"id": "other", "service": "shelf", "plan": "small"}`).want(201, "")
+	for query, want := range map[string]int{
+		"": 2, "state=ready": 1, "state=ready&state=ordered": 2, "state=gone": 0, "broker=shelf": 2,
+		"broker=none": 0, "prefix=" + id[:9]: 1, "prefix=" + strings.ToUpper(strings.ReplaceAll(id, "-", "")): 1,
+		"first=" + id: 1,
+		"first=other": 1,
+	} {
+		if got := r.call("GET", "/v1/instances?"+query, "").want(200, ""); len(got.items()) != want {
+			t.Errorf("%s: got %s, want %d", query, got.text, want)
 		}
-		for _, query := range []string{
-			"state=lost", "limit=0", "limit=1001", "limit=x", "prefix=xyz", "prefix=-", "after=x", "after=e30",
-			"nothing=1", "broker=a&broker=b", "limit=1;after=2", "first=" + strings.Repeat("x", 256),
-			"prefix=" + strings.Repeat("a", 33), "broker=%00", "broker=%ff", "broker=A",
-			"latest=1", "latest=",
-		} {
-			r.call("GET", "/v1/instances?"+query, "").want(400, "malformed")
-		}
-	})
+	}
+	for _, query := range []string{
+		"state=lost", "limit=0", "limit=1001", "limit=x", "prefix=xyz", "prefix=-", "after=x", "after=e30",
+		"nothing=1", "broker=a&broker=b", "limit=1;after=2", "first=" + strings.Repeat("x", 256),
+		"prefix=" + strings.Repeat("a", 33), "broker=%00", "broker=%ff", "broker=A",
+		"latest=1", "latest=",
+	} {
+		r.call("GET", "/v1/instances?"+query, "").want(400, "malformed")
+	}
 }
 
 func TestBrokers(t *testing.T) {
-	each(t, func(r *rig) {
-		const path, put = "/v1/brokers/other", `{"url": "https://other.example/", "user": "me", "password": "sesame",
-			"settings": {"hold_seconds": 1.5, "longest_poll_seconds": 3600}}`
-		made := r.call("PUT", path, put).want(201, "")
-		if made.header.Get("Location") != path || made.at("url") != "https://other.example" ||
-			made.at("password") != "store" || made.at("settings", "hold_seconds") != "1.5" {
-			t.Errorf("got %s, want the broker as it was set", made.text)
+	r := newRig(t)
+	const path, put = "/v1/brokers/other", `{"url": "https://other.example/", "user": "me", "password": "sesame",
+		"settings": {"hold_seconds": 1.5, "longest_poll_seconds": 3600}}`
+	made := r.call("PUT", path, put).want(201, "")
+	if made.header.Get("Location") != path || made.at("url") != "https://other.example" ||
+		made.at("password") != "store" || made.at("settings", "hold_seconds") != "1.5" {
+		t.Errorf("got %s, want the broker as it was set", made.text)
+	}
+	changed := r.call("PUT", path, `{"url": "https://other.example", "user": "you"}`).want(200, "")
+	if changed.at("user") != "you" || changed.at("settings") != "map[]" {
+		t.Errorf("got %s, want the new user and no settings", changed.text)
+	}
+	before := r.brokerNamed("other")
+	if got, err := r.vault.Open(before.Password, platform.PasswordContext(before)); string(got) != "sesame" {
+		t.Errorf("the password: got %q, %v, want the one before", got, err)
+	}
+	r.call("PUT", path, `{"url": "https://elsewhere.example", "user": "you"}`).want(400, "password_needed")
+	r.call("PUT", path, `{"url": "https://elsewhere.example", "user": "you", "password": "new"}`).want(200, "")
+	other := r.brokerNamed("other")
+	password, err := r.vault.Open(other.Password, platform.PasswordContext(other))
+	if string(password) != "new" || err != nil {
+		t.Errorf("the password: got %q and %v, want \"new\" and no error", password, err)
+	}
+	r.call("PUT", "/v1/brokers/third", `{"url": "https://x", "user": "me"}`).want(400, "invalid")
+	r.call("PUT", "/v1/brokers/NO", put).want(400, "invalid")
+	r.call("PUT", path, `{"url": "https://x", "user": "m\u0000e", "password": "p"}`).want(400, "invalid")
+	r.call("DELETE", "/v1/brokers/%00", "").want(404, "not_found")
+	r.call("PUT", path, `{"url": "ftp://x", "user": "me", "password": "p"}`).want(400, "invalid")
+	for _, bad := range []string{"-1", "1e300", "40000000"} {
+		body := `{"url": "https://x", "user": "me", "password": "p", "settings": {"hold_seconds": ` + bad + `}}`
+		r.call("PUT", path, body).want(400, "invalid")
+	}
+	listed := r.call("GET", "/v1/brokers", "").want(200, "")
+	if len(listed.items()) != 2 || listed.at("items", "1", "catalogue_at") != "2026-01-01T00:00:00Z" {
+		t.Errorf("got %s, want 2 and the time of the catalogue", listed.text)
+	}
+	shown := r.call("GET", "/v1/brokers/shelf", "").want(200, "")
+	if shown.at("catalogue", "services", "0", "name") != "shelf" {
+		t.Errorf("got %s, want the catalogue", shown.text)
+	}
+	for _, response := range []got{made, changed, listed, shown} {
+		if strings.Contains(response.text, "sesame") || strings.Contains(response.text, string(before.Password)) {
+			t.Errorf("got %s, want no password in it", response.text)
 		}
-		changed := r.call("PUT", path, `{"url": "https://other.example", "user": "you"}`).want(200, "")
-		if changed.at("user") != "you" || changed.at("settings") != "map[]" {
-			t.Errorf("got %s, want the new user and no settings", changed.text)
-		}
-		before := r.brokerNamed("other")
-		if got, err := r.vault.Open(before.Password, platform.PasswordContext(before)); string(got) != "sesame" {
-			t.Errorf("the password: got %q, %v, want the one before", got, err)
-		}
-		r.call("PUT", path, `{"url": "https://elsewhere.example", "user": "you"}`).want(400, "password_needed")
-		r.call("PUT", path, `{"url": "https://elsewhere.example", "user": "you", "password": "new"}`).want(200, "")
-		other := r.brokerNamed("other")
-		password, err := r.vault.Open(other.Password, platform.PasswordContext(other))
-		if string(password) != "new" || err != nil {
-			t.Errorf("the password: got %q and %v, want \"new\" and no error", password, err)
-		}
-		r.call("PUT", "/v1/brokers/third", `{"url": "https://x", "user": "me"}`).want(400, "invalid")
-		r.call("PUT", "/v1/brokers/NO", put).want(400, "invalid")
-		r.call("PUT", path, `{"url": "https://x", "user": "m\u0000e", "password": "p"}`).want(400, "invalid")
-		r.call("DELETE", "/v1/brokers/%00", "").want(404, "not_found")
-		r.call("PUT", path, `{"url": "ftp://x", "user": "me", "password": "p"}`).want(400, "invalid")
-		for _, bad := range []string{"-1", "1e300", "40000000"} {
-			body := `{"url": "https://x", "user": "me", "password": "p", "settings": {"hold_seconds": ` + bad + `}}`
-			r.call("PUT", path, body).want(400, "invalid")
-		}
-		listed := r.call("GET", "/v1/brokers", "").want(200, "")
-		if len(listed.items()) != 2 || listed.at("items", "1", "catalogue_at") != "2026-01-01T00:00:00Z" {
-			t.Errorf("got %s, want 2 and the time of the catalogue", listed.text)
-		}
-		shown := r.call("GET", "/v1/brokers/shelf", "").want(200, "")
-		if shown.at("catalogue", "services", "0", "name") != "shelf" {
-			t.Errorf("got %s, want the catalogue", shown.text)
-		}
-		for _, response := range []got{made, changed, listed, shown} {
-			if strings.Contains(response.text, "sesame") || strings.Contains(response.text, string(before.Password)) {
-				t.Errorf("got %s, want no password in it", response.text)
-			}
-		}
-		r.order()
-		r.call("DELETE", "/v1/brokers/shelf", "").want(409, "conflict")
-		r.call("DELETE", path, "").want(204, "")
-		r.call("DELETE", path, "").want(404, "not_found")
-		r.call("GET", path, "").want(404, "not_found")
-	})
+	}
+	r.order()
+	r.call("DELETE", "/v1/brokers/shelf", "").want(409, "conflict")
+	r.call("DELETE", path, "").want(204, "")
+	r.call("DELETE", path, "").want(404, "not_found")
+	r.call("GET", path, "").want(404, "not_found")
 }
 
 func (r *rig) brokerNamed(name string) platform.Broker {
@@ -329,45 +320,43 @@ func (r *rig) brokerNamed(name string) platform.Broker {
 
 // A password that a worker reads from a file isn't sent elsewhere either, and the path isn't answered.
 func TestPasswordFile(t *testing.T) {
-	each(t, func(r *rig) {
-		check(t, r.orders.AddBroker(background, platform.Broker{
-			Name: "filed", URL: "https://filed.example", User: "me", PasswordFile: "/run/secret/filed",
-		}, nil))
-		shown := r.call("GET", "/v1/brokers/filed", "").want(200, "")
-		if shown.at("password") != "file" || strings.Contains(shown.text, "/run") {
-			t.Errorf("got %s, want that the password is in a file, and no path", shown.text)
-		}
-		r.call("PUT", "/v1/brokers/filed", `{"url": "https://x.example", "user": "me"}`).want(400, "password_needed")
-		r.call("PUT", "/v1/brokers/filed", `{"url": "https://filed.example", "user": "you"}`).want(200, "")
-		if got := r.brokerNamed("filed"); got.PasswordFile != "/run/secret/filed" || got.User != "you" {
-			t.Errorf("got %+v, want the file and the new user", got)
-		}
-		r.call("PUT", "/v1/brokers/filed", `{"url": "https://x.example", "user": "me", "password": "p"}`).want(200, "")
-		if got := r.brokerNamed("filed"); got.PasswordFile != "" || got.Password == nil {
-			t.Errorf("got %+v, want the password instead of the file", got)
-		}
-		r.call("PUT", "/v1/brokers/filed",
-			`{"url": "https://x.example", "user": "me", "password_file": "/etc/shadow"}`).want(400, "malformed")
-	})
+	r := newRig(t)
+	check(t, r.orders.AddBroker(background, platform.Broker{
+		Name: "filed", URL: "https://filed.example", User: "me", PasswordFile: "/run/secret/filed",
+	}, nil))
+	shown := r.call("GET", "/v1/brokers/filed", "").want(200, "")
+	if shown.at("password") != "file" || strings.Contains(shown.text, "/run") {
+		t.Errorf("got %s, want that the password is in a file, and no path", shown.text)
+	}
+	r.call("PUT", "/v1/brokers/filed", `{"url": "https://x.example", "user": "me"}`).want(400, "password_needed")
+	r.call("PUT", "/v1/brokers/filed", `{"url": "https://filed.example", "user": "you"}`).want(200, "")
+	if got := r.brokerNamed("filed"); got.PasswordFile != "/run/secret/filed" || got.User != "you" {
+		t.Errorf("got %+v, want the file and the new user", got)
+	}
+	r.call("PUT", "/v1/brokers/filed", `{"url": "https://x.example", "user": "me", "password": "p"}`).want(200, "")
+	if got := r.brokerNamed("filed"); got.PasswordFile != "" || got.Password == nil {
+		t.Errorf("got %+v, want the password instead of the file", got)
+	}
+	r.call("PUT", "/v1/brokers/filed",
+		`{"url": "https://x.example", "user": "me", "password_file": "/etc/shadow"}`).want(400, "malformed")
 }
 
 func TestCounts(t *testing.T) {
-	each(t, func(r *rig) {
-		if got := r.call("GET", "/v1/counts", "").want(200, ""); got.at("counts") != "[]" {
-			t.Errorf("got %s, want no counts", got.text)
+	r := newRig(t)
+	if got := r.call("GET", "/v1/counts", "").want(200, ""); got.at("counts") != "[]" {
+		t.Errorf("got %s, want no counts", got.text)
+	}
+	r.bound(r.ready())
+	got := r.call("GET", "/v1/counts", "").want(200, "")
+	for _, part := range []string{`"instance","state":"ready","count":1`, `"binding","state":"ready","count":1`} {
+		if !strings.Contains(got.text, part) {
+			t.Errorf("got %[2]s, want %[1]s in it", part, got.text)
 		}
-		r.bound(r.ready())
-		got := r.call("GET", "/v1/counts", "").want(200, "")
-		for _, part := range []string{`"instance","state":"ready","count":1`, `"binding","state":"ready","count":1`} {
-			if !strings.Contains(got.text, part) {
-				t.Errorf("got %[2]s, want %[1]s in it", part, got.text)
-			}
-		}
-	})
+	}
 }
 
 func TestTokens(t *testing.T) {
-	r := newRig(t, newFake())
+	r := newRig(t)
 	id := r.order()
 	for at := range routes {
 		it := routes[at]
@@ -403,7 +392,7 @@ func TestTokens(t *testing.T) {
 
 // The connection of whoever may not ask is closed.
 func TestARejectedTokenKeepsNoConnection(t *testing.T) {
-	r := newRig(t, newFake())
+	r := newRig(t)
 	for token, want := range map[string]string{"": "close", "wrong": "close", writing: "close", reading: ""} {
 		got := r.callAs(token, "GET", "/v1/counts", "")
 		if connection := got.header.Get("Connection"); connection != want {
@@ -413,7 +402,7 @@ func TestARejectedTokenKeepsNoConnection(t *testing.T) {
 }
 
 func TestRoutes(t *testing.T) {
-	r := newRig(t, newFake())
+	r := newRig(t)
 	for _, target := range []string{
 		"/", "/v1", "/v1/", "/v2/catalog", "/v1/instances/", "/v1//instances", "/v1/instances/a/b",
 		"/v1/instances/a/bindings/", "/v1/counts/x", "/v1/brokers/", "/v1/instances/a%2Fbindings",
@@ -434,7 +423,7 @@ func TestRoutes(t *testing.T) {
 }
 
 func TestStrictBodies(t *testing.T) {
-	r := newRig(t, newFake())
+	r := newRig(t)
 	deep := strings.Repeat(`{"a":`, deepest+1) + "1" + strings.Repeat("}", deepest+1)
 	for _, text := range []string{
 		`[]`, `null`, `"x"`, `{`, `{}{}`, `{} x`, `{"other": 1}`, `{"Service": "shelf"}`, `{"service": 1}`,
@@ -467,8 +456,8 @@ func TestStrictBodies(t *testing.T) {
 }
 
 func TestStoreThatFails(t *testing.T) {
-	store := newFake()
-	r := newRig(t, store)
+	store := newStore(t)
+	r := newRigOver(t, store)
 	for failed, want := range map[error]struct {
 		status int
 		code   string
@@ -476,7 +465,7 @@ func TestStoreThatFails(t *testing.T) {
 		fmt.Errorf("postgres at 10.0.0.1: %w", platform.ErrAway): {503, "store_away"},
 		errors.New("disk of 10.0.0.1"):                           {500, "internal"},
 	} {
-		store.setAway(failed)
+		store.err = failed
 		for _, target := range []string{
 			"/v1/instances", "/v1/instances/a", "/v1/instances/a/bindings", "/v1/brokers", "/v1/brokers/shelf",
 			"/v1/counts", "/v1/records", "/v1/records?order=newest", "/v1/in-flight",
@@ -500,7 +489,7 @@ func TestStoreThatFails(t *testing.T) {
 
 // So many requests are carried out at once, and the others wait for their turn only so long.
 func TestAtOnce(t *testing.T) {
-	store := newFake()
+	store := newStore(t)
 	reading, letGo := make(chan struct{}), make(chan struct{})
 	h, err := NewHandler(platform.NewOrders(store, nil), slow{store, reading, letGo}, Options{
 		Tokens: []Token{tokenOfText("all", all, Read)}, AtOnce: 1, Timeout: time.Second,
@@ -535,7 +524,7 @@ func TestAtOnce(t *testing.T) {
 // An order whose body may not be parsed in time is answered with 503, and nothing of it is done. Other tokens and
 // requests without a body don't wait.
 func TestParsedAtOnce(t *testing.T) {
-	store := newFake()
+	store := newStore(t)
 	made, err := NewHandler(platform.NewOrders(store, nil), store, Options{
 		Tokens: []Token{tokenOfText("one", writing, Read|Write), tokenOfText("two", all, Read|Write)}, LongestBody: 1000,
 		Timeout: 50 * time.Millisecond,
@@ -581,7 +570,7 @@ func (s slow) Counts(ctx context.Context) ([]platform.Count, error) {
 }
 
 func TestObserver(t *testing.T) {
-	r := newRig(t, newFake())
+	r := newRig(t)
 	request := httptest.NewRequest("GET", "/v1/instances/"+strings.Repeat("%20", 200), nil)
 	request.Header.Set("Authorization", "Bearer "+all)
 	request.RemoteAddr = "[2001:db8::1]:80"
@@ -599,7 +588,7 @@ func TestObserver(t *testing.T) {
 }
 
 func TestNewHandler(t *testing.T) {
-	store := newFake()
+	store := newStore(t)
 	orders := platform.NewOrders(store, nil)
 	token := tokenOfText("a", all, Read)
 	for name, make := range map[string]func() error{
@@ -819,7 +808,7 @@ func TestSchemasHaveTheMembers(t *testing.T) {
 }
 
 func TestDocumentIsAnswered(t *testing.T) {
-	r := newRig(t, newFake())
+	r := newRig(t)
 	got := r.callAs("", http.MethodGet, "/v1/openapi.json", "").want(200, "")
 	if !json.Valid([]byte(got.text)) || got.text != string(document) {
 		t.Error("got another text, want the document")
@@ -856,43 +845,42 @@ const hostile = "\u007f \u009b31m \u202e\u2066 \u2028 \U000e0041 \u200b | \u00e4
 
 // No answer has a character of a broker's text that a terminal would carry out, and each text reads as it did.
 func TestNoControlsInAnswers(t *testing.T) {
-	each(t, func(r *rig) {
-		id := r.ready()
-		key := keyOfIDs(t, id)
-		check(r.T, r.store.Change(background, key, func(now time.Time, snapshot platform.Snapshot) (*platform.Change, error) {
-			e := snapshot.Entry
-			e.Last = platform.Reason{At: now, Kind: "poll", Status: 500, Description: hostile, Error: hostile}
-			e.Dashboard = "https://x/" + hostile
-			e.Metadata = json.RawMessage(`{"labels": {"a": "` + hostile + `"}}`)
-			return &platform.Change{Entry: e}, nil
-		}))
-		check(r.T, r.store.ChangeBroker(background, "shelf", func(b platform.Broker) (*platform.Broker, error) {
-			b.Reason = platform.Reason{At: b.CatalogueAt, Kind: "catalogue", Status: 500, Lost: hostile}
-			b.Catalogue = json.RawMessage(`{"services": [], "x": "` + hostile + `"}`)
-			return &b, nil
-		}))
-		for _, path := range []string{
-			"/v1/instances", "/v1/instances/" + id, "/v1/records", "/v1/brokers", "/v1/brokers/shelf",
-		} {
-			got := r.call("GET", path, "").want(200, "")
-			for _, character := range got.text {
-				if character >= 0x7f && !strings.ContainsRune("\u00e4\u4e2d\U0001f600", character) {
-					t.Errorf("%s: got the character %U raw, want it escaped", path, character)
-				}
-			}
-			if !strings.Contains(got.text, `\u007f \u009b31m \u202e\u2066 \u2028 \udb40\udc41 \u200b | `) {
-				t.Errorf("%s: got %[2]s, want the text escaped", path, got.text)
+	r := newRig(t)
+	id := r.ready()
+	key := keyOfIDs(t, id)
+	check(r.T, r.store.Change(background, key, func(now time.Time, snapshot platform.Snapshot) (*platform.Change, error) {
+		e := snapshot.Entry
+		e.Last = platform.Reason{At: now, Kind: "poll", Status: 500, Description: hostile, Error: hostile}
+		e.Dashboard = "https://x/" + hostile
+		e.Metadata = json.RawMessage(`{"labels": {"a": "` + hostile + `"}}`)
+		return &platform.Change{Entry: e}, nil
+	}))
+	check(r.T, r.store.ChangeBroker(background, "shelf", func(b platform.Broker) (*platform.Broker, error) {
+		b.Reason = platform.Reason{At: b.CatalogueAt, Kind: "catalogue", Status: 500, Lost: hostile}
+		b.Catalogue = json.RawMessage(`{"services": [], "x": "` + hostile + `"}`)
+		return &b, nil
+	}))
+	for _, path := range []string{
+		"/v1/instances", "/v1/instances/" + id, "/v1/records", "/v1/brokers", "/v1/brokers/shelf",
+	} {
+		got := r.call("GET", path, "").want(200, "")
+		for _, character := range got.text {
+			if character >= 0x7f && !strings.ContainsRune("\u00e4\u4e2d\U0001f600", character) {
+				t.Errorf("%s: got the character %U raw, want it escaped", path, character)
 			}
 		}
-		shown := r.call("GET", "/v1/instances/"+id, "").want(200, "")
-		if shown.at("last", "description") != hostile || shown.at("metadata", "labels", "a") != hostile {
-			t.Errorf("got %s, want the same text", shown.text)
+		if !strings.Contains(got.text, `\u007f \u009b31m \u202e\u2066 \u2028 \udb40\udc41 \u200b | `) {
+			t.Errorf("%s: got %[2]s, want the text escaped", path, got.text)
 		}
-		wrong := r.call("GET", "/v1/instances/"+strings.Repeat("%C2%9B", 3), "").want(404, "not_found")
-		if strings.ContainsRune(wrong.text, 0x9b) {
-			t.Errorf("a problem: got %q, want no control in it", wrong.text)
-		}
-	})
+	}
+	shown := r.call("GET", "/v1/instances/"+id, "").want(200, "")
+	if shown.at("last", "description") != hostile || shown.at("metadata", "labels", "a") != hostile {
+		t.Errorf("got %s, want the same text", shown.text)
+	}
+	wrong := r.call("GET", "/v1/instances/"+strings.Repeat("%C2%9B", 3), "").want(404, "not_found")
+	if strings.ContainsRune(wrong.text, 0x9b) {
+		t.Errorf("a problem: got %q, want no control in it", wrong.text)
+	}
 }
 
 func TestPrintable(t *testing.T) {
@@ -947,19 +935,12 @@ type rig struct {
 	checkKey  func(context.Context) error // or nil
 }
 
-// each runs a test over a fake and over SQLite.
-func each(t *testing.T, run func(*rig)) {
+func newRig(t *testing.T) *rig {
 	t.Helper()
-	t.Run("fake", func(t *testing.T) { run(newRig(t, newFake())) })
-	t.Run("sqlite", func(t *testing.T) {
-		store, err := sqlite.Open(background, filepath.Join(t.TempDir(), "instances.sqlite"))
-		check(t, err)
-		defer func() { check(t, store.Close()) }()
-		run(newRig(t, store))
-	})
+	return newRigOver(t, newStore(t))
 }
 
-func newRig(t *testing.T, store platform.Store) *rig {
+func newRigOver(t *testing.T, store platform.Store) *rig {
 	t.Helper()
 	check(t, errDescribed)
 	sealer, err := vault.New([]byte(strings.Repeat("k", vault.ShortestKey)))

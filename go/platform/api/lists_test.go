@@ -6,74 +6,72 @@ import (
 	"fmt"
 	"net/url"
 	"os"
+	"path/filepath"
 	"regexp"
-	"sort"
 	"strings"
-	"sync"
 	"testing"
 	"time"
 
 	"pippinterm/platform"
+	"pippinterm/platform/sqlite"
 )
 
 // The bindings of all instances are one list.
 func TestAllBindings(t *testing.T) {
-	each(t, func(r *rig) {
-		one, two := r.ready(), r.ready()
-		first, second := r.bound(one), r.bound(two)
-		r.call("POST", "/v1/instances/"+one+"/bindings", `{"id": "app"}`).want(201, "")
-		of := map[string]string{first: one, second: two, "app": one}
-		seen, target := map[string]bool{}, "/v1/bindings?limit=2"
-		for target != "" {
-			page := r.call("GET", target, "").want(200, "")
-			for n := range page.items() {
-				id, at := page.at("items", fmt.Sprint(n), "id"), page.at("items", fmt.Sprint(n), "instance_id")
-				if of[id] != at || seen[id] {
-					t.Errorf("the binding %s of %s: got %s, want it once, of its instance", id, at, page.text)
-				}
-				seen[id] = true
+	r := newRig(t)
+	one, two := r.ready(), r.ready()
+	first, second := r.bound(one), r.bound(two)
+	r.call("POST", "/v1/instances/"+one+"/bindings", `{"id": "app"}`).want(201, "")
+	of := map[string]string{first: one, second: two, "app": one}
+	seen, target := map[string]bool{}, "/v1/bindings?limit=2"
+	for target != "" {
+		page := r.call("GET", target, "").want(200, "")
+		for n := range page.items() {
+			id, at := page.at("items", fmt.Sprint(n), "id"), page.at("items", fmt.Sprint(n), "instance_id")
+			if of[id] != at || seen[id] {
+				t.Errorf("the binding %s of %s: got %s, want it once, of its instance", id, at, page.text)
 			}
-			target = ""
-			if next, isThere := page.body["next"].(string); isThere {
-				target = "/v1/bindings?limit=2&after=" + next
-			}
+			seen[id] = true
 		}
-		if len(seen) != 3 {
-			t.Errorf("the list: got %v, want 3", seen)
+		target = ""
+		if next, isThere := page.body["next"].(string); isThere {
+			target = "/v1/bindings?limit=2&after=" + next
 		}
-		for query, want := range map[string]int{
-			"state=ready": 2, "state=ordered": 1, "broker=shelf": 3, "broker=none": 0,
-		} {
-			if got := r.call("GET", "/v1/bindings?"+query, "").want(200, ""); len(got.items()) != want {
-				t.Errorf("%s: got %s, want %d", query, got.text, want)
-			}
+	}
+	if len(seen) != 3 {
+		t.Errorf("the list: got %v, want 3", seen)
+	}
+	for query, want := range map[string]int{
+		"state=ready": 2, "state=ordered": 1, "broker=shelf": 3, "broker=none": 0,
+	} {
+		if got := r.call("GET", "/v1/bindings?"+query, "").want(200, ""); len(got.items()) != want {
+			t.Errorf("%s: got %s, want %d", query, got.text, want)
 		}
-		r.call("GET", "/v1/bindings?first="+one, "").want(400, "malformed")
-		r.callAs(writing, "GET", "/v1/bindings", "").want(403, "forbidden")
-		r.call("POST", "/v1/bindings", `{}`).want(405, "method_not_allowed")
-	})
+	}
+	r.call("GET", "/v1/bindings?first="+one, "").want(400, "malformed")
+	r.callAs(writing, "GET", "/v1/bindings", "").want(403, "forbidden")
+	r.call("POST", "/v1/bindings", `{}`).want(405, "method_not_allowed")
 }
 
 // latest=true turns each list round, also over its pages.
 func TestLatest(t *testing.T) {
-	each(t, func(r *rig) {
-		id := r.ready()
-		r.ready()
-		r.order()
-		r.bound(id)
-		r.bound(id)
-		for _, path := range []string{"/v1/instances", "/v1/bindings", "/v1/instances/" + id + "/bindings"} {
-			usual, turned := r.idsOf(path+"?latest=false"), r.idsOf(path+"?latest=true")
-			for at, one := range usual {
-				if len(turned) != len(usual) || turned[len(usual)-1-at] != one {
-					t.Fatalf("%s: got %v, want %v turned round", path, turned, usual)
-				}
-			}
-			if len(usual) < 2 || strings.Join(usual, " ") != strings.Join(r.idsOf(path+"?order=state"), " ") {
-				t.Errorf("%s: got %v, want two or more, in the order of order=state", path, usual)
+	r := newRig(t)
+	id := r.ready()
+	r.ready()
+	r.order()
+	r.bound(id)
+	r.bound(id)
+	for _, path := range []string{"/v1/instances", "/v1/bindings", "/v1/instances/" + id + "/bindings"} {
+		usual, turned := r.idsOf(path+"?latest=false"), r.idsOf(path+"?latest=true")
+		for at, one := range usual {
+			if len(turned) != len(usual) || turned[len(usual)-1-at] != one {
+				t.Fatalf("%s: got %v, want %v turned round", path, turned, usual)
 			}
 		}
-	})
+		if len(usual) < 2 || strings.Join(usual, " ") != strings.Join(r.idsOf(path+"?order=state"), " ") {
+			t.Errorf("%s: got %v, want two or more, in the order of order=state", path, usual)
+		}
+	}
 }
 
 // A changing is a store in which a row changes to another state before its life is read.
@@ -95,7 +93,7 @@ func (c changing) Life(ctx context.Context, key platform.Key) ([]platform.Stay, 
 // A life ends with the state that its row has, also if the row changes to others meanwhile.
 func TestLifeOfAChangingRow(t *testing.T) {
 	for _, target := range []string{"/v1/instances?life=9", "/v1/instances/one"} {
-		r := newRig(t, changing{newFake()})
+		r := newRigOver(t, changing{newStore(t)})
 		r.call("POST", "/v1/instances", `{"id": "one", "broker": "shelf", "service": "shelf", "plan": "small"}`).want(201, "")
 		r.send(keyOfIDs(t, "one"))
 		shown := r.call("GET", target, "").want(200, "")
@@ -155,286 +153,71 @@ func TestRecordedAnswersAreDocumented(t *testing.T) {
 	}
 }
 
-// A fake is a Store in memory, without workers. Its time goes on by a second with each change.
-type fake struct {
-	platform.Store // nil: nothing else is called
-
-	mu      sync.Mutex
-	now     time.Time
-	rows    map[platform.Key]platform.Entry
-	lives   map[platform.Key][]platform.Stay
-	brokers map[string]platform.Broker
-	away    error // the error of every call, or nil
+// A testStore is a store in SQLite, of which tests choose what is read. A call that reads doesn't end with its context:
+// the tests of limits are about the handler's waits, however long a busy machine takes for SQLite.
+type testStore struct {
+	*sqlite.Store
+	now  time.Time                                  // by its clock, if it isn't zero
+	rows map[platform.Key]func(row *platform.Entry) // what changes a row that is read
+	err  error                                      // of every call that reads, or nil
 }
 
-func newFake() *fake {
-	return &fake{
-		now: time.Date(2026, 1, 2, 3, 4, 5, 0, time.UTC), rows: map[platform.Key]platform.Entry{},
-		lives: map[platform.Key][]platform.Stay{}, brokers: map[string]platform.Broker{},
-	}
+func newStore(t *testing.T) *testStore {
+	t.Helper()
+	store, err := sqlite.Open(background, filepath.Join(t.TempDir(), "instances.sqlite"))
+	check(t, err)
+	t.Cleanup(func() { check(t, store.Close()) })
+	return &testStore{Store: store, rows: map[platform.Key]func(*platform.Entry){}}
 }
 
-// begin locks, and returns what unlocks, or the error of every call.
-func (f *fake) begin() (end func(), err error) {
-	f.mu.Lock()
-	if f.away != nil {
-		defer f.mu.Unlock()
-		return nil, f.away
-	}
-	return f.mu.Unlock, nil
-}
-
-func (f *fake) Insert(_ context.Context, entry platform.Entry, check func(platform.Snapshot) error) error {
-	end, err := f.begin()
-	if err != nil {
-		return err
-	}
-	defer end()
-	snapshot := platform.Snapshot{Entry: entry}
-	if entry.Key.IsBinding {
-		instance, isThere := f.rows[platform.InstanceKey(entry.Key.Instance)]
-		if !isThere {
-			return platform.ErrUnknown
-		}
-		snapshot.Instance = &instance
-	}
-	if _, isUsed := f.rows[entry.Key]; isUsed {
-		return platform.ErrUsed
-	}
-	if err := check(snapshot); err != nil {
-		return err
-	}
-	f.rows[entry.Key] = entry
-	return nil
-}
-
-func (f *fake) Change(_ context.Context, key platform.Key, step platform.Step) error {
-	end, err := f.begin()
-	if err != nil {
-		return err
-	}
-	defer end()
-	before, isThere := f.rows[key]
-	if !isThere {
-		return platform.ErrUnknown
-	}
-	f.now = f.now.Add(time.Second)
-	snapshot := platform.Snapshot{Entry: before, AllGone: func() (bool, error) {
-		for row, e := range f.rows {
-			if row.IsBinding && row.Instance == key.Instance && e.IsSent && e.State != platform.Gone &&
-				e.State != platform.Abandoned {
-				return false, nil
-			}
-		}
-		return true, nil
-	}}
-	if instance, isThere := f.rows[platform.InstanceKey(key.Instance)]; isThere && key.IsBinding {
-		snapshot.Instance = &instance
-	}
-	change, err := step(f.now, snapshot)
-	if err != nil || change == nil {
-		return err
-	}
-	if change.Entry.State != before.State {
-		f.lives[key] = append(f.lives[key], platform.Stay{State: before.State, Since: before.Since})
-	}
-	f.rows[key] = change.Entry
-	if change.Next != nil {
-		f.rows[change.Next.Key] = *change.Next
-	}
-	for row, e := range f.rows {
-		if change.RemoveBindings && row.IsBinding && row.Instance == key.Instance && e.State == platform.Ready {
-			e.Removal, e.Due = platform.Removed, f.now
-			f.rows[row] = e
-		}
-	}
-	return nil
-}
-
-func (f *fake) Read(_ context.Context, key platform.Key) (platform.Entry, error) {
-	end, err := f.begin()
-	if err != nil {
-		return platform.Entry{}, err
-	}
-	defer end()
-	e, isThere := f.rows[key]
-	if !isThere {
-		return e, platform.ErrUnknown
-	}
-	return e, nil
-}
-
-// less is an order of a list.
-func less(order platform.Ordering, a, b platform.Place) bool {
-	if a.State != b.State && order == platform.ByState {
-		return a.State < b.State
-	}
-	if !a.Since.Equal(b.Since) && order != platform.ByKey {
-		return a.Since.Before(b.Since)
-	}
-	return a.Key.String() < b.Key.String()
-}
-
-// comesBefore is whether a place comes before another one in the order of a filter.
-func comesBefore(filter platform.Filter, a, b platform.Place) bool {
-	if filter.Latest {
-		a, b = b, a
-	}
-	return less(filter.Order, a, b)
-}
-
-func placeIn(e platform.Entry) platform.Place {
-	return platform.Place{State: e.State, Since: e.Since, Key: e.Key}
-}
-
-func (f *fake) List(_ context.Context, filter platform.Filter) (found []platform.Entry, err error) {
-	end, err := f.begin()
-	if err != nil {
-		return nil, err
-	}
-	defer end()
-	for _, e := range f.rows {
-		if isChosen(filter, e) {
-			found = append(found, e)
-		}
-	}
-	sort.Slice(found, func(a, b int) bool { return comesBefore(filter, placeIn(found[a]), placeIn(found[b])) })
-	if filter.Most > 0 && len(found) > filter.Most {
-		found = found[:filter.Most]
-	}
-	return found, nil
-}
-
-func isChosen(filter platform.Filter, e platform.Entry) bool {
-	isOf := len(filter.States) == 0
-	for _, state := range filter.States {
-		isOf = isOf || state == e.State
-	}
-	number := e.Key.ID().String()
-	return isOf && (filter.Broker == "" || filter.Broker == e.Broker) &&
-		(filter.Instance == nil || e.Key.IsBinding && e.Key.Instance == *filter.Instance) &&
-		(filter.Bindings == nil || e.Key.IsBinding == *filter.Bindings) &&
-		(len(number) >= len(filter.Prefix) && number[:len(filter.Prefix)] == filter.Prefix) &&
-		(filter.First == nil || e.First == *filter.First) &&
-		(filter.After == nil || comesBefore(filter, *filter.After, placeIn(e)))
-}
-
-func (f *fake) Life(_ context.Context, key platform.Key) ([]platform.Stay, error) {
-	end, err := f.begin()
-	if err != nil {
-		return nil, err
-	}
-	defer end()
-	return append([]platform.Stay(nil), f.lives[key]...), nil
-}
-
-func (f *fake) Counts(context.Context) (counts []platform.Count, err error) {
-	end, err := f.begin()
-	if err != nil {
-		return nil, err
-	}
-	defer end()
-	for _, e := range f.rows {
-		counts = append(counts, platform.Count{
-			Broker: e.Broker, IsBinding: e.Key.IsBinding, State: e.State, Count: 1, Oldest: e.Since,
-		})
-	}
-	return counts, nil
-}
-
-func (f *fake) InFlight(_ context.Context, most int) (found []platform.Entry, err error) {
-	end, err := f.begin()
-	if err != nil {
-		return nil, err
-	}
-	defer end()
-	for _, e := range f.rows {
-		if e.Lease.Worker != "" {
-			found = append(found, e)
-		}
-	}
-	sort.Slice(found, func(a, b int) bool { return found[a].Lease.Until.Before(found[b].Lease.Until) })
-	if len(found) > most {
-		found = found[:most]
-	}
-	return found, nil
-}
-
-func (f *fake) NextDue(context.Context, []string) (due, now time.Time, err error) {
-	end, err := f.begin()
-	if err != nil {
-		return due, now, err
-	}
-	defer end()
-	return due, f.now, nil
-}
-
-func (f *fake) Brokers(context.Context) (found []platform.Broker, err error) {
-	end, err := f.begin()
-	if err != nil {
-		return nil, err
-	}
-	defer end()
-	for _, broker := range f.brokers {
-		found = append(found, broker)
-	}
-	sort.Slice(found, func(a, b int) bool { return found[a].Name < found[b].Name })
-	return found, nil
-}
-
-func (f *fake) AddBroker(_ context.Context, broker platform.Broker) error {
-	end, err := f.begin()
-	if err != nil {
-		return err
-	}
-	defer end()
-	if _, isThere := f.brokers[broker.Name]; isThere {
-		return platform.ErrUsed
-	}
-	f.brokers[broker.Name] = broker
-	return nil
-}
-
-func (f *fake) ChangeBroker(
-	_ context.Context, name string, change func(platform.Broker) (*platform.Broker, error),
-) error {
-	end, err := f.begin()
-	if err != nil {
-		return err
-	}
-	defer end()
-	broker, isThere := f.brokers[name]
-	if !isThere {
-		return platform.ErrUnknown
-	}
-	next, err := change(broker)
-	if err == nil && next != nil {
-		f.brokers[name] = *next
+// fails returns the error of the test, if there is one, and otherwise that of the store.
+func (s *testStore) fails(err error) error {
+	if s.err != nil {
+		return s.err
 	}
 	return err
 }
 
-func (f *fake) DropBroker(_ context.Context, name string) error {
-	end, err := f.begin()
-	if err != nil {
-		return err
+// read reads a row as the test has it.
+func (s *testStore) read(e *platform.Entry) {
+	if change := s.rows[e.Key]; change != nil {
+		change(e)
 	}
-	defer end()
-	if _, isThere := f.brokers[name]; !isThere {
-		return platform.ErrUnknown
-	}
-	for _, e := range f.rows {
-		if e.Broker == name {
-			return platform.ErrUsed
-		}
-	}
-	delete(f.brokers, name)
-	return nil
 }
 
-// setAway has every call fail from now on, or succeed again.
-func (f *fake) setAway(err error) {
-	f.mu.Lock()
-	defer f.mu.Unlock()
-	f.away = err
+func (s *testStore) Read(_ context.Context, key platform.Key) (platform.Entry, error) {
+	e, err := s.Store.Read(background, key)
+	s.read(&e)
+	return e, s.fails(err)
+}
+
+func (s *testStore) List(_ context.Context, filter platform.Filter) ([]platform.Entry, error) {
+	found, err := s.Store.List(background, filter)
+	for at := range found {
+		s.read(&found[at])
+	}
+	return found, s.fails(err)
+}
+
+func (s *testStore) Counts(context.Context) ([]platform.Count, error) {
+	found, err := s.Store.Counts(background)
+	return found, s.fails(err)
+}
+
+func (s *testStore) InFlight(_ context.Context, most int) ([]platform.Entry, error) {
+	found, err := s.Store.InFlight(background, most)
+	return found, s.fails(err)
+}
+
+func (s *testStore) Brokers(context.Context) ([]platform.Broker, error) {
+	found, err := s.Store.Brokers(background)
+	return found, s.fails(err)
+}
+
+func (s *testStore) NextDue(_ context.Context, names []string) (due, now time.Time, err error) {
+	due, now, err = s.Store.NextDue(background, names)
+	if !s.now.IsZero() {
+		now = s.now
+	}
+	return due, now, s.fails(err)
 }

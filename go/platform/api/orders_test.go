@@ -68,27 +68,26 @@ func (r *rig) some() {
 
 // A list in the order of time has each row once, whatever its state, forwards and from its end backwards.
 func TestOrderOfTime(t *testing.T) {
-	each(t, func(r *rig) {
-		r.some()
-		for path, count := range map[string]int{"/v1/records": 15, "/v1/instances": 9, "/v1/bindings": 6} {
-			want := r.call("GET", path+"?limit=1000", "").want(200, "").marks()
-			sort.Slice(want, func(a, b int) bool {
-				if !want[a].since.Equal(want[b].since) {
-					return want[a].since.Before(want[b].since)
-				}
-				return want[a].key < want[b].key
-			})
-			if len(want) != count {
-				t.Fatalf("%s: got %v, want %d records", path, want, count)
+	r := newRig(t)
+	r.some()
+	for path, count := range map[string]int{"/v1/records": 15, "/v1/instances": 9, "/v1/bindings": 6} {
+		want := r.call("GET", path+"?limit=1000", "").want(200, "").marks()
+		sort.Slice(want, func(a, b int) bool {
+			if !want[a].since.Equal(want[b].since) {
+				return want[a].since.Before(want[b].since)
 			}
-			r.bothWays(path+"?order=oldest&limit=4", want)
-			r.bothWays(path+"?order=newest&limit=4", reverse(want))
+			return want[a].key < want[b].key
+		})
+		if len(want) != count {
+			t.Fatalf("%s: got %v, want %d records", path, want, count)
 		}
-		both := r.call("GET", "/v1/records?order=oldest&state=ready&state=ordered&state=ready", "").want(200, "")
-		if len(both.items()) != 3+3+3+3 {
-			t.Errorf("the list: got %s, want 12", both.text)
-		}
-	})
+		r.bothWays(path+"?order=oldest&limit=4", want)
+		r.bothWays(path+"?order=newest&limit=4", reverse(want))
+	}
+	both := r.call("GET", "/v1/records?order=oldest&state=ready&state=ordered&state=ready", "").want(200, "")
+	if len(both.items()) != 3+3+3+3 {
+		t.Errorf("the list: got %s, want 12", both.text)
+	}
 }
 
 func reverse(all []mark) (found []mark) {
@@ -123,92 +122,88 @@ func (r *rig) bothWays(target string, want []mark) {
 
 // The orders of states and of numbers have both directions, too. That of numbers is the usual one.
 func TestPagesBackwards(t *testing.T) {
-	each(t, func(r *rig) {
-		r.some()
-		want := r.call("GET", "/v1/records?order=state", "").want(200, "").marks()
-		r.bothWays("/v1/records?limit=4&order=state", want)
-		r.bothWays("/v1/records?limit=4&order=state&latest=true", reverse(want))
-		r.bothWays("/v1/records?limit=100&order=state", want)
-		sort.Slice(want, func(a, b int) bool { return want[a].key < want[b].key })
-		r.bothWays("/v1/records?limit=4", want)
-		r.bothWays("/v1/records?limit=100&order=number", want)
-	})
+	r := newRig(t)
+	r.some()
+	want := r.call("GET", "/v1/records?order=state", "").want(200, "").marks()
+	r.bothWays("/v1/records?limit=4&order=state", want)
+	r.bothWays("/v1/records?limit=4&order=state&latest=true", reverse(want))
+	r.bothWays("/v1/records?limit=100&order=state", want)
+	sort.Slice(want, func(a, b int) bool { return want[a].key < want[b].key })
+	r.bothWays("/v1/records?limit=4", want)
+	r.bothWays("/v1/records?limit=100&order=number", want)
 }
 
 // Records are instances and bindings, found by the beginning of their numbers.
 func TestPrefixOfRecords(t *testing.T) {
-	each(t, func(r *rig) {
-		id := r.ready()
-		bid := r.bound(id)
-		of := map[string]string{"instances": id, "bindings": bid, "records": bid}
-		for kind, target := range of {
-			got := r.call("GET", "/v1/"+kind+"?prefix="+target[:13], "").want(200, "")
-			if len(got.items()) != 1 || got.at("items", "0", "id") != target {
-				t.Errorf("%s: got %s, want only %s", kind, got.text, target)
-			}
+	r := newRig(t)
+	id := r.ready()
+	bid := r.bound(id)
+	of := map[string]string{"instances": id, "bindings": bid, "records": bid}
+	for kind, target := range of {
+		got := r.call("GET", "/v1/"+kind+"?prefix="+target[:13], "").want(200, "")
+		if len(got.items()) != 1 || got.at("items", "0", "id") != target {
+			t.Errorf("%s: got %s, want only %s", kind, got.text, target)
 		}
-		bound := r.call("GET", "/v1/records?prefix="+bid, "").want(200, "")
-		if bound.at("items", "0", "instance_id") != id || bound.at("items", "0", "instance_number") != id {
-			t.Errorf("got %s, want the instance's id and number", bound.text)
-		}
-		instance := r.call("GET", "/v1/records?prefix="+id, "").want(200, "")
-		if strings.Contains(instance.text, "instance_") {
-			t.Errorf("got %s, want no \"instance_\" in it", instance.text)
-		}
-	})
+	}
+	bound := r.call("GET", "/v1/records?prefix="+bid, "").want(200, "")
+	if bound.at("items", "0", "instance_id") != id || bound.at("items", "0", "instance_number") != id {
+		t.Errorf("got %s, want the instance's id and number", bound.text)
+	}
+	instance := r.call("GET", "/v1/records?prefix="+id, "").want(200, "")
+	if strings.Contains(instance.text, "instance_") {
+		t.Errorf("got %s, want no \"instance_\" in it", instance.text)
+	}
 }
 
 // A list has so many states of each life as are asked for, the last ones.
 func TestLifeInLists(t *testing.T) {
-	each(t, func(r *rig) {
-		id := r.ready() // ordered, wanted, ready
-		r.bound(id)
-		for _, path := range []string{"/v1/instances", "/v1/bindings", "/v1/records", "/v1/instances/" + id + "/bindings"} {
-			two := r.call("GET", path+"?life=2", "").want(200, "")
-			if two.at("items", "0", "life", "0", "state") != "wanted" || two.at("items", "0", "life_omitted") != "1" ||
-				two.at("items", "0", "life", "1", "state") != "ready" {
-				t.Errorf("%s: got %s, want the states wanted and ready, and life_omitted 1", path, two.text)
-			}
-			if whole := r.call("GET", path+"?life=3", "").want(200, ""); strings.Contains(whole.text, "life_omitted") ||
-				whole.at("items", "0", "life", "0", "state") != "ordered" {
-				t.Errorf("%s: got %s, want ordered as the first state, and no life_omitted", path, whole.text)
-			}
-			if none := r.call("GET", path, "").want(200, ""); strings.Contains(none.text, "life") {
-				t.Errorf("%s: got %s, want no life", path, none.text)
-			}
+	r := newRig(t)
+	id := r.ready() // ordered, wanted, ready
+	r.bound(id)
+	for _, path := range []string{"/v1/instances", "/v1/bindings", "/v1/records", "/v1/instances/" + id + "/bindings"} {
+		two := r.call("GET", path+"?life=2", "").want(200, "")
+		if two.at("items", "0", "life", "0", "state") != "wanted" || two.at("items", "0", "life_omitted") != "1" ||
+			two.at("items", "0", "life", "1", "state") != "ready" {
+			t.Errorf("%s: got %s, want the states wanted and ready, and life_omitted 1", path, two.text)
 		}
-	})
+		if whole := r.call("GET", path+"?life=3", "").want(200, ""); strings.Contains(whole.text, "life_omitted") ||
+			whole.at("items", "0", "life", "0", "state") != "ordered" {
+			t.Errorf("%s: got %s, want ordered as the first state, and no life_omitted", path, whole.text)
+		}
+		if none := r.call("GET", path, "").want(200, ""); strings.Contains(none.text, "life") {
+			t.Errorf("%s: got %s, want no life", path, none.text)
+		}
+	}
 }
 
 // What is in flight is listed, and what a worker has leased without a request isn't.
 func TestListInFlight(t *testing.T) {
-	each(t, func(r *rig) {
-		id, other := r.ready(), r.order()
-		bid := r.call("POST", "/v1/instances/"+id+"/bindings", `{}`).want(201, "").at("id")
-		r.send(keyOfIDs(t, id, bid))
-		r.send(keyOfIDs(t, r.order()))
-		r.lease(keyOfIDs(t, other))
-		flying := r.call("GET", "/v1/in-flight?life=1", "").want(200, "")
-		if len(flying.items()) != 2 || strings.Contains(flying.text, other) {
-			t.Fatalf("the list: got %s, want 2 without the other", flying.text)
+	r := newRig(t)
+	id, other := r.ready(), r.order()
+	bid := r.call("POST", "/v1/instances/"+id+"/bindings", `{}`).want(201, "").at("id")
+	r.send(keyOfIDs(t, id, bid))
+	r.send(keyOfIDs(t, r.order()))
+	r.lease(keyOfIDs(t, other))
+	flying := r.call("GET", "/v1/in-flight?life=1", "").want(200, "")
+	if len(flying.items()) != 2 || strings.Contains(flying.text, other) {
+		t.Fatalf("the list: got %s, want 2 without the other", flying.text)
+	}
+	for n := range flying.items() {
+		at := fmt.Sprint(n)
+		kind := "provision"
+		if flying.at("items", at, "id") == bid {
+			kind = "bind"
 		}
-		for n := range flying.items() {
-			at := fmt.Sprint(n)
-			kind := "provision"
-			if flying.at("items", at, "id") == bid {
-				kind = "bind"
-			}
-			if flying.at("items", at, "in_flight", "kind") != kind || flying.at("items", at, "in_flight", "worker") != "one" ||
-				flying.at("items", at, "life", "0", "state") != "wanted" || flying.at("items", at, "attempt") != "1" {
-				t.Errorf("the list: got %s, want both with what is in flight", flying.text)
-			}
+		if flying.at("items", at, "in_flight", "kind") != kind || flying.at("items", at, "in_flight", "worker") != "one" ||
+			flying.at("items", at, "life", "0", "state") != "wanted" || flying.at("items", at, "attempt") != "1" {
+			t.Errorf("the list: got %s, want both with what is in flight", flying.text)
 		}
-		if few := r.call("GET", "/v1/in-flight?limit=1", "").want(200, ""); len(few.items()) > 1 {
-			t.Errorf("the list: got %s, want at most 1", few.text)
-		}
-		r.call("GET", "/v1/in-flight?limit=0", "").want(400, "malformed")
-		r.call("GET", "/v1/in-flight?state=wanted", "").want(400, "malformed")
-	})
+	}
+	if few := r.call("GET", "/v1/in-flight?limit=1", "").want(200, ""); len(few.items()) > 1 {
+		t.Errorf("the list: got %s, want at most 1", few.text)
+	}
+	r.call("GET", "/v1/in-flight?limit=0", "").want(400, "malformed")
+	r.call("GET", "/v1/in-flight?state=wanted", "").want(400, "malformed")
 }
 
 // lease has a worker lease a row that has no request in flight.
@@ -222,16 +217,14 @@ func (r *rig) lease(key platform.Key) {
 
 // The records that can't be read are found, page by page: pages may be empty, and lead on.
 func TestUnreadableAlone(t *testing.T) {
-	store := newFake()
-	r := newRig(t, store)
+	store := newStore(t)
+	r := newRigOver(t, store)
 	for n := 0; n < 5; n++ {
 		r.order()
 	}
 	all := r.call("GET", "/v1/instances", "").want(200, "")
 	for _, n := range []string{"1", "4"} {
-		e := store.rows[keyOfIDs(t, all.at("items", n, "number"))]
-		e.Unreadable = "the record: it is wrong"
-		store.rows[e.Key] = e
+		store.rows[keyOfIDs(t, all.at("items", n, "number"))] = isUnreadable
 	}
 	rows, pages := r.walk("/v1/records?limit=2&unreadable=true", "next", "after")
 	if len(rows) != 2 || len(pages) != 3 || len(pages[1].items()) != 0 {
@@ -244,9 +237,10 @@ func TestUnreadableAlone(t *testing.T) {
 
 // Who shows how long something lasts asks for the store's time, and not for his own.
 func TestTimeOfTheStore(t *testing.T) {
-	store := newFake()
-	r := newRig(t, store)
+	store := newStore(t)
+	r := newRigOver(t, store)
 	id := r.ready()
+	store.now = time.Date(2026, 1, 2, 3, 4, 5, 0, time.UTC)
 	want := store.now.Format(time.RFC3339Nano)
 	for _, target := range []string{"/v1/counts", "/v1/instances/" + id} {
 		if got := r.call("GET", target, "").want(200, ""); got.at("now") != want {
@@ -257,46 +251,46 @@ func TestTimeOfTheStore(t *testing.T) {
 
 // A row has what becomes of it: the number of its last request, and whether a failure may pass.
 func TestAttemptAndFailure(t *testing.T) {
-	each(t, func(r *rig) {
-		id := r.order()
-		shown := r.call("GET", "/v1/instances/"+id, "").want(200, "")
-		if strings.Contains(shown.text, "attempt") || strings.Contains(shown.text, "failure") {
-			t.Errorf("before it is sent: got %s, want no attempt and no failure", shown.text)
-		}
-		r.send(keyOfIDs(t, id))
-		r.answer(keyOfIDs(t, id), 201, func(e *platform.Entry) {
-			e.Failure, e.Passing = platform.Reason{At: e.Since, Kind: "provision", Status: 503}, true
-		})
-		shown = r.call("GET", "/v1/instances/"+id, "").want(200, "")
-		if shown.at("attempt") != "1" || shown.at("failure_may_pass") != "true" || shown.at("failure", "status") != "503" {
-			t.Errorf("got %s, want one attempt, and a failure that may pass", shown.text)
-		}
+	r := newRig(t)
+	id := r.order()
+	shown := r.call("GET", "/v1/instances/"+id, "").want(200, "")
+	if strings.Contains(shown.text, "attempt") || strings.Contains(shown.text, "failure") {
+		t.Errorf("before it is sent: got %s, want no attempt and no failure", shown.text)
+	}
+	r.send(keyOfIDs(t, id))
+	r.answer(keyOfIDs(t, id), 201, func(e *platform.Entry) {
+		e.Failure, e.Passing = platform.Reason{At: e.Since, Kind: "provision", Status: 503}, true
 	})
+	shown = r.call("GET", "/v1/instances/"+id, "").want(200, "")
+	if shown.at("attempt") != "1" || shown.at("failure_may_pass") != "true" || shown.at("failure", "status") != "503" {
+		t.Errorf("got %s, want one attempt, and a failure that may pass", shown.text)
+	}
 }
 
 // A time keeps its fraction, and metadata their text.
 func TestPrecision(t *testing.T) {
-	store := newFake()
-	store.now = store.now.Add(123456789)
-	r := newRig(t, store)
+	store := newStore(t)
+	r := newRigOver(t, store)
 	id := r.ready()
-	e := store.rows[keyOfIDs(t, id)]
-	e.Metadata = json.RawMessage(`{"labels":{"a":"<b> & c"}}`)
-	store.rows[e.Key] = e
+	const metadata = `{"labels":{"a":"<b> & c"}}`
+	store.rows[keyOfIDs(t, id)] = func(e *platform.Entry) {
+		e.Since, e.Metadata = e.Since.Truncate(time.Second).Add(123456789), json.RawMessage(metadata)
+	}
 	shown := r.call("GET", "/v1/instances/"+id, "").want(200, "")
-	if !strings.HasSuffix(shown.at("since"), ".123456789Z") || !strings.Contains(shown.text, string(e.Metadata)) {
+	if !strings.HasSuffix(shown.at("since"), ".123456789Z") || !strings.Contains(shown.text, metadata) {
 		t.Errorf("got %s, want the nanoseconds and the metadata", shown.text)
 	}
 }
 
 // What is damaged in one row keeps no other one from being answered.
 func TestDamagedRow(t *testing.T) {
-	store := newFake()
-	r := newRig(t, store)
-	good, e := r.ready(), store.rows[keyOfIDs(t, r.ready())]
-	e.Metadata, e.PolledSince = json.RawMessage(`{"a`), time.Date(20000, 1, 1, 0, 0, 0, 0, time.UTC)
-	e.Last.At = e.PolledSince
-	store.rows[e.Key] = e
+	store := newStore(t)
+	r := newRigOver(t, store)
+	good := r.ready()
+	store.rows[keyOfIDs(t, r.ready())] = func(e *platform.Entry) {
+		e.Metadata, e.PolledSince = json.RawMessage(`{"a`), time.Date(20000, 1, 1, 0, 0, 0, 0, time.UTC)
+		e.Last.At = e.PolledSince
+	}
 	request, recorded := httptest.NewRequest("GET", "/v1/instances", nil), httptest.NewRecorder()
 	request.Header.Set("Authorization", "Bearer "+all)
 	r.handler.ServeHTTP(recorded, request)
@@ -307,7 +301,7 @@ func TestDamagedRow(t *testing.T) {
 
 // A query that asks for two things at once, or for what there isn't, is rejected.
 func TestBadLists(t *testing.T) {
-	r := newRig(t, newFake())
+	r := newRig(t)
 	r.order()
 	r.order()
 	cursor := r.call("GET", "/v1/records?limit=1", "").want(200, "").at("next")
@@ -336,47 +330,46 @@ func TestBadLists(t *testing.T) {
 // Between two pages, rows change to another state, behind and before the place of the page. A list by number has each
 // row on one page all the same, and so has a list of the rows in a state of those that stay in it.
 func TestListsWhileRowsChange(t *testing.T) {
-	each(t, func(r *rig) {
-		ids := map[string]int{}
-		for n := 0; n < 12; n++ {
-			ids[r.order()] = 0
+	r := newRig(t)
+	ids := map[string]int{}
+	for n := 0; n < 12; n++ {
+		ids[r.order()] = 0
+	}
+	for _, query := range []string{"", "&state=ordered", "&state=ordered&state=withdrawn&broker=shelf"} {
+		stays := map[string]bool{}
+		for id := range ids {
+			ids[id] = 0
+			stays[id] = r.call("GET", "/v1/instances/"+id, "").want(200, "").at("state") == "ordered"
 		}
-		for _, query := range []string{"", "&state=ordered", "&state=ordered&state=withdrawn&broker=shelf"} {
-			stays := map[string]bool{}
-			for id := range ids {
-				ids[id] = 0
-				stays[id] = r.call("GET", "/v1/instances/"+id, "").want(200, "").at("state") == "ordered"
+		target, moved := "/v1/instances?limit=3"+query, 0
+		for next := ""; ; {
+			page := r.call("GET", target+next, "").want(200, "")
+			for n := range page.items() {
+				ids[page.at("items", fmt.Sprint(n), "id")]++
 			}
-			target, moved := "/v1/instances?limit=3"+query, 0
-			for next := ""; ; {
-				page := r.call("GET", target+next, "").want(200, "")
-				for n := range page.items() {
-					ids[page.at("items", fmt.Sprint(n), "id")]++
-				}
-				for id := range stays { // another state, for one that was listed or not
-					if stays[id] && moved < 3 {
-						r.call("DELETE", "/v1/instances/"+id, "").want(202, "")
-						stays[id], moved = false, moved+1
-						break
-					}
-				}
-				cursor, isThere := page.body["next"].(string)
-				if !isThere {
+			for id := range stays { // another state, for one that was listed or not
+				if stays[id] && moved < 3 {
+					r.call("DELETE", "/v1/instances/"+id, "").want(202, "")
+					stays[id], moved = false, moved+1
 					break
 				}
-				next = "&after=" + cursor
 			}
-			for id, count := range ids {
-				isWanted := stays[id] || query == ""
-				if isWanted && count != 1 || count > 1 {
-					r.Errorf("%q: the instance %s: got it %d times, want 1", query, id, count)
-				}
+			cursor, isThere := page.body["next"].(string)
+			if !isThere {
+				break
 			}
-			if moved == 0 {
-				r.Errorf("%q: got no instance that has changed, want one", query)
+			next = "&after=" + cursor
+		}
+		for id, count := range ids {
+			isWanted := stays[id] || query == ""
+			if isWanted && count != 1 || count > 1 {
+				r.Errorf("%q: the instance %s: got it %d times, want 1", query, id, count)
 			}
 		}
-	})
+		if moved == 0 {
+			r.Errorf("%q: got no instance that has changed, want one", query)
+		}
+	}
 }
 
 // triedAgain has an instance or a binding gone, and another try of its order written, as a worker does. It returns the
@@ -401,81 +394,77 @@ func (r *rig) triedAgain(ids ...string) string {
 
 // Whoever removes an instance by the id of an earlier try removes the last one.
 func TestRemoveLastTry(t *testing.T) {
-	each(t, func(r *rig) {
-		first := r.order()
-		r.send(keyOfIDs(t, first))
-		last := r.triedAgain(first)
-		r.send(keyOfIDs(t, last))
-		removed := r.call("DELETE", "/v1/instances/"+first, "").want(202, "")
-		if removed.at("id") != last || removed.at("removal") != "removed" {
-			t.Errorf("got %s, want the last one removed", removed.text)
-		}
-		if shown := r.call("GET", "/v1/instances/"+last, "").want(200, ""); shown.at("removal") != "removed" {
-			t.Errorf("the last try: got %s, want it removed", shown.text)
-		}
-		if shown := r.call("GET", "/v1/instances/"+first, "").want(200, ""); shown.at("removal") != "none" {
-			t.Errorf("the first try: got %s, want it not removed", shown.text)
-		}
-	})
+	r := newRig(t)
+	first := r.order()
+	r.send(keyOfIDs(t, first))
+	last := r.triedAgain(first)
+	r.send(keyOfIDs(t, last))
+	removed := r.call("DELETE", "/v1/instances/"+first, "").want(202, "")
+	if removed.at("id") != last || removed.at("removal") != "removed" {
+		t.Errorf("got %s, want the last one removed", removed.text)
+	}
+	if shown := r.call("GET", "/v1/instances/"+last, "").want(200, ""); shown.at("removal") != "removed" {
+		t.Errorf("the last try: got %s, want it removed", shown.text)
+	}
+	if shown := r.call("GET", "/v1/instances/"+first, "").want(200, ""); shown.at("removal") != "none" {
+		t.Errorf("the first try: got %s, want it not removed", shown.text)
+	}
 }
 
 // Whoever removes a binding by the id of an earlier try removes the last one. Its tries are listed by the first one's
 // id, which another instance may have for a binding of its own.
 func TestRemoveLastTryOfBinding(t *testing.T) {
-	each(t, func(r *rig) {
-		id, other := r.ready(), r.ready()
-		path := "/v1/instances/" + id + "/bindings"
-		for _, one := range []string{id, other} {
-			made := r.call("POST", "/v1/instances/"+one+"/bindings", `{"id": "app", "tries": 2}`).want(201, "")
-			if made.at("tries") != "2" || made.at("try") != "1" {
-				t.Errorf("got %s, want the first of two tries", made.text)
-			}
-			r.send(keyOfIDs(t, one, "app"))
+	r := newRig(t)
+	id, other := r.ready(), r.ready()
+	path := "/v1/instances/" + id + "/bindings"
+	for _, one := range []string{id, other} {
+		made := r.call("POST", "/v1/instances/"+one+"/bindings", `{"id": "app", "tries": 2}`).want(201, "")
+		if made.at("tries") != "2" || made.at("try") != "1" {
+			t.Errorf("got %s, want the first of two tries", made.text)
 		}
-		last := r.triedAgain(id, "app")
-		tries := r.call("GET", path+"?first=app&order=state", "").want(200, "")
-		if len(tries.items()) != 2 || tries.at("items", "1", "id") != last || tries.at("items", "1", "try") != "2" {
-			t.Errorf("the tries: got %s, want both", tries.text)
-		}
-		if alone := r.call("GET", "/v1/instances/"+other+"/bindings?first=app", "").want(200, ""); len(alone.items()) != 1 {
-			t.Errorf("the tries of the other: got %s, want 1", alone.text)
-		}
-		removed := r.call("DELETE", path+"/app", "").want(202, "")
-		if removed.at("id") != last || removed.at("state") != "withdrawn" {
-			t.Errorf("got %s, want the last one withdrawn", removed.text)
-		}
-		shown := r.call("GET", "/v1/instances/"+other+"/bindings/app", "").want(200, "")
-		if shown.at("removal") != "none" {
-			t.Errorf("the binding of the other: got %s, want it not removed", shown.text)
-		}
-		if removed := r.call("DELETE", "/v1/instances/"+other+"/bindings/app", "").want(202, ""); removed.at("id") != "app" ||
-			removed.at("instance_id") != other || removed.at("removal") != "removed" {
-			t.Errorf("got %s, want the binding of the other removed", removed.text)
-		}
-	})
+		r.send(keyOfIDs(t, one, "app"))
+	}
+	last := r.triedAgain(id, "app")
+	tries := r.call("GET", path+"?first=app&order=state", "").want(200, "")
+	if len(tries.items()) != 2 || tries.at("items", "1", "id") != last || tries.at("items", "1", "try") != "2" {
+		t.Errorf("the tries: got %s, want both", tries.text)
+	}
+	if alone := r.call("GET", "/v1/instances/"+other+"/bindings?first=app", "").want(200, ""); len(alone.items()) != 1 {
+		t.Errorf("the tries of the other: got %s, want 1", alone.text)
+	}
+	removed := r.call("DELETE", path+"/app", "").want(202, "")
+	if removed.at("id") != last || removed.at("state") != "withdrawn" {
+		t.Errorf("got %s, want the last one withdrawn", removed.text)
+	}
+	shown := r.call("GET", "/v1/instances/"+other+"/bindings/app", "").want(200, "")
+	if shown.at("removal") != "none" {
+		t.Errorf("the binding of the other: got %s, want it not removed", shown.text)
+	}
+	if removed := r.call("DELETE", "/v1/instances/"+other+"/bindings/app", "").want(202, ""); removed.at("id") != "app" ||
+		removed.at("instance_id") != other || removed.at("removal") != "removed" {
+		t.Errorf("got %s, want the binding of the other removed", removed.text)
+	}
 }
 
 // A new binding has as many tries as a new instance.
 func TestTriesOfBinding(t *testing.T) {
-	each(t, func(r *rig) {
-		path := "/v1/instances/" + r.ready() + "/bindings"
-		for body, want := range map[string]string{
-			`{}`: "3", `{"id": "a"}`: "1", `{"id": "b", "tries": 5}`: "5", `{"tries": 0}`: "3",
-		} {
-			if made := r.call("POST", path, body).want(201, ""); made.at("tries") != want {
-				t.Errorf("%s: got %s tries, want %s", body, made.at("tries"), want)
-			}
+	r := newRig(t)
+	path := "/v1/instances/" + r.ready() + "/bindings"
+	for body, want := range map[string]string{
+		`{}`: "3", `{"id": "a"}`: "1", `{"id": "b", "tries": 5}`: "5", `{"tries": 0}`: "3",
+	} {
+		if made := r.call("POST", path, body).want(201, ""); made.at("tries") != want {
+			t.Errorf("%s: got %s tries, want %s", body, made.at("tries"), want)
 		}
-		r.call("POST", path, `{"tries": 101}`).want(400, "invalid")
-		r.call("POST", path, `{"tries": "1"}`).want(400, "malformed")
-		r.call("GET", path+"?first="+strings.Repeat("x", 256), "").want(400, "malformed")
-	})
+	}
+	r.call("POST", path, `{"tries": 101}`).want(400, "invalid")
+	r.call("POST", path, `{"tries": "1"}`).want(400, "malformed")
+	r.call("GET", path+"?first="+strings.Repeat("x", 256), "").want(400, "malformed")
 }
 
 // A try that is ordered just before the one before it is removed is removed too.
 func TestRemoveWhileTriedAgain(t *testing.T) {
-	store := newFake()
-	r := newRig(t, &retrying{fake: store})
+	r := newRigOver(t, &retrying{Store: newStore(t)})
 	first := r.order()
 	r.send(keyOfIDs(t, first))
 	last := ""
@@ -488,7 +477,7 @@ func TestRemoveWhileTriedAgain(t *testing.T) {
 
 // A retrying is a Store in which something happens before the next change.
 type retrying struct {
-	*fake
+	platform.Store
 	before func()
 }
 
@@ -497,94 +486,91 @@ func (s *retrying) Change(ctx context.Context, key platform.Key, step platform.S
 		s.before = nil
 		before()
 	}
-	return s.fake.Change(ctx, key, step)
+	return s.Store.Change(ctx, key, step)
 }
 
 // If the key of the store was replaced, no password is written with the old one, and no credentials are read.
 func TestKeyThatWasReplaced(t *testing.T) {
-	each(t, func(r *rig) {
-		id := r.ready()
-		credentials := "/v1/instances/" + id + "/bindings/" + r.bound(id) + "/credentials"
-		r.call("GET", credentials, "").want(200, "")
-		const path, body = "/v1/brokers/shelf", `{"url": "https://shelf.example", "user": "me", "password": "new"}`
-		before := r.brokerNamed("shelf").Password
-		asked, from := 0, 1
-		r.checkKey = func(context.Context) error {
-			if asked++; asked < from {
-				return nil
-			}
-			return &platform.Fault{Kind: platform.Conflict, Text: "the key was replaced"}
+	r := newRig(t)
+	id := r.ready()
+	credentials := "/v1/instances/" + id + "/bindings/" + r.bound(id) + "/credentials"
+	r.call("GET", credentials, "").want(200, "")
+	const path, body = "/v1/brokers/shelf", `{"url": "https://shelf.example", "user": "me", "password": "new"}`
+	before := r.brokerNamed("shelf").Password
+	asked, from := 0, 1
+	r.checkKey = func(context.Context) error {
+		if asked++; asked < from {
+			return nil
 		}
-		if got := r.call("PUT", path, body).want(409, "conflict"); got.at("detail") != "the key was replaced" {
-			t.Errorf("got %s, want that the key was replaced", got.text)
-		}
-		if after := r.brokerNamed("shelf").Password; string(after) != string(before) {
-			t.Error("the password: got another one, want it unchanged")
-		}
-		r.call("GET", credentials, "").want(409, "conflict")
-		url, user := r.brokerNamed("shelf").URL, r.brokerNamed("shelf").User
-		r.call("PUT", path, `{"url": "`+url+`", "user": "`+user+`"}`).want(200, "")        // nothing is encrypted
-		r.call("PUT", path, `{"url": "`+url+`", "user": "another"}`).want(409, "conflict") // the password is
-		asked, from = 0, 2                                                                 // it is replaced while the password is written
-		r.call("PUT", path, body).want(409, "conflict")
-		asked = 0
-		r.call("PUT", "/v1/brokers/other", body).want(409, "conflict")
-	})
+		return &platform.Fault{Kind: platform.Conflict, Text: "the key was replaced"}
+	}
+	if got := r.call("PUT", path, body).want(409, "conflict"); got.at("detail") != "the key was replaced" {
+		t.Errorf("got %s, want that the key was replaced", got.text)
+	}
+	if after := r.brokerNamed("shelf").Password; string(after) != string(before) {
+		t.Error("the password: got another one, want it unchanged")
+	}
+	r.call("GET", credentials, "").want(409, "conflict")
+	url, user := r.brokerNamed("shelf").URL, r.brokerNamed("shelf").User
+	r.call("PUT", path, `{"url": "`+url+`", "user": "`+user+`"}`).want(200, "")        // nothing is encrypted
+	r.call("PUT", path, `{"url": "`+url+`", "user": "another"}`).want(409, "conflict") // the password is
+	asked, from = 0, 2                                                                 // it is replaced while the password is written
+	r.call("PUT", path, body).want(409, "conflict")
+	asked = 0
+	r.call("PUT", "/v1/brokers/other", body).want(409, "conflict")
 }
 
 // A problem names an instance or a binding by the ids of the path. Nobody knows the numbers of the store.
 func TestProblemsNameIDs(t *testing.T) {
-	each(t, func(r *rig) {
-		r.call("POST", "/v1/instances", `{"id": "my id", "service": "shelf", "plan": "small"}`).want(201, "")
-		const one, other, binding = "/v1/instances/my%20id", "/v1/instances/no%20id", "/bindings/my%20binding"
-		const unknown, unknownBinding = `the instance "no id" is unknown`, `the binding "my id/my binding" is unknown`
-		for _, test := range []struct {
-			method, target, body string
-			status               int
-			code, detail         string
-		}{
-			{"GET", other, "", 404, "not_found", unknown},
-			{"DELETE", other, "", 404, "not_found", unknown},
-			{"POST", other + "/retry", "", 404, "not_found", unknown},
-			{"POST", other + "/abandon", `{"because": "x"}`, 404, "not_found", unknown},
-			{"GET", other + "/bindings", "", 404, "not_found", unknown},
-			{"POST", other + "/bindings", `{}`, 404, "not_found", unknown},
-			{"GET", one + binding, "", 404, "not_found", unknownBinding},
-			{"DELETE", one + binding, "", 404, "not_found", unknownBinding},
-			{"POST", one + binding + "/retry", "", 404, "not_found", unknownBinding},
-			{"GET", one + binding + "/credentials", "", 404, "not_found", unknownBinding},
-			{"POST", "/v1/instances", `{"id": "my id", "service": "shelf", "plan": "small"}`, 409, "conflict",
-				"the id of the instance my id is used already, and none is used twice: choose another one"},
-			{"POST", one + "/bindings", `{}`, 409, "conflict",
-				"the instance my id is ordered: a binding can be created once it is ready"},
-			{"POST", one + "/abandon", `{"because": "x"}`, 409, "conflict",
-				"the instance my id wasn't sent yet: remove it"},
-			{"DELETE", one, "", 202, "", ""},
-			{"POST", one + "/retry", "", 409, "conflict",
-				"the instance my id is withdrawn: nothing is to be done for it"},
-		} {
-			got := r.call(test.method, test.target, test.body).want(test.status, test.code)
-			if test.detail != "" && got.at("detail") != test.detail {
-				r.Errorf("%s %s: got the detail %q, want %q", test.method, test.target, got.at("detail"), test.detail)
-			}
+	r := newRig(t)
+	r.call("POST", "/v1/instances", `{"id": "my id", "service": "shelf", "plan": "small"}`).want(201, "")
+	const one, other, binding = "/v1/instances/my%20id", "/v1/instances/no%20id", "/bindings/my%20binding"
+	const unknown, unknownBinding = `the instance "no id" is unknown`, `the binding "my id/my binding" is unknown`
+	for _, test := range []struct {
+		method, target, body string
+		status               int
+		code, detail         string
+	}{
+		{"GET", other, "", 404, "not_found", unknown},
+		{"DELETE", other, "", 404, "not_found", unknown},
+		{"POST", other + "/retry", "", 404, "not_found", unknown},
+		{"POST", other + "/abandon", `{"because": "x"}`, 404, "not_found", unknown},
+		{"GET", other + "/bindings", "", 404, "not_found", unknown},
+		{"POST", other + "/bindings", `{}`, 404, "not_found", unknown},
+		{"GET", one + binding, "", 404, "not_found", unknownBinding},
+		{"DELETE", one + binding, "", 404, "not_found", unknownBinding},
+		{"POST", one + binding + "/retry", "", 404, "not_found", unknownBinding},
+		{"GET", one + binding + "/credentials", "", 404, "not_found", unknownBinding},
+		{"POST", "/v1/instances", `{"id": "my id", "service": "shelf", "plan": "small"}`, 409, "conflict",
+			"the id of the instance my id is used already, and none is used twice: choose another one"},
+		{"POST", one + "/bindings", `{}`, 409, "conflict",
+			"the instance my id is ordered: a binding can be created once it is ready"},
+		{"POST", one + "/abandon", `{"because": "x"}`, 409, "conflict",
+			"the instance my id wasn't sent yet: remove it"},
+		{"DELETE", one, "", 202, "", ""},
+		{"POST", one + "/retry", "", 409, "conflict",
+			"the instance my id is withdrawn: nothing is to be done for it"},
+	} {
+		got := r.call(test.method, test.target, test.body).want(test.status, test.code)
+		if test.detail != "" && got.at("detail") != test.detail {
+			r.Errorf("%s %s: got the detail %q, want %q", test.method, test.target, got.at("detail"), test.detail)
 		}
-	})
+	}
 }
 
 // By http:// a password is sent in clear. So a broker elsewhere is added by it only if the program allows that.
 func TestHTTPElsewhere(t *testing.T) {
-	each(t, func(r *rig) {
-		put := func(status int, code, url string) {
-			r.call("PUT", "/v1/brokers/far", `{"url": "`+url+`", "user": "u", "password": "p"}`).want(status, code)
-		}
-		put(400, "invalid", "http://far.example")
-		put(201, "", "http://127.0.0.1:8080")
-		put(400, "invalid", "http://far.example")
-		put(200, "", "https://far.example")
-		r.orders.AllowHTTP(true)
-		put(200, "", "http://far.example")
-		r.orders.AllowHTTP(false) // the URL that it has was allowed
-		put(200, "", "http://far.example/")
-		put(400, "invalid", "http://far.example:81")
-	})
+	r := newRig(t)
+	put := func(status int, code, url string) {
+		r.call("PUT", "/v1/brokers/far", `{"url": "`+url+`", "user": "u", "password": "p"}`).want(status, code)
+	}
+	put(400, "invalid", "http://far.example")
+	put(201, "", "http://127.0.0.1:8080")
+	put(400, "invalid", "http://far.example")
+	put(200, "", "https://far.example")
+	r.orders.AllowHTTP(true)
+	put(200, "", "http://far.example")
+	r.orders.AllowHTTP(false) // the URL that it has was allowed
+	put(200, "", "http://far.example/")
+	put(400, "invalid", "http://far.example:81")
 }
