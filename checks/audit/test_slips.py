@@ -32,22 +32,35 @@ class Slip(NamedTuple):
     story: str
     place: tuple[str, int]
     why: str
-    model: str = ""
-    journal: str = ""
-    plan: str = "sync"
-    event: str = ""
+    model: str
+    journal: str
+    plan: str
+    event: str
 
 
-def skipped(story: str, place: tuple[str, int], event: str, plan: str = "sync") -> Slip:
-    """A slip that shows as an event that can't happen."""
-    return Slip(story, place, "the event can't happen here", "step skipped", "step applied", plan, event)
+def slip(story: str, shown: str, plan: str = "sync", event: str = "") -> Slip:
+    """`shown`: the line, why, and what the model and the journal have, with a bar between them."""
+    place, why, model, journal = (*(it.strip() for it in shown.split("|")), "", "")[:4]
+    file, line = place.split()
+    return Slip(story, (file, int(line)), why, model, journal, plan, event)
 
 
-def differing(story: str, place: tuple[str, int], event: str, model: str, journal: str, plan: str = "sync") -> Slip:
-    """A slip that shows after its event: the model has something else than the journal."""
-    return Slip(story, place, "after the event, the model has something else", model, journal, plan, event)
+def skipped(story: str, shown: str, plan: str = "sync") -> Slip:
+    """A slip that shows as an event that can't happen. `shown`: the line, and the event."""
+    place, event = shown.split(" | ")
+    return slip(story, f"{place} | the event can't happen here | step skipped | step applied", plan, event)
 
 
+def differing(story: str, shown: str, plan: str = "sync") -> Slip:
+    """A slip that shows after its event: the model has something else than the journal. `shown`: the line, the event,
+    and what both have.
+    """
+    place, event, both = shown.split(" | ", 2)
+    return slip(story, f"{place} | after the event, the model has something else | {both}", plan, event)
+
+
+HELD_READY, HELD_MAKING = (held_text(it, "sync", INSTANCE) for it in ("ready", "making"))
+HELD_READY_ASYNC, HELD_MAKING_ASYNC = (held_text(it, "async", INSTANCE) for it in ("ready", "making"))
 ASKED = "P claim wanted/1/provision; P send r1 provision 1; B arrive 1 r1 provision; "
 OF_THE_TABLES = "a request changes the row otherwise than the tables"
 # A worker has just ended the creation of an instance.
@@ -65,85 +78,63 @@ ASKED7 = ASKED.replace("B arrive", "B7 arrive")
 """B7 and B8 have locks that can't be lost."""
 PROCESS = "000000000000420"
 SLIPS = {
-    "an answer before the commit": Slip(
+    "an answer before the commit": slip(
         ASKED + "B change 1 pending-provision; B create; B answer 1 201; B change 1 ready",
-        ("broker", 6),
-        "it is answered while its work is pending",
-        "no answer yet",
-        "201",
+        "broker 6 | it is answered while its work is pending | no answer yet | 201",
     ),
-    "an answer before the first commit": Slip(
+    "an answer before the first commit": slip(
         ASKED + "B answer 1 202; B change 1 pending-provision; B change 1 making",
-        ("broker", 3),
-        "it is answered before its change is written",
-        "no such answer yet",
-        "202",
+        "broker 3 | it is answered before its change is written | no such answer yet | 202",
         "async",
     ),
     "work before the commit": skipped(
         ASKED + "B create; B change 1 pending-provision; B look whole; B change 1 ready; B answer 1 201",
-        ("broker", 3),
-        f"work {INSTANCE} part",
+        f"broker 3 | work {INSTANCE} part",
     ),
     "an end without its work": skipped(
         ASKED + "B change 1 pending-provision; B look absent; B change 1 ready; B answer 1 201",
-        ("broker", 6),
-        f"end {INSTANCE} done",
+        f"broker 6 | end {INSTANCE} done",
     ),
-    "a binding of another client whose instance is being created": Slip(
+    "a binding of another client whose instance is being created": slip(
         ASKED
         + "B change 1 pending-provision; B arrive 2 x1 provision of binding; B change 2 pending-provision of binding",
-        ("broker", 5),
-        OF_THE_TABLES,
-        "none, -, -",
+        f"broker 5 | {OF_THE_TABLES} | none, -, -",
     ),
-    "a deletion beside a binding of another client": Slip(
+    "a deletion beside a binding of another client": slip(
         BOUND_BY_OTHERS
         + "P claim cleaning/2/deprovision; P send r2 deprovision 2; B arrive 2 r2 deprovision; "
         + "B change 2 ready+deprovision",
-        ("broker", 23),
-        OF_THE_TABLES,
-        "ready, -, -",
+        f"broker 23 | {OF_THE_TABLES} | ready, -, -",
     ),
-    "a tombstone that is lost, of another client's binding": Slip(
+    "a tombstone that is lost, of another client's binding": slip(
         BOUND_BY_OTHERS
         + """B arrive 6 x2 deprovision of binding; B change 6 ready+deprovision @c1 of binding; B look whole of binding
              B delete of binding; B look absent of binding; B change 6 - of binding""",
-        ("broker", 30),
-        "no end of the pending work leaves this",
-        "another row",
+        "broker 30 | no end of the pending work leaves this | another row",
     ),
-    "end twice": Slip(
+    "end twice": slip(
         ASKED
         + "B change 1 pending-provision; B create; B look whole; B change 1 ready; B answer 1 201; "
         + "B change 0 ready from pending-provision",
-        ("broker", 10),
-        "the row isn't as its last change has left it",
+        "broker 10 | the row isn't as its last change has left it",
     ),
-    "a change that is committed in spite of its error": Slip(
+    "a change that is committed in spite of its error": slip(
         ASKED
         + """B change 1 pending-provision; B create; B look whole; B change 1 ready !undone; B answer 1 500 other-error
              P hear r1 500 other-error; P take 1 cleaning/1; P claim cleaning/2/deprovision; P send r2 deprovision 2
              B arrive 2 r2 deprovision; B change 2 ready+deprovision""",
-        ("broker", 12),
-        "the row isn't as its last change has left it",
+        "broker 12 | the row isn't as its last change has left it",
     ),
-    "a part that is left behind a deletion": skipped(
-        REMOVED + "B2 look part",
-        ("broker", 3),
-        f"work {INSTANCE} part",
-    ),
+    "a part that is left behind a deletion": skipped(REMOVED + "B2 look part", f"broker 3 | work {INSTANCE} part"),
     "a part that was never there while the look went on": skipped(
         REMOVED + "B2 begin look; B arrive 3 r1 provision; B answer 3 409 other-error; B2 end look part",
-        ("broker", 3),
-        f"work {INSTANCE} part",
+        f"broker 3 | work {INSTANCE} part",
     ),
     "a creation that is done once more after its end": skipped(
         ASKED
         + """B change 1 pending-provision; B look absent visit=1; B create visit=1; B look whole visit=1
              B change 1 ready; B create visit=1; B answer 1 201""",
-        ("broker", 11),
-        f"work {INSTANCE} part",
+        f"broker 11 | work {INSTANCE} part",
     ),
     "a creation that comes after a deletion has ended": skipped(
         ASKED
@@ -151,25 +142,20 @@ SLIPS = {
              B2 change 0 ready from pending-provision; P lose r1; P take 1 cleaning/1; P claim cleaning/2/deprovision
              P send r2 deprovision 2; B2 arrive 1 r2 deprovision; B2 change 1 ready+deprovision; B2 delete visit=1
              B2 look absent visit=1; B2 change 1 tombstone; B2 answer 1 200; B create visit=1""",
-        ("broker", 6),
-        f"work {INSTANCE} part",
+        f"broker 6 | work {INSTANCE} part",
     ),
     "a deletion that comes after its instance is ready again": skipped(
-        REMOVING_FAILS + "B begin delete visit=2; B end delete done visit=2",
-        ("broker", 16),
-        f"work {INSTANCE} part",
+        REMOVING_FAILS + "B begin delete visit=2; B end delete done visit=2", f"broker 16 | work {INSTANCE} part"
     ),
     "an end that another worker's call has made wrong": skipped(
         ASKED
         + """B change 1 pending-provision; B create visit=1; B look whole visit=1; B2 look whole; B2 delete
              B change 1 ready""",
-        ("broker", 8),
-        f"end {INSTANCE} done",
+        f"broker 8 | end {INSTANCE} done",
     ),
     "an operation that ends well without its resource": skipped(
         ASKED + "B change 1 pending-provision; B change 1 making; B answer 1 202; B look absent; B change 0 ready",
-        ("broker", 8),
-        f"finish {INSTANCE} ok",
+        f"broker 8 | finish {INSTANCE} ok",
         "async",
     ),
     "a record taken with an old attempt's answer": skipped(
@@ -178,65 +164,43 @@ SLIPS = {
              P take 2 cleaning/2; P claim cleaning/3/deprovision; P send r3 deprovision 3
              B arrive 2 r2 deprovision; B change 2 ready+deprovision; B delete; B look absent; B change 2 tombstone
              B answer 2 200; P take 3 gone/3""",
-        ("platform", 13),
-        f"take {INSTANCE} 1",
+        f"platform 13 | take {INSTANCE} 1",
     ),
-    "a removed tombstone": Slip(
+    "a removed tombstone": slip(
         REMOVED + "B arrive 3 r1 provision; B change 3 pending-provision from -",
-        ("broker", 23),
-        "the row isn't as its last change has left it",
+        "broker 23 | the row isn't as its last change has left it",
     ),
     "a creation in spite of a tombstone": differing(
         REMOVED + "B arrive 3 r1 provision; B change 3 pending-provision",
-        ("broker", 23),
-        f"arrive {INSTANCE} 1",
-        "work -, tombstone tombstone, answer 409-Other",
+        f"broker 23 | arrive {INSTANCE} 1 | work -, tombstone tombstone, answer 409-Other | "
         "work provision, tombstone -, answer -",
     ),
     "ready after a garbled 201": differing(
         ASKED
         + "B change 1 pending-provision; B create; B look whole; B change 1 ready; B answer 1 201; "
         + "P hear r1 201 malformed; P take 1 ready/1",
-        ("platform", 5),
-        f"garble {INSTANCE} 0",
-        "state cleaning",
-        "state ready",
+        f"platform 5 | garble {INSTANCE} 0 | state cleaning | state ready",
     ),
     "ready after a 500": differing(
         ASKED + "B answer 1 500 other-error; P hear r1 500 other-error; P take 1 ready/1",
-        ("platform", 5),
-        f"gateway {INSTANCE} 500",
-        "state cleaning",
-        "state ready",
+        f"platform 5 | gateway {INSTANCE} 500 | state cleaning | state ready",
     ),
     "another answer than the row's": differing(
         CREATED + "B arrive 2 r1 provision; B answer 2 202",
-        ("broker", 13),
-        f"arrive {INSTANCE} 1",
-        "answer 200",
-        "answer 202",
+        f"broker 13 | arrive {INSTANCE} 1 | answer 200 | answer 202",
     ),
-    "an answer decided on another row": Slip(
+    "an answer decided on another row": slip(
         CREATED + "B arrive 2 r1 provision; B answer 2 200 saw=making",
-        ("broker", 13),
-        "the request was decided on a row that there never was",
-        held_text("ready", "sync", INSTANCE),
-        held_text("making", "sync", INSTANCE),
+        f"broker 13 | the request was decided on a row that there never was | {HELD_READY} | {HELD_MAKING}",
     ),
-    "an answer that no broker gave": Slip(
+    "an answer that no broker gave": slip(
         ASKED + "B change 1 pending-provision; B create; B look whole; P hear r1 400 other-error; P take 1 gone/1",
-        ("platform", 5),
-        "the platform took an answer that no broker has given",
-        "-",
-        "400-Other",
+        "platform 5 | the platform took an answer that no broker has given | - | 400-Other",
     ),
     "a deletion that is put off without need": differing(
         CREATED + "P claim cleaning/2/deprovision; P send r2 deprovision 2; B arrive 2 r2 deprovision; "
         "B answer 2 422 concurrency-error saw=ready",
-        ("broker", 13),
-        f"arrive {INSTANCE} 2",
-        "answer -",
-        "answer 422-ConcurrencyError",
+        f"broker 13 | arrive {INSTANCE} 2 | answer - | answer 422-ConcurrencyError",
     ),
     "a deletion that is put off for a binding that has ended": differing(
         BOUND
@@ -245,163 +209,111 @@ SLIPS = {
              B look absent of binding; B change 3 tombstone of binding; B answer 3 200 of binding
              P hear b2 200 of binding; P take 2 gone/2 of binding; P claim cleaning/2/deprovision
              P send r2 deprovision 2; B arrive 4 r2 deprovision; B answer 4 422 concurrency-error""",
-        ("broker", 31),
-        f"arrive {INSTANCE} 2",
-        "answer -",
-        "answer 422-ConcurrencyError",
+        f"broker 31 | arrive {INSTANCE} 2 | answer - | answer 422-ConcurrencyError",
     ),
     "a Poll that is put off without need": differing(
         """P claim wanted/1/provision; P send r1 provision 1; B arrive 1 r1 provision; B change 1 pending-provision
            B change 1 making; B answer 1 202; P hear r1 202; P take 1 polling/1; B create; B look whole
            B change 0 ready; P claim polling/2/poll; P send r2 poll 2; B arrive 2 r2 poll
            B answer 2 200 in-progress saw=ready""",
-        ("broker", 12),
-        f"arrive {INSTANCE} 2",
-        "answer 200-succeeded",
-        "answer 200-in-progress",
+        f"broker 12 | arrive {INSTANCE} 2 | answer 200-succeeded | answer 200-in-progress",
         "async",
     ),
     "a deletion that hides that it was carried out": differing(
         CREATED + "P claim cleaning/2/deprovision; P send r2 deprovision 2; B arrive 2 r2 deprovision; "
         "B change 2 ready+deprovision; B delete; B look absent; B change 2 tombstone; B answer 2 422 concurrency-error",
-        ("broker", 18),
-        f"end {INSTANCE} done",
-        "answer 200",
-        "answer 422-ConcurrencyError",
+        f"broker 18 | end {INSTANCE} done | answer 200 | answer 422-ConcurrencyError",
     ),
-    "the end of a creation over a deletion": Slip(
+    "the end of a creation over a deletion": slip(
         CREATED + "P claim cleaning/2/deprovision; P send r2 deprovision 2; B arrive 2 r2 deprovision; "
         "B change 2 ready+deprovision; B change 1 ready",
-        ("broker", 14),
-        "a request changes the row that was answered before",
-        "no change",
+        "broker 14 | a request changes the row that was answered before | no change",
     ),
-    "a request that ends the work of another": Slip(
+    "a request that ends the work of another": slip(
         CREATED + "B arrive 2 r1 provision; P claim cleaning/2/deprovision; P send r2 deprovision 2; "
         "B arrive 3 r2 deprovision; B change 3 ready+deprovision; B change 2 ready",
-        ("broker", 15),
-        "a provision ends the pending work of a deprovision",
-        "no change",
+        "broker 15 | a provision ends the pending work of a deprovision | no change",
     ),
     "a Poll of another answer": differing(
         """P claim wanted/1/provision; P send r1 provision 1; B arrive 1 r1 provision; B change 1 pending-provision
            B change 1 making; B answer 1 202; P hear r1 202; P take 1 polling/1; P claim polling/2/poll
            P send r2 poll 2; B arrive 2 r2 poll; B answer 2 200 succeeded""",
-        ("broker", 7),
-        f"arrive {INSTANCE} 2",
-        "answer 200-in-progress",
-        "answer 200-succeeded",
+        f"broker 7 | arrive {INSTANCE} 2 | answer 200-in-progress | answer 200-succeeded",
         "async",
     ),
-    "a Poll of what was held before the commit of a change that another request has found": Slip(
+    "a Poll of what was held before the commit of a change that another request has found": slip(
         ENDED
         + """P lose r2; P take 2 polling/2; P claim cleaning/3/deprovision; P send r3 deprovision 3
              B arrive 3 r3 deprovision; B change 3 ready+deprovision; B arrive 2 r2 poll
              B answer 2 200 in-progress saw=making""",
-        ("broker", 14),
-        STALE,
-        "",
-        held_text("making", "async", INSTANCE),
+        f"broker 14 | {STALE} | | {HELD_MAKING_ASYNC}",
         "async",
     ),
-    "a Poll of what was held before the commit of a change that another request has seen": Slip(
+    "a Poll of what was held before the commit of a change that another request has seen": slip(
         ENDED
         + """B arrive 2 r2 poll; B answer 2 200 succeeded saw=ready; P hear r2 200 succeeded; P take 2 ready/2
              B arrive 3 r2 poll; B answer 3 200 in-progress saw=making""",
-        ("broker", 14),
-        STALE,
-        held_text("ready", "async", INSTANCE),
-        held_text("making", "async", INSTANCE),
+        f"broker 14 | {STALE} | {HELD_READY_ASYNC} | {HELD_MAKING_ASYNC}",
         "async",
     ),
-    "a Poll of what was held before a change that was committed": Slip(
+    "a Poll of what was held before a change that was committed": slip(
         ENDED + "B arrive 2 r2 poll committed=3; B answer 2 200 in-progress saw=making",
-        ("broker", 12),
-        STALE,
-        held_text("ready", "async", INSTANCE),
-        held_text("making", "async", INSTANCE),
+        f"broker 12 | {STALE} | {HELD_READY_ASYNC} | {HELD_MAKING_ASYNC}",
         "async",
     ),
-    "a Poll of what was held before a change that was committed, while another is still to be": Slip(
+    "a Poll of what was held before a change that was committed, while another is still to be": slip(
         ENDED
         + """P lose r2; P take 2 polling/2; P claim cleaning/3/deprovision; P send r3 deprovision 3
              B arrive 3 r3 deprovision; B change 3 ready+deprovision; B arrive 2 r2 poll committed=3
              B answer 2 200 in-progress saw=making""",
-        ("broker", 14),
-        STALE,
-        "",
-        held_text("making", "async", INSTANCE),
+        f"broker 14 | {STALE} | | {HELD_MAKING_ASYNC}",
         "async",
     ),
-    "a Poll of what was held before a doubtful change, and before one that was committed": Slip(
+    "a Poll of what was held before a doubtful change, and before one that was committed": slip(
         ENDED.replace("B change 0 ready", "B change 0 ready !doubtful")
         + """P lose r2; P take 2 polling/2; P claim cleaning/3/deprovision; P send r3 deprovision 3
              B arrive 3 r3 deprovision; B change 3 ready+deprovision; B arrive 2 r2 poll committed=4
              B answer 2 200 in-progress saw=making""",
-        ("broker", 15),
-        STALE,
-        "",
-        held_text("making", "async", INSTANCE),
+        f"broker 15 | {STALE} | | {HELD_MAKING_ASYNC}",
         "async",
     ),
-    "two workers of one process at once": Slip(
+    "two workers of one process at once": slip(
         ASKED7
         + """B7 change 1 pending-provision; B7 begin create visit=1; B7 begin look; B7 end look part
              B7 end create done visit=1; B7 look whole visit=1; B7 change 1 ready; B7 answer 1 201""",
-        ("broker", 5),
-        TOGETHER,
-        f"create of {PROCESS}7 goes on",
-        f"look of {PROCESS}7 begins",
+        f"broker 5 | {TOGETHER} | create of {PROCESS}7 goes on | look of {PROCESS}7 begins",
     ),
-    "two workers of two processes at once": Slip(
+    "two workers of two processes at once": slip(
         ASKED7
         + """B7 change 1 pending-provision; B7 begin look visit=1; B8 begin look; B7 end look absent visit=1
              B7 create visit=1; B8 end look absent; B7 look whole visit=1; B7 change 1 ready; B7 answer 1 201""",
-        ("broker", 2),
-        TOGETHER,
-        f"look of {PROCESS}7 goes on",
-        f"look of {PROCESS}8 begins",
+        f"broker 2 | {TOGETHER} | look of {PROCESS}7 goes on | look of {PROCESS}8 begins",
     ),
     "other credentials in the row": differing(
         CREATED
         + """P claim wanted/1/provision of binding; P send b1 provision 1 of binding; B arrive 2 b1 provision of binding
              B change 2 pending-provision of binding; B create @c1 of binding; B look whole of binding
              B change 2 ready @c2 of binding""",
-        ("broker", 18),
-        f"end {INSTANCE}/{BINDING} done",
-        "credentials 1",
-        "credentials 2",
+        f"broker 18 | end {INSTANCE}/{BINDING} done | credentials 1 | credentials 2",
     ),
     "other credentials in the record": differing(
         BOUND.replace("P take 1 ready/1 @c1", "P take 1 ready/1 @c3"),
-        ("platform", 9),
-        f"take {INSTANCE}/{BINDING} 0",
-        "recorded 1",
-        "recorded 2",
+        f"platform 9 | take {INSTANCE}/{BINDING} 0 | recorded 1 | recorded 2",
     ),
     "a deletion beside a binding": skipped(
-        BOUND + "P claim cleaning/2/deprovision",
-        ("platform", 10),
-        f"remove {INSTANCE}",
+        BOUND + "P claim cleaning/2/deprovision", f"platform 10 | remove {INSTANCE}"
     ),
     "a Bind without its instance": skipped(
         """P claim wanted/1/provision; P send r1 provision 1; B arrive 1 r1 provision
            P claim wanted/1/provision of binding; P send b1 provision 1 of binding""",
-        ("platform", 4),
-        f"create {INSTANCE}/{BINDING}",
+        f"platform 4 | create {INSTANCE}/{BINDING}",
     ),
-    "a record that goes back": Slip(
+    "a record that goes back": slip(
         CREATED + "P claim wanted/1/provision from ready/1",
-        ("platform", 6),
-        "no events of the platform lead to this record",
-        "ready - 1",
-        "wanted provision 1",
+        "platform 6 | no events of the platform lead to this record | ready - 1 | wanted provision 1",
     ),
-    "a change without a request": Slip(
-        CREATED + "B change 0 tombstone",
-        ("broker", 12),
-        "no request and no end of work makes this change",
-        "no change",
+    "a change without a request": slip(
+        CREATED + "B change 0 tombstone", "broker 12 | no request and no end of work makes this change | no change"
     ),
 }
 
@@ -411,119 +323,80 @@ SLIPS = {
 STATES = "the state of the change isn't that of its record"
 NOT_OUT, NOT_COME = "a request is sent that the record doesn't have in flight", "takes an answer that has not come"
 SLIPS |= {
-    "a creation that is sent before its claim": Slip(
+    "a creation that is sent before its claim": slip(
         CREATED.replace(
             "P claim wanted/1/provision; P send r1 provision 1", "P send r1 provision 1; P claim WANTED"
         ).replace("WANTED", "wanted/1/provision"),
-        ("platform", 2),
-        NOT_OUT,
-        "- -",
-        "provision 1",
+        f"platform 2 | {NOT_OUT} | - - | provision 1",
     ),
-    "a creation that is sent between its order and its claim": Slip(
+    "a creation that is sent between its order and its claim": slip(
         "P2 command - state=ordered; P send r1 provision 1; P claim wanted/1/provision; B arrive 1 r1 provision",
-        ("platform", 2),
-        NOT_OUT,
-        "- -",
-        "provision 1",
+        f"platform 2 | {NOT_OUT} | - - | provision 1",
     ),
-    "a creation that is sent and never claimed": Slip(
+    "a creation that is sent and never claimed": slip(
         "P2 command - state=ordered; P send r1 provision 1; B arrive 1 r1 provision",
-        ("platform", 2),
-        NOT_OUT,
-        "- -",
-        "provision 1",
+        f"platform 2 | {NOT_OUT} | - - | provision 1",
     ),
-    "a deletion that is sent before its claim": Slip(
+    "a deletion that is sent before its claim": slip(
         REMOVED.replace(
             "P claim cleaning/2/deprovision; P send r2 deprovision 2", "P send r2 deprovision 2; P claim X"
         ).replace("X", "cleaning/2/deprovision"),
-        ("platform", 6),
-        NOT_OUT,
-        "- 1",
-        "deprovision 2",
+        f"platform 6 | {NOT_OUT} | - 1 | deprovision 2",
     ),
-    "a request of another kind than the record's": Slip(
+    "a request of another kind than the record's": slip(
         "P claim wanted/1/provision; P send r1 deprovision 1; B arrive 1 r1 deprovision",
-        ("platform", 3),
-        NOT_OUT,
-        "provision 1",
-        "deprovision 1",
+        f"platform 3 | {NOT_OUT} | provision 1 | deprovision 1",
     ),
-    "a request that is sent though its claim was undone": Slip(
+    "a request that is sent though its claim was undone": slip(
         "P claim wanted/1/provision !undone; P send r1 provision 1; B arrive 1 r1 provision; "
         "P claim wanted/1/provision from -",
-        ("platform", 4),
-        NOT_OUT,
-        "- -",
-        "provision 1",
+        f"platform 4 | {NOT_OUT} | - - | provision 1",
     ),
-    "a request that is sent after it was given up": Slip(
+    "a request that is sent after it was given up": slip(
         "P claim wanted/1/provision; P take 1 cleaning/1; P send r1 provision 1; B arrive 1 r1 provision",
-        ("platform", 4),
-        NOT_OUT,
-        "- 1",
-        "provision 1",
+        f"platform 4 | {NOT_OUT} | - 1 | provision 1",
     ),
-    "an answer that is taken before it has come": Slip(
+    "an answer that is taken before it has come": slip(
         CREATED.replace("P hear r1 201; P take 1 ready/1", "P take 1 ready/1; P hear r1 201"),
-        ("platform", 4),
-        NOT_COME,
-        "-",
-        "201",
+        f"platform 4 | {NOT_COME} | - | 201",
     ),
-    "a timeout that is taken before the answer has come": Slip(
+    "a timeout that is taken before the answer has come": slip(
         "P claim wanted/1/provision; P send r1 provision 1; P take 1 cleaning/1; P hear r1 502 malformed; "
         "B arrive 1 r1 provision",
-        ("platform", 4),
-        NOT_COME,
-        "-",
-        "502-malformed",
+        f"platform 4 | {NOT_COME} | - | 502-malformed",
     ),
-    "a timeout that is taken before a Fetch is answered": Slip(
+    "a timeout that is taken before a Fetch is answered": slip(
         """P claim wanted/1/provision; P send r1 provision 1; B arrive 1 r1 provision; B change 1 pending-provision
            B create; B look whole; B change 1 ready; B answer 1 201; P hear r1 201; P take 1 ready/1
            P claim wanted/1/provision of binding; P send b1 provision 1 of binding; P lose b1 of binding
            P take 1 cleaning/1 of binding; P claim cleaning/2/deprovision of binding; P send b2 fetch of binding
            P take 2 cleaning/2 of binding; P lose b2 of binding""",
-        ("platform", 12),
-        NOT_COME,
-        "-",
-        "lost",
+        f"platform 12 | {NOT_COME} | - | lost",
     ),
-    "an answer that is taken though it was lost": Slip(
-        CREATED.replace("P hear r1 201", "P lose r1"), ("platform", 5), NOT_COME, "-", "201"
+    "an answer that is taken though it was lost": slip(
+        CREATED.replace("P hear r1 201", "P lose r1"), f"platform 5 | {NOT_COME} | - | 201"
     ),
-    "a state that isn't the record's": Slip(
+    "a state that isn't the record's": slip(
         CREATED.replace("P take 1 ready/1", "P take 1 ready/1 state=gone"),
-        ("platform", 5),
-        STATES,
-        "state ready or abandoned",
-        "state gone",
+        f"platform 5 | {STATES} | state ready or abandoned | state gone",
     ),
-    "a state of a claim that isn't the record's": Slip(
-        CREATED + "P claim cleaning/2/deprovision state=ready", ("platform", 6), STATES, "", "state ready"
+    "a state of a claim that isn't the record's": slip(
+        CREATED + "P claim cleaning/2/deprovision state=ready", f"platform 6 | {STATES} | | state ready"
     ),
-    "an order that is ready": Slip(
+    "an order that is ready": slip(
         "P command - state=ready; B arrive 9 x poll",
-        ("platform", 2),
-        STATES,
-        "state ordered or withdrawn",
-        "state ready",
+        f"platform 2 | {STATES} | state ordered or withdrawn | state ready",
     ),
-    "an order that was never sent and is abandoned": Slip(
-        "P command - state=abandoned; B arrive 9 x poll", ("platform", 2), STATES, "", "state abandoned"
+    "an order that was never sent and is abandoned": slip(
+        "P command - state=abandoned; B arrive 9 x poll", f"platform 2 | {STATES} | | state abandoned"
     ),
-    "an order that is withdrawn after it was sent": Slip(
-        CREATED + "P command ready/1 state=withdrawn", ("platform", 6), STATES, "", "state withdrawn"
+    "an order that is withdrawn after it was sent": slip(
+        CREATED + "P command ready/1 state=withdrawn", f"platform 6 | {STATES} | | state withdrawn"
     ),
-    "an answer that comes before its request": Slip(
+    "an answer that comes before its request": slip(
         "P claim wanted/1/provision; P hear r1 502 malformed; P send r1 provision 1; P take 1 cleaning/1; "
         "B arrive 1 r1 provision",
-        ("platform", 3),
-        "a request is answered before it is sent",
-        "no answer yet",
-        "502-malformed",
+        "platform 3 | a request is answered before it is sent | no answer yet | 502-malformed",
     ),
 }
 
@@ -544,122 +417,99 @@ BINDING_ASKED = (
     + "P claim wanted/1/provision of binding; P send b1 provision 1 of binding; B arrive 2 b1 provision of binding; "
 )
 SLIPS |= {
-    "another plan in all texts": Slip(ALL_OTHER, ("broker", 3), BEGUN, ONE, TWO),
-    "another service": Slip(ASKED + "B change 1 pending-provision service=other", ("broker", 3), BEGUN, OURS, THEIRS),
-    "other attributes": Slip(ASKED + "B change 1 pending-provision attributes=5", ("broker", 3), BEGUN, NONE, FIVE),
-    "another plan of a row that waits": Slip(
-        ASKED + "B change 1 waiting plan=sync", ("broker", 3), BEGUN, TWO, ONE, "async"
+    "another plan in all texts": slip(ALL_OTHER, f"broker 3 | {BEGUN} | {ONE} | {TWO}"),
+    "another service": slip(
+        ASKED + "B change 1 pending-provision service=other", f"broker 3 | {BEGUN} | {OURS} | {THEIRS}"
     ),
-    "another plan of what another client creates": Slip(
-        "B arrive 1 x provision; B change 1 pending-provision plan=async", ("broker", 3), BEGUN, ONE, TWO
+    "other attributes": slip(
+        ASKED + "B change 1 pending-provision attributes=5", f"broker 3 | {BEGUN} | {NONE} | {FIVE}"
     ),
-    "another plan at the end": Slip(
-        f"{ASKED}B change 1 pending-provision; {WORKED}B change 1 ready plan=async", ("broker", 10), KEPT, ONE, TWO
+    "another plan of a row that waits": slip(
+        ASKED + "B change 1 waiting plan=sync", f"broker 3 | {BEGUN} | {TWO} | {ONE}", "async"
     ),
-    "another service at the end": Slip(
+    "another plan of what another client creates": slip(
+        "B arrive 1 x provision; B change 1 pending-provision plan=async", f"broker 3 | {BEGUN} | {ONE} | {TWO}"
+    ),
+    "another plan at the end": slip(
+        f"{ASKED}B change 1 pending-provision; {WORKED}B change 1 ready plan=async",
+        f"broker 10 | {KEPT} | {ONE} | {TWO}",
+    ),
+    "another service at the end": slip(
         f"{ASKED}B change 1 pending-provision; {WORKED}B change 1 ready service=other",
-        ("broker", 10),
-        KEPT,
-        OURS,
-        THEIRS,
+        f"broker 10 | {KEPT} | {OURS} | {THEIRS}",
     ),
-    "other attributes at the end": Slip(
-        f"{ASKED}B change 1 pending-provision; {WORKED}B change 1 ready attributes=5", ("broker", 10), KEPT, NONE, FIVE
+    "other attributes at the end": slip(
+        f"{ASKED}B change 1 pending-provision; {WORKED}B change 1 ready attributes=5",
+        f"broker 10 | {KEPT} | {NONE} | {FIVE}",
     ),
-    "other attributes after an operation": Slip(
+    "other attributes after an operation": slip(
         ASKED
         + "B change 1 pending-provision; B change 1 making; B create; B look whole; B change 0 ready attributes=5",
-        ("broker", 9),
-        KEPT,
-        NONE,
-        FIVE,
+        f"broker 9 | {KEPT} | {NONE} | {FIVE}",
         "async",
     ),
-    "another plan in a deletion": Slip(
-        REMOVING + "B change 2 ready+deprovision plan=async", ("broker", 13), KEPT, ONE, TWO
+    "another plan in a deletion": slip(
+        REMOVING + "B change 2 ready+deprovision plan=async", f"broker 13 | {KEPT} | {ONE} | {TWO}"
     ),
-    "a deletion of another plan than the row's": Slip(
-        REMOVING + "B change 2 ready+deprovision work-plan=async", ("broker", 13), WORK, ONE, TWO
+    "a deletion of another plan than the row's": slip(
+        REMOVING + "B change 2 ready+deprovision work-plan=async", f"broker 13 | {WORK} | {ONE} | {TWO}"
     ),
-    "a deletion of another plan than it names": Slip(
+    "a deletion of another plan than it names": slip(
         REMOVING.replace("B arrive 2 r2 deprovision", "B arrive 2 r2 deprovision plan=async")
         + "B change 2 ready+deprovision",
-        ("broker", 13),
-        WORK,
-        TWO,
-        ONE,
+        f"broker 13 | {WORK} | {TWO} | {ONE}",
     ),
-    "pending work of another instance": Slip(
-        ASKED + "B change 1 pending-provision work-id=other", ("broker", 3), WORK, "", f"id {OTHER}"
+    "pending work of another instance": slip(
+        ASKED + "B change 1 pending-provision work-id=other", f"broker 3 | {WORK} | | id {OTHER}"
     ),
-    "pending work that may go on": Slip(
+    "pending work that may go on": slip(
         ASKED.replace("arrive 1 r1 provision", "arrive 1 r1 provision accepts=no") + "B change 1 pending-provision",
-        ("broker", 3),
-        WORK,
-        "accepts_incomplete False",
-        "accepts_incomplete True",
+        f"broker 3 | {WORK} | accepts_incomplete False | accepts_incomplete True",
     ),
-    "attributes of nothing": Slip(
+    "attributes of nothing": slip(
         REMOVING + "B change 2 ready+deprovision; B delete; B look absent; B change 2 tombstone attributes=5",
-        ("broker", 18),
-        "there are attributes without a row and without pending work",
-        NONE,
-        FIVE,
+        f"broker 18 | there are attributes without a row and without pending work | {NONE} | {FIVE}",
     ),
-    "another plan of a binding": Slip(
-        BINDING_ASKED + "B change 2 pending-provision plan=async of binding", ("broker", 13), BEGUN, ONE, TWO
+    "another plan of a binding": slip(
+        BINDING_ASKED + "B change 2 pending-provision plan=async of binding", f"broker 13 | {BEGUN} | {ONE} | {TWO}"
     ),
-    "other attributes of a binding": Slip(
-        BINDING_ASKED + "B change 2 pending-provision attributes=5 of binding", ("broker", 13), BEGUN, NONE, FIVE
+    "other attributes of a binding": slip(
+        BINDING_ASKED + "B change 2 pending-provision attributes=5 of binding", f"broker 13 | {BEGUN} | {NONE} | {FIVE}"
     ),
-    "a request that is read as of another plan": Slip(
+    "a request that is read as of another plan": slip(
         ALL_OTHER.replace("arrive 1 r1 provision", "arrive 1 r1 provision plan=async"),
-        ("broker", 3),
-        "the request has another service or plan than the one that the platform has sent",
-        ONE,
-        TWO,
+        f"broker 3 | the request has another service or plan than the one that the platform has sent | {ONE} | {TWO}",
     ),
-    "a request of another plan than the record's": Slip(
+    "a request of another plan than the record's": slip(
         "P claim wanted/1/provision; P send r1 provision 1 plan=async; B arrive 1 x poll",
-        ("platform", 3),
-        "the request has another service or plan than the record",
-        ONE,
-        TWO,
+        f"platform 3 | the request has another service or plan than the record | {ONE} | {TWO}",
     ),
-    "a record of another plan": Slip(
-        "P claim wanted/1/provision plan=async; B arrive 1 x poll", ("platform", 2), RECORD, ONE, TWO
+    "a record of another plan": slip(
+        "P claim wanted/1/provision plan=async; B arrive 1 x poll", f"platform 2 | {RECORD} | {ONE} | {TWO}"
     ),
-    "a record of another plan after the answer": Slip(
-        CREATED.replace("P take 1 ready/1", "P take 1 ready/1 plan=async"), ("platform", 5), RECORD, ONE, TWO
+    "a record of another plan after the answer": slip(
+        CREATED.replace("P take 1 ready/1", "P take 1 ready/1 plan=async"), f"platform 5 | {RECORD} | {ONE} | {TWO}"
     ),
-    "a record of another service after the answer": Slip(
-        CREATED.replace("P take 1 ready/1", "P take 1 ready/1 service=other"), ("platform", 5), RECORD, OURS, THEIRS
+    "a record of another service after the answer": slip(
+        CREATED.replace("P take 1 ready/1", "P take 1 ready/1 service=other"),
+        f"platform 5 | {RECORD} | {OURS} | {THEIRS}",
     ),
-    "a record of another plan after a command": Slip(
-        CREATED + "P command cleaning/1 plan=async", ("platform", 6), RECORD, ONE, TWO
+    "a record of another plan after a command": slip(
+        CREATED + "P command cleaning/1 plan=async", f"platform 6 | {RECORD} | {ONE} | {TWO}"
     ),
-    "a creation with other parameters that is answered 200": Slip(
+    "a creation with other parameters that is answered 200": slip(
         CREATED + "B arrive 2 x provision attributes=5; B answer 2 200 saw=ready",
-        ("broker", 13),
-        "the answer isn't the tables'",
-        "409-Other",
-        "200",
+        "broker 13 | the answer isn't the tables' | 409-Other | 200",
     ),
-    "a conflict without other parameters": Slip(
+    "a conflict without other parameters": slip(
         CREATED + "B arrive 2 x provision; B answer 2 409 other-error",
-        ("broker", 13),
-        "the answer isn't the tables'",
-        "200",
-        "409-Other",
+        "broker 13 | the answer isn't the tables' | 200 | 409-Other",
     ),
-    "a conflict that the platform takes": Slip(
+    "a conflict that the platform takes": slip(
         ASKED
         + f"B change 1 pending-provision; {WORKED}B change 1 ready; B arrive 2 r1 provision attributes=5; "
         + "B answer 2 409 other-error; P hear r1 409 other-error; P take 1 unsettled/1",
-        ("platform", 5),
-        "the platform took an answer that no broker has given",
-        "-",
-        "409-Other",
+        "platform 5 | the platform took an answer that no broker has given | - | 409-Other",
     ),
 }
 
