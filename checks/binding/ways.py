@@ -13,13 +13,7 @@ from network.model import error
 SYNC, ASYNC, FIRST_POLL = Order("sync"), Order("async"), Order("async", first_poll=True)
 
 # The instance is created, and recorded `ready`.
-READY = (
-    "instance create",
-    "instance arrive 1",
-    "instance work whole",
-    "instance end done",
-    "instance take 0",
-)
+READY = ("instance create", "instance arrive 1", "instance work whole", "instance end done", "instance take 0")
 # The Provision times out. It arrives while the instance is cleaned up, and the instance is created all the same.
 GIVEN_UP = (
     "instance create",
@@ -30,46 +24,17 @@ GIVEN_UP = (
     "instance end done",
 )
 # The Bind times out. The Unbind finds nothing, and the binding is recorded `gone`.
-ENDED = (
-    "binding 1 create",
-    "binding 1 timeout",
-    "binding 1 send",
-    "binding 1 arrive 2",
-    "binding 1 take 0",
-)
+ENDED = ("binding 1 create", "binding 1 timeout", "binding 1 send", "binding 1 arrive 2", "binding 1 take 0")
 # The Deprovision arrives, and succeeds.
-DEPROVISIONED = (
-    "instance arrive 2",
-    "instance work absent",
-    "instance end done",
-)
+DEPROVISIONED = ("instance arrive 2", "instance work absent", "instance end done")
 # An instance that is `ready` is removed, and deleted at the broker.
-DELETED = (
-    "instance remove",
-    "instance send",
-    *DEPROVISIONED,
-)
+DELETED = ("instance remove", "instance send", *DEPROVISIONED)
 # The Bind is carried out, and the binding is recorded `ready`.
-BOUND = (
-    "binding 1 create",
-    "binding 1 arrive 1",
-    "binding 1 work whole 1",
-    "binding 1 end done",
-    "binding 1 take 0",
-)
+BOUND = ("binding 1 create", "binding 1 arrive 1", "binding 1 work whole 1", "binding 1 end done", "binding 1 take 0")
 # The Bind times out, and arrives after the Unbind is sent.
-OVERTAKEN = (
-    "binding 1 create",
-    "binding 1 timeout",
-    "binding 1 send",
-    "binding 1 arrive 1",
-)
+OVERTAKEN = ("binding 1 create", "binding 1 timeout", "binding 1 send", "binding 1 arrive 1")
 # The broker rejects the Bind.
-REFUSED = (
-    "binding 1 create",
-    "binding 1 arrive 1",
-    "binding 1 end refused 400",
-)
+REFUSED = ("binding 1 create", "binding 1 arrive 1", "binding 1 end refused 400")
 
 
 def way(rules: Rules, broken: str, *events: str, binding: Order = SYNC) -> Way:
@@ -200,10 +165,7 @@ WAYS = {
         "binding 1 take 0",
     ),
     "rules a, b and c": way(
-        Rules(platform=False, broker=False),
-        GONE_HAS_NONE,
-        "binding 1 create",
-        "binding 1 arrive 1",
+        Rules(platform=False, broker=False), GONE_HAS_NONE, "binding 1 create", "binding 1 arrive 1"
     ),
     "one transaction": way(
         without("one transaction"),
@@ -234,21 +196,9 @@ WAYS = {
         "instance take 1",
         "binding 1 begin",
     ),
-    "tombstones": way(
-        without("tombstones"),
-        LIVES_AGREE,
-        *READY,
-        *REFUSED,
-        "binding 1 arrive 1",
-        "binding 1 take 0",
-    ),
+    "tombstones": way(without("tombstones"), LIVES_AGREE, *READY, *REFUSED, "binding 1 arrive 1", "binding 1 take 0"),
     "tombstone of a refusal": way(
-        without("tombstone of a refusal"),
-        LIVES_AGREE,
-        *READY,
-        *REFUSED,
-        "binding 1 arrive 1",
-        "binding 1 take 0",
+        without("tombstone of a refusal"), LIVES_AGREE, *READY, *REFUSED, "binding 1 arrive 1", "binding 1 take 0"
     ),
     "pending work": way(
         without("pending work"),
@@ -260,14 +210,7 @@ WAYS = {
         "binding 1 arrive 2",
         "binding 1 take 0",
     ),
-    "busy": way(
-        without("busy"),
-        LIVES_AGREE,
-        *READY,
-        *OVERTAKEN,
-        "binding 1 arrive 2",
-        "binding 1 take 0",
-    ),
+    "busy": way(without("busy"), LIVES_AGREE, *READY, *OVERTAKEN, "binding 1 arrive 2", "binding 1 take 0"),
     "attempts": way(
         without("attempts"),
         LIVES_AGREE,
@@ -330,18 +273,10 @@ FURTHER = {
         "binding 1 arrive 1",
     ),
     "tombstones: after a Bind that timed out": way(
-        without("tombstones"),
-        LIVES_AGREE,
-        *READY,
-        *ENDED,
-        "binding 1 arrive 1",
+        without("tombstones"), LIVES_AGREE, *READY, *ENDED, "binding 1 arrive 1"
     ),
     "stored credentials: at a repeated Bind": way(
-        without("stored credentials"),
-        LIVES_AGREE,
-        *READY,
-        *BOUND,
-        "binding 1 arrive 1",
+        without("stored credentials"), LIVES_AGREE, *READY, *BOUND, "binding 1 arrive 1"
     ),
 }
 
