@@ -575,10 +575,4 @@ func TestARequestThatWaitsForItsLock(t *testing.T) {
 	}
 }
 
-// check ends the test at an error.
-func check(t testing.TB, err error) {
-	t.Helper()
-	if err != nil {
-		t.Fatal(err)
-	}
-}
+var check = diff.NoError

@@ -15,6 +15,7 @@ import (
 	"testing"
 	"time"
 
+	"pippinterm/internal/diff"
 	"pippinterm/platform"
 	"pippinterm/platform/client"
 	"pippinterm/platform/vault"
@@ -765,13 +766,7 @@ func newScene(t *testing.T, catalogue string, settings platform.Settings, option
 	return s
 }
 
-// check ends the test at an error.
-func check(t testing.TB, err error) {
-	t.Helper()
-	if err != nil {
-		t.Fatal(err)
-	}
-}
+var check = diff.NoError
 
 // time is the time of the store.
 func (s *scene) time() time.Time {

@@ -99,13 +99,7 @@ func newStage(t *testing.T, hold time.Duration) *stage {
 	return s
 }
 
-// check ends the test at an error.
-func check(t testing.TB, err error) {
-	t.Helper()
-	if err != nil {
-		t.Fatal(err)
-	}
-}
+var check = diff.NoError
 
 // step has a worker do all that is due.
 func (s *stage) step(b *bench) {

@@ -17,6 +17,7 @@ import (
 	"time"
 
 	"pippinterm/broker"
+	"pippinterm/internal/diff"
 	"pippinterm/internal/journalfile"
 	"pippinterm/osb"
 )
@@ -748,12 +749,7 @@ func newTestBroker(t *testing.T) *testBroker {
 	return s
 }
 
-func check(t testing.TB, err error) {
-	t.Helper()
-	if err != nil {
-		t.Fatal(err)
-	}
-}
+var check = diff.NoError
 
 // ask sends a request, and returns the answer. An id is that of an instance, or of an instance and a binding.
 func (s *testBroker) ask(method, target, plan string) *httptest.ResponseRecorder {

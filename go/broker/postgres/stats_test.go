@@ -6,6 +6,7 @@ import (
 	"testing"
 
 	"pippinterm/broker"
+	"pippinterm/internal/diff"
 	"pippinterm/internal/pg/pgtest"
 )
 
@@ -14,9 +15,7 @@ func TestUnfinishedStatsReadNoOtherRows(t *testing.T) {
 	url := pgtest.Schema(t, pgtest.URL(t), "osb_store_stats")
 	ctx := context.Background()
 	store, err := Open(ctx, url, 1, broker.Silent{})
-	if err != nil {
-		t.Fatal(err)
-	}
+	check(t, err)
 	defer store.Close()
 	const ended = `'{"attributes":null,"row":null,"tombstone":true,"version":1,"work":null}'`
 	pgtest.Exec(t, store.db,
@@ -32,16 +31,12 @@ func TestUnfinishedStatsReadNoOtherRows(t *testing.T) {
 		t.Errorf("got %+v and the error %v, want nothing unfinished", stats, err)
 	}
 	rows, err := store.db.Query("EXPLAIN " + unfinishedStats)
-	if err != nil {
-		t.Fatal(err)
-	}
+	check(t, err)
 	defer rows.Close()
 	var plan []string
 	for rows.Next() {
 		var line string
-		if err := rows.Scan(&line); err != nil {
-			t.Fatal(err)
-		}
+		check(t, rows.Scan(&line))
 		plan = append(plan, line)
 	}
 	all := strings.Join(plan, "\n")
@@ -49,3 +44,5 @@ func TestUnfinishedStatsReadNoOtherRows(t *testing.T) {
 		t.Errorf("got %v and the plan\n%s\nwant both indexes of what is unfinished, and no scan", rows.Err(), all)
 	}
 }
+
+var check = diff.NoError

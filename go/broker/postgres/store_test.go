@@ -13,6 +13,7 @@ import (
 	"pippinterm/broker"
 	"pippinterm/broker/postgres"
 	"pippinterm/broker/storetest"
+	"pippinterm/internal/diff"
 	"pippinterm/internal/pg"
 	"pippinterm/internal/pg/pgtest"
 	"pippinterm/internal/storefaults"
@@ -742,10 +743,4 @@ func TestAChangeThatWritesNoRow(t *testing.T) {
 	}
 }
 
-// check ends the test at an error.
-func check(t testing.TB, err error) {
-	t.Helper()
-	if err != nil {
-		t.Fatal(err)
-	}
-}
+var check = diff.NoError

@@ -16,6 +16,7 @@ import (
 
 	"pippinterm/broker"
 	"pippinterm/broker/storetest"
+	"pippinterm/internal/diff"
 	"pippinterm/internal/storefaults"
 	"pippinterm/osb"
 )
@@ -515,10 +516,4 @@ func TestOpeningThatFails(t *testing.T) {
 	}
 }
 
-// check ends the test at an error.
-func check(t testing.TB, err error) {
-	t.Helper()
-	if err != nil {
-		t.Fatal(err)
-	}
-}
+var check = diff.NoError

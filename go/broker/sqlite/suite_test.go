@@ -9,6 +9,7 @@ import (
 	"pippinterm/broker"
 	"pippinterm/broker/sqlite"
 	"pippinterm/broker/storetest"
+	"pippinterm/internal/diff"
 )
 
 // What every store must do.
@@ -40,10 +41,4 @@ func TestClose(t *testing.T) {
 	}
 }
 
-// check ends the test at an error.
-func check(t testing.TB, err error) {
-	t.Helper()
-	if err != nil {
-		t.Fatal(err)
-	}
-}
+var check = diff.NoError

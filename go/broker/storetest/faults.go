@@ -287,9 +287,7 @@ func (f *faulty) unfinishedKeys(t *testing.T) error {
 		return err
 	}
 	want, err := f.beside.UnfinishedKeys(context.Background())
-	if err != nil {
-		t.Fatal(err)
-	}
+	check(t, err)
 	f.want("Unfinished", texts(got), texts(want))
 	return nil
 }
@@ -300,9 +298,7 @@ func (f *faulty) stats(t *testing.T) error {
 		return err
 	}
 	want, err := f.beside.Stats(context.Background())
-	if err != nil {
-		t.Fatal(err)
-	}
+	check(t, err)
 	want.Tombstones = f.tombstones // a store may count them now and then
 	f.want("Stats", got, want)
 	return nil
@@ -328,9 +324,7 @@ func (f *faulty) id(t *testing.T) error {
 		return err
 	}
 	want, err := f.beside.ID(context.Background())
-	if err != nil {
-		t.Fatal(err)
-	}
+	check(t, err)
 	f.want("the id", got, want)
 	return nil
 }

@@ -567,9 +567,7 @@ func testUnfinished(t *testing.T, open func(*testing.T) broker.NamedStore) {
 		write(t, store, key, broker.Entry{Holding: tombstone(t)})
 	}
 	keys, err := store.UnfinishedKeys(context.Background())
-	if err != nil {
-		t.Fatal(err)
-	}
+	check(t, err)
 	got := map[broker.Key]bool{}
 	for _, key := range keys {
 		if got[key] {
@@ -685,3 +683,5 @@ func returns(t *testing.T, stores []broker.Store, key broker.Key) (count int) {
 	}
 	return count
 }
+
+var check = diff.NoError

@@ -17,6 +17,7 @@ import (
 	"github.com/spf13/cobra"
 
 	"pippinterm/internal/cli"
+	"pippinterm/internal/diff"
 	"pippinterm/osb"
 	"pippinterm/platform"
 	"pippinterm/platform/sqlite"
@@ -86,13 +87,7 @@ func wantLines(t *testing.T, store string, lines []line) {
 	}
 }
 
-// check ends the test at an error.
-func check(t testing.TB, err error) {
-	t.Helper()
-	if err != nil {
-		t.Fatal(err)
-	}
-}
+var check = diff.NoError
 
 // isAll is whether a text is what a regular expression says, but for the line feed at its end.
 func isAll(expression, text string) bool {

@@ -13,6 +13,8 @@ import (
 	"time"
 
 	"github.com/spf13/cobra"
+
+	"pippinterm/internal/diff"
 )
 
 // commands returns a root with the command serve, which does what run does.
@@ -145,9 +147,7 @@ func TestMain(m *testing.M) {
 
 func TestRunOutlivesABrokenStandardError(t *testing.T) {
 	reader, writer, err := os.Pipe()
-	if err != nil {
-		t.Fatal(err)
-	}
+	check(t, err)
 	defer writer.Close()
 	reader.Close()
 	child := exec.Command(os.Args[0])
@@ -232,3 +232,5 @@ func TestNoCoreDump(t *testing.T) {
 		t.Errorf("got the status %d and dumpable %d, want 0 and 0", status, dumpable)
 	}
 }
+
+var check = diff.NoError

@@ -101,9 +101,7 @@ func TestNetworks(t *testing.T) {
 	}
 	got = nil
 	for _, network := range []string{"10.1.2.3/16", "192.0.2.1"} {
-		if err := value.Set(network); err != nil {
-			t.Fatal(err)
-		}
+		check(t, value.Set(network))
 	}
 	if want := "10.1.0.0/16,192.0.2.1/32"; value.String() != want {
 		t.Errorf("got %s, want %s", value, want)
@@ -143,9 +141,7 @@ func TestValuesInUse(t *testing.T) {
 	if usage := flags.FlagUsages(); usage != want {
 		t.Errorf("the help: got\n%swant\n%s", usage, want)
 	}
-	if err := flags.Parse([]string{"--listen=x:1", "--threads", "2"}); err != nil {
-		t.Fatal(err)
-	}
+	check(t, flags.Parse([]string{"--listen=x:1", "--threads", "2"}))
 	if limit != 30*time.Second || most != 2 || at != "x:1" {
 		t.Errorf("got %v, %d and %q, want 30s, 2 and x:1", limit, most, at)
 	}

@@ -24,6 +24,14 @@ func Check(t testing.TB, got, want any, format string, arguments ...any) {
 	}
 }
 
+// NoError ends the test at an error.
+func NoError(t testing.TB, err error) {
+	t.Helper()
+	if err != nil {
+		t.Fatalf("got the error %v, want none", err)
+	}
+}
+
 // Of says how got differs from want: the lines with + are what was got, and those with - what is wanted. If cmp sees no
 // difference, both are printed as a whole.
 func Of(got, want any) string {

@@ -15,6 +15,8 @@ import (
 	"syscall"
 	"testing"
 	"time"
+
+	"pippinterm/internal/diff"
 )
 
 // These keys have the form of those of a broker: an instance, another one, and a binding of the first one.
@@ -580,10 +582,4 @@ func TestLockStaysWhileItIsLent(t *testing.T) {
 	mustLock(t, others, one).Unlock()
 }
 
-// check ends the test at an error.
-func check(t testing.TB, err error) {
-	t.Helper()
-	if err != nil {
-		t.Fatal(err)
-	}
-}
+var check = diff.NoError

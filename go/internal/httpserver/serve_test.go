@@ -16,6 +16,8 @@ import (
 	"sync/atomic"
 	"testing"
 	"time"
+
+	"pippinterm/internal/diff"
 )
 
 // A pause is a handler that answers once it may.
@@ -741,10 +743,4 @@ func waitUntil(t *testing.T, what string, isSo func() bool) {
 	}
 }
 
-// check ends the test at an error.
-func check(t testing.TB, err error) {
-	t.Helper()
-	if err != nil {
-		t.Fatal(err)
-	}
-}
+var check = diff.NoError

@@ -16,6 +16,8 @@ import (
 	"syscall"
 	"testing"
 	"time"
+
+	"pippinterm/internal/diff"
 )
 
 // A line is one of a journal, as a reader has it.
@@ -576,10 +578,4 @@ func BenchmarkWrite(b *testing.B) {
 	}
 }
 
-// check ends the test at an error.
-func check(t testing.TB, err error) {
-	t.Helper()
-	if err != nil {
-		t.Fatal(err)
-	}
-}
+var check = diff.NoError

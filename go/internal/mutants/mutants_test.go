@@ -9,6 +9,8 @@ import (
 	"strings"
 	"syscall"
 	"testing"
+
+	"pippinterm/internal/diff"
 )
 
 const toy = "pippinterm/internal/mutants/testdata/toy"
@@ -43,9 +45,7 @@ func TestPatterns(t *testing.T) {
 	}
 	defer func() { _ = os.Chdir(here) }()
 	packages, err := load(context.Background(), tags, ordinary...)
-	if err != nil {
-		t.Fatal(err)
-	}
+	diff.NoError(t, err)
 	isLoaded := make(map[string]bool)
 	for _, pkg := range packages {
 		isLoaded[pkg.path] = true
@@ -147,9 +147,7 @@ func TestDrawing(t *testing.T) {
 	folder := t.TempDir()
 	var out bytes.Buffer
 	words := []string{"draw", "-folder", folder, "-count", "1000", "-workers", "4", toy}
-	if err := command(context.Background(), words, &out); err != nil {
-		t.Fatal(err)
-	}
+	diff.NoError(t, command(context.Background(), words, &out))
 	if want := "\nleft out: " + toy + " TestSkips: it skipped without a mutant\n"; !strings.Contains(out.String(), want) {
 		t.Errorf("got %s, want %q", out.String(), want)
 	}
@@ -169,9 +167,7 @@ func TestDrawing(t *testing.T) {
 		}
 	}
 	var again bytes.Buffer
-	if err := command(context.Background(), words, &again); err != nil {
-		t.Fatal(err)
-	}
+	diff.NoError(t, command(context.Background(), words, &again))
 	if !strings.Contains(again.String(), "\n0 tests are run") || !strings.HasSuffix(again.String(), survivors) {
 		t.Errorf("got %s, want no test to be run, and %s", again.String(), survivors)
 	}
@@ -189,9 +185,7 @@ func TestHang(t *testing.T) {
 		}
 	}
 	binaries, err := build(context.Background(), t.TempDir(), tags, 1, []*pkg{p}, mutants)
-	if err != nil {
-		t.Fatal(err)
-	}
+	diff.NoError(t, err)
 	w := &worker{}
 	o, err := w.do(context.Background(), run{binary: binaries[p.path], test: "TestHangs", mutant: 1, most: 1})
 	if err != nil || o.ending != hung {
@@ -203,13 +197,9 @@ func TestHang(t *testing.T) {
 func TestTraceOfAnotherUser(t *testing.T) {
 	p := loadToy(t)
 	drawn, err := draw([]*pkg{p}, 1, 20)
-	if err != nil {
-		t.Fatal(err)
-	}
+	diff.NoError(t, err)
 	binaries, err := build(context.Background(), t.TempDir(), tags, 1, []*pkg{p}, drawn)
-	if err != nil {
-		t.Fatal(err)
-	}
+	diff.NoError(t, err)
 	r := run{binary: binaries[p.path], test: "TestAsNobody", most: longestTest}
 	found, err := trace(context.Background(), &worker{}, r)
 	if err != nil || found.Ending != passed || len(found.Reaches) == 0 {
@@ -222,15 +212,11 @@ func TestInterruptedServer(t *testing.T) {
 	folder := t.TempDir()
 	ended := filepath.Join(folder, "ended")
 	program := "#!/bin/sh\necho ready\ncat\ntouch " + ended + "\n"
-	if err := os.WriteFile(filepath.Join(folder, "pg_virtualenv"), []byte(program), 0o777); err != nil {
-		t.Fatal(err)
-	}
+	diff.NoError(t, os.WriteFile(filepath.Join(folder, "pg_virtualenv"), []byte(program), 0o777))
 	t.Setenv("PATH", folder+":"+os.Getenv("PATH"))
 	ctx, cancel := context.WithCancel(context.Background())
 	s, err := startServer(ctx)
-	if err != nil {
-		t.Fatal(err)
-	}
+	diff.NoError(t, err)
 	if group, err := syscall.Getpgid(s.process.Process.Pid); err != nil || group == syscall.Getpgrp() {
 		t.Errorf("got the process group %d, %v, want one that a terminal doesn't interrupt", group, err)
 	}
@@ -247,13 +233,9 @@ func TestInterruptedServer(t *testing.T) {
 func TestFailsWithoutTheMutant(t *testing.T) {
 	p := loadToy(t)
 	drawn, err := draw([]*pkg{p}, 1, 1)
-	if err != nil {
-		t.Fatal(err)
-	}
+	diff.NoError(t, err)
 	binaries, err := build(context.Background(), t.TempDir(), tags, 1, []*pkg{p}, drawn)
-	if err != nil {
-		t.Fatal(err)
-	}
+	diff.NoError(t, err)
 	for fails, want := range map[string]string{"": survived, "always": survived, "with a mutant": killed} {
 		t.Run("fails "+fails, func(t *testing.T) {
 			t.Setenv("TOY_FAILS", fails)
@@ -270,9 +252,7 @@ func TestFailsWithoutTheMutant(t *testing.T) {
 func write(t *testing.T, lines ...string) string {
 	t.Helper()
 	path := filepath.Join(t.TempDir(), "slip.edit")
-	if err := os.WriteFile(path, []byte(strings.Join(lines, "\n")+"\n"), 0o666); err != nil {
-		t.Fatal(err)
-	}
+	diff.NoError(t, os.WriteFile(path, []byte(strings.Join(lines, "\n")+"\n"), 0o666))
 	return path
 }
 

@@ -10,6 +10,8 @@ import (
 	"syscall"
 	"testing"
 	"time"
+
+	"pippinterm/internal/diff"
 )
 
 // Connections to this machine are without TLS unless the URL or the environment says else. For all others the driver's
@@ -107,10 +109,4 @@ func TestUserTimeout(t *testing.T) {
 	}
 }
 
-// check ends the test at an error.
-func check(t testing.TB, err error) {
-	t.Helper()
-	if err != nil {
-		t.Fatal(err)
-	}
-}
+var check = diff.NoError

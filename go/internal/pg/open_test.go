@@ -10,6 +10,7 @@ import (
 	"testing"
 	"time"
 
+	"pippinterm/internal/diff"
 	"pippinterm/internal/pg"
 	"pippinterm/internal/pg/pgtest"
 )
@@ -278,10 +279,4 @@ func TestAnEnvironmentThatIsNotSupported(t *testing.T) {
 	}
 }
 
-// check ends the test at an error.
-func check(t testing.TB, err error) {
-	t.Helper()
-	if err != nil {
-		t.Fatal(err)
-	}
-}
+var check = diff.NoError

@@ -19,6 +19,7 @@ import (
 	"github.com/getkin/kin-openapi/openapi3"
 
 	"pippinterm/internal/budget"
+	"pippinterm/internal/diff"
 	"pippinterm/osb"
 	"pippinterm/platform"
 	"pippinterm/platform/vault"
@@ -971,13 +972,7 @@ func newRigOver(t *testing.T, store platform.Store) *rig {
 	return r
 }
 
-// check ends the test at an error.
-func check(t testing.TB, err error) {
-	t.Helper()
-	if err != nil {
-		t.Fatal(err)
-	}
-}
+var check = diff.NoError
 
 // A got is an answer.
 type got struct {

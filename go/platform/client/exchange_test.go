@@ -22,6 +22,7 @@ import (
 	"testing"
 	"time"
 
+	"pippinterm/internal/diff"
 	"pippinterm/internal/journalfile"
 	"pippinterm/osb"
 	"pippinterm/platform"
@@ -927,10 +928,4 @@ func benchmark(b *testing.B, server *httptest.Server) {
 	})
 }
 
-// check ends the test at an error.
-func check(t testing.TB, err error) {
-	t.Helper()
-	if err != nil {
-		t.Fatal(err)
-	}
-}
+var check = diff.NoError

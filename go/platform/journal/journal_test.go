@@ -13,6 +13,7 @@ import (
 	"testing"
 	"time"
 
+	"pippinterm/internal/diff"
 	"pippinterm/internal/journalfile"
 	"pippinterm/osb"
 	"pippinterm/platform"
@@ -458,13 +459,7 @@ var (
 	errDoubt   = errors.New("nobody knows")
 )
 
-// check ends the test at an error.
-func check(t testing.TB, err error) {
-	t.Helper()
-	if err != nil {
-		t.Fatal(err)
-	}
-}
+var check = diff.NoError
 
 // A faulty store is below the journal. It gets each transaction, and can fail it.
 type faulty struct {

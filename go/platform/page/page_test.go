@@ -347,13 +347,7 @@ var (
 	now   = began.Add(24 * time.Hour)
 )
 
-// check ends the test at an error.
-func check(t testing.TB, err error) {
-	t.Helper()
-	if err != nil {
-		t.Fatal(err)
-	}
-}
+var check = diff.NoError
 
 func idOf(n int) osb.ID { return osb.MustParseID(fmt.Sprintf("%08x-0000-4000-8000-%012x", n, n)) }
 

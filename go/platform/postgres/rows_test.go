@@ -11,6 +11,7 @@ import (
 	"testing"
 	"time"
 
+	"pippinterm/internal/diff"
 	"pippinterm/internal/pg/pgtest"
 	"pippinterm/platform"
 )
@@ -247,10 +248,4 @@ func wantIndexed(t *testing.T, conn *sql.Conn, query, values, mode string) {
 	}
 }
 
-// check ends the test at an error.
-func check(t testing.TB, err error) {
-	t.Helper()
-	if err != nil {
-		t.Fatal(err)
-	}
-}
+var check = diff.NoError

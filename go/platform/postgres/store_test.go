@@ -12,6 +12,7 @@ import (
 
 	"pippinterm/broker"
 	brokerpostgres "pippinterm/broker/postgres"
+	"pippinterm/internal/diff"
 	"pippinterm/internal/pg"
 	"pippinterm/internal/pg/pgtest"
 	"pippinterm/internal/storefaults"
@@ -301,10 +302,4 @@ func TestRoundTrips(t *testing.T) {
 	}
 }
 
-// check ends the test at an error.
-func check(t testing.TB, err error) {
-	t.Helper()
-	if err != nil {
-		t.Fatal(err)
-	}
-}
+var check = diff.NoError

@@ -6,6 +6,7 @@ import (
 	"path/filepath"
 	"testing"
 
+	"pippinterm/internal/diff"
 	"pippinterm/platform"
 	"pippinterm/platform/sqlite"
 	"pippinterm/platform/storetest"
@@ -33,10 +34,4 @@ func TestPausedWorker(t *testing.T) {
 	})
 }
 
-// check ends the test at an error.
-func check(t testing.TB, err error) {
-	t.Helper()
-	if err != nil {
-		t.Fatal(err)
-	}
-}
+var check = diff.NoError

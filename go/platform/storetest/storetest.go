@@ -238,13 +238,7 @@ func answer(t *testing.T, key platform.Key, record osb.Record, status uint16) os
 	return next
 }
 
-// check ends the test at an error.
-func check(t testing.TB, err error) {
-	t.Helper()
-	if err != nil {
-		t.Fatal(err)
-	}
-}
+var check = diff.NoError
 
 // brokerOf is a broker of a name.
 func brokerOf(name string) platform.Broker { return platform.Broker{Name: name, URL: "http://" + name} }

@@ -11,6 +11,7 @@ import (
 	"testing"
 	"time"
 
+	"pippinterm/internal/diff"
 	"pippinterm/osb"
 	"pippinterm/platform"
 	"pippinterm/platform/sqlite"
@@ -56,13 +57,7 @@ func newRig(t *testing.T, by *Vault, bindings int) *rig {
 	return r
 }
 
-// check ends the test at an error.
-func check(t testing.TB, err error) {
-	t.Helper()
-	if err != nil {
-		t.Fatal(err)
-	}
-}
+var check = diff.NoError
 
 func secretOf(key platform.Key) string {
 	return fmt.Sprintf(`{"credentials":{"password":"of %s"}}`, key.Binding)

@@ -10,6 +10,7 @@ import (
 	"pippinterm/broker"
 	"pippinterm/broker/backend/folders"
 	"pippinterm/broker/sqlite"
+	"pippinterm/internal/diff"
 	"pippinterm/storm/conform"
 )
 
@@ -30,18 +31,12 @@ func brokerAt(t *testing.T, rules broker.Rules) string {
 	t.Helper()
 	ctx, top, silent := context.Background(), t.TempDir(), broker.Silent{}
 	store, err := sqlite.Open(ctx, filepath.Join(top, "store"), silent)
-	if err != nil {
-		t.Fatal(err)
-	}
+	check(t, err)
 	t.Cleanup(func() { _ = store.Close() })
 	backend, err := folders.New(filepath.Join(top, "folders"))
-	if err != nil {
-		t.Fatal(err)
-	}
+	check(t, err)
 	catalogue, err := broker.NewCatalogue([]byte(plans), true)
-	if err != nil {
-		t.Fatal(err)
-	}
+	check(t, err)
 	t.Cleanup(func() { expectNothing(t, filepath.Join(top, "folders")) })
 	return serve(t, broker.NewService(catalogue, store, backend, backend.Locks(), rules, silent))
 }
@@ -59,15 +54,11 @@ func serve(t *testing.T, service *broker.Service) string {
 	}()
 	t.Cleanup(func() { cancel(); <-swept })
 	users, err := broker.NewUsers(map[string][]string{"u": {"p"}})
-	if err != nil {
-		t.Fatal(err)
-	}
+	check(t, err)
 	handler, err := broker.NewHandler(ctx, service, broker.Config{
 		Users: users, LongestBody: 1 << 20, AtOnce: 8, Touch: sweeper.Touch, Observer: silent,
 	})
-	if err != nil {
-		t.Fatal(err)
-	}
+	check(t, err)
 	server := httptest.NewServer(handler)
 	t.Cleanup(server.Close)
 	return server.URL
@@ -78,9 +69,7 @@ func expectNothing(t *testing.T, top string) {
 	t.Helper()
 	for _, pattern := range []string{"*", ".bindings/*"} {
 		names, err := filepath.Glob(filepath.Join(top, pattern))
-		if err != nil {
-			t.Fatal(err)
-		}
+		check(t, err)
 		for _, name := range names {
 			if base := filepath.Base(name); pattern != "*" || base[0] != '.' {
 				t.Errorf("got %s left, want nothing", name)
@@ -100,13 +89,9 @@ func TestOurBroker(t *testing.T) {
 				URL: url, User: "u", Password: "p", Service: "folder", Plan: plan, Instances: 50,
 				RequestTime: 20 * time.Second, OperationTime: 20 * time.Second, Pause: 5 * time.Millisecond,
 			})
-			if err != nil {
-				t.Fatal(err)
-			}
+			check(t, err)
 			report, err := r.Run(context.Background())
-			if err != nil {
-				t.Fatal(err)
-			}
+			check(t, err)
 			// Without the rule of the first Poll, an instance may exist before the Bind arrives.
 			isAsync := plan == "later" || plan == "make-later"
 			for _, result := range report.Results {
@@ -126,3 +111,5 @@ func TestOurBroker(t *testing.T) {
 		}
 	}
 }
+
+var check = diff.NoError

@@ -13,6 +13,8 @@ import (
 	"sync/atomic"
 	"testing"
 	"time"
+
+	"pippinterm/internal/diff"
 )
 
 // A run that is ended in the middle sends nothing further, and everything that it has created is deleted.
@@ -528,10 +530,4 @@ func TestHider(t *testing.T) {
 	}
 }
 
-// check ends the test at an error.
-func check(t testing.TB, err error) {
-	t.Helper()
-	if err != nil {
-		t.Fatal(err)
-	}
-}
+var check = diff.NoError

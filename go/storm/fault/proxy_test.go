@@ -13,6 +13,8 @@ import (
 	"sync"
 	"testing"
 	"time"
+
+	"pippinterm/internal/diff"
 )
 
 const (
@@ -494,10 +496,4 @@ func TestSilentConnection(t *testing.T) {
 	}
 }
 
-// check ends the test at an error.
-func check(t testing.TB, err error) {
-	t.Helper()
-	if err != nil {
-		t.Fatal(err)
-	}
-}
+var check = diff.NoError

@@ -848,10 +848,4 @@ func TestLivesOfTrial(t *testing.T) {
 	diff.Check(t, b.lives(0), wanted, "the lives of the trial")
 }
 
-// check ends the test at an error.
-func check(t testing.TB, err error) {
-	t.Helper()
-	if err != nil {
-		t.Fatal(err)
-	}
-}
+var check = diff.NoError

@@ -17,6 +17,7 @@ import (
 	"pippinterm/broker"
 	"pippinterm/broker/backend/folders"
 	"pippinterm/broker/sqlite"
+	"pippinterm/internal/diff"
 	"pippinterm/osb"
 )
 
@@ -224,12 +225,7 @@ var (
 	binding  = broker.BindingKey(one, bound)
 )
 
-func check(t *testing.T, err error) {
-	t.Helper()
-	if err != nil {
-		t.Fatal(err)
-	}
-}
+var check = diff.NoError
 
 // openEmpty is an empty store.
 func openEmpty(t *testing.T) broker.NamedStore {

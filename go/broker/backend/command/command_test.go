@@ -671,10 +671,4 @@ func isPending(snapshot broker.Snapshot) bool {
 	return isPending
 }
 
-// check ends the test at an error.
-func check(t testing.TB, err error) {
-	t.Helper()
-	if err != nil {
-		t.Fatal(err)
-	}
-}
+var check = diff.NoError

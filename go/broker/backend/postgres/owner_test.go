@@ -10,6 +10,7 @@ import (
 	"pippinterm/broker"
 	"pippinterm/broker/backend/postgres"
 	pgstore "pippinterm/broker/postgres"
+	"pippinterm/internal/diff"
 	"pippinterm/internal/pg/pgtest"
 )
 
@@ -290,10 +291,4 @@ func TestRekeyBesideCreations(t *testing.T) {
 	}
 }
 
-// check ends the test at an error.
-func check(t testing.TB, err error) {
-	t.Helper()
-	if err != nil {
-		t.Fatal(err)
-	}
-}
+var check = diff.NoError

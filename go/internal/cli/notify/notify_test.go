@@ -9,6 +9,8 @@ import (
 	"strings"
 	"testing"
 	"time"
+
+	"pippinterm/internal/diff"
 )
 
 // manager listens as a service manager does, and sets the variable that names its socket.
@@ -83,10 +85,4 @@ func TestAReportIsNotWaitedForForever(t *testing.T) {
 	t.Fatal("got all reports taken, though nobody reads them, want a deadline")
 }
 
-// check ends the test at an error.
-func check(t testing.TB, err error) {
-	t.Helper()
-	if err != nil {
-		t.Fatal(err)
-	}
-}
+var check = diff.NoError

@@ -541,10 +541,4 @@ func port(t *testing.T, address string) int {
 	return number
 }
 
-// check ends the test at an error.
-func check(t testing.TB, err error) {
-	t.Helper()
-	if err != nil {
-		t.Fatal(err)
-	}
-}
+var check = diff.NoError

@@ -11,6 +11,8 @@ import (
 	"syscall"
 	"testing"
 	"time"
+
+	"pippinterm/internal/diff"
 )
 
 // The words of each line are returned, except those of empty lines.
@@ -270,10 +272,4 @@ func pidIn(t *testing.T, path string) int {
 	return 0
 }
 
-// check ends the test at an error.
-func check(t testing.TB, err error) {
-	t.Helper()
-	if err != nil {
-		t.Fatal(err)
-	}
-}
+var check = diff.NoError
