@@ -402,9 +402,7 @@ func TestPending(t *testing.T) {
 	}
 	s.expect(t, 503, "PUT", instances+"i/service_bindings/b", bodyOf(now, ""))
 	close(one.release)
-	if status := <-made; status != 201 {
-		t.Errorf("got %v, want 201", status)
-	}
+	diff.Equal(t, <-made, 201, "")
 	s.Stop()
 	s.expect(t, 503, "GET", "/v2/catalog", "")
 }
@@ -455,9 +453,7 @@ func TestWait(t *testing.T) {
 	default:
 		t.Error("got an end of Wait before that of the call, want it to wait")
 	}
-	if status := <-made; status != 201 {
-		t.Errorf("got %v, want 201", status)
-	}
+	diff.Equal(t, <-made, 201, "")
 	if s.Wait(time.Millisecond) {
 		t.Error("got nothing left of a call that runs, want something")
 	}
@@ -794,9 +790,7 @@ func TestWordsForWhatExists(t *testing.T) {
 	if want := "none part whole unknown"; got != want {
 		t.Errorf("got %q, want %q", got, want)
 	}
-	if got := (&broker.Rejection{Status: 400, Description: "too many"}).Error(); got != "rejected: too many" {
-		t.Errorf("got %q, want %q", got, "rejected: too many")
-	}
+	diff.Equal(t, (&broker.Rejection{Status: 400, Description: "too many"}).Error(), "rejected: too many", "")
 	if broker.Away(nil) != nil {
 		t.Error("got an error, want nil")
 	}
@@ -886,9 +880,7 @@ func TestSlowBodiesOfAnotherUser(t *testing.T) {
 				given, _ := s.ask("PUT", instances+"i", bodyOf(now, ""), asOther)
 				status <- given.StatusCode
 			}()
-			if got := within(t, "another user's creation", status); got != 201 {
-				t.Errorf("got %d, want 201", got)
-			}
+			diff.Equal(t, within(t, "another user's creation", status), 201, "")
 		})
 	}
 }
@@ -935,9 +927,7 @@ func TestParsedAtOnce(t *testing.T) {
 
 func TestBodiesAtOnce(t *testing.T) {
 	for longest, want := range map[int]int{1: 16 << 20, 256 << 10: 16 << 20, 4 << 20: 16 << 20, 5 << 20: 20 << 20} {
-		if got := broker.BodiesAtOnce(longest); got != want {
-			t.Errorf("%d: got %d, want %d", longest, got, want)
-		}
+		diff.Equal(t, broker.BodiesAtOnce(longest), want, "%d", longest)
 	}
 }
 

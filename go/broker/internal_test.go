@@ -11,6 +11,7 @@ import (
 	"time"
 
 	"pippinterm/internal/budget"
+	"pippinterm/internal/diff"
 	"pippinterm/osb"
 )
 
@@ -217,9 +218,7 @@ func TestSetbacks(t *testing.T) {
 	for n := 0; n < mostSetbacks+10; n++ {
 		s.add(keyOfTest(n), wentBadly, true)
 	}
-	if len(s.of) != mostSetbacks {
-		t.Errorf("got %d keys known, want %d", len(s.of), mostSetbacks)
-	}
+	diff.Equal(t, len(s.of), mostSetbacks, "keys known")
 }
 
 // When a run is slow follows what runs take that succeed, and no others.
@@ -277,7 +276,5 @@ func TestFewestFailuresFirst(t *testing.T) {
 			t.Errorf("got %v, want the key %d", run.key, n)
 		}
 	}
-	if len(s.failing) != 0 {
-		t.Errorf("got %d keys that wait, want none", len(s.failing))
-	}
+	diff.Equal(t, len(s.failing), 0, "keys that wait")
 }

@@ -14,6 +14,7 @@ import (
 	"time"
 
 	"pippinterm/broker"
+	"pippinterm/internal/diff"
 	"pippinterm/osb"
 )
 
@@ -37,9 +38,8 @@ func TestIDsWithOneNumber(t *testing.T) {
 			site.expect(t, 404, "GET", second+"/service_bindings/b", "")
 			site.expect(t, 410, "DELETE", second+"/service_bindings/b"+names(now), "")
 
-			if got := site.expect(t, 200, "PUT", first+"/service_bindings/b", bodyOf(now, "")); got != bound {
-				t.Errorf("the binding: got %s, want %s", got, bound)
-			}
+			diff.Equal(t, site.expect(t, 200, "PUT", first+"/service_bindings/b", bodyOf(now, "")), bound,
+				"the binding")
 			site.expect(t, 200, "DELETE", first+"/service_bindings/b"+names(now), "")
 			site.expect(t, 200, "DELETE", first+names(now), "")
 			site.expect(t, 409, "PUT", second, bodyOf(now, "")) // its number has a tombstone
@@ -331,18 +331,14 @@ func TestWorkLeavesThreads(t *testing.T) {
 				answered <- given.StatusCode
 			}()
 			for _, want := range []int{http.StatusGone, http.StatusNotFound, http.StatusGone, http.StatusAccepted} {
-				if got := within(t, "a request without work", answered); got != want {
-					t.Errorf("with %d threads: got %d, want %d", test.threads, got, want)
-				}
+				diff.Equal(t, within(t, "a request without work", answered), want, "with %d threads", test.threads)
 			}
 			if further := len(backend.begun); further > 0 {
 				t.Errorf("of %d threads: got %d more at work, want none", test.threads, further)
 			}
 			backend.open()
 			for _, status := range all { // each gets its turn
-				if got := within(t, "a creation", status); got != http.StatusCreated {
-					t.Errorf("a creation: got %d, want %d", got, http.StatusCreated)
-				}
+				diff.Equal(t, within(t, "a creation", status), http.StatusCreated, "a creation")
 			}
 		})
 	}
@@ -364,17 +360,13 @@ func TestATurnThatDoesNotCome(t *testing.T) {
 		t.Errorf("got %d, %v, want 503 with Retry-After", given.StatusCode, given.Header)
 	}
 	const says = "The broker is busy, and nothing was done. Send the request again later."
-	if reason := s.observed.last().Reason; reason != says {
-		t.Errorf("the reason in the log: got %q, want %q", reason, says)
-	}
+	diff.Equal(t, s.observed.last().Reason, says, "the reason in the log")
 	snapshot, err := s.store.Read(context.Background(), keyOf("second"))
 	if err != nil || snapshot.Holding != (osb.Holding{}) {
 		t.Errorf("got %v held, %v, want nothing", snapshot.Holding, err)
 	}
 	backend.goOn <- struct{}{}
-	if got := within(t, "the first", first); got != http.StatusCreated {
-		t.Errorf("the first: got %d, want %d", got, http.StatusCreated)
-	}
+	diff.Equal(t, within(t, "the first", first), http.StatusCreated, "the first")
 	backend.goOn <- struct{}{}
 	s.expect(t, 201, "PUT", instances+"second", bodyOf(now, ""))
 }

@@ -10,6 +10,7 @@ import (
 	"time"
 
 	"pippinterm/broker"
+	"pippinterm/internal/diff"
 	"pippinterm/osb"
 )
 
@@ -299,9 +300,7 @@ func TestABindingReturns(t *testing.T) {
 	if got := l.seen.returns; len(got) != 1 || got[0].Key != key {
 		t.Errorf("the returns: got %v, want one", got)
 	}
-	if life := l.entry(t, keyOf("i")).Life; life != 0 {
-		t.Errorf("the life of the instance: got %d, want 0", life)
-	}
+	diff.Equal(t, l.entry(t, keyOf("i")).Life, 0, "the life of the instance")
 }
 
 // boundTwice is the instance i in its second life, whose binding b was deleted in the first one. No tombstone is old
@@ -586,9 +585,7 @@ func TestAnOperationThatHasEnded(t *testing.T) {
 			t.Error(err)
 		}
 	}
-	if err := l.TakeUp(ctx, key); !errors.Is(err, broker.ErrLostWork) {
-		t.Errorf("got %v, want %v", err, broker.ErrLostWork)
-	}
+	diff.ErrorIs(t, l.TakeUp(ctx, key), broker.ErrLostWork, "")
 	row, _ := l.holding(t, key).Row()
 	if row.Phase != osb.PhaseReady || backend.there(key) != broker.Whole || len(backend.created) != 1 {
 		t.Errorf("got it %v, %d creations and %+v, want it whole, 1 and a row that is ready", backend.there(key),

@@ -125,9 +125,7 @@ func (b *bench) takesUp(t *testing.T, shelf *shelf, expected *sentRequests, it s
 	if key.IsBinding && it.isHeld {
 		wanted = shelf.credentials(key)
 	}
-	if got := credentialsOf(entry.Binding); got != wanted {
-		t.Errorf("the stored credentials: got %q, want %q", got, wanted)
-	}
+	diff.Equal(t, credentialsOf(entry.Binding), wanted, "the stored credentials")
 }
 
 // The request of a creation that was rejected is forgotten at once. That of an operation that has failed is kept until
@@ -429,9 +427,7 @@ func TestTakeUpReportsALockThatStaysTaken(t *testing.T) {
 	}{{time.Minute, nil}, {31 * time.Minute, broker.ErrStillTaken}} {
 		t.Run(test.ago.String(), func(t *testing.T) {
 			b.since(t, key, test.ago)
-			if err := b.TakeUp(ctx, key); !errors.Is(err, test.want) {
-				t.Errorf("after %v: got %v, want %v", test.ago, err, test.want)
-			}
+			diff.ErrorIs(t, b.TakeUp(ctx, key), test.want, "after %v", test.ago)
 		})
 	}
 	lock.Unlock()

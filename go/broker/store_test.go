@@ -14,6 +14,7 @@ import (
 	"pippinterm/broker"
 	"pippinterm/broker/backend/folders"
 	"pippinterm/broker/sqlite"
+	"pippinterm/internal/diff"
 	"pippinterm/osb"
 )
 
@@ -303,9 +304,7 @@ func TestTie(t *testing.T) {
 	for _, mustExist := range []bool{false, true} {
 		g.check(broker.Tie(context.Background(), g.store("a"), g.folders("here"), mustExist))
 	}
-	if again := g.name(g.store("a")); again != name {
-		t.Errorf("the name: got %q, want %q", again, name)
-	}
+	diff.Equal(t, g.name(g.store("a")), name, "the name")
 }
 
 // Folders of one store are refused to any other: a new one, and one with folders and instances of its own.
@@ -317,9 +316,7 @@ func TestTieOfAnotherStore(t *testing.T) {
 	g.tie(g.store("c"), g.folders("there"))
 	g.fill(g.store("c"))
 	g.checkParted(g.store("c"), g.folders("here"), "belong to the store "+name)
-	if owner := g.owner(g.folders("here")); owner != name {
-		t.Errorf("the owner: got %q, want %q", owner, name)
-	}
+	diff.Equal(t, g.owner(g.folders("here")), name, "the owner")
 }
 
 // A store is tied to one backend alone, also while it has no instances.
@@ -328,9 +325,7 @@ func TestTieOfAnotherBackend(t *testing.T) {
 	g.tie(g.store("a"), g.folders("here"))
 	for round := 0; round < 2; round++ {
 		g.checkParted(g.store("a"), g.folders("there"), "has begun with other resources")
-		if owner := g.owner(g.folders("there")); owner != "" {
-			t.Errorf("the owner of the folders: got %q, want none", owner)
-		}
+		diff.Equal(t, g.owner(g.folders("there")), "", "the owner of the folders")
 		g.fill(g.store("a"))
 	}
 }
@@ -386,12 +381,8 @@ func TestTwoTiesAtOnce(t *testing.T) {
 	if err := soon(t, tied); err != nil {
 		t.Error(err)
 	}
-	if err := soon(t, refused); !errors.Is(err, broker.ErrParted) {
-		t.Errorf("the other has tied the store: got %v, want %v", err, broker.ErrParted)
-	}
-	if owner := g.owner(g.folders("there")); owner != "" {
-		t.Errorf("the owner of the second folders: got %q, want none", owner)
-	}
+	diff.ErrorIs(t, soon(t, refused), broker.ErrParted, "the other has tied the store")
+	diff.Equal(t, g.owner(g.folders("there")), "", "the owner of the second folders")
 }
 
 // A store with instances that was never tied, and folders of which nobody knows whose they are, as those of a copy.
@@ -405,9 +396,7 @@ func TestTieOfUnknownOwners(t *testing.T) {
 		if err := broker.Tie(context.Background(), g.store("b"), here, false); err == nil {
 			t.Error("the folders of an unknown owner: got no error, want one")
 		}
-		if owner := g.owner(here); owner != "" {
-			t.Errorf("the owner of the folders: got %q, want none", owner)
-		}
+		diff.Equal(t, g.owner(here), "", "the owner of the folders")
 	}
 	g.check(os.Remove(instance))
 	g.tie(g.store("b"), here) // it wasn't noted that the store is tied
@@ -419,9 +408,7 @@ func TestUntied(t *testing.T) {
 	for _, store := range []string{"a", "a", "b"} {
 		g.tie(g.store(store), newShelf(calm))
 	}
-	if name := g.name(g.store("a")); name != broker.Untied {
-		t.Errorf("the name: got %q, want %q", name, broker.Untied)
-	}
+	diff.Equal(t, g.name(g.store("a")), broker.Untied, "the name")
 	g.checkParted(g.store("a"), g.folders("here"), "another backend's")
 	g.tie(g.store("c"), g.folders("here"))
 	g.checkParted(g.store("c"), newShelf(calm), "another backend's")
@@ -431,9 +418,8 @@ func TestUntied(t *testing.T) {
 func TestTieThatMustExist(t *testing.T) {
 	g := newGround(t)
 	for _, backend := range []broker.Backend{g.folders("here"), newShelf(calm)} {
-		if err := broker.Tie(context.Background(), g.store("a"), backend, true); !errors.Is(err, broker.ErrParted) {
-			t.Errorf("the store is new: got %v, want %v", err, broker.ErrParted)
-		}
+		diff.ErrorIs(t, broker.Tie(context.Background(), g.store("a"), backend, true), broker.ErrParted,
+			"the store is new")
 	}
 	if name, owner := g.name(g.store("a")), g.owner(g.folders("here")); name != "" || owner != "" {
 		t.Errorf("got the store %q and the owner %q, want neither named", name, owner)
@@ -502,12 +488,8 @@ func TestTieOfAStoreWithoutAName(t *testing.T) {
 	g := newGround(t)
 	backend := g.folders("here")
 	err := broker.Tie(context.Background(), nameless{g.store("a")}, backend, false)
-	if !errors.Is(err, errDiskFull) {
-		t.Errorf("got %v, want %v", err, errDiskFull)
-	}
-	if owner := g.owner(backend); owner != "" {
-		t.Errorf("the owner of the folders: got %q, want none", owner)
-	}
+	diff.ErrorIs(t, err, errDiskFull, "")
+	diff.Equal(t, g.owner(backend), "", "the owner of the folders")
 	g.tie(g.store("a"), backend) // later it is tied
 }
 
@@ -568,12 +550,9 @@ func TestTieThatFails(t *testing.T) {
 				g.check(err)
 			}
 			failing := failingTie{store, backend, at}
-			if err := broker.Tie(context.Background(), failing, failing, false); !errors.Is(err, errTie) {
-				t.Errorf("%s fails, untied %t: got %v, want %v", at, isUntied, err, errTie)
-			}
-			if owner := g.owner(backend); owner != "" {
-				t.Errorf("%s fails, untied %t: the owner: got %q, want none", at, isUntied, owner)
-			}
+			diff.ErrorIs(t, broker.Tie(context.Background(), failing, failing, false), errTie,
+				"%s fails, untied %t", at, isUntied)
+			diff.Equal(t, g.owner(backend), "", "%s fails, untied %t: the owner", at, isUntied)
 			failing.at = ""
 			g.check(broker.Tie(context.Background(), failing, failing, false))
 		}

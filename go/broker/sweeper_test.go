@@ -15,6 +15,7 @@ import (
 
 	"pippinterm/broker"
 	"pippinterm/broker/sqlite"
+	"pippinterm/internal/diff"
 	"pippinterm/osb"
 )
 
@@ -476,9 +477,7 @@ func TestFailedKeysTakeHalf(t *testing.T) {
 			sweeper.Touch(key)
 			b.becomes(t, key)
 		}
-		if got := backend.mostAtOnce(); got != most {
-			t.Errorf("with %d workers: got %d calls of keys that failed at once, want %d", workers, got, most)
-		}
+		diff.Equal(t, backend.mostAtOnce(), most, "with %d workers: calls of keys that failed at once", workers)
 		end()
 	}
 }
@@ -510,9 +509,8 @@ func TestUnfinishedAtTheStart(t *testing.T) {
 					b.becomes(t, key)
 				}
 			}
-			if got := backend.mostAtOnce(); got != test.most {
-				t.Errorf("with %d workers: got %d calls of what was unfinished at once, want %d", test.workers, got, test.most)
-			}
+			diff.Equal(t, backend.mostAtOnce(), test.most,
+				"with %d workers: calls of what was unfinished at once", test.workers)
 			end()
 		})
 	}
@@ -599,9 +597,7 @@ func TestLocksThatAreSilent(t *testing.T) {
 	for n := 0; n < 6; n++ {                           // for these there was no slot
 		select {
 		case status := <-answers:
-			if status != http.StatusServiceUnavailable {
-				t.Errorf("a Provision: got %d, want %d", status, http.StatusServiceUnavailable)
-			}
+			diff.Equal(t, status, http.StatusServiceUnavailable, "a Provision")
 		case <-time.After(soon):
 			t.Fatal("requests without a slot: got them to wait, want 503 soon")
 		}
@@ -614,9 +610,7 @@ func TestLocksThatAreSilent(t *testing.T) {
 	if took := time.Since(begun); took >= 8*time.Second { // each would wait two seconds for a slot
 		t.Errorf("got four answers after %v, want them at once", took)
 	}
-	if count := locks.count(); count != 2 {
-		t.Errorf("the silent locks: got %d tried at once, want 2", count)
-	}
+	diff.Equal(t, locks.count(), 2, "the silent locks: tried at once")
 	locks.is(nil)
 	answer()
 	waiting.Wait()

@@ -10,6 +10,7 @@ import (
 	"time"
 
 	"pippinterm/broker"
+	"pippinterm/internal/diff"
 )
 
 // few lets some logins fail, and delays each later one.
@@ -63,9 +64,7 @@ func TestFailedLoginsDontDelayTheStop(t *testing.T) {
 	s.Stop()
 	select {
 	case got := <-answered:
-		if got != 401 {
-			t.Errorf("got %d, want 401", got)
-		}
+		diff.Equal(t, got, 401, "")
 	case <-time.After(time.Minute):
 		t.Error("got no answer in a minute after the stop, want one")
 	}
@@ -182,9 +181,7 @@ func TestUsersAreReplaced(t *testing.T) {
 		for login, status := range want {
 			user, password, _ := strings.Cut(login, ":")
 			given, _ := s.ask("GET", "/v2/catalog", "", func(r *http.Request) { r.SetBasicAuth(user, password) })
-			if given.StatusCode != status {
-				t.Errorf("%s, %s: got %d, want %d", when, login, given.StatusCode, status)
-			}
+			diff.Equal(t, given.StatusCode, status, "%s, %s", when, login)
 		}
 	}
 	for _, test := range []struct {

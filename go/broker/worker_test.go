@@ -140,9 +140,7 @@ func (l *lone) expect(t *testing.T, status int, method, target, body string) {
 func (l *lone) follows(t *testing.T, it script) {
 	t.Helper()
 	diff.Check(t, l.backend.calls, it.calls, "the calls")
-	if l.backend.there != it.left {
-		t.Errorf("got %v left, want %v", l.backend.there, it.left)
-	}
+	diff.Equal(t, l.backend.there, it.left, "left")
 }
 
 // What counts at a synchronous plan is what exists in the end.
@@ -312,9 +310,7 @@ func TestUnknownCredentials(t *testing.T) {
 				t.Errorf("got %d %s, want %q", given.status, given.body, test.credentials)
 			}
 			diff.Check(t, test.script.calls, test.calls, "the calls")
-			if test.script.looks != 2 {
-				t.Errorf("got %d looks, want 2", test.script.looks)
-			}
+			diff.Equal(t, test.script.looks, 2, "looks")
 		})
 	}
 }
@@ -376,9 +372,7 @@ func (w *watchedBroker) ask(method, target, body, requestID string) int {
 // A backend that is away: each retry counts, though the reason is the same.
 func TestFailedCallsAreCountedEachTime(t *testing.T) {
 	w := newWatched(t, &scriptedBackend{made: whole, blindness: errScripted})
-	if status := w.ask("PUT", instances+"one", bodyOf(now, ""), "a"); status != http.StatusInternalServerError {
-		t.Errorf("the Provision: got %d, want %d", status, http.StatusInternalServerError)
-	}
+	diff.Equal(t, w.ask("PUT", instances+"one", bodyOf(now, ""), "a"), http.StatusInternalServerError, "the Provision")
 	w.expect(t, map[string]int{"look": 1})
 	for round := 0; round < 3; round++ {
 		if err := w.TakeUp(context.Background(), keyOf("one")); err == nil {
@@ -517,20 +511,15 @@ func TestLocksThatFail(t *testing.T) {
 		t.Run(name, func(t *testing.T) {
 			backend := newShelf(calm)
 			w := newWatchedWith(t, backend, brokenLocks{newMemoryLocks(), isTaken})
-			if status := w.ask("PUT", instances+"one", bodyOf(now, ""), "a"); status != http.StatusInternalServerError {
-				t.Errorf("the Provision: got %d, want %d", status, http.StatusInternalServerError)
-			}
+			diff.Equal(t, w.ask("PUT", instances+"one", bodyOf(now, ""), "a"), http.StatusInternalServerError,
+				"the Provision")
 			w.expect(t, map[string]int{"lock": 1})
-			if there := backend.there(keyOf("one")); there != broker.None {
-				t.Errorf("got %v, want %v", there, broker.None)
-			}
+			diff.Equal(t, backend.there(keyOf("one")), broker.None, "")
 		})
 	}
 	w := newWatchedWith(t, newShelf(calm), brokenLocks{newMemoryLocks(), false})
 	for round := 0; round < 2; round++ {
-		if err := w.TakeUp(context.Background(), keyOf("one")); !errors.Is(err, errScripted) {
-			t.Errorf("TakeUp: got %v, want %v", err, errScripted)
-		}
+		diff.ErrorIs(t, w.TakeUp(context.Background(), keyOf("one")), errScripted, "TakeUp")
 	}
 	w.expect(t, map[string]int{"lock": 2})
 
@@ -684,9 +673,7 @@ func TestCredentialsWhileTheBrokerStops(t *testing.T) {
 	ctx, cancel := context.WithCancel(context.Background())
 	backend.calls, backend.deletion, backend.asked = nil, nil, cancel
 	key := broker.BindingKey(keyOf("i").Instance, keyOf("b").Instance)
-	if err := l.TakeUp(ctx, key); !errors.Is(err, broker.ErrNobodyKnows) {
-		t.Errorf("TakeUp: got %v, want %v", err, broker.ErrNobodyKnows)
-	}
+	diff.ErrorIs(t, l.TakeUp(ctx, key), broker.ErrNobodyKnows, "TakeUp")
 	if len(backend.calls) > 0 || !l.isPending(t, key) {
 		t.Errorf("got the calls %v, want none and the work pending", backend.calls)
 	}
@@ -773,8 +760,6 @@ func TestCredentialsAreWrittenWithTheRow(t *testing.T) {
 		if given := l.ask("PUT", bound, bodyOf(plan, "")); given.status == 202 {
 			must(l.TakeUp(context.Background(), key))
 		}
-		if ready != 1 {
-			t.Errorf("plan %s: got %d entries that are ready, want 1", plan, ready)
-		}
+		diff.Equal(t, ready, 1, "plan %s: entries that are ready", plan)
 	}
 }

@@ -297,9 +297,7 @@ func TestKindOf(t *testing.T) {
 		{osb.KindPoll, aBinding, "poll"}, {osb.KindDeprovision, aBinding, "unbind"},
 	} {
 		t.Run(test.want, func(t *testing.T) {
-			if got := kindOf(test.kind, test.of); got != test.want {
-				t.Errorf("%v of %v: got %q, want %q", test.kind, test.of, got, test.want)
-			}
+			diff.Equal(t, kindOf(test.kind, test.of), test.want, "%v of %v", test.kind, test.of)
 		})
 	}
 }
@@ -532,9 +530,7 @@ func TestNextTryOfBinding(t *testing.T) {
 			count++
 		}
 	}
-	if count != 3*len(everyState) {
-		t.Errorf("got %d tried, want %d", count, 3*len(everyState))
-	}
+	diff.Equal(t, count, 3*len(everyState), "tried")
 	try := newTrial(t, failedTry(aBinding), plain())
 	change, err := takeAnswer(at(11), Snapshot{Entry: try.row}, try.sent, try.hear(200, `{}`))
 	if err != nil || change.Next != nil {
@@ -663,9 +659,7 @@ func TestWritesFail(t *testing.T) {
 				len(p.sent), p.told)
 		}
 	})
-	if err := p.engine.Ready(); !errors.Is(err, errFull) {
-		t.Errorf("the engine: got %v, want %v", err, errFull)
-	}
+	diff.ErrorIs(t, p.engine.Ready(), errFull, "the engine")
 	p.store.setFull(nil)
 	begun := time.Now()
 	for _, key := range keys {
@@ -691,7 +685,5 @@ func TestWritesFailAndAnotherWorks(t *testing.T) {
 	p.store.rows[key] = with(p.store.rows[key], func(e *Entry) { e.Due = time.Now().Add(time.Hour) })
 	p.store.mu.Unlock()
 	p.until("readiness", func() bool { return p.engine.Ready() == nil })
-	if told := p.hasFailed("store_failed"); told != 1 {
-		t.Errorf("got %d reports, want 1", told)
-	}
+	diff.Equal(t, p.hasFailed("store_failed"), 1, "reports")
 }

@@ -10,6 +10,8 @@ import (
 	"sync/atomic"
 	"testing"
 	"time"
+
+	"pippinterm/internal/diff"
 )
 
 func TestReadCatalogue(t *testing.T) {
@@ -170,9 +172,7 @@ func TestRunRefused(t *testing.T) {
 			})
 			others := []Key{p.create(NewInstance{}), p.create(NewInstance{})}
 			time.Sleep(30 * time.Millisecond)
-			if sent.Load() != 1 {
-				t.Errorf("got %d requests sent, want 1", sent.Load())
-			}
+			diff.Equal(t, sent.Load(), 1, "requests sent")
 			isRefusing.Store(false)
 			for _, key := range others {
 				p.untilState(key, Ready)
@@ -210,9 +210,7 @@ func TestRunUnreachable(t *testing.T) {
 	p.until("the outage", func() bool { return p.hasFailed("broker_unreached") > 0 })
 	later := p.create(NewInstance{})
 	time.Sleep(30 * time.Millisecond)
-	if sent.Load() != 1 {
-		t.Errorf("got %d requests sent, want 1", sent.Load())
-	}
+	diff.Equal(t, sent.Load(), 1, "requests sent")
 	isAway.Store(false)
 	if e := p.untilState(later, Ready); e.Try != 1 {
 		t.Errorf("what was ordered in the outage: got it ready at try %d, want 1", e.Try)
@@ -358,14 +356,10 @@ func TestRunCatalogueAgain(t *testing.T) {
 		stored := p.brokerNamed("shelf")
 		return stored.Reason == Reason{} && !strings.Contains(string(stored.Catalogue), `"bindable": true`)
 	})
-	if told := p.hasFailed("broker_unreached"); told != 1 {
-		t.Errorf("got %d reports, want 1", told)
-	}
+	diff.Equal(t, p.hasFailed("broker_unreached"), 1, "reports")
 	p.mu.Lock()
 	defer p.mu.Unlock()
-	if p.reached != 1 {
-		t.Errorf("got %d reports that it is reached, want 1", p.reached)
-	}
+	diff.Equal(t, p.reached, 1, "reports that it is reached")
 }
 
 // A worker that writes a catalogue doesn't undo what an operator changes just before. The catalogue is another broker's
@@ -382,9 +376,7 @@ func TestCatalogueBesideSetBroker(t *testing.T) {
 	}
 	sites := newSites(background, p.engine, &sync.WaitGroup{})
 	defer sites.stop()
-	if err := sites.keep(background, asked, json.RawMessage(sold), Reason{}); !errors.Is(err, errChanged) {
-		t.Errorf("got %v, want %v", err, errChanged)
-	}
+	diff.ErrorIs(t, sites.keep(background, asked, json.RawMessage(sold), Reason{}), errChanged, "")
 	if got := p.brokerNamed("shelf"); got.URL != "https://there" || got.Catalogue != nil {
 		t.Errorf("got %+v, want the new URL and no catalogue", got)
 	}
@@ -559,9 +551,7 @@ func TestIsAskedAlike(t *testing.T) {
 		one := Broker{Name: "shelf", URL: "https://shelf", User: "u"}
 		other := one
 		test.change(&other)
-		if got := isAskedAlike(one, other) && isAskedAlike(other, one); got != test.want {
-			t.Errorf("%s: got %v, want %v", name, got, test.want)
-		}
+		diff.Equal(t, isAskedAlike(one, other) && isAskedAlike(other, one), test.want, "%s", name)
 	}
 }
 

@@ -240,9 +240,7 @@ func TestOptions(t *testing.T) {
 // Besides AtOnce, half as many may be in flight, and at least one.
 func TestMostInFlight(t *testing.T) {
 	for atOnce, want := range map[int]int{1: 2, 2: 3, 16: 24, 1024: 1536} {
-		if got := MostInFlight(atOnce); got != want {
-			t.Errorf("MostInFlight(%d): got %d, want %d", atOnce, got, want)
-		}
+		diff.Equal(t, MostInFlight(atOnce), want, "MostInFlight(%d)", atOnce)
 	}
 }
 
@@ -296,9 +294,7 @@ func TestRunWritesBeside(t *testing.T) {
 	p.start(background)
 	p.until("four requests", func() bool { return sent.Load() == 4 })
 	time.Sleep(20 * time.Millisecond)
-	if sent.Load() != 4 {
-		t.Errorf("got %d requests sent, want 4", sent.Load())
-	}
+	diff.Equal(t, sent.Load(), 4, "requests sent")
 	close(writes)
 	for _, key := range keys {
 		p.untilState(key, Ready)
@@ -329,9 +325,7 @@ func TestRunBesideOneThatHangs(t *testing.T) {
 	for n := 0; n < 5; n++ {
 		p.untilState(p.create(NewInstance{}), Ready)
 	}
-	if hanging.Load() != 2 {
-		t.Errorf("got %d places taken, want 2", hanging.Load())
-	}
+	diff.Equal(t, hanging.Load(), 2, "places taken")
 }
 
 // Brokers that don't answer keep the orders of another one from nothing, as long as there are fewer of them than places.
@@ -458,9 +452,7 @@ func TestRunBesideOrdersThatHang(t *testing.T) {
 			}
 			p.until("all that may hang", func() bool { return count() >= test.most })
 			time.Sleep(20 * time.Millisecond)
-			if count() != test.most {
-				t.Errorf("got %d hang at once, want %d", count(), test.most)
-			}
+			diff.Equal(t, count(), test.most, "hang at once")
 		})
 	}
 }
@@ -519,9 +511,7 @@ func TestWait(t *testing.T) {
 	} {
 		t.Run(fmt.Sprintf("%+v", test), func(t *testing.T) {
 			share = test.share
-			if got := p.wait(test.unchanged, test.named); got != test.want {
-				t.Errorf("%+v: got %v, want %v", test, got, test.want)
-			}
+			diff.Equal(t, p.wait(test.unchanged, test.named), test.want, "%+v", test)
 		})
 	}
 	p.first = time.Hour
@@ -621,9 +611,7 @@ func TestRunEnds(t *testing.T) {
 	cancel()
 	select {
 	case err := <-ended:
-		if !errors.Is(err, context.Canceled) {
-			t.Errorf("got %v, want %v", err, context.Canceled)
-		}
+		diff.ErrorIs(t, err, context.Canceled, "")
 	case <-time.After(patience):
 		t.Fatal("Run: got no end in time, want one")
 	}
@@ -634,9 +622,7 @@ func TestRunEndsWithNothingToDo(t *testing.T) {
 	p := newPlant(t, Options{})
 	ctx, cancel := context.WithTimeout(background, 50*time.Millisecond)
 	defer cancel()
-	if err := p.engine.Run(ctx, nil); !errors.Is(err, context.DeadlineExceeded) {
-		t.Errorf("got %v, want %v", err, context.DeadlineExceeded)
-	}
+	diff.ErrorIs(t, p.engine.Run(ctx, nil), context.DeadlineExceeded, "")
 }
 
 // A stop ends what is in flight once its lease is over, though the store is away.
@@ -674,15 +660,11 @@ func TestRunWhileTheStoreIsAway(t *testing.T) {
 	close(answer)
 	p.until("a failure", func() bool { return p.hasFailed("store_failed") > 0 })
 	time.Sleep(50 * time.Millisecond)
-	if told := p.hasFailed("store_failed"); told != 1 {
-		t.Errorf("got %d reports, want 1", told)
-	}
+	diff.Equal(t, p.hasFailed("store_failed"), 1, "reports")
 	p.store.setAway(nil)
 	p.untilState(key, Ready)
 	p.untilState(p.create(NewInstance{}), Ready)
-	if len(arrived) != 1 {
-		t.Errorf("got %d requests sent besides, want 1", len(arrived))
-	}
+	diff.Equal(t, len(arrived), 1, "requests sent besides")
 }
 
 // What may have been recorded as in flight, though the claim has failed, is given up at once, and nothing is sent.
@@ -773,9 +755,7 @@ func TestTold(t *testing.T) {
 	_, err := p.orders.Remove(background, key, false)
 	check(t, err)
 	check(t, p.engine.RunOnce(background))
-	if got := strings.Join(p.told, ", "); got != "ordered to ready, ready to gone" {
-		t.Errorf("got %s, want \"ordered to ready, ready to gone\"", got)
-	}
+	diff.Equal(t, strings.Join(p.told, ", "), "ordered to ready, ready to gone", "")
 	if len(p.sent) != 2 || len(p.answered) != 2 {
 		t.Fatalf("got %d requests sent, and %d answered, want 2 and 2", len(p.sent), len(p.answered))
 	}

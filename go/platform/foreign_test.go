@@ -66,9 +66,7 @@ func retries(t *testing.T, s *scene) {
 
 // abandons is the last way out. Until then the record says what hinders it.
 func abandons(t *testing.T, s *scene) {
-	if state := s.rows()[0].State; state != platform.Cleaning {
-		t.Errorf("before it is abandoned: got %s, want %s", state, platform.Cleaning)
-	}
+	diff.Equal(t, s.rows()[0].State, platform.Cleaning, "before it is abandoned")
 	_, err := s.orders.Abandon(background, s.key, "asked the broker's people")
 	check(t, err)
 }
@@ -899,9 +897,7 @@ func (s *scene) checkRequest(next step, r *http.Request, body []byte) {
 	if next.operation != "" {
 		want.Set("operation", next.operation)
 	}
-	if query.Encode() != want.Encode() {
-		s.t.Errorf("%s %s: got %s, want %s", r.Method, r.URL, query.Encode(), want.Encode())
-	}
+	diff.Equal(s.t, query.Encode(), want.Encode(), "%s %s", r.Method, r.URL)
 }
 
 // run has the engine do all that is due.

@@ -185,9 +185,7 @@ func TestPausedWorker(t *testing.T) {
 				t.Run(fmt.Sprintf("%s/%v/hold %v", scene.name, pause, hold), func(t *testing.T) {
 					s := newStage(t, hold)
 					key := scene.come(t, s)
-					if isReached := s.pause(t, pause); isReached != scene.hasPoint(pause.point, hold) {
-						t.Errorf("the pause: got %v, want %v", isReached, scene.hasPoint(pause.point, hold))
-					}
+					diff.Equal(t, s.pause(t, pause), scene.hasPoint(pause.point, hold), "the pause")
 					s.goOn(s.workers[0], 20)
 					s.goOn(s.workers[1], 60)
 					s.check(t, key, hold)

@@ -8,6 +8,8 @@ import (
 	"sync/atomic"
 	"testing"
 	"time"
+
+	"pippinterm/internal/diff"
 )
 
 func TestRunOnce(t *testing.T) {
@@ -26,9 +28,7 @@ func TestRunOnce(t *testing.T) {
 		t.Errorf("got %v, want %v of shelf", err, ErrUnreached)
 	}
 	p.store.setAway(ErrAway)
-	if err := p.engine.RunOnce(background); !errors.Is(err, ErrAway) {
-		t.Errorf("got %v, want %v", err, ErrAway)
-	}
+	diff.ErrorIs(t, p.engine.RunOnce(background), ErrAway, "")
 }
 
 // A balky store fails at one kind of call: at each Claim, or at each NextDue after a Claim.
@@ -59,9 +59,7 @@ func TestRunOnceOverAStoreThatFails(t *testing.T) {
 		p := newPlant(t, Options{})
 		store := &balky{memory: p.store, call: call}
 		engine := NewEngine(store, p.line, seal{}, p.engine.Options, p.line)
-		if err := engine.RunOnce(background); !errors.Is(err, errStore) {
-			t.Errorf("%s: got %v, want %v", call, err, errStore)
-		}
+		diff.ErrorIs(t, engine.RunOnce(background), errStore, "%s", call)
 	}
 }
 
@@ -111,9 +109,7 @@ func TestRunOnceRefused(t *testing.T) {
 		})
 		return (&reply{401, []byte(`{}`)}).incoming(out)
 	}
-	if err := p.engine.RunOnce(background); !errors.Is(err, ErrUnreached) {
-		t.Errorf("got %v, want %v", err, ErrUnreached)
-	}
+	diff.ErrorIs(t, p.engine.RunOnce(background), ErrUnreached, "")
 	p.untilState(key, Cleaning)
 }
 
@@ -133,9 +129,7 @@ func TestRunOnceRefusedAtFirst(t *testing.T) {
 			t.Errorf("%d: got %v, want ErrUnreached with the error of the broker drawer", status, err)
 		}
 		key := p.create(NewInstance{})
-		if err := p.engine.RunOnce(background); !errors.Is(err, ErrUnreached) {
-			t.Errorf("%d: got %v, want ErrUnreached", status, err)
-		}
+		diff.ErrorIs(t, p.engine.RunOnce(background), ErrUnreached, "%d", status)
 		if waited := time.Since(begun); waited > 30*time.Second {
 			t.Errorf("%d: got a wait of %v, want at most 30 s", status, waited)
 		}
@@ -345,9 +339,7 @@ func TestRunOnceIsCancelled(t *testing.T) {
 	defer cancel()
 	time.AfterFunc(50*time.Millisecond, cancel)
 	begun := time.Now()
-	if err := p.engine.RunOnce(ctx); !errors.Is(err, context.Canceled) {
-		t.Errorf("got %v, want %v", err, context.Canceled)
-	}
+	diff.ErrorIs(t, p.engine.RunOnce(ctx), context.Canceled, "")
 	if took := time.Since(begun); took > 30*time.Second { // an exchange lasts a minute
 		t.Errorf("got an end after %v, want one within 30 s", took)
 	}

@@ -12,6 +12,7 @@ import (
 	"testing"
 	"time"
 
+	"pippinterm/internal/diff"
 	"pippinterm/osb"
 )
 
@@ -147,9 +148,7 @@ func TestOrdersOverAStoreThatFails(t *testing.T) {
 					}
 					continue
 				}
-				if !errors.Is(err, errStore) {
-					t.Errorf("%s, and %s has failed: got %v, want %v", name, failed, err, errStore)
-				}
+				diff.ErrorIs(t, err, errStore, "%s, and %s has failed", name, failed)
 				if !reflect.DeepEqual(fmt.Sprint(d.store.rows), rows) || fmt.Sprint(d.store.brokers) != brokers {
 					t.Errorf("%s, and %s has failed: got %v, want %s", name, failed, d.store.rows, rows)
 				}
@@ -179,9 +178,7 @@ func TestNotReadyWhileAnAnswerIsNotWritten(t *testing.T) {
 	p.until("a second try", func() bool { return tries.Load() >= 2 })
 	time.Sleep(50 * time.Millisecond) // that try ends
 	p.engine.health.nothingDue()
-	if err := p.engine.Ready(); !errors.Is(err, full) {
-		t.Errorf("got %v, want %v", err, full)
-	}
+	diff.ErrorIs(t, p.engine.Ready(), full, "")
 	p.line.set(func() { p.line.exchange = usual })
 	p.store.setFull(nil)
 	p.untilState(key, Ready)
@@ -373,9 +370,7 @@ func TestWalk(t *testing.T) {
 		store, failure := &failingStore{memory: d.store}, error(nil)
 		fails(store, &failure)
 		err := Walk(background, store, Filter{}, 2, func([]Entry) error { return failure })
-		if !errors.Is(err, errStore) {
-			t.Errorf("got %v, want %v", err, errStore)
-		}
+		diff.ErrorIs(t, err, errStore, "")
 	}
 }
 

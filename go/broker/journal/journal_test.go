@@ -478,9 +478,7 @@ func TestUnbindFailed(t *testing.T) {
 	if changed.Binding != bind || changed.Visit != answered.Visit || answered.Binding != "" {
 		t.Errorf("got %+v, and then %+v, want a Bind's change and an instance's answer", changed, answered)
 	}
-	if answered.Saw != ready {
-		t.Errorf("got %q seen, want %q", answered.Saw, ready)
-	}
+	diff.Equal(t, answered.Saw, ready, "seen")
 }
 
 // An arrival has the number of a change, so that it and all before it have ended, however they ended.
@@ -490,9 +488,7 @@ func TestCommitted(t *testing.T) {
 	arrives := func(want int64) {
 		t.Helper()
 		to.OnArrival(context.Background(), s.request("POLL", one, ""), "r", broker.Visit{})
-		if got := s.last().Committed; got != want {
-			t.Errorf("got %d, want %d", got, want)
-		}
+		diff.Equal(t, s.last().Committed, want, "")
 	}
 	change := func(store broker.Store, life int64) error {
 		return store.Change(context.Background(), broker.Key{}, 0,

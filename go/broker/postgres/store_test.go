@@ -143,9 +143,7 @@ func TestStoreWithoutConnections(t *testing.T) {
 		t.Errorf("got %v, want that it needs one", err)
 	}
 	_, err = postgres.Open(context.Background(), "no URL", 1, broker.Silent{})
-	if !errors.Is(err, pg.ErrBadAddress) {
-		t.Errorf("got %v, want %v", err, pg.ErrBadAddress)
-	}
+	diff.ErrorIs(t, err, pg.ErrBadAddress, "")
 }
 
 // The tables of version 0.2.0, with an instance that is ready, one with pending work and one that has ended.
@@ -395,9 +393,7 @@ func TestServerThatIsAway(t *testing.T) {
 	proxy.Cut("\x00") // a byte of every message
 	for round := 0; round < 2; round++ {
 		for name, call := range all {
-			if err := call(); !errors.Is(err, broker.ErrAway) {
-				t.Errorf("%s while the server is away: got %v, want %v", name, err, broker.ErrAway)
-			}
+			diff.ErrorIs(t, call(), broker.ErrAway, "%s while the server is away", name)
 		}
 	}
 	proxy.Cut("")
@@ -415,9 +411,7 @@ func TestServerThatIsAway(t *testing.T) {
 	if err := store.Change(ctx, key, 1, describe("fenced", &calls)); errors.Is(err, broker.ErrAway) {
 		t.Errorf("Change without the lock: got %v, want another than %v", err, broker.ErrAway)
 	}
-	if text := descriptionOf(t, store, key); text != "lost" {
-		t.Errorf("the store: got %q, want \"lost\"", text)
-	}
+	diff.Equal(t, descriptionOf(t, store, key), "lost", "the store")
 }
 
 // While the server is silent, the calls of a request fail with broker.ErrAway within a limit, on sessions that were
@@ -464,9 +458,7 @@ func TestServerThatIsSilent(t *testing.T) {
 		}
 	}
 	proxy.Hang(false)
-	if text := descriptionOf(t, store, key); text != "before" {
-		t.Errorf("the store: got %q, want \"before\"", text)
-	}
+	diff.Equal(t, descriptionOf(t, store, key), "before", "the store")
 }
 
 // While the server is silent, a binding isn't read as one that was never there.
@@ -701,9 +693,7 @@ func TestAContextThatEnds(t *testing.T) {
 	err = store.Change(context.Background(), key, 0, func(snapshot broker.Snapshot) (*broker.Entry, error) {
 		go func() { waited <- store.Change(ctx, key, 0, describe("of the second", &calls)) }()
 		cancel()
-		if err := <-waited; !errors.Is(err, context.Canceled) {
-			t.Errorf("the second: got %v, want %v", err, context.Canceled)
-		}
+		diff.ErrorIs(t, <-waited, context.Canceled, "the second")
 		snapshot.Description = "of the first"
 		return &snapshot.Entry, nil
 	})

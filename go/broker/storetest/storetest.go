@@ -456,9 +456,7 @@ func testTexts(t *testing.T, open func(*testing.T) broker.NamedStore) {
 			Holding: in(t, "failed"), Description: test.text, Binding: json.RawMessage(`"` + "\xff" + `"`),
 		})
 		snapshot := read(t, store, binding(1, 1))
-		if snapshot.Holding != in(t, "failed") {
-			t.Errorf("%q: the holding: got %v, want %v", test.text, snapshot.Holding, in(t, "failed"))
-		}
+		diff.Equal(t, snapshot.Holding, in(t, "failed"), "%q: the holding", test.text)
 		if test.isExact && snapshot.Description != test.text {
 			t.Errorf("%q: got %q, want it as it was written", test.text, snapshot.Description)
 		}
@@ -642,9 +640,7 @@ func testReturn(t *testing.T, open func(*testing.T) broker.NamedStore) {
 		for _, key := range []broker.Key{instance(n), binding(n, 100)} {
 			write(t, stores[0], key, broker.Entry{Holding: tombstone(t)})
 			time.Sleep(2 * time.Millisecond) // so that it has an age
-			if count := returns(t, stores, key); count != 1 {
-				t.Errorf("%v: got %d returns, want 1", key, count)
-			}
+			diff.Equal(t, returns(t, stores, key), 1, "%v: returns", key)
 			want := broker.Entry{Holding: pending(t, key), Life: 1}
 			wantEntry(t, key.String(), read(t, stores[0], key).Entry, want)
 		}

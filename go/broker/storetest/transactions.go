@@ -10,6 +10,7 @@ import (
 	"time"
 
 	"pippinterm/broker"
+	"pippinterm/internal/diff"
 )
 
 // Steps that fail, panic or whose context is cancelled write nothing, and the changes beside them are written.
@@ -56,9 +57,7 @@ var failing = []func(*testing.T, broker.Store, broker.Key){
 		entry := ready(t)
 		err := changeError(context.Background(), store, key,
 			func(broker.Snapshot) (*broker.Entry, error) { return &entry, errWrong })
-		if !errors.Is(err, errWrong) {
-			t.Errorf("a step that fails: got %v, want %v", err, errWrong)
-		}
+		diff.ErrorIs(t, err, errWrong, "a step that fails")
 	},
 	func(t *testing.T, store broker.Store, key broker.Key) {
 		err := changeError(context.Background(), store, key,
@@ -73,9 +72,7 @@ var failing = []func(*testing.T, broker.Store, broker.Key){
 		cancel()
 		err := changeError(gone, store, key,
 			func(broker.Snapshot) (*broker.Entry, error) { return &entry, nil })
-		if !errors.Is(err, context.Canceled) {
-			t.Errorf("a context that is cancelled: got %v, want %v", err, context.Canceled)
-		}
+		diff.ErrorIs(t, err, context.Canceled, "a context that is cancelled")
 	},
 }
 

@@ -142,9 +142,7 @@ func TestStop(t *testing.T) {
 				found.Result)
 		}
 		for key, times := range f.deleted {
-			if times != 1 {
-				t.Errorf("%v: got %d deletions, want 1", key, times)
-			}
+			diff.Equal(t, times, 1, "%v: deletions", key)
 		}
 		end()
 	}
@@ -598,9 +596,7 @@ func TestDiffer(t *testing.T) {
 			if err := differ(json.RawMessage(test.before), json.RawMessage(test.after)); err != nil {
 				got = err.Error()
 			}
-			if got != test.wanted {
-				t.Errorf("%s and %s: got %q, want %q", test.before, test.after, got, test.wanted)
-			}
+			diff.Equal(t, got, test.wanted, "%s and %s", test.before, test.after)
 		})
 	}
 }

@@ -15,6 +15,8 @@ import (
 	"strings"
 	"testing"
 	"time"
+
+	"pippinterm/internal/diff"
 )
 
 // An haproxy is HAProxy with the configuration of deploy/haproxy before one broker. It speaks HTTP on both sides.
@@ -125,17 +127,13 @@ func TestBehindHAProxy(t *testing.T) {
 			forged := http.Header{"X-Forwarded-For": {"192.0.2.9"}}
 			var want []string
 			for _, from := range []string{"127.0.0.2", "127.0.0.3"} {
-				if got := h.status(from, "wrong", forged); got != 401 {
-					t.Errorf("got %d, want 401", got)
-				}
+				diff.Equal(t, h.status(from, "wrong", forged), 401, "")
 				want = append(want, from)
 			}
 			if got := s.failedLogins(2); !reflect.DeepEqual(got, want) {
 				t.Errorf("got the addresses %v, want %v", got, want)
 			}
-			if got := h.status("127.0.0.2", password, forged); got != 200 {
-				t.Errorf("got %d, want 200", got)
-			}
+			diff.Equal(t, h.status("127.0.0.2", password, forged), 200, "")
 			s.stop()
 		})
 	}
@@ -145,9 +143,7 @@ func TestBehindHAProxy(t *testing.T) {
 func TestBehindAProxyThatIsNotTrusted(t *testing.T) {
 	s := start(t, []string{password}, "--state", t.TempDir(), "--trusted-proxy", "192.0.2.0/24")
 	h := behind(t, s, func(config string) string { return strings.ReplaceAll(config, "send-proxy-v2", "") })
-	if got := h.status("127.0.0.2", "wrong", http.Header{"X-Forwarded-For": {"127.0.0.2"}}); got != 401 {
-		t.Errorf("got %d, want 401", got)
-	}
+	diff.Equal(t, h.status("127.0.0.2", "wrong", http.Header{"X-Forwarded-For": {"127.0.0.2"}}), 401, "")
 	if got := s.failedLogins(1); got[0] != "127.0.0.1" {
 		t.Errorf("got the address %s, want that of the proxy", got[0])
 	}
@@ -240,9 +236,7 @@ func TestConnectionsOfOneAddress(t *testing.T) {
 			open++
 		}
 	}
-	if open != connections/4 {
-		t.Errorf("got %d connections of one address, want %d", open, connections/4)
-	}
+	diff.Equal(t, open, connections/4, "connections of one address")
 	if got := (haproxy{t, s.url}).status("127.0.0.2", password, nil); got != 200 {
 		t.Errorf("another address got %d, want 200", got)
 	}

@@ -29,6 +29,7 @@ import (
 
 	"github.com/spf13/pflag"
 
+	"pippinterm/internal/diff"
 	"pippinterm/internal/httpserver/health"
 	"pippinterm/internal/logs"
 )
@@ -673,9 +674,7 @@ func checkValid(t *testing.T, send func(message) int) {
 	t.Helper()
 	for status, messages := range validMessages() {
 		for _, message := range messages {
-			if got := send(message); got != status {
-				t.Errorf("%s %s: got %d, want %d", message.method, message.path(), got, status)
-			}
+			diff.Equal(t, send(message), status, "%s %s", message.method, message.path())
 		}
 	}
 }

@@ -12,6 +12,7 @@ import (
 	"golang.org/x/sys/unix"
 
 	"pippinterm/broker"
+	"pippinterm/internal/diff"
 	"pippinterm/internal/journalfile"
 	"pippinterm/internal/pg"
 	"pippinterm/internal/sqlitefile"
@@ -169,8 +170,6 @@ func TestDoubtful(t *testing.T) {
 		pg.ErrUnknownCommit: true, sqlitefile.ErrUnknownCommit: true,
 		broker.ErrLostLock: false, broker.ErrLostWork: false, sqlitefile.ErrBusy: false, pg.ErrNotBegun: false,
 	} {
-		if got := isDoubtful(broker.Away(fmt.Errorf("it has failed: %w", err))); got != want {
-			t.Errorf("%v: got %v, want %v", err, got, want)
-		}
+		diff.Equal(t, isDoubtful(broker.Away(fmt.Errorf("it has failed: %w", err))), want, "%v", err)
 	}
 }

@@ -350,9 +350,7 @@ esac
 		}
 	}
 	s.stop()
-	if given := <-status; given != 201 {
-		t.Errorf("got %v, want 201", given)
-	}
+	diff.Equal(t, <-status, 201, "")
 }
 
 func Example_help() {
@@ -559,9 +557,7 @@ func TestOpenStateFolder(t *testing.T) {
 		for _, line := range s.seen {
 			warned = warned || strings.Contains(line, `"event":"folder_open"`) && strings.Contains(line, state)
 		}
-		if warned != isOpen {
-			t.Errorf("a state folder of mode %o is reported: got %v, want %v", mode, warned, isOpen)
-		}
+		diff.Equal(t, warned, isOpen, "a state folder of mode %o is reported", mode)
 	}
 }
 
@@ -573,9 +569,7 @@ func TestIsLoopback(t *testing.T) {
 		t.Run(address, func(t *testing.T) {
 			resolved, err := net.ResolveTCPAddr("tcp", address)
 			check(t, err)
-			if got := isLoopback(resolved); got != want {
-				t.Errorf("got %v, want %v", got, want)
-			}
+			diff.Equal(t, isLoopback(resolved), want, "")
 		})
 	}
 }
@@ -784,9 +778,7 @@ func TestExampleDatabases(t *testing.T) {
 		if _, err := os.Stat(path); err != nil {
 			t.Error(err)
 		}
-		if again := s.expect(200, "PUT", binding+async, ids+"}"); again != text {
-			t.Errorf("the binding: got %s, want %s", again, text)
-		}
+		diff.Equal(t, s.expect(200, "PUT", binding+async, ids+"}"), text, "the binding")
 		s.expect(deleted, "DELETE", binding+query, "")
 		s.until(410, "", "GET", binding+"/last_operation", "")
 		s.expect(deleted, "DELETE", instance+query, "")

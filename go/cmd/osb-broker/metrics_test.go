@@ -12,6 +12,7 @@ import (
 	"time"
 
 	"pippinterm/broker"
+	"pippinterm/internal/diff"
 )
 
 // lines returns the metrics as the handler sends them, without comments.
@@ -37,9 +38,7 @@ func expect(t *testing.T, metrics *metrics, want map[string]string) {
 	t.Helper()
 	got := lines(t, metrics)
 	for name, value := range want {
-		if got[name] != value {
-			t.Errorf("%s: got %q, want %q", name, got[name], value)
-		}
+		diff.Equal(t, got[name], value, "%s", name)
 	}
 }
 
@@ -98,9 +97,7 @@ func TestTheNumberOfEventsIsBounded(t *testing.T) {
 			count++
 		}
 	}
-	if count != mostNames+1 {
-		t.Errorf("got %d time series, want %d", count, mostNames+1)
-	}
+	diff.Equal(t, count, mostNames+1, "time series")
 	expect(t, metrics, map[string]string{
 		`osb_broker_failures_total{event="event-0"}`: "2",
 		`osb_broker_failures_total{event="other"}`:   fmt.Sprint(2 * mostNames),
@@ -130,9 +127,7 @@ func TestOptions(t *testing.T) {
 	all := newMetrics(metricsOptions{DroppedLines: func() uint64 { return 3 }, Connections: func() int { return 4 }})
 	all.addStore(context.Background(), &store{})
 	for _, name := range names {
-		if none[name] != "" {
-			t.Errorf("%s: got %s without its option, want none", name, none[name])
-		}
+		diff.Equal(t, none[name], "", "%s: without its option", name)
 	}
 	expect(t, all, map[string]string{names[0]: "1", names[1]: "3", names[2]: "4"})
 }
@@ -192,9 +187,7 @@ func TestTheStoreIsAskedOnceASecond(t *testing.T) {
 	}{{0, 1}, {0, 1}, {999 * time.Millisecond, 1}, {time.Millisecond, 2}, {time.Hour, 3}} {
 		pass(step.after)
 		lines(t, metrics)
-		if counted.asked != step.asked {
-			t.Errorf("%v later: got %d calls, want %d", step.after, counted.asked, step.asked)
-		}
+		diff.Equal(t, counted.asked, step.asked, "%v later: calls", step.after)
 	}
 }
 
@@ -211,9 +204,7 @@ func TestScrapesSideBySideAskTheStoreOnce(t *testing.T) {
 		}()
 	}
 	all.Wait()
-	if counted.asked != 1 {
-		t.Errorf("got %d calls, want 1", counted.asked)
-	}
+	diff.Equal(t, counted.asked, 1, "calls")
 }
 
 func TestAStoreThatCantBeAsked(t *testing.T) {

@@ -26,6 +26,7 @@ import (
 	"github.com/spf13/cobra"
 
 	"pippinterm/internal/cli"
+	"pippinterm/internal/diff"
 	"pippinterm/internal/sqlitefile"
 )
 
@@ -70,15 +71,11 @@ func TestFilesThatAreNeeded(t *testing.T) {
 	} {
 		t.Run("--backend "+backend, func(t *testing.T) {
 			s := &settings{backend: backend, connections: 1000, threads: 30, workers: 7}
-			if got := s.files(); got != want {
-				t.Errorf("--backend %q: got %d files, want %d", backend, got, want)
-			}
+			diff.Equal(t, s.files(), want, "--backend %q: files", backend)
 		})
 	}
 	greatest := &settings{backend: "command:p", connections: most, threads: most, workers: most}
-	if got := greatest.files(); got != 16*most+100 {
-		t.Errorf("the greatest numbers: got %d files, want %d", got, 16*most+100)
-	}
+	diff.Equal(t, greatest.files(), 16*most+100, "the greatest numbers: files")
 }
 
 // The version is that of the changelog and of the library.
@@ -397,9 +394,7 @@ func TestRequestsWhileItStops(t *testing.T) {
 			if stopped := s.event("stopped"); stopped["all_work_ended"] != true {
 				t.Errorf("got %v, want that all work has ended", stopped)
 			}
-			if count := g.count(); count != 1 {
-				t.Errorf("create: got %d calls, want 1", count)
-			}
+			diff.Equal(t, g.count(), 1, "create: calls")
 		})
 	}
 }

@@ -14,6 +14,8 @@ import (
 	"syscall"
 	"testing"
 	"time"
+
+	"pippinterm/internal/diff"
 )
 
 // A gate is a backend whose create says when it has begun, and goes on once the test says so.
@@ -145,9 +147,7 @@ func TestStopWaitsForAnOperation(t *testing.T) {
 		t.Errorf("got %d %s, want 200 and succeeded", status, body)
 	}
 	s.stop()
-	if count := g.count(); count != 1 {
-		t.Errorf("create: got %d calls, want 1", count)
-	}
+	diff.Equal(t, g.count(), 1, "create: calls")
 }
 
 // An operation that takes longer than --stop-seconds doesn't keep the broker, and the next one ends it.

@@ -19,6 +19,7 @@ import (
 	"testing"
 	"time"
 
+	"pippinterm/internal/diff"
 	"pippinterm/osb"
 	"pippinterm/platform"
 )
@@ -255,9 +256,7 @@ func TestReplacedPassword(t *testing.T) {
 				wantReady(t, store, fmt.Sprintf("new-%d", n))
 			}
 			wantLines(t, store, []line{{"remove before --wait=60", 0, ``, `before is gone`}})
-			if again := s.refusals(); again != refused {
-				t.Errorf("got %d requests with the old password, want %d", again, refused)
-			}
+			diff.Equal(t, s.refusals(), refused, "requests with the old password")
 			p.stop()
 		})
 	}
@@ -372,9 +371,7 @@ func TestBrokerOfAnotherStore(t *testing.T) {
 			t.Fatalf("broker list: got %q after the time for it, want the new state", got.out)
 		}
 	}
-	if sent := f.deletion.Load(); sent != 1 {
-		t.Errorf("got %d deletions sent to the other broker, want 1", sent)
-	}
+	diff.Equal(t, f.deletion.Load(), 1, "deletions sent to the other broker")
 	for _, text := range []string{"before", "beside"} {
 		if got := call(t, "--store", store, "show", text); strings.Contains(got.out, "state\tgone") {
 			t.Errorf("the answer of the other broker: got %s, want it not believed", got.out)

@@ -17,6 +17,7 @@ import (
 	"golang.org/x/sys/unix"
 
 	"pippinterm/broker"
+	"pippinterm/internal/diff"
 	"pippinterm/internal/logs"
 	"pippinterm/osb"
 	"pippinterm/platform"
@@ -135,9 +136,7 @@ func TestManyRows(t *testing.T) {
 		}
 		seen[read.ID] = true
 	}
-	if len(seen) != readAtOnce+20 {
-		t.Errorf("got %d rows, want %d", len(seen), readAtOnce+20)
-	}
+	diff.Equal(t, len(seen), readAtOnce+20, "rows")
 }
 
 // What waits for an operator, and what isn't deleted for a long time, is reported with what to do.
@@ -161,9 +160,7 @@ func TestAttention(t *testing.T) {
 			t.Errorf("got %[2]q, want %[1]q in it", want, text)
 		}
 	}
-	if text := new(listing).attention(); text != "" {
-		t.Errorf("got %q, want no text", text)
-	}
+	diff.Equal(t, new(listing).attention(), "", "")
 }
 
 // What an operator has chosen, and what is unsettled, is shown so that a terminal isn't controlled by it. Only the id
@@ -321,9 +318,7 @@ func TestLaterDeletion(t *testing.T) {
 		{later, " (the deletion is due at " + at.UTC().Format("2006-01-02T15:04:05Z") + ")"},
 		{soon, ""}, {sent, ""}, {polled, ""}, {rests, ""},
 	} {
-		if got := dueLater(test.of); got != test.want {
-			t.Errorf("%+v: got %q, want %q", test.of, got, test.want)
-		}
+		diff.Equal(t, dueLater(test.of), test.want, "%+v", test.of)
 	}
 }
 

@@ -14,6 +14,7 @@ import (
 	"github.com/mattn/go-sqlite3"
 	"github.com/spf13/cobra"
 
+	"pippinterm/internal/diff"
 	"pippinterm/osb"
 	"pippinterm/platform"
 )
@@ -183,9 +184,7 @@ func TestColumns(t *testing.T) {
 		check(t, printHead(&head, shown))
 		check(t, printRow(&row, shown, e, true))
 		check(t, printRow(&plain, shown, e, false))
-		if plain.String() != want+"\n" {
-			t.Errorf("got %q, want %q", plain.String(), want+"\n")
-		}
+		diff.Equal(t, plain.String(), want+"\n", "")
 		names, cells := strings.Fields(head.String()), strings.Split(want, "\t")
 		if len(names) != len(cells) || withReasons && names[len(names)-1] != "reason" {
 			t.Errorf("got the names %q and the cells %q, want one for each", names, cells)
@@ -209,9 +208,7 @@ func TestPrintable(t *testing.T) {
 		"a\u202eb": `"a\u202eb"`, "a\u0085b": `"a\u0085b"`, "\xff": `"\xff"`, "a\u200bb": `"a\u200bb"`,
 	} {
 		t.Run(text, func(t *testing.T) {
-			if got := printable(text); got != want {
-				t.Errorf("got %s, want %s", got, want)
-			}
+			diff.Equal(t, printable(text), want, "")
 		})
 	}
 }
@@ -239,9 +236,7 @@ func TestMoment(t *testing.T) {
 		"9999-12-31T23:59:59Z": time.Unix(1<<40, 0),
 	} {
 		t.Run(want, func(t *testing.T) {
-			if got := moment(at); got != want {
-				t.Errorf("got %s, want %s", got, want)
-			}
+			diff.Equal(t, moment(at), want, "")
 		})
 	}
 }
@@ -279,9 +274,7 @@ func TestReasons(t *testing.T) {
 			"the broker shop rejects the user or the password (401)"},
 	} {
 		t.Run(test.want, func(t *testing.T) {
-			if got := textOf(test.of); got != test.want {
-				t.Errorf("%+v: got %q, want %q", test.of, got, test.want)
-			}
+			diff.Equal(t, textOf(test.of), test.want, "%+v", test.of)
 		})
 	}
 }

@@ -10,6 +10,7 @@ import (
 	"testing"
 	"time"
 
+	"pippinterm/internal/diff"
 	"pippinterm/internal/logs"
 	"pippinterm/osb"
 	"pippinterm/platform"
@@ -56,9 +57,7 @@ func TestLogObserver(t *testing.T) {
 		for at, line := range got {
 			_, got[at], _ = strings.Cut(line, `Z",`)
 		}
-		if strings.Join(got, "\n") != strings.Join(want, "\n") {
-			t.Errorf("%s: got %s, want %s", levels[least], strings.Join(got, "\n"), strings.Join(want, "\n"))
-		}
+		diff.Equal(t, strings.Join(got, "\n"), strings.Join(want, "\n"), "%s", levels[least])
 	}
 }
 
@@ -218,9 +217,7 @@ func TestTextOfCounts(t *testing.T) {
 		},
 	} {
 		t.Run(want, func(t *testing.T) {
-			if got := textOfCounts(counts); got != want {
-				t.Errorf("got %q, want %q", got, want)
-			}
+			diff.Equal(t, textOfCounts(counts), want, "")
 		})
 	}
 }

@@ -274,9 +274,7 @@ func TestEnds(t *testing.T) {
 				if hasEnded {
 					got = map[bool]string{true: "good", false: "bad"}[isGood]
 				}
-				if got != want {
-					t.Errorf("%s of %s: got %q, want %q", is, test.state, got, want)
-				}
+				diff.Equal(t, got, want, "%s of %s", is, test.state)
 			}
 		})
 	}
@@ -376,9 +374,7 @@ func TestIDsForScripts(t *testing.T) {
 		}
 	}
 	_, written := terminal(t)
-	if got := printableOn(written, "t\tq"); got != `"t\tq"` {
-		t.Errorf("on a terminal: got %s, want %s", got, `"t\tq"`)
-	}
+	diff.Equal(t, printableOn(written, "t\tq"), `"t\tq"`, "on a terminal")
 }
 
 // An id that is given and empty is rejected: a variable of a script may have been empty.

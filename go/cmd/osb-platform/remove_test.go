@@ -230,9 +230,8 @@ func TestAdviceOfDeletionsWithoutState(t *testing.T) {
 		for fetch, want := range map[finding]advice{
 			saysNothing: askWhetherExists, saysNone: askWhetherExists, saysHeld: repairWhole,
 		} {
-			if got := adviseDeletion(client.Answer{Status: 200}, fetch, hasTombstones); got != want {
-				t.Errorf("tombstones %v, Fetch %v: got %v, want %v", hasTombstones, fetch, got, want)
-			}
+			diff.Equal(t, adviseDeletion(client.Answer{Status: 200}, fetch, hasTombstones), want,
+				"tombstones %v, Fetch %v", hasTombstones, fetch)
 		}
 	}
 }
@@ -249,9 +248,7 @@ func TestAdviceOfOthers(t *testing.T) {
 		platform.Unsettled: "the broker holds it. If it is yours, run 'osb-platform unbind one/app': that deletes it at " +
 			"the broker",
 	} {
-		if got := of(state).advice(client.Answer{Status: 200, State: "succeeded"}, nil); got != want {
-			t.Errorf("%s: got %q, want %q", state, got, want)
-		}
+		diff.Equal(t, of(state).advice(client.Answer{Status: 200, State: "succeeded"}, nil), want, "%s", state)
 	}
 }
 

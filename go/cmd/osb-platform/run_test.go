@@ -24,6 +24,7 @@ import (
 
 	"golang.org/x/sys/unix"
 
+	"pippinterm/internal/diff"
 	"pippinterm/internal/journalfile"
 	"pippinterm/internal/sqlitefile"
 	"pippinterm/platform"
@@ -592,9 +593,7 @@ func TestJournalOfServe(t *testing.T) {
 		newTokens(t), "--journal", folder))
 	caller{t, http.DefaultClient, p.api, token}.call(201, "POST", "/v1/instances", `{"plan":"at-once"}`)
 	p.stop()
-	if got := strings.Join(eventsIn(t, folder), "; "); got != "started, changed order ordered, stopped" {
-		t.Errorf("got %s, want started, changed order ordered, stopped", got)
-	}
+	diff.Equal(t, strings.Join(eventsIn(t, folder), "; "), "started, changed order ordered, stopped", "")
 }
 
 // The commands that order write a journal, too, if they are to. That of create --wait ends once the wait has ended.
@@ -695,8 +694,6 @@ func TestDoubtful(t *testing.T) {
 		platform.ErrAway: true, sqlitefile.ErrUnknownCommit: true,
 		platform.ErrUsed: false, platform.ErrUnknown: false, sqlitefile.ErrBusy: false,
 	} {
-		if got := isDoubtful(fmt.Errorf("it has failed: %w", err)); got != want {
-			t.Errorf("%v: got %t, want %t", err, got, want)
-		}
+		diff.Equal(t, isDoubtful(fmt.Errorf("it has failed: %w", err)), want, "%v", err)
 	}
 }

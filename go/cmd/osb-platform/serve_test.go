@@ -28,6 +28,7 @@ import (
 
 	"github.com/mattn/go-sqlite3"
 
+	"pippinterm/internal/diff"
 	"pippinterm/internal/logs"
 	"pippinterm/internal/pg/pgtest"
 	"pippinterm/platform"
@@ -204,9 +205,7 @@ func TestServe(t *testing.T) {
 	wantLines(t, store, []line{{"run --once", 0, "20.*\tone\tready", `.*"worker":".*`}})
 	c.await("/v1/instances/one", "ready")
 	s.mutex.Lock()
-	if s.asked != 1 {
-		t.Errorf("got %d requests, want 1", s.asked)
-	}
+	diff.Equal(t, s.asked, 1, "requests")
 	s.mutex.Unlock()
 	if rest := p.stop(); strings.Contains(rest, `"event":"request"`) || p.out.Len() > 0 {
 		t.Errorf("the log: got %s and %s, want no request", rest, p.out.String())
@@ -299,9 +298,7 @@ func TestOrderedIDs(t *testing.T) {
 	}
 	learnID(t, ids, "00000000-0000-0000-0000-000000000001")
 	last := learnID(t, ids, "last")
-	if len(ids.of) != mostOrderedIDs {
-		t.Errorf("the ids: got %d, want %d", len(ids.of), mostOrderedIDs)
-	}
+	diff.Equal(t, len(ids.of), mostOrderedIDs, "the ids")
 	if instance, binding := ids.find(last); instance != "last" || binding != "" {
 		t.Errorf("got %q and %q, want \"last\" and none", instance, binding)
 	}
@@ -332,9 +329,7 @@ func TestFiles(t *testing.T) {
 	} {
 		t.Run(fmt.Sprintf("%+v", test.sites), func(t *testing.T) {
 			r := &running{settings: &runSettings{atOnce: 16, sites: test.sites}}
-			if got := r.files(); got != test.want {
-				t.Errorf("%+v: got %d, want %d", test.sites, got, test.want)
-			}
+			diff.Equal(t, r.files(), test.want, "%+v", test.sites)
 		})
 	}
 }
@@ -447,9 +442,7 @@ func TestPageBesideBusyAPI(t *testing.T) {
 	if got := answerOf(page, "/"); got.Code != 200 || !strings.Contains(got.Body.String(), "0 instances") {
 		t.Errorf("the page: got %d %s, want 200 and no instance", got.Code, got.Body)
 	}
-	if text := written.String(); text != "" {
-		t.Errorf("the log: got %s, want none", text)
-	}
+	diff.Equal(t, written.String(), "", "the log")
 	close(store.letGo)
 	all.Wait()
 }

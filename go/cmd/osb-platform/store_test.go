@@ -22,6 +22,7 @@ import (
 	"github.com/spf13/cobra"
 
 	"pippinterm/internal/cli"
+	"pippinterm/internal/diff"
 	"pippinterm/internal/pg/pgtest"
 	"pippinterm/internal/sqlitefile"
 	"pippinterm/internal/storefaults"
@@ -230,9 +231,7 @@ func TestSessionsThatAreEndedInFlight(t *testing.T) {
 				p.stop()
 			}
 			wantLines(t, address, []line{{"show one", 0, `.*\nstate\tready\n.*`, ``}})
-			if s.requests() != want {
-				t.Errorf("got %d requests sent, want %d", s.requests(), want)
-			}
+			diff.Equal(t, s.requests(), want, "requests sent")
 		})
 	}
 }

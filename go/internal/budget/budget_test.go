@@ -6,6 +6,8 @@ import (
 	"sync/atomic"
 	"testing"
 	"time"
+
+	"pippinterm/internal/diff"
 )
 
 const long = time.Minute // in which everything has to happen
@@ -95,9 +97,7 @@ func TestWhoLeaves(t *testing.T) {
 	if !b.Take("one", 0, 0) {
 		t.Error("got no part of 0, want one")
 	}
-	if len(b.waiting) != 0 {
-		t.Errorf("got %d that wait, want 0", len(b.waiting))
-	}
+	diff.Equal(t, len(b.waiting), 0, "that wait")
 	b.Give("one", 1)
 	if !b.Take("one", 1, 0) {
 		t.Error("got nothing, want the part that is free")

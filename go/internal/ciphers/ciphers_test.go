@@ -4,6 +4,8 @@ import (
 	"crypto/tls"
 	"strings"
 	"testing"
+
+	"pippinterm/internal/diff"
 )
 
 // Each suite has forward secrecy and authenticated encryption, by its name, and none is one that Go calls insecure.
@@ -12,9 +14,7 @@ func TestSuites(t *testing.T) {
 	for _, suite := range tls.CipherSuites() {
 		known[suite.ID] = suite.Name
 	}
-	if len(Suites()) != 6 {
-		t.Errorf("got %d suites, want 6", len(Suites()))
-	}
+	diff.Equal(t, len(Suites()), 6, "suites")
 	for _, suite := range Suites() {
 		name := known[suite]
 		if !strings.HasPrefix(name, "TLS_ECDHE_") || strings.Contains(name, "CBC") ||

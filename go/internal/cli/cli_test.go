@@ -210,9 +210,7 @@ func TestMarkedErrorsKeepTheirCause(t *testing.T) {
 
 func TestDotted(t *testing.T) {
 	for version, want := range map[uint32]string{300: "0.3.0", 10203: "1.2.3", 129999: "12.99.99", 7: "0.0.7"} {
-		if got := versionText(version); got != want {
-			t.Errorf("%d: got %s, want %s", version, got, want)
-		}
+		diff.Equal(t, versionText(version), want, "%d", version)
 	}
 }
 

@@ -13,6 +13,8 @@ import (
 
 	"github.com/spf13/cobra"
 	"github.com/spf13/pflag"
+
+	"pippinterm/internal/diff"
 )
 
 func TestSeconds(t *testing.T) {
@@ -30,15 +32,11 @@ func TestSeconds(t *testing.T) {
 			if want == 0 {
 				want = 7 * time.Second
 			}
-			if got != want {
-				t.Errorf("got %v, want %v", got, want)
-			}
+			diff.Equal(t, got, want, "")
 		})
 	}
 	var got time.Duration
-	if text := Seconds(&got, 1500*time.Millisecond).String(); text != "1.5" {
-		t.Errorf("the default: got %q, want \"1.5\"", text)
-	}
+	diff.Equal(t, Seconds(&got, 1500*time.Millisecond).String(), "1.5", "the default")
 }
 
 func TestCount(t *testing.T) {
@@ -55,9 +53,7 @@ func TestCount(t *testing.T) {
 			if want == 0 {
 				want = 4
 			}
-			if got != want {
-				t.Errorf("got %d, want %d", got, want)
-			}
+			diff.Equal(t, got, want, "")
 		})
 	}
 }
@@ -77,9 +73,7 @@ func TestAddress(t *testing.T) {
 			if want == "" {
 				want = "127.0.0.1:1"
 			}
-			if got != want {
-				t.Errorf("got %q, want %q", got, want)
-			}
+			diff.Equal(t, got, want, "")
 		})
 	}
 }

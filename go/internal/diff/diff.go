@@ -2,8 +2,10 @@
 package diff
 
 import (
+	"errors"
 	"fmt"
 	"reflect"
+	"strings"
 	"testing"
 
 	"github.com/google/go-cmp/cmp"
@@ -22,6 +24,42 @@ func Check(t testing.TB, got, want any, format string, arguments ...any) {
 	if !reflect.DeepEqual(got, want) {
 		t.Errorf("%s: %s", fmt.Sprintf(format, arguments...), Of(got, want))
 	}
+}
+
+// Equal fails the test unless got is want. The format and its arguments say what was compared. They may be empty.
+func Equal[T comparable](t testing.TB, got, want T, format string, arguments ...any) {
+	t.Helper()
+	if got != want {
+		t.Errorf("%s%s", said(format, arguments), shown(got, want))
+	}
+}
+
+// ErrorIs fails the test unless an error is another one (errors.Is), and says what was compared as Equal does.
+func ErrorIs(t testing.TB, err, want error, format string, arguments ...any) {
+	t.Helper()
+	if !errors.Is(err, want) {
+		t.Errorf("%sgot the error %v, want %v", said(format, arguments), err, want)
+	}
+}
+
+// said is what was compared, before a message.
+func said(format string, arguments []any) string {
+	if format == "" {
+		return ""
+	}
+	return fmt.Sprintf(format, arguments...) + ": "
+}
+
+// shown are two values. Of texts with several lines it has those that differ.
+func shown(got, want any) string {
+	text := fmt.Sprint(got, want)
+	switch isText := reflect.TypeOf(got).Kind() == reflect.String; {
+	case isText && strings.Contains(text, "\n"):
+		return Of(got, want)
+	case isText:
+		return fmt.Sprintf("got %q, want %q", got, want)
+	}
+	return fmt.Sprintf("got %+v, want %+v", got, want)
 }
 
 // NoError ends the test at an error.

@@ -1,6 +1,7 @@
 package diff
 
 import (
+	"errors"
 	"fmt"
 	"regexp"
 	"strings"
@@ -42,6 +43,10 @@ type fake struct {
 
 func (f *fake) Helper() {}
 
+func (f *fake) Fatalf(format string, arguments ...any) {
+	f.failed += "ended: " + fmt.Sprintf(format, arguments...)
+}
+
 func (f *fake) Errorf(format string, arguments ...any) { f.failed += fmt.Sprintf(format, arguments...) }
 
 // What is equal reports nothing. Otherwise the report has what was got and what is wanted of each difference, also of a
@@ -76,5 +81,32 @@ func TestCheck(t *testing.T) {
 	}
 	if Check(f, loose{1}, loose{2}, "row %d", 6); f.failed != "row 6: got {N:1}, want {N:2}" {
 		t.Errorf("got %q, want both values", f.failed)
+	}
+}
+
+// What is compared is before what was got and what is wanted, and of texts with several lines there is what differs.
+func TestValuesAndErrors(t *testing.T) {
+	wrong := errors.New("wrong")
+	for want, call := range map[string]func(testing.TB){
+		"":                                      func(t testing.TB) { Equal(t, 1, 1, "%d", 2); Equal(t, "a", "a", "") },
+		"a count of 2: got 1, want 3":           func(t testing.TB) { Equal(t, 1, 3, "a count of %d", 2) },
+		`got "a", want ""`:                      func(t testing.TB) { Equal(t, "a", "", "") },
+		"got +, want -\n":                       func(t testing.TB) { Equal(t, "a\nb\n", "a\nc\n", "") },
+		"of 1: got the error no, want wrong":    func(t testing.TB) { ErrorIs(t, errors.New("no"), wrong, "of %d", 1) },
+		"got the error <nil>, want wrong":       func(t testing.TB) { ErrorIs(t, nil, wrong, "") },
+		"ended: got the error wrong, want none": func(t testing.TB) { NoError(t, wrong) },
+	} {
+		t.Run(want, func(t *testing.T) {
+			f := &fake{TB: t}
+			call(f)
+			if f.failed != want && (!strings.HasSuffix(want, "\n") || !strings.HasPrefix(f.failed, want)) {
+				t.Errorf("got %q, want %q", f.failed, want)
+			}
+		})
+	}
+	f := &fake{TB: t}
+	NoError(f, nil)
+	if ErrorIs(f, fmt.Errorf("of x: %w", wrong), wrong, "x"); f.failed != "" {
+		t.Errorf("got %q, want nothing", f.failed)
 	}
 }

@@ -84,9 +84,7 @@ func TestGoroutinesExcludeEachOther(t *testing.T) {
 		}()
 	}
 	all.Wait()
-	if entered != 80 {
-		t.Errorf("got %d locks taken, want 80", entered)
-	}
+	diff.Equal(t, entered, 80, "locks taken")
 }
 
 func TestKeysHaveLocksOfTheirOwn(t *testing.T) {
@@ -113,9 +111,7 @@ func TestOpenFileIsUsedAgain(t *testing.T) {
 	before := openFiles(t)
 	lock = mustLock(t, locks, one)
 	defer lock.Unlock()
-	if after := openFiles(t); after != before {
-		t.Errorf("got %d files open, want %d", after, before)
-	}
+	diff.Equal(t, openFiles(t), before, "files open")
 	if isFree(t, locks, one) {
 		t.Error("a lock that was taken: got it free, want it taken")
 	}
@@ -188,9 +184,7 @@ func TestLockWaitsUntilItsContextIsDone(t *testing.T) {
 	if lock, err := locks.TryLock(one); lock != nil || err != nil {
 		t.Errorf("TryLock: got %v, %v, want nil, nil", lock, err)
 	}
-	if after := openFiles(t); after != before {
-		t.Errorf("got %d files open, want %d", after, before)
-	}
+	diff.Equal(t, openFiles(t), before, "files open")
 }
 
 // A counted context counts the looks at its end: Lock takes one before each try.

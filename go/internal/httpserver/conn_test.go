@@ -114,19 +114,13 @@ func TestAHeadThatTakesTooLongIsAnsweredWith408(t *testing.T) {
 	for _, cut := range cuts {
 		client := dial(t, listener)
 		client.send(cut)
-		if got := client.rest(); got != rejection408 {
-			t.Errorf("%q: got %q, want %q", cut, got, rejection408)
-		}
+		diff.Equal(t, client.rest(), rejection408, "%q", cut)
 	}
 	statuses := observer.waitForStatuses(t, len(cuts))
 	for _, status := range statuses {
-		if status != 408 {
-			t.Errorf("the observer: got %d, want 408", status)
-		}
+		diff.Equal(t, status, 408, "the observer")
 	}
-	if len(statuses) != len(cuts) {
-		t.Errorf("the observer: got %d requests, want %d", len(statuses), len(cuts))
-	}
+	diff.Equal(t, len(statuses), len(cuts), "the observer: requests")
 }
 
 func TestAHeadThatTheClientCutsIsAnsweredWith408(t *testing.T) {
@@ -135,9 +129,7 @@ func TestAHeadThatTheClientCutsIsAnsweredWith408(t *testing.T) {
 		client := dial(t, listener)
 		client.send(cut)
 		client.closeWrite()
-		if got := client.rest(); got != rejection408 {
-			t.Errorf("%q: got %q, want %q", cut, got, rejection408)
-		}
+		diff.Equal(t, client.rest(), rejection408, "%q", cut)
 	}
 }
 
@@ -153,9 +145,7 @@ func TestAHeadOfWhichAByteComesNowAndThen(t *testing.T) {
 			time.Sleep(short / 5)
 		}
 	}()
-	if got := client.until("\r\n"); got != "HTTP/1.1 408 Request Timeout\r\n" {
-		t.Errorf("got %q, want %q", got, "HTTP/1.1 408 Request Timeout\r\n")
-	}
+	diff.Equal(t, client.until("\r\n"), "HTTP/1.1 408 Request Timeout\r\n", "")
 }
 
 func TestABodyThatTakesTooLongCantBeRead(t *testing.T) {
@@ -199,9 +189,7 @@ func TestASilentConnectionIsClosed(t *testing.T) {
 	for _, sent := range []string{"", "\r\n", "\n\n\n"} {
 		client := dial(t, listener)
 		client.send(sent)
-		if got := client.rest(); got != "" {
-			t.Errorf("after %q: got %q, want none", sent, got)
-		}
+		diff.Equal(t, client.rest(), "", "after %q", sent)
 	}
 	if got := observer.waitForStatuses(t, 0); got != nil {
 		t.Errorf("the observer: got %v, want none", got)

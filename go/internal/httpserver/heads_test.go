@@ -9,6 +9,8 @@ import (
 	"reflect"
 	"strings"
 	"testing"
+
+	"pippinterm/internal/diff"
 )
 
 const end = "\r\n\r\n"
@@ -92,9 +94,7 @@ func TestHeads(t *testing.T) {
 					t.Errorf("in pieces of %d: got %d heads, bad %d and the state %d, want %d, %d and %d", size, followed.ended,
 						followed.bad.Load(), followed.state, test.ended, test.bad, test.state)
 				}
-				if got != strings.Trim(want, "-") {
-					t.Errorf("in pieces of %d net/http: got %q, want %q", size, got, strings.Trim(want, "-"))
-				}
+				diff.Equal(t, got, strings.Trim(want, "-"), "in pieces of %d net/http", size)
 			}
 		})
 	}

@@ -48,9 +48,7 @@ func TestConnectionsBeyondTheLimitWait(t *testing.T) {
 	if count, err := third.Read(make([]byte, 1)); count != 0 || !isTimeout(err) {
 		t.Fatalf("the third: got %d, %v, want a timeout", count, err)
 	}
-	if got := listener.Connections(); got != 2 {
-		t.Errorf("got %d connections open, want 2", got)
-	}
+	diff.Equal(t, listener.Connections(), 2, "connections open")
 	check(t, third.SetReadDeadline(time.Now().Add(limit)))
 	clients[0].Close()
 	third.until("GET /a ;")
@@ -104,9 +102,7 @@ func TestAClientThatReadsNothingIsCut(t *testing.T) {
 	client.send(whole)
 	select {
 	case err := <-wrote:
-		if !errors.Is(err, os.ErrDeadlineExceeded) {
-			t.Errorf("the handler's write: got %v, want %v", err, os.ErrDeadlineExceeded)
-		}
+		diff.ErrorIs(t, err, os.ErrDeadlineExceeded, "the handler's write")
 	case <-time.After(limit):
 		t.Fatal("the handler: got it still writing in time, want its end")
 	}
@@ -144,9 +140,7 @@ func TestStopAnswersWhatRuns(t *testing.T) {
 	if err := silent.SetReadDeadline(time.Now().Add(3 * time.Second)); err != nil { // net/http closes it after 5
 		t.Fatal(err)
 	}
-	if got := silent.rest() + idle.rest(); got != "" {
-		t.Errorf("the silent and the idle one: got %q, want none", got)
-	}
+	diff.Equal(t, silent.rest()+idle.rest(), "", "the silent and the idle one")
 	if _, err := net.DialTimeout("tcp", listener.Addr().String(), limit); err == nil {
 		t.Error("a new connection: got no error, want one")
 	}
@@ -192,9 +186,7 @@ func TestStopHasALimit(t *testing.T) {
 	client := dial(t, listener)
 	client.send(whole)
 	<-handler.begun
-	if err := stop(); !errors.Is(err, ErrCut) {
-		t.Errorf("Serve: got %v, want %v", err, ErrCut)
-	}
+	diff.ErrorIs(t, stop(), ErrCut, "Serve")
 	if got, err := io.ReadAll(client); len(got) > 0 || isTimeout(err) {
 		t.Errorf("the client: got %q, %v, want a connection that is closed", got, err)
 	}
@@ -292,9 +284,7 @@ func TestWhileWorkRunsRequestsAreAnswered(t *testing.T) {
 		close(begun)
 		<-goOn
 	})
-	if got := idle.rest(); got != "" {
-		t.Errorf("the idle connection: got %q, want none", got)
-	}
+	diff.Equal(t, idle.rest(), "", "the idle connection")
 	for count := 0; count < 3; count++ {
 		if got := statusAt(t, listener); !reflect.DeepEqual(got, []string{"503"}) {
 			t.Fatalf("another request while one runs: got %v, want 503", got)
@@ -345,9 +335,7 @@ func TestASharedListenerIsClosedAtOnce(t *testing.T) {
 // Neither a request nor other work keeps the Server for longer than Stop.
 func TestWorkHasALimit(t *testing.T) {
 	_, handler, _, _, served := startStopping(t, Options{}, short, func(within context.Context) { <-within.Done() })
-	if err := <-served; !errors.Is(err, ErrCut) {
-		t.Errorf("Serve with a request that runs: got %v, want %v", err, ErrCut)
-	}
+	diff.ErrorIs(t, <-served, ErrCut, "Serve with a request that runs")
 	close(handler.pass)
 	untilDone := func(within context.Context) { <-within.Done() }
 	_, handler, running, _, served := startStopping(t, Options{}, 20*short, untilDone)
@@ -497,9 +485,7 @@ func TestABodyThatWasReadKeepsTheConnection(t *testing.T) {
 func TestABodyThatIsntSentIsntWaitedFor(t *testing.T) {
 	client := dial(t, start(t, Options{}, Server{}, rejectUnread))
 	client.send("PUT /a HTTP/1.1\r\nHost: x\r\nExpect: 100-continue\r\nContent-Length: 9\r\n\r\n")
-	if got := client.until("\r\n"); got != "HTTP/1.1 401 Unauthorized\r\n" {
-		t.Errorf("got %q, want %q", got, "HTTP/1.1 401 Unauthorized\r\n")
-	}
+	diff.Equal(t, client.until("\r\n"), "HTTP/1.1 401 Unauthorized\r\n", "")
 }
 
 // A body without an end doesn't keep the server reading for ever.
@@ -511,9 +497,7 @@ func TestABodyIsDrainedUpToALimit(t *testing.T) {
 		defer close(over)
 		_, _ = io.Copy(client, endless{}) // until the server closes the connection
 	}()
-	if got := client.until("\r\n"); got != "HTTP/1.1 401 Unauthorized\r\n" {
-		t.Errorf("got %q, want %q", got, "HTTP/1.1 401 Unauthorized\r\n")
-	}
+	diff.Equal(t, client.until("\r\n"), "HTTP/1.1 401 Unauthorized\r\n", "")
 	<-over
 }
 

@@ -18,6 +18,8 @@ import (
 	"strings"
 	"testing"
 	"time"
+
+	"pippinterm/internal/diff"
 )
 
 // startTLS serves echo with these files.
@@ -128,9 +130,7 @@ func TestHTTPAtAPortOfTLS(t *testing.T) {
 	listener, _ := startTLS(t, newAuthority(t).issue("server"), Options{Observer: observer}, Server{})
 	client := dial(t, listener)
 	client.send(whole)
-	if got := client.rest(); got != plainAnswer {
-		t.Errorf("got %q, want %q", got, plainAnswer)
-	}
+	diff.Equal(t, client.rest(), plainAnswer, "")
 	waitUntil(t, "an event", func() bool { return len(observer.events()) > 0 })
 	if got := observer.events(); len(got) != 1 || !strings.HasSuffix(got[0], "the client sent HTTP") {
 		t.Errorf("the observer: got %q, want one of a client that sent HTTP", got)
@@ -158,9 +158,7 @@ func TestAProbeOfThePortIsNoFailure(t *testing.T) {
 	observer := &recorder{}
 	listener, _ := startTLS(t, newAuthority(t).issue("server"), Options{Silent: short, Observer: observer}, Server{})
 	dial(t, listener).Close()
-	if got := dial(t, listener).rest(); got != "" {
-		t.Errorf("a silent client: got %q, want none", got)
-	}
+	diff.Equal(t, dial(t, listener).rest(), "", "a silent client")
 	waitUntil(t, "both are closed", func() bool { return listener.Connections() == 1 })
 	if got := observer.events(); got != nil {
 		t.Errorf("the observer: got %q, want none", got)

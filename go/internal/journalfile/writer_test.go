@@ -84,9 +84,7 @@ func eventsOf(lines []line) (events []string) {
 
 func wantEvents(t *testing.T, path, want string) {
 	t.Helper()
-	if got := strings.Join(eventsOf(linesOf(t, path)), ", "); got != want {
-		t.Errorf("%s: got %s, want %s", path, got, want)
-	}
+	diff.Equal(t, strings.Join(eventsOf(linesOf(t, path)), ", "), want, "%s", path)
 }
 
 // filesIn are the paths of the files of a folder, by name.
@@ -160,9 +158,7 @@ func TestManyWriters(t *testing.T) {
 			}
 		}
 	}
-	if len(seen) != 2000 {
-		t.Errorf("got %d lines, want 2000", len(seen))
-	}
+	diff.Equal(t, len(seen), 2000, "lines")
 }
 
 // In a folder, each process has files of its own, and a new one once the last is full. Each begins with started.
@@ -368,9 +364,7 @@ func TestFullAtFirst(t *testing.T) {
 	w.Write("made", member{2, ""})
 	w.Close()
 	wantEvents(t, path, "started, lost 1, 2, stopped")
-	if told != 1 {
-		t.Errorf("got %d reports, want 1", told)
-	}
+	diff.Equal(t, told, 1, "reports")
 }
 
 // If the next file can't be created, the journal goes on in the one that is full, and in the next once that can be.
@@ -406,12 +400,8 @@ func TestNoJSON(t *testing.T) {
 
 func TestDigest(t *testing.T) {
 	// the first 8 bytes of SHA-256 of "abc" (FIPS 180-2, appendix B.1)
-	if got := Digest([]byte("abc")); got != "ba7816bf8f01cfea" {
-		t.Errorf("got %q, want \"ba7816bf8f01cfea\"", got)
-	}
-	if got := Digest(nil); got != "" {
-		t.Errorf("of nothing: got %q, want none", got)
-	}
+	diff.Equal(t, Digest([]byte("abc")), "ba7816bf8f01cfea", "")
+	diff.Equal(t, Digest(nil), "", "of nothing")
 }
 
 // A disk that hangs holds nobody up: the lines that aren't written in time are lost, and the others after it.
@@ -526,9 +516,7 @@ func TestClock(t *testing.T) {
 		{1000, 1000}, {1000, 1001}, {900, 1002}, {1002, 1003}, {1010, 1010}, {1011, 1011},
 	} {
 		now = time.UnixMicro(test.now)
-		if got := c.next(); got != test.want {
-			t.Errorf("at %d: got %d, want %d", test.now, got, test.want)
-		}
+		diff.Equal(t, c.next(), test.want, "at %d", test.now)
 	}
 }
 
@@ -546,9 +534,7 @@ func TestReceive(t *testing.T) {
 			c := clock{now: func() time.Time { return time.UnixMicro(1000) }}
 			c.next()
 			c.receive(text)
-			if got := c.next(); got != want {
-				t.Errorf("got %d, want %d", got, want)
-			}
+			diff.Equal(t, c.next(), want, "")
 		})
 	}
 }

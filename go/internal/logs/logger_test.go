@@ -12,6 +12,8 @@ import (
 	"sync"
 	"testing"
 	"time"
+
+	"pippinterm/internal/diff"
 )
 
 var aTime = regexp.MustCompile(`"time":"\d{4}-\d\d-\d\dT\d\d:\d\d:\d\d\.\d{3}Z"`)
@@ -153,9 +155,7 @@ func TestASlowReaderHoldsNobodyUp(t *testing.T) {
 			for number := 1; number < test.fit+over; number++ {
 				write(t, queue, test.line)
 			}
-			if queue.DroppedLines() != over {
-				t.Errorf("got %d lines dropped, want %d", queue.DroppedLines(), over)
-			}
+			diff.Equal(t, queue.DroppedLines(), over, "lines dropped")
 			to.let(nil, nil, nil, nil)
 			closeQueue(t, queue)
 			report := `"level":"warning","event":"log_lines_dropped","lines":7}` + "\n"
@@ -255,9 +255,7 @@ func TestATornLineStaysALineOfItsOwn(t *testing.T) {
 		})
 		write(t, queue, "second\n")
 		closeQueue(t, queue)
-		if got := withoutTimes(to.got.String()); got != want {
-			t.Errorf("torn after %d bytes: got %q, want %q", first, got, want)
-		}
+		diff.Equal(t, withoutTimes(to.got.String()), want, "torn after %d bytes", first)
 	}
 }
 

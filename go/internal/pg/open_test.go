@@ -70,9 +70,7 @@ func TestCheck(t *testing.T) {
 	check(t, err)
 	defer db.Close()
 	for try, want := range []error{rejected, nil} {
-		if got := db.Ping(); !errors.Is(got, want) {
-			t.Errorf("connection %d: got %v, want %v", try+1, got, want)
-		}
+		diff.ErrorIs(t, db.Ping(), want, "connection %d", try+1)
 	}
 }
 

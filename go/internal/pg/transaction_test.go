@@ -17,6 +17,7 @@ import (
 
 	"github.com/lib/pq"
 
+	"pippinterm/internal/diff"
 	"pippinterm/internal/pg"
 	"pippinterm/internal/pg/pgtest"
 	"pippinterm/internal/storefaults"
@@ -128,9 +129,7 @@ func TestCommits(t *testing.T) {
 			if err == nil || errors.Is(err, pg.ErrUnknownCommit) != test.isUnknown {
 				t.Errorf("got %v, want %v exactly if that is unknown", err, pg.ErrUnknownCommit)
 			}
-			if got := count(t, url); got != test.isWritten {
-				t.Errorf("got %d rows, want %d", got, test.isWritten)
-			}
+			diff.Equal(t, count(t, url), test.isWritten, "rows")
 		})
 	}
 }
@@ -152,9 +151,7 @@ func TestACommitWhoseAnswerIsLost(t *testing.T) {
 	proxy, url := storefaults.NewProxy(t, direct)
 	proxy.Cut("COMMIT\x00")
 	err := transaction(t, context.Background(), url, insert(context.Background()))
-	if !errors.Is(err, pg.ErrUnknownCommit) {
-		t.Errorf("got %v, want %v", err, pg.ErrUnknownCommit)
-	}
+	diff.ErrorIs(t, err, pg.ErrUnknownCommit, "")
 	db := pgtest.DB(t, direct)
 	for until := time.Now().Add(10 * time.Second); countIn(t, db) != 1; { // the server has got the COMMIT
 		if time.Now().After(until) {
@@ -343,9 +340,7 @@ func TestIsAway(t *testing.T) {
 			if err != nil {
 				err = fmt.Errorf("the store: %w", err)
 			}
-			if is := pg.IsAway(err); is != test.isAway {
-				t.Errorf("away: got %v, want %v", is, test.isAway)
-			}
+			diff.Equal(t, pg.IsAway(err), test.isAway, "away")
 		})
 	}
 }

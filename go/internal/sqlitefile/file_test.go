@@ -357,12 +357,8 @@ func TestCancelled(t *testing.T) {
 	file := open(t, filepath.Join(t.TempDir(), "file"), one)
 	gone, cancel := context.WithCancel(background)
 	cancel()
-	if err := file.Write(gone, note("gone")); !errors.Is(err, context.Canceled) {
-		t.Errorf("Write: got %v, want %v", err, context.Canceled)
-	}
-	if err := file.Read(gone, func(*notes) error { return errWrong }); !errors.Is(err, context.Canceled) {
-		t.Errorf("Read: got %v, want %v", err, context.Canceled)
-	}
+	diff.ErrorIs(t, file.Write(gone, note("gone")), context.Canceled, "Write")
+	diff.ErrorIs(t, file.Read(gone, func(*notes) error { return errWrong }), context.Canceled, "Read")
 	release, all := holdWriter(t, file)
 	for n := 0; n < 2; n++ {
 		going, cancel := context.WithCancel(background)
@@ -372,9 +368,7 @@ func TestCancelled(t *testing.T) {
 		time.AfterFunc(soon, cancel)
 		select {
 		case err := <-failed:
-			if !errors.Is(err, context.Canceled) {
-				t.Errorf("Write: got %v, want %v", err, context.Canceled)
-			}
+			diff.ErrorIs(t, err, context.Canceled, "Write")
 		case <-time.After(deadline):
 			t.Error("Write: got no end before a job that hasn't begun, want one")
 		}
@@ -418,9 +412,7 @@ func TestClose(t *testing.T) {
 	for n := 0; n < late; n++ {
 		select {
 		case err := <-failed:
-			if !errors.Is(err, ErrClosed) {
-				t.Errorf("Write: got %v, want %v", err, ErrClosed)
-			}
+			diff.ErrorIs(t, err, ErrClosed, "Write")
 		case <-time.After(deadline):
 			t.Error("Write: got no end at a closed file, want one")
 		}
@@ -431,9 +423,7 @@ func TestClose(t *testing.T) {
 		"Write": file.Write(background, note("after")),
 		"Read":  file.Read(background, func(*notes) error { return nil }),
 	} {
-		if !errors.Is(err, ErrClosed) {
-			t.Errorf("%s after Close: got %v, want %v", name, err, ErrClosed)
-		}
+		diff.ErrorIs(t, err, ErrClosed, "%s after Close", name)
 	}
 	if err := file.Close(); err != nil {
 		t.Errorf("Close again: got %v, want no error", err)
@@ -732,9 +722,7 @@ func TestErrorsThatMayPass(t *testing.T) {
 			if err != nil {
 				err = fmt.Errorf("sqlite: %w", err)
 			}
-			if got := MayPass(err); got != test.want {
-				t.Errorf("MayPass of %v: got %v, want %v", err, got, test.want)
-			}
+			diff.Equal(t, MayPass(err), test.want, "MayPass of %v", err)
 		})
 	}
 }

@@ -9,6 +9,7 @@ import (
 	"testing"
 	"time"
 
+	"pippinterm/internal/diff"
 	"pippinterm/platform"
 )
 
@@ -82,9 +83,7 @@ func TestHosts(t *testing.T) {
 		"https://evil.example#broker.example": false, "https://evil.example\\broker.example": false,
 	} {
 		t.Run(url, func(t *testing.T) {
-			if got := hosts.Allows(url); got != want {
-				t.Errorf("got %t, want %t", got, want)
-			}
+			diff.Equal(t, hosts.Allows(url), want, "")
 		})
 	}
 	if all, err := ParseHosts(nil); err != nil || !all.Allows("http://127.0.0.1:22") {

@@ -62,9 +62,7 @@ func TestLife(t *testing.T) {
 	id := r.ready()
 	shown := r.call("GET", "/v1/instances/"+id, "").want(200, "")
 	for n, want := range []string{"ordered", "wanted", "ready"} {
-		if got := shown.at("life", fmt.Sprint(n), "state"); got != want {
-			t.Errorf("state %d: got %s, want %s", n, got, want)
-		}
+		diff.Equal(t, shown.at("life", fmt.Sprint(n), "state"), want, "state %d", n)
 	}
 	if shown.at("dashboard_url") != "https://shelf.example/dash" || shown.at("metadata", "labels", "a") != "b" ||
 		shown.at("last", "status") != "201" {
@@ -112,9 +110,7 @@ func TestRemoveRetryAbandon(t *testing.T) {
 	path := "/v1/instances/" + id
 	r.call("POST", path+"/retry", "").want(202, "")
 	r.call("POST", path+"/abandon", `{"because": "no use"}`).want(409, "conflict") // it wasn't sent
-	if got := r.call("DELETE", path, "").want(202, "").at("state"); got != "withdrawn" {
-		t.Errorf("got %s, want \"withdrawn\"", got)
-	}
+	diff.Equal(t, r.call("DELETE", path, "").want(202, "").at("state"), "withdrawn", "")
 	r.call("DELETE", path, "").want(202, "")
 	r.call("POST", path+"/retry", "").want(409, "conflict")
 	ready := "/v1/instances/" + r.ready()
@@ -146,9 +142,7 @@ func TestBindings(t *testing.T) {
 	}
 	made := r.call("POST", path+"/bindings",
 		`{"id": "app", "context": {"x": 1}, "bind_resource": {}}`).want(201, "")
-	if made.header.Get("Location") != path+"/bindings/app" {
-		t.Errorf("Location: got %s, want %s", made.header.Get("Location"), path+"/bindings/app")
-	}
+	diff.Equal(t, made.header.Get("Location"), path+"/bindings/app", "Location")
 	listed := r.call("GET", path+"/bindings", "").want(200, "")
 	if len(listed.items()) != 2 || strings.Contains(listed.text, "hush") {
 		t.Errorf("the list: got %s, want 2 without the credentials", listed.text)
@@ -160,9 +154,7 @@ func TestBindings(t *testing.T) {
 	r.call("POST", path+"/bindings/"+bid+"/retry", "").want(409, "conflict")
 	r.call("DELETE", path, "").want(409, "conflict")
 	r.call("POST", path+"/abandon", `{"because": "x"}`).want(409, "conflict")
-	if got := r.call("DELETE", path+"/bindings/app", "").want(202, "").at("state"); got != "withdrawn" {
-		t.Errorf("got %s, want \"withdrawn\"", got)
-	}
+	diff.Equal(t, r.call("DELETE", path+"/bindings/app", "").want(202, "").at("state"), "withdrawn", "")
 	whole := r.call("DELETE", path+"?bindings=true", "").want(202, "")
 	if whole.at("removal") != "removed_with_bindings" {
 		t.Errorf("got %s, want it removed with its bindings", whole.text)
@@ -414,9 +406,7 @@ func TestRoutes(t *testing.T) {
 	}
 	r.call("GET", "/v1/nothing", "").want(404, "no_route")
 	got := r.call("PATCH", "/v1/instances", "").want(405, "method_not_allowed")
-	if got.header.Get("Allow") != "GET, HEAD, POST" {
-		t.Errorf("Allow: got %s, want \"GET, HEAD, POST\"", got.header.Get("Allow"))
-	}
+	diff.Equal(t, got.header.Get("Allow"), "GET, HEAD, POST", "Allow")
 	head := r.call("HEAD", "/v1/counts", "").want(200, "")
 	if head.text != "" || head.header.Get("Content-Length") == "0" {
 		t.Errorf("HEAD: got %v %s, want the length and no body", head.header, head.text)
@@ -513,13 +503,9 @@ func TestAtOnce(t *testing.T) {
 	case got := <-first:
 		t.Fatalf("the first one: got %d before the store, want it to wait there", got)
 	}
-	if got := ask(); got != 503 {
-		t.Errorf("while one is carried out: got %d, want 503", got)
-	}
+	diff.Equal(t, ask(), 503, "while one is carried out")
 	close(letGo)
-	if got := <-first; got != 200 {
-		t.Errorf("the first one: got %d, want 200", got)
-	}
+	diff.Equal(t, <-first, 200, "the first one")
 }
 
 // An order whose body may not be parsed in time is answered with 503, and nothing of it is done. Other tokens and
@@ -895,9 +881,7 @@ func TestPrintable(t *testing.T) {
 			t.Errorf("%q: got %q, %v, want the same value", text, made, err)
 		}
 	}
-	if got := string(printable([]byte("\"\x9b\xff\""))); got != `"\ufffd\ufffd"` {
-		t.Errorf("bytes that aren't UTF-8: got %q, want %s", got, `"\ufffd\ufffd"`)
-	}
+	diff.Equal(t, string(printable([]byte("\"\x9b\xff\""))), `"\ufffd\ufffd"`, "bytes that aren't UTF-8")
 	if got := string(printable([]byte("{\n \"\u00e4\": 1\t}\n"))); got != "{\n \"\u00e4\": 1\t}\n" {
 		t.Errorf("what is printable: got %q, want it unchanged", got)
 	}
@@ -1015,9 +999,7 @@ func (r *rig) do(request *http.Request) got {
 		check(r.T, json.Unmarshal(text, &answered.body))
 	}
 	for name, want := range map[string]string{"Cache-Control": "no-store", "X-Content-Type-Options": "nosniff"} {
-		if answered.header.Get(name) != want {
-			r.Errorf("%s: got %q, want %q", name, answered.header.Get(name), want)
-		}
+		diff.Equal(r, answered.header.Get(name), want, "%s", name)
 	}
 	r.checkDocumented(request, asked, answered)
 	return answered
@@ -1057,9 +1039,7 @@ func (r *rig) checkDocumented(request *http.Request, asked []byte, answered got)
 		r.Errorf("%s: got the body %s, want none, as in the document", at, answered.text)
 	}
 	for kind, media := range wanted.Value.Content {
-		if answered.header.Get("Content-Type") != kind {
-			r.Errorf("%s: got %q, want %s", at, answered.header.Get("Content-Type"), kind)
-		}
+		diff.Equal(r, answered.header.Get("Content-Type"), kind, "%s", at)
 		if request.Method == http.MethodHead {
 			continue
 		}

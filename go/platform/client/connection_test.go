@@ -28,6 +28,7 @@ import (
 	"testing"
 	"time"
 
+	"pippinterm/internal/diff"
 	"pippinterm/osb"
 	"pippinterm/platform"
 )
@@ -820,9 +821,7 @@ func TestKeptOverTLS(t *testing.T) {
 			t.Fatalf("got %v, want an answer", in.Lost)
 		}
 	}
-	if connections != 2 {
-		t.Errorf("got %d connections, want 2", connections)
-	}
+	diff.Equal(t, connections, 2, "connections")
 }
 
 // An answer that is cut isn't read as another one, also if TLS ends without its own end. Go's TLS takes that for an

@@ -220,9 +220,7 @@ func TestRetryAfter(t *testing.T) {
 		{[]string{"18446744073709551615"}, math.MaxInt64}, {[]string{"18446744073709551616"}, 0},
 	} {
 		t.Run(fmt.Sprintf("%q", row.values), func(t *testing.T) {
-			if got := retryAfter(http.Header{"Retry-After": row.values}); got != row.wanted {
-				t.Errorf("%q: got %v, want %v", row.values, got, row.wanted)
-			}
+			diff.Equal(t, retryAfter(http.Header{"Retry-After": row.values}), row.wanted, "%q", row.values)
 		})
 	}
 }
@@ -625,9 +623,7 @@ func TestRequestsNameTheStore(t *testing.T) {
 		for _, ask := range all {
 			_ = ask()
 		}
-		if got := int(asked.Load()); got != len(all) {
-			t.Errorf("got %d requests, want %d", got, len(all))
-		}
+		diff.Equal(t, int(asked.Load()), len(all), "requests")
 		server.Close()
 	}
 }

@@ -316,9 +316,7 @@ func TestOrderThatIsNotAllowed(t *testing.T) {
 	err := s.to.OrdersStore(s.store.Store).Insert(background, platform.Entry{
 		Order: platform.Order{Key: keyOf("one"), Broker: "shop", Body: json.RawMessage("{}")},
 	}, func(platform.Snapshot) error { return errFull })
-	if !errors.Is(err, errFull) {
-		t.Errorf("got %v, want %v", err, errFull)
-	}
+	diff.ErrorIs(t, err, errFull, "")
 	if _, err := s.store.Read(background, keyOf("one")); !errors.Is(err, platform.ErrUnknown) {
 		t.Errorf("got %v, want no row", err)
 	}

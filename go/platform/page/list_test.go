@@ -116,9 +116,7 @@ func TestPages(t *testing.T) {
 			diff.Check(t, pages[2], wanted[:50], "backwards the first rows")
 			diff.Check(t, captions, []string{"72 to 121 of 121", "22 to 71 of 121", "1 to 50 of 121"}, "backwards the pages")
 			begin, end := got(t, h, target), got(t, h, last)
-			if first := linkOf(end, "page-first"); first != target {
-				t.Errorf("the first page: got %q, want %q", first, target)
-			}
+			diff.Equal(t, linkOf(end, "page-first"), target, "the first page")
 			for text, names := range map[string][]string{
 				begin: {"page-first", "page-previous"}, end: {"page-next", "page-last"},
 			} {
@@ -145,9 +143,7 @@ func TestPagesOfOneState(t *testing.T) {
 		t.Run(target, func(t *testing.T) {
 			newest, _ := walk(t, h, target, "page-next")
 			oldest, _ := walk(t, h, linkOf(got(t, h, target), "order-oldest"), "page-next")
-			if len(join(newest)) != number {
-				t.Errorf("got %d rows, want %d", len(join(newest)), number)
-			}
+			diff.Equal(t, len(join(newest)), number, "rows")
 			diff.Check(t, join(newest), backwards(join(oldest)), "the rows in one order and in the other")
 		})
 	}
@@ -367,9 +363,7 @@ func checkEveryPage(t *testing.T, h http.Handler) {
 			t.Errorf("%s: got it %d times, want twice", id, times)
 		}
 	}
-	if len(seen) != 1000 {
-		t.Errorf("got %d rows on ten pages from each end, want 1000", len(seen))
-	}
+	diff.Equal(t, len(seen), 1000, "rows on ten pages from each end")
 }
 
 // A fake is a Store that can only be read. What writes is nil, and panics.

@@ -138,9 +138,7 @@ func TestMuchWaits(t *testing.T) {
 		"The first 5, the longest first", "All 8 unsettled instances", "All 8 cleaning instances",
 		"All 1 cleaning-polling instance")
 	has(t, part(t, text, "flights"), "The first 5 of 8, by the end of their lease")
-	if got := linkOf(text, "more-unsettled"); got != "/?order=oldest&state=unsettled" {
-		t.Errorf("the link: got %q, want \"/?order=oldest&state=unsettled\"", got)
-	}
+	diff.Equal(t, linkOf(text, "more-unsettled"), "/?order=oldest&state=unsettled", "the link")
 	flights := got(t, pageOf(t, store, Options{}), linkOf(text, "more-in-flight"))
 	if got := rowsIn(flights); len(got) != 8 {
 		t.Errorf("the list: got %v, want 8", got)
@@ -500,9 +498,7 @@ func TestAgo(t *testing.T) {
 		24*time.Hour - time.Second: "23 h ago", 24 * time.Hour: "1 day ago", 48 * time.Hour: "2 days ago",
 		1041 * 24 * time.Hour: "1,041 days ago", -time.Second: "in 1 s", -90 * time.Second: "in 1 min",
 	} {
-		if got := ago(length); got != want {
-			t.Errorf("%v: got %q, want %q", length, got, want)
-		}
+		diff.Equal(t, ago(length), want, "%v", length)
 	}
 }
 
@@ -511,17 +507,13 @@ func TestLasting(t *testing.T) {
 		0: "0 s", 59 * time.Second: "59 s", 61 * time.Second: "1 min 1 s", 3 * time.Hour: "3 h",
 		49 * time.Hour: "2 days 1 h", -time.Hour: "0 s", 24*time.Hour + time.Second: "1 day 1 s",
 	} {
-		if got := lasting(length); got != want {
-			t.Errorf("%v: got %q, want %q", length, got, want)
-		}
+		diff.Equal(t, lasting(length), want, "%v", length)
 	}
 }
 
 func TestThousands(t *testing.T) {
 	for number, want := range map[int]string{0: "0", 999: "999", 1000: "1,000", 1234567: "1,234,567"} {
-		if got := thousands(number); got != want {
-			t.Errorf("%d: got %q, want %q", number, got, want)
-		}
+		diff.Equal(t, thousands(number), want, "%d", number)
 	}
 }
 
@@ -531,9 +523,7 @@ func TestPlain(t *testing.T) {
 		"a é 漢": "a é 漢", "\x1b[31m": `\u001b[31m`, "a\u202eb": `a\u202eb`, "a\nb\x00": `a\u000ab\u0000`,
 	} {
 		t.Run(text, func(t *testing.T) {
-			if got := plain(text); got != want {
-				t.Errorf("got %q, want %q", got, want)
-			}
+			diff.Equal(t, plain(text), want, "")
 		})
 	}
 }
@@ -550,9 +540,7 @@ func TestSpaced(t *testing.T) {
 		`{"a:b , c":"d,\"e: \\","f":1}`: `{"a:b , c": "d,\"e: \\", "f": 1}`, "": "",
 	} {
 		t.Run(value, func(t *testing.T) {
-			if got := spaceJSON([]byte(value)); got != want {
-				t.Errorf("%s: got %s, want %s", value, got, want)
-			}
+			diff.Equal(t, spaceJSON([]byte(value)), want, "%s", value)
 		})
 	}
 }
@@ -785,7 +773,5 @@ func TestWithoutTime(t *testing.T) {
 			t.Errorf("%s: got the status %d, want 503", target, response.Code)
 		}
 	}
-	if failures != 2 {
-		t.Errorf("got %d failures, want 2", failures)
-	}
+	diff.Equal(t, failures, 2, "failures")
 }

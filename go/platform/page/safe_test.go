@@ -16,6 +16,7 @@ import (
 	"testing"
 	"time"
 
+	"pippinterm/internal/diff"
 	"pippinterm/internal/httpserver"
 	"pippinterm/platform"
 	"pippinterm/platform/api"
@@ -102,9 +103,7 @@ func TestHeaders(t *testing.T) {
 			"Cross-Origin-Opener-Policy":   "same-origin",
 			"Cross-Origin-Resource-Policy": "same-origin", "Content-Length": fmt.Sprint(answered.Body.Len()),
 		} {
-			if got := answered.Header().Get(name); got != want {
-				t.Errorf("%s: %s: got %q, want %q", target, name, got, want)
-			}
+			diff.Equal(t, answered.Header().Get(name), want, "%s: %s", target, name)
 		}
 		policy := answered.Header().Get("Content-Security-Policy")
 		has(t, policy, "default-src 'none'", "form-action 'self'", "base-uri 'none'", "frame-ancestors 'none'")
@@ -201,9 +200,7 @@ func TestHostOverHTTP(t *testing.T) {
 			answered, err := client.Do(r)
 			check(t, err)
 			check(t, answered.Body.Close())
-			if answered.StatusCode != want {
-				t.Errorf("got %d, want %d", answered.StatusCode, want)
-			}
+			diff.Equal(t, answered.StatusCode, want, "")
 		})
 	}
 	client.CloseIdleConnections()
@@ -364,9 +361,7 @@ func TestFailedLoginsWait(t *testing.T) {
 	}
 	answered := make(chan int, 1)
 	go func() { answered <- status("new") }()
-	if got := status("old"); got != 200 {
-		t.Errorf("got %d with the right password, want 200", got)
-	}
+	diff.Equal(t, status("old"), 200, "with the right password")
 	select {
 	case got := <-answered:
 		t.Errorf("got %d before its turn, want no answer", got)
@@ -375,9 +370,7 @@ func TestFailedLoginsWait(t *testing.T) {
 	stop()
 	select {
 	case got := <-answered:
-		if got != 401 {
-			t.Errorf("got %d with a wrong password, want 401", got)
-		}
+		diff.Equal(t, got, 401, "with a wrong password")
 	case <-time.After(time.Minute):
 		t.Error("got no answer in a minute after the stop, want one")
 	}
@@ -433,9 +426,7 @@ func TestAtOnce(t *testing.T) {
 		t.Errorf("while one reads: got %d %s, want 503", answered.Code, answered.Body)
 	}
 	close(letGo)
-	if got := <-first; got != 503 {
-		t.Errorf("a reading that takes too long: got %d, want 503", got)
-	}
+	diff.Equal(t, <-first, 503, "a reading that takes too long")
 }
 
 func TestNewHandler(t *testing.T) {
@@ -652,9 +643,7 @@ func TestSilentConnections(t *testing.T) {
 		t.Fatalf("beside silent connections: got %v, want no error", err)
 	}
 	check(t, answered.Body.Close())
-	if answered.StatusCode != http.StatusOK {
-		t.Errorf("got %d, want %d", answered.StatusCode, http.StatusOK)
-	}
+	diff.Equal(t, answered.StatusCode, http.StatusOK, "")
 	client.CloseIdleConnections()
 	cancel()
 	check(t, <-served)

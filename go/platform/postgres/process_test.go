@@ -2,7 +2,6 @@ package postgres_test
 
 import (
 	"bufio"
-	"errors"
 	"fmt"
 	"io"
 	"os"
@@ -10,6 +9,7 @@ import (
 	"testing"
 	"time"
 
+	"pippinterm/internal/diff"
 	"pippinterm/internal/pg/pgtest"
 	"pippinterm/osb"
 	"pippinterm/platform"
@@ -107,13 +107,9 @@ func TestTwoProcesses(t *testing.T) {
 	for _, key := range claimFor(t, store, "the last", 2*rows) {
 		taken[key.String()]++
 	}
-	if len(taken) != 2*rows {
-		t.Errorf("got %d rows claimed, want %d", len(taken), 2*rows)
-	}
+	diff.Equal(t, len(taken), 2*rows, "rows claimed")
 	for key, count := range taken {
-		if count != 1 {
-			t.Errorf("%s: got %d claims, want 1", key, count)
-		}
+		diff.Equal(t, count, 1, "%s: claims", key)
 	}
 }
 
@@ -251,9 +247,7 @@ func TestAWorkerThatIsPaused(t *testing.T) {
 				t.Errorf("after the end of the session: got %v claimed, want %d", keys, left)
 			}
 			gate.Open()
-			if err := <-done; !errors.Is(err, platform.ErrAway) {
-				t.Errorf("the paused worker: got %v, want %v", err, platform.ErrAway)
-			}
+			diff.ErrorIs(t, <-done, platform.ErrAway, "the paused worker")
 			for _, key := range []platform.Key{instance(1), binding(1, 1), instance(2), instance(3)} {
 				if entry, err := other.Read(background, key); err != nil || entry.Lease.Worker != "other" {
 					t.Errorf("%v: got %+v, %v, want the lease of the worker other", key, entry.Lease, err)
@@ -431,9 +425,7 @@ func TestBindingsThatWakeAtOnce(t *testing.T) {
 			t.Error(err)
 		}
 	}
-	if more := gate.Steps(); more != 0 {
-		t.Errorf("got %d steps tried again, want 0", more)
-	}
+	diff.Equal(t, gate.Steps(), 0, "steps tried again")
 	for _, store := range stores {
 		if err := store.Close(); err != nil {
 			t.Error(err)

@@ -102,9 +102,7 @@ func TestPadded(t *testing.T) {
 		"longer than any of the ids that there are": "longer than any of the ids that there are",
 	} {
 		t.Run(prefix, func(t *testing.T) {
-			if got := pad(prefix, "f"); got != want {
-				t.Errorf("got %q, want %q", got, want)
-			}
+			diff.Equal(t, pad(prefix, "f"), want, "")
 		})
 	}
 }

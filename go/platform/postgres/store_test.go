@@ -296,9 +296,7 @@ func TestRoundTrips(t *testing.T) {
 		if err := test.call(); err != nil {
 			t.Errorf("%s: got %v, want no error", test.name, err)
 		}
-		if got := proxy.Tally().Trips; got != test.want {
-			t.Errorf("%s: got %d round trips, want %d", test.name, got, test.want)
-		}
+		diff.Equal(t, proxy.Tally().Trips, test.want, "%s: round trips", test.name)
 	}
 }
 

@@ -39,18 +39,14 @@ func testFailingChange(t *testing.T, open opener) {
 	for _, key := range []platform.Key{instance(1), binding(2, 1)} {
 		all := all(t, key)
 		err := changeError(store, key, func(time.Time, platform.Snapshot) (*platform.Change, error) { return &all, errWrong })
-		if !errors.Is(err, errWrong) {
-			t.Errorf("a step that fails: got %v, want %v", err, errWrong)
-		}
+		diff.ErrorIs(t, err, errWrong, "a step that fails")
 		err = changeError(store, key, func(time.Time, platform.Snapshot) (*platform.Change, error) { panic("a bug") })
 		if err == nil || !strings.Contains(err.Error(), "a bug") {
 			t.Errorf("a step that panics: got %v, want an error with \"a bug\"", err)
 		}
 		all.Entry.Record = osb.Record{} // has no text
 		err = changeError(store, key, func(time.Time, platform.Snapshot) (*platform.Change, error) { return &all, nil })
-		if !errors.Is(err, osb.ErrBadRecord) {
-			t.Errorf("a row that can't be written: got %v, want %v", err, osb.ErrBadRecord)
-		}
+		diff.ErrorIs(t, err, osb.ErrBadRecord, "a row that can't be written")
 		wantUntouched(t, store, before...)
 	}
 }
@@ -102,9 +98,7 @@ func testNext(t *testing.T, open opener) {
 			next := order(used)
 			all.Next = &next
 			err := changeError(first, key, func(time.Time, platform.Snapshot) (*platform.Change, error) { return &all, nil })
-			if !errors.Is(err, platform.ErrUsed) {
-				t.Errorf("%v, whose next is %v: got %v, want %v", key, used, err, platform.ErrUsed)
-			}
+			diff.ErrorIs(t, err, platform.ErrUsed, "%v, whose next is %v", key, used)
 			wantUntouched(t, second, before...)
 		}
 	}
@@ -437,9 +431,7 @@ func testNextBesideRemoval(t *testing.T, open opener) {
 			next, err := one.Read(background, binding(3, 1))
 			switch {
 			case isRemovedFirst:
-				if !errors.Is(err, platform.ErrUnknown) {
-					t.Errorf("the further binding in %s: got %v, want %v", next.State, err, platform.ErrUnknown)
-				}
+				diff.ErrorIs(t, err, platform.ErrUnknown, "the further binding in %s", next.State)
 				return
 			case err != nil || next.State != platform.Ordered || next.Removal != platform.Removed:
 				t.Errorf("the further binding: got %s, removal %d (%v), want it ordered and removed", next.State, next.Removal, err)

@@ -275,13 +275,9 @@ func testClaimsAtOnce(t *testing.T, open opener) {
 	claimed, err := stores[0].Claim(background, brokers, 2*rows, leaseFor("the last"))
 	check(t, err)
 	take(claimed)
-	if len(taken) != 2*rows {
-		t.Errorf("got %d rows claimed, want %d", len(taken), 2*rows)
-	}
+	diff.Equal(t, len(taken), 2*rows, "rows claimed")
 	for key, count := range taken {
-		if count != 1 {
-			t.Errorf("%v: got %d claims, want 1", key, count)
-		}
+		diff.Equal(t, count, 1, "%v: claims", key)
 	}
 	wantClaimed(t, "after all", claim(t, stores[0], brokers, 10, future(0)))
 }

@@ -355,9 +355,7 @@ func testEmpty(t *testing.T, open opener) {
 			t.Errorf("%v: got a step, want none", key)
 			return nil, nil
 		})
-		if !errors.Is(err, platform.ErrUnknown) {
-			t.Errorf("Change of %v: got %v, want %v", key, err, platform.ErrUnknown)
-		}
+		diff.ErrorIs(t, err, platform.ErrUnknown, "Change of %v", key)
 		if life, err := store.Life(background, key); err != nil || len(life) != 0 {
 			t.Errorf("the life of %v: got %v, %v, want none", key, life, err)
 		}
@@ -491,16 +489,13 @@ func testUsed(t *testing.T, open opener) {
 		again.Broker = "another"
 		addBroker(t, first, again.Broker)
 		for _, store := range []platform.Store{first, second} {
-			if err := store.Insert(background, again, accept); !errors.Is(err, platform.ErrUsed) {
-				t.Errorf("Insert of %v: got %v, want %v", entry.Key, err, platform.ErrUsed)
-			}
+			diff.ErrorIs(t, store.Insert(background, again, accept), platform.ErrUsed, "Insert of %v", entry.Key)
 			wantRead(t, store, entry)
 		}
 	}
 	insert(t, second, order(instance(2)), order(binding(1, 1)), order(binding(2, 2))) // other keys with these numbers
-	if err := first.Insert(background, order(binding(2, 3)), accept); !errors.Is(err, platform.ErrUnknown) {
-		t.Errorf("a binding of an unknown instance: got %v, want %v", err, platform.ErrUnknown)
-	}
+	diff.ErrorIs(t, first.Insert(background, order(binding(2, 3)), accept), platform.ErrUnknown,
+		"a binding of an unknown instance")
 	if _, err := first.Read(background, binding(2, 3)); !errors.Is(err, platform.ErrUnknown) {
 		t.Errorf("Read of the binding: got %v, want %v", err, platform.ErrUnknown)
 	}
@@ -561,9 +556,7 @@ func testInsertedOnce(t *testing.T, open opener) {
 				t.Errorf("Insert of %v: got %v, want %v", key, err, platform.ErrUsed)
 			}
 		}
-		if inserted != 1 {
-			t.Errorf("%v: got %d insertions, want 1", key, inserted)
-		}
+		diff.Equal(t, inserted, 1, "%v: insertions", key)
 	}
 }
 
@@ -594,9 +587,7 @@ func testCancelled(t *testing.T, open opener) {
 		},
 	}
 	for name, call := range calls {
-		if err := call(); !errors.Is(err, context.Canceled) {
-			t.Errorf("%s: got %v, want context.Canceled", name, err)
-		}
+		diff.ErrorIs(t, call(), context.Canceled, "%s", name)
 	}
 	wantEntry(t, "the row", read(t, store, instance(1)), before)
 	if _, err := store.Read(background, instance(2)); !errors.Is(err, platform.ErrUnknown) {
@@ -677,17 +668,15 @@ func testFingerprint(t *testing.T, open opener) {
 func testReplaceFingerprint(t *testing.T, open opener) {
 	first, second := openStore(t, open), openStore(t, open)
 	for _, before := range []string{"a print", ""} {
-		if err := first.ReplaceFingerprint(background, before, "another"); !errors.Is(err, platform.ErrUnknown) {
-			t.Errorf("%q before there was any: got %v, want %v", before, err, platform.ErrUnknown)
-		}
+		diff.ErrorIs(t, first.ReplaceFingerprint(background, before, "another"), platform.ErrUnknown,
+			"%q before there was any", before)
 	}
 	if got, err := first.Fingerprint(background, "a print"); err != nil || got != "a print" {
 		t.Errorf("got %q, %v, want a print", got, err)
 	}
 	check(t, second.ReplaceFingerprint(background, "a print", "another"))
-	if err := first.ReplaceFingerprint(background, "a print", "a third"); !errors.Is(err, platform.ErrUnknown) {
-		t.Errorf("a fingerprint that isn't written: got %v, want %v", err, platform.ErrUnknown)
-	}
+	diff.ErrorIs(t, first.ReplaceFingerprint(background, "a print", "a third"), platform.ErrUnknown,
+		"a fingerprint that isn't written")
 	if got, err := first.Fingerprint(background, "a print"); err != nil || got != "another" {
 		t.Errorf("got %q, %v, want another", got, err)
 	}
@@ -747,16 +736,12 @@ func testBrokers(t *testing.T, open opener) {
 	}
 	wantBrokers(t, second, all...)
 	other := platform.Broker{Name: "b", URL: "http://other"}
-	if err := second.AddBroker(background, other); !errors.Is(err, platform.ErrUsed) {
-		t.Errorf("the name of a broker: got %v, want %v", err, platform.ErrUsed)
-	}
+	diff.ErrorIs(t, second.AddBroker(background, other), platform.ErrUsed, "the name of a broker")
 	err := second.ChangeBroker(background, "d", func(platform.Broker) (*platform.Broker, error) {
 		t.Error("a broker that isn't there: got a change, want none")
 		return nil, nil
 	})
-	if !errors.Is(err, platform.ErrUnknown) {
-		t.Errorf("a name that no broker has: got %v, want %v", err, platform.ErrUnknown)
-	}
+	diff.ErrorIs(t, err, platform.ErrUnknown, "a name that no broker has")
 	wantBrokers(t, first, all...)
 	all[0], all[1] = platform.Broker{Name: "a-1", URL: "http://a"}, all[0]
 	all[1].Name = "b"
@@ -769,9 +754,7 @@ func testBrokers(t *testing.T, open opener) {
 	}
 	wantBrokers(t, first, all...)
 	check(t, first.DropBroker(background, "b"))
-	if err := first.DropBroker(background, "b"); !errors.Is(err, platform.ErrUnknown) {
-		t.Errorf("a broker that was dropped: got %v, want %v", err, platform.ErrUnknown)
-	}
+	diff.ErrorIs(t, first.DropBroker(background, "b"), platform.ErrUnknown, "a broker that was dropped")
 	wantBrokers(t, second, all[0], all[2])
 }
 
@@ -834,9 +817,7 @@ func testUnknownBroker(t *testing.T, open opener) {
 		for _, key := range []platform.Key{instance(2), binding(1, 1)} {
 			entry := order(key)
 			entry.Broker = name
-			if err := first.Insert(background, entry, accept); !errors.Is(err, platform.ErrUnknown) {
-				t.Errorf("%v of %s: got %v, want %v", key, name, err, platform.ErrUnknown)
-			}
+			diff.ErrorIs(t, first.Insert(background, entry, accept), platform.ErrUnknown, "%v of %s", key, name)
 			if _, err := first.Read(background, key); !errors.Is(err, platform.ErrUnknown) {
 				t.Errorf("Read of %v of %s: got %v, want %v", key, name, err, platform.ErrUnknown)
 			}
@@ -879,9 +860,7 @@ func insertBesideDrop(t *testing.T, first, second platform.Store, entry platform
 	if err := <-inserted; err != nil {
 		t.Errorf("Insert of %v: got %v, want no error", entry.Key, err)
 	}
-	if err := <-dropped; !errors.Is(err, platform.ErrUsed) {
-		t.Errorf("DropBroker with %v: got %v, want %v", entry.Key, err, platform.ErrUsed)
-	}
+	diff.ErrorIs(t, <-dropped, platform.ErrUsed, "DropBroker with %v", entry.Key)
 }
 
 // wantNoOrphans fails if there is an order without its broker.
@@ -939,9 +918,7 @@ func testFailingBroker(t *testing.T, open opener) {
 			}
 			return &broker, want
 		})
-		if !errors.Is(err, want) {
-			t.Errorf("ChangeBroker: got %v, want %v", err, want)
-		}
+		diff.ErrorIs(t, err, want, "ChangeBroker")
 		wantBrokers(t, store, brokerOf("one"))
 	}
 }

@@ -183,9 +183,7 @@ func TestRotateThatCanNotBegin(t *testing.T) {
 	if done, err := both.Rotate(background, secretive{r}); !errors.Is(err, errFailing) || done != (Rotation{}) {
 		t.Errorf("got %+v, %v, want %v", done, err, errFailing)
 	}
-	if opened := r.opens(t, before); opened != 4 {
-		t.Errorf("the old key: got %d, want 4", opened)
-	}
+	diff.Equal(t, r.opens(t, before), 4, "the old key")
 }
 
 // A failingOnce store fails at one of its calls.
@@ -267,9 +265,7 @@ func TestRotateOverAStoreThatFails(t *testing.T) {
 		if failed = store.failed; failed != errors.Is(err, errFailing) {
 			t.Errorf("call %d of the store has failed: got %v, want %v", n, err, errFailing)
 		}
-		if opened := r.opens(t, both); opened != 3 {
-			t.Errorf("call %d of the store has failed: got %d of both keys, want 3", n, opened)
-		}
+		diff.Equal(t, r.opens(t, both), 3, "call %d of the store has failed: of both keys", n)
 		if _, err := both.Rotate(background, r); err != nil || r.opens(t, after) != 3 {
 			t.Errorf("after call %d of the store has failed: got %v, want it done", n, err)
 		}
@@ -297,9 +293,7 @@ func TestRotateInTheMiddle(t *testing.T) {
 		"others":                      {newVault(t, third), ErrRotating},
 	} {
 		t.Run(name, func(t *testing.T) {
-			if err := test.vault.Fits(written); !errors.Is(err, test.want) {
-				t.Errorf("got %v, want %v", err, test.want)
-			}
+			diff.ErrorIs(t, test.vault.Fits(written), test.want, "")
 		})
 	}
 	if old, fresh, all := r.opens(t, before), r.opens(t, after), r.opens(t, both); old != 30 || fresh != 21 || all != 51 {

@@ -8,6 +8,8 @@ import (
 	"path/filepath"
 	"strings"
 	"testing"
+
+	"pippinterm/internal/diff"
 )
 
 var (
@@ -54,9 +56,7 @@ func TestSealedTwice(t *testing.T) {
 		seen[string(sealed[headSize:headSize+nonceSize])] = true
 		seen[string(sealed[headSize+nonceSize:])] = true
 	}
-	if len(seen) != 2000 {
-		t.Errorf("got %d that differ, want 2000", len(seen))
-	}
+	diff.Equal(t, len(seen), 2000, "that differ")
 }
 
 // What doesn't open.
@@ -208,9 +208,7 @@ func TestStaysReadable(t *testing.T) {
 	if plain, err := v.Open(sealed, here); err != nil || string(plain) != "a secret" {
 		t.Errorf("got %q, %v, want a secret", plain, err)
 	}
-	if v.Fingerprint() != now {
-		t.Errorf("the fingerprint: got %q, want %q", v.Fingerprint(), now)
-	}
+	diff.Equal(t, v.Fingerprint(), now, "the fingerprint")
 }
 
 // HKDF-SHA256 has the values of RFC 5869, appendix A.1, whose first 32 bytes are its first block.
@@ -219,9 +217,7 @@ func TestDerivation(t *testing.T) {
 	salt, _ := hex.DecodeString("000102030405060708090a0b0c")
 	info, _ := hex.DecodeString("f0f1f2f3f4f5f6f7f8f9")
 	const wanted = "3cb25f25faacd57a90434f64d0362f2a2d2d0a90cf1a5a4c5db02d56ecc4c5bf"
-	if got := hex.EncodeToString(expand(mac(salt, secret), string(info))); got != wanted {
-		t.Errorf("got %s, want %s", got, wanted)
-	}
+	diff.Equal(t, hex.EncodeToString(expand(mac(salt, secret), string(info))), wanted, "")
 }
 
 // No random bytes: nothing is sealed.

@@ -335,9 +335,7 @@ func TestInstanceThatIsNeverFree(t *testing.T) {
 	if len(left) != 1 || left[0].Instance != stuck || !strings.Contains(left[0].Reason, "ConcurrencyError") {
 		t.Errorf("got %v left, want only %s", left, stuck)
 	}
-	if exist := m.left(); exist != 1 {
-		t.Errorf("got %d that exist, want 1", exist)
-	}
+	diff.Equal(t, m.left(), 1, "that exist")
 }
 
 // Many quick deletions are no news, although they take long together. A slow one is.
@@ -525,9 +523,7 @@ func TestHider(t *testing.T) {
 	if err := h.Error(of); err.Error() != "it is (left out)" || !errors.Is(err, of) || h.Error(nil) != nil {
 		t.Errorf("got the error %v, want it is (left out)", err)
 	}
-	if got := (Hider{}).In("abc") + NewHider("u", "").In("abc"); got != "abcabc" {
-		t.Errorf("got %q, want abcabc", got)
-	}
+	diff.Equal(t, (Hider{}).In("abc")+NewHider("u", "").In("abc"), "abcabc", "")
 }
 
 var check = diff.NoError

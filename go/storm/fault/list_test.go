@@ -97,9 +97,7 @@ func TestUnmet(t *testing.T) {
 	s.Next(Place{Instance: 2, Binding: 1})
 	s.End()
 	s.Next(Place{Instance: 1})
-	if text := fmt.Sprint(s.Unmet()); text != "[1.2 answer-lost 2.1 hang-up 9.1 hang-up]" {
-		t.Errorf("got %q, want \"[1.2 answer-lost 2.1 hang-up 9.1 hang-up]\"", text)
-	}
+	diff.Equal(t, fmt.Sprint(s.Unmet()), "[1.2 answer-lost 2.1 hang-up 9.1 hang-up]", "")
 	if unmet := BySeed(1, 0.5, StandardWeights(false)).Unmet(); len(unmet) > 0 {
 		t.Errorf("got unmet faults %v, want none", unmet)
 	}

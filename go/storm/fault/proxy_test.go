@@ -290,9 +290,7 @@ func TestGarbledRequest(t *testing.T) {
 	p := between(t, broker, RequestGarbled, nil)
 	put(p, path)
 	until(t, func() bool { whole, _, _ := broker.counts(); return whole == 1 })
-	if broker.bodies[0] != "\x00\"plan_id\": \"a\"}" {
-		t.Errorf("the broker: got %q, want %q", broker.bodies[0], "\x00\"plan_id\": \"a\"}")
-	}
+	diff.Equal(t, broker.bodies[0], "\x00\"plan_id\": \"a\"}", "the broker")
 }
 
 // A restart is run while the broker has the request, or once the platform has its answer.
@@ -316,9 +314,7 @@ func TestRestarts(t *testing.T) {
 			t.Errorf("%s: got a restart after %v and %+v at the platform, want 201, and the restart in time", kind,
 				at.Sub(begun), g)
 		}
-		if p.Restarts() != 1 {
-			t.Errorf("%s: got %d restarts, want 1", kind, p.Restarts())
-		}
+		diff.Equal(t, p.Restarts(), 1, "%s: restarts", kind)
 	}
 }
 
@@ -491,9 +487,7 @@ func TestSilentConnection(t *testing.T) {
 	check(t, err)
 	defer connection.Close()
 	time.Sleep(50 * time.Millisecond)
-	if p.Pending() != 0 {
-		t.Errorf("got %d pending, want 0", p.Pending())
-	}
+	diff.Equal(t, p.Pending(), 0, "pending")
 }
 
 var check = diff.NoError

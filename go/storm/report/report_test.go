@@ -185,9 +185,7 @@ func TestCourse(t *testing.T) {
 	for _, finding := range run.Course() {
 		numbers = append(numbers, finding.Number)
 	}
-	if text := strings.Join(numbers, " "); text != "2 7 21 22 23 24 25 26 27 28 29 30" {
-		t.Errorf("got %q, want \"2 7 21 22 23 24 25 26 27 28 29 30\"", text)
-	}
+	diff.Equal(t, strings.Join(numbers, " "), "2 7 21 22 23 24 25 26 27 28 29 30", "")
 	var page bytes.Buffer
 	check(t, (&Page{Course: run.Course(), Kills: run.Kills()}).Write(&page))
 	text := page.String()

@@ -16,6 +16,7 @@ import (
 	"time"
 
 	"pippinterm/internal/crash"
+	"pippinterm/internal/diff"
 	"pippinterm/osb"
 	"pippinterm/platform"
 	"pippinterm/storm/fault"
@@ -157,9 +158,7 @@ func TestPlaceOrNew(t *testing.T) {
 		found = append(found, fmt.Sprintf("%s %v", place, is))
 	}
 	wanted := "3 true 1000001 true 1000002/1 true 1000001/1 true 1000002/1 true 3/1 true 0 false"
-	if text := strings.Join(found, " "); text != wanted {
-		t.Errorf("got %v, want %v", text, wanted)
-	}
+	diff.Equal(t, strings.Join(found, " "), wanted, "")
 }
 
 // The rounds of a storm have other instances.

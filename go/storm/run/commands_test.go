@@ -150,9 +150,7 @@ func TestUndone(t *testing.T) {
 	}
 	wanted := "0 it was to be removed, and its record says ready; 4 it was to be removed, and its record says cleaning; " +
 		"4 it was abandoned, and its record says cleaning; 9 it was ordered, and the platform has no record"
-	if text := strings.Join(found, "; "); text != wanted {
-		t.Errorf("got %v, want %v", text, wanted)
-	}
+	diff.Equal(t, strings.Join(found, "; "), wanted, "")
 }
 
 // memory is an Orders whose records rest at once: what is created in the state created, and what is removed as gone.

@@ -10,6 +10,7 @@ import (
 	"testing"
 	"time"
 
+	"pippinterm/internal/diff"
 	"pippinterm/storm/fault"
 	"pippinterm/storm/report"
 )
@@ -85,9 +86,7 @@ func TestJudge(t *testing.T) {
 	} {
 		t.Run(test.name, func(t *testing.T) {
 			differences := []Difference{{Key: Key{Instance: "one"}, Kind: Lost}}
-			if found := namesOf(judge(test.all, differences, report.Hider{})); found != test.wanted {
-				t.Errorf("%s: got %q, want %q", test.name, found, test.wanted)
-			}
+			diff.Equal(t, namesOf(judge(test.all, differences, report.Hider{})), test.wanted, "%s", test.name)
 		})
 	}
 }
@@ -146,9 +145,7 @@ func TestJudgeBindingOfADeletedInstance(t *testing.T) {
 			"binding-last-operation-state"},
 	} {
 		t.Run(test.name, func(t *testing.T) {
-			if found := namesOf(judge(test.all, nil, report.Hider{})); found != test.wanted {
-				t.Errorf("%s: got %q, want %q", test.name, found, test.wanted)
-			}
+			diff.Equal(t, namesOf(judge(test.all, nil, report.Hider{})), test.wanted, "%s", test.name)
 		})
 	}
 }
@@ -194,9 +191,7 @@ func TestNumbers(t *testing.T) {
 answers-are-objects, section Body: 1 [1.5]
   1.5 PUT, 201 []
 `
-	if got != wanted {
-		t.Errorf("got %v, want %v", got, wanted)
-	}
+	diff.Equal(t, got, wanted, "")
 	text := written["text"]
 	if !strings.Contains(text, "3 answers, the first one 1.2: ") || strings.Contains(text, "1.4") {
 		t.Errorf("got %s, want 3 answers, the first one 1.2", text)
@@ -253,21 +248,16 @@ func TestCompare(t *testing.T) {
 			if test.record != nil {
 				records[one] = *test.record
 			}
-			if found := textsOf(compare(records, Sight{Of: map[Key]Existence{one: test.of}})); found != test.wanted {
-				t.Errorf("%s: got %q, want %q", test.name, found, test.wanted)
-			}
+			diff.Equal(t, textsOf(compare(records, Sight{Of: map[Key]Existence{one: test.of}})), test.wanted,
+				"%s", test.name)
 		})
 	}
 	twice := Sight{Of: map[Key]Existence{one: Exists}, Twice: []Key{one}}
 	found := textsOf(compare(map[Key]Record{one: recordIn("ready")}, twice))
-	if found != "0 one/: it exists twice, and the platform knows one of them" {
-		t.Errorf("twice: got %q, want \"0 one/: it exists twice, and the platform knows one of them\"", found)
-	}
+	diff.Equal(t, found, "0 one/: it exists twice, and the platform knows one of them", "twice")
 	bound := Sight{Of: map[Key]Existence{one: Exists, binding: Exists}}
 	found = textsOf(compare(map[Key]Record{one: recordIn("ready"), binding: recordIn("gone")}, bound))
-	if found != "0 one/b: it exists, and its record says gone" {
-		t.Errorf("a binding: got %q, want \"0 one/b: it exists, and its record says gone\"", found)
-	}
+	diff.Equal(t, found, "0 one/b: it exists, and its record says gone", "a binding")
 }
 
 func point(r Record) *Record { return &r }
@@ -324,9 +314,7 @@ func TestWatch(t *testing.T) {
 			if test.wanted != "" {
 				w.look(context.Background())
 			}
-			if found := textsOf(w.differences()); found != test.wanted {
-				t.Errorf("%s: got %q, want %q", test.name, found, test.wanted)
-			}
+			diff.Equal(t, textsOf(w.differences()), test.wanted, "%s", test.name)
 		})
 	}
 	failing := &stub{records: []map[Key]Record{ready}, sight: Sight{Of: map[Key]Existence{one: Missing}}}

@@ -21,6 +21,7 @@ import (
 	"testing"
 	"time"
 
+	"pippinterm/internal/diff"
 	"pippinterm/internal/journalfile"
 	"pippinterm/osb"
 	"pippinterm/storm/conform"
@@ -88,9 +89,7 @@ func TestHTML(t *testing.T) {
 			t.Fatal(err)
 		}
 	}
-	if lanes := strings.Count(page, `<rect class="request fault"`); lanes != 4 {
-		t.Errorf("got %d requests with a fault in the picture, want 4", lanes)
-	}
+	diff.Equal(t, strings.Count(page, `<rect class="request fault"`), 4, "requests with a fault in the picture")
 }
 
 // No report has the password or credentials, even if the broker repeats them in its errors.
@@ -348,9 +347,7 @@ func TestPictureOfCleanStorm(t *testing.T) {
 			t.Errorf("the page: got no %q, want it", part)
 		}
 	}
-	if count := strings.Count(page, "<svg"); count != 1 {
-		t.Errorf("got %d pictures, want 1", count)
-	}
+	diff.Equal(t, strings.Count(page, "<svg"), 1, "pictures")
 }
 
 // A journalLine is what the tests read of a line of a journal.
@@ -538,9 +535,7 @@ func TestDeletedSince(t *testing.T) {
 		"before": Unknown, "created": Unknown, "lost": Unknown, "here": Exists, "missing": Missing, "failed": Unknown,
 	} {
 		t.Run(instance, func(t *testing.T) {
-			if it := found[Key{Instance: instance}]; it != wanted {
-				t.Errorf("%s: got %v, want %v", instance, it, wanted)
-			}
+			diff.Equal(t, found[Key{Instance: instance}], wanted, "%s", instance)
 		})
 	}
 }

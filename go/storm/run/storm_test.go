@@ -796,9 +796,7 @@ func TestCalm(t *testing.T) {
 			t.Errorf("%s: got it killed, want it to live", program)
 		}
 	}
-	if b.password != "the password" {
-		t.Errorf("the password: got %q, want \"the password\"", b.password)
-	}
+	diff.Equal(t, b.password, "the password", "the password")
 	if untried := b.omissions(); b.unruly != nil || len(untried) > 0 || b.config.time() != 3*time.Second {
 		t.Errorf("got unruly %v, untried %v and %v, want false, none and 3 s", b.unruly != nil, untried, b.config.time())
 	}
@@ -842,9 +840,7 @@ func TestLivesOfTrial(t *testing.T) {
 		}
 	}
 	b.config.only = map[int]bool{9: true, 2: true, 7: true}
-	if len(wanted) != 3 {
-		t.Errorf("got %d lives of these instances in the storm, want 3", len(wanted))
-	}
+	diff.Equal(t, len(wanted), 3, "lives of these instances in the storm")
 	diff.Check(t, b.lives(0), wanted, "the lives of the trial")
 }
 

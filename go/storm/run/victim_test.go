@@ -11,6 +11,7 @@ import (
 	"testing"
 	"time"
 
+	"pippinterm/internal/diff"
 	"pippinterm/storm/fault"
 )
 
@@ -103,9 +104,7 @@ func TestVictimIsPaused(t *testing.T) {
 		v.pause(context.Background())
 	}()
 	time.Sleep(100 * time.Millisecond)
-	if it := state(); it != "T" {
-		t.Errorf("the state while it is paused: got %s, want \"T\"", it)
-	}
+	diff.Equal(t, state(), "T", "the state while it is paused")
 	<-done
 	if it := state(); it == "T" {
 		t.Error("got it still paused, want it to go on")

@@ -41,9 +41,7 @@ func TestWorkIsWrittenOnceItIsDone(t *testing.T) {
 	store := openEmpty(t)
 	wrapped, _, err := Without(context.Background(), "work", store, nil)
 	check(t, err)
-	if err := end(wrapped, instance); !errors.Is(err, broker.ErrLostWork) {
-		t.Errorf("work that nobody began: got %v, want %v", err, broker.ErrLostWork)
-	}
+	diff.ErrorIs(t, end(wrapped, instance), broker.ErrLostWork, "work that nobody began")
 	begin(t, wrapped, instance, holding(t, "null", pending("provision", instance), false))
 	wantHolding(t, store, instance, osb.Holding{})
 	check(t, end(wrapped, instance))
@@ -69,9 +67,7 @@ func TestBusy(t *testing.T) {
 		t.Run(test.name, func(t *testing.T) {
 			write(t, store, instance, test.pending)
 			check(t, wrapped.Change(ctx, instance, 0, func(snapshot broker.Snapshot) (*broker.Entry, error) {
-				if snapshot.Holding != test.shown {
-					t.Errorf("%s: the step: got %v, want %v", test.name, snapshot.Holding, test.shown)
-				}
+				diff.Equal(t, snapshot.Holding, test.shown, "%s: the step", test.name)
 				return &broker.Entry{Holding: test.next}, nil
 			}))
 			wantHolding(t, store, instance, test.written)
@@ -146,9 +142,7 @@ func TestFailures(t *testing.T) {
 				}
 				there, err := test.look(ctx, request(test.key))
 				check(t, err)
-				if there != want {
-					t.Errorf("%s: pause %d fails: got %v, want %v", test.name, pause+1, there, want)
-				}
+				diff.Equal(t, there, want, "%s: pause %d fails", test.name, pause+1)
 			}
 		})
 	}
@@ -202,9 +196,7 @@ func TestForgetful(t *testing.T) {
 func TestPauseEndsWithItsContext(t *testing.T) {
 	ctx, cancel := context.WithCancel(context.Background())
 	cancel()
-	if err := newChance(1).pause(ctx); !errors.Is(err, context.Canceled) {
-		t.Errorf("a pause whose context is over: got %v, want %v", err, context.Canceled)
-	}
+	diff.ErrorIs(t, newChance(1).pause(ctx), context.Canceled, "a pause whose context is over")
 }
 
 const catalogue = `{"services": [{
@@ -268,9 +260,7 @@ func wantHolding(t *testing.T, store broker.Store, key broker.Key, want osb.Hold
 	t.Helper()
 	snapshot, err := store.Read(context.Background(), key)
 	check(t, err)
-	if snapshot.Holding != want {
-		t.Errorf("%v: got %v written, want %v", key, snapshot.Holding, want)
-	}
+	diff.Equal(t, snapshot.Holding, want, "%v: written", key)
 }
 
 // A site is a broker over a store and folders of its own.
@@ -315,9 +305,7 @@ func (s *site) ask(method, target, body string) int {
 // want asks, and compares the status.
 func (s *site) want(status int, method, target, body string) {
 	s.t.Helper()
-	if given := s.ask(method, target, body); given != status {
-		s.t.Errorf("%s %s: got %d, want %d", method, target, given, status)
-	}
+	diff.Equal(s.t, s.ask(method, target, body), status, "%s %s", method, target)
 }
 
 func (s *site) provision(status int, plan osb.ID) {

@@ -161,9 +161,7 @@ func TestMayPass(t *testing.T) {
 		{syscall.EMFILE, true}, {syscall.ENFILE, true}, {syscall.ENOEXEC, false}, {syscall.EACCES, false},
 	} {
 		t.Run(test.err.Error(), func(t *testing.T) {
-			if got := mayPass(fmt.Errorf("the call: %w", test.err)); got != test.want {
-				t.Errorf("%v: got %t, want %t", test.err, got, test.want)
-			}
+			diff.Equal(t, mayPass(fmt.Errorf("the call: %w", test.err)), test.want, "%v", test.err)
 		})
 	}
 }

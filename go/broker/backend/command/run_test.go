@@ -15,6 +15,7 @@ import (
 	"time"
 
 	"pippinterm/broker"
+	"pippinterm/internal/diff"
 	"pippinterm/internal/filelock"
 	"pippinterm/osb"
 )
@@ -159,9 +160,7 @@ func TestCancel(t *testing.T) {
 	backend := newBackend(t, Options{}, `echo >"$OSB_STATE/started"; `+forked+"wait")
 	started := fifo(t, backend.state+"/started")
 	lock := mustLock(t, backend.Locks())
-	if err := canceledCreate(t, backend, lock, started); !errors.Is(err, context.Canceled) {
-		t.Errorf("Create: got %v, want %v", err, context.Canceled)
-	}
+	diff.ErrorIs(t, canceledCreate(t, backend, lock, started), context.Canceled, "Create")
 	lock.Unlock()
 	mustLock(t, backend.Locks()).Unlock()
 }
@@ -290,19 +289,13 @@ func TestRunsLeaveNothing(t *testing.T) {
 		t.Errorf("a program that was deleted: got %v, want an error with \"exit status 127: \"", err)
 	}
 	backend.timeout += "-that-does-not-exist"
-	if err := backend.Create(lock.Context(ctx), instance); !errors.Is(err, os.ErrNotExist) {
-		t.Errorf("without the command timeout: got %v, want %v", err, os.ErrNotExist)
-	}
+	diff.ErrorIs(t, backend.Create(lock.Context(ctx), instance), os.ErrNotExist, "without the command timeout")
 	lent, err := filelock.Lend(lock.Context(ctx), time.Minute)
 	ok(t, err)
 	backend.grace = 10 * time.Millisecond
-	if err := backend.Create(lock.Context(ctx), instance); !errors.Is(err, filelock.ErrLent) {
-		t.Errorf("with a lock that is lent: got %v, want %v", err, filelock.ErrLent)
-	}
+	diff.ErrorIs(t, backend.Create(lock.Context(ctx), instance), filelock.ErrLent, "with a lock that is lent")
 	ok(t, lent.Close())
-	if after := openFiles(t); after != before {
-		t.Errorf("got %d files open, want %d", after, before)
-	}
+	diff.Equal(t, openFiles(t), before, "files open")
 	if pid, err := syscall.Wait4(-1, nil, syscall.WNOHANG, nil); err != syscall.ECHILD {
 		t.Errorf("the children: got %d, %v, want %v", pid, err, syscall.ECHILD)
 	}

@@ -41,9 +41,7 @@ func TestPartIsSyncedBeforeItIsDeleted(t *testing.T) {
 	leave(t, data)
 	wrong := errors.New("the disk is broken")
 	f.topSync.init(func() error { return wrong })
-	if err := f.Delete(ctx, first); !errors.Is(err, wrong) {
-		t.Errorf("Delete: got %v, want %v", err, wrong)
-	}
+	diff.ErrorIs(t, f.Delete(ctx, first), wrong, "Delete")
 	if _, err := os.Stat(data); err != nil {
 		t.Errorf("the content before the fsync: got %v, want it there", err)
 	}
@@ -62,9 +60,7 @@ func TestErrorsOfFsync(t *testing.T) {
 		"Sync": {f.Sync(ctx, first), ofTop}, "Sync of a binding": {f.Sync(ctx, bound), ofBindings},
 		"DeleteBinding": {f.DeleteBinding(ctx, bound), ofBindings}, "Delete": {f.Delete(ctx, first), ofTop},
 	} {
-		if !errors.Is(c.err, c.wanted) {
-			t.Errorf("%s: got %v, want %v", name, c.err, c.wanted)
-		}
+		diff.ErrorIs(t, c.err, c.wanted, "%s", name)
 	}
 }
 
@@ -139,9 +135,7 @@ func TestWhoeverWaitsMayLeave(t *testing.T) {
 	leaving, leave := context.WithCancel(ctx)
 	left := s.start(leaving)
 	leave()
-	if err := <-left; !errors.Is(err, context.Canceled) {
-		t.Errorf("who left: got %v, want %v", err, context.Canceled)
-	}
+	diff.ErrorIs(t, <-left, context.Canceled, "who left")
 	s.end <- nil
 	if err := <-first; err != nil {
 		t.Errorf("the first: got %v, want no error", err)

@@ -80,9 +80,7 @@ func TestLife(t *testing.T) {
 	for _, path := range []string{f.whole(first.Key.Instance), f.top, filepath.Dir(f.top), f.bindings()} {
 		found, err := os.Stat(path)
 		ok(t, err)
-		if found.Mode() != os.ModeDir|0o700 {
-			t.Errorf("the mode of %s: got %v, want %v", path, found.Mode(), os.ModeDir|0o700)
-		}
+		diff.Equal(t, found.Mode(), os.ModeDir|0o700, "the mode of %s", path)
 	}
 	ok(t, os.WriteFile(f.whole(first.Key.Instance)+"/data", []byte("of the user"), 0o400))
 	ok(t, f.Sync(ctx, first))
@@ -232,9 +230,7 @@ func TestTopBehindALink(t *testing.T) {
 	f := newFolders(t, "link")
 	ok(t, f.Create(ctx, first))
 	has(t, f, first, broker.Whole)
-	if f.top != folder+"/link" {
-		t.Errorf("the top: got %s, want %s", f.top, folder+"/link")
-	}
+	diff.Equal(t, f.top, folder+"/link", "the top")
 	ok(t, f.Delete(ctx, first))
 }
 
@@ -295,9 +291,7 @@ func TestLifeOfABinding(t *testing.T) {
 	}
 	found, err := os.Stat(f.binding(bound.Key))
 	ok(t, err)
-	if found.Mode() != 0o600 {
-		t.Errorf("the mode of the file: got %v, want %v", found.Mode(), 0o600)
-	}
+	diff.Equal(t, found.Mode(), 0o600, "the mode of the file")
 	ok(t, f.Sync(ctx, bound))
 	ok(t, f.DeleteBinding(ctx, bound))
 	has(t, f, bound, broker.None)

@@ -9,6 +9,7 @@ import (
 	"github.com/lib/pq"
 
 	"pippinterm/broker"
+	"pippinterm/internal/diff"
 	"pippinterm/osb"
 )
 
@@ -57,15 +58,9 @@ var (
 // What version 0.2 gives for these arguments, so that what it has sold goes on working.
 func TestAsIn02(t *testing.T) {
 	key, secret := broker.InstanceKey(one), []byte(strings.Repeat("k", 32))
-	if got := NameOf(key); got != "osb_0f1e2d3c4b5a69788796a5b4c3d2e1f0" {
-		t.Errorf("the name: got %s, want \"osb_0f1e2d3c4b5a69788796a5b4c3d2e1f0\"", got)
-	}
-	if got := PasswordOf(secret, key); got != "Hebpcld5oYAzxf3pzzSTNFnHj02h8NQ3Hhx0CO3RHD0" {
-		t.Errorf("the password: got %s, want \"Hebpcld5oYAzxf3pzzSTNFnHj02h8NQ3Hhx0CO3RHD0\"", got)
-	}
-	if got := numberOf(key); got != -5314429486776885733 {
-		t.Errorf("the number of the lock: got %d, want -5314429486776885733", got)
-	}
+	diff.Equal(t, NameOf(key), "osb_0f1e2d3c4b5a69788796a5b4c3d2e1f0", "the name")
+	diff.Equal(t, PasswordOf(secret, key), "Hebpcld5oYAzxf3pzzSTNFnHj02h8NQ3Hhx0CO3RHD0", "the password")
+	diff.Equal(t, numberOf(key), -5314429486776885733, "the number of the lock")
 }
 
 // Names are unique, fit into 63 bytes, need no quoting, and name their key.
@@ -107,9 +102,7 @@ func TestVerifier(t *testing.T) {
 	salt := []byte("\x5b\x6d\x99\x68\x9d\x12\x35\x8e\xec\xa0\x4b\x14\x12\x36\xfa\x81")
 	const want = "SCRAM-SHA-256$4096:W22ZaJ0SNY7soEsUEjb6gQ==$WG5d8oPm3OtcPnkdi4Uo7BkeZkBFzpcXkuLmtbsT4qY=:" +
 		"wfPLwcE6nTWhTAmQ7tl2KeoiWGPlZqQxSrmfPwDl2dU="
-	if got := verifier("pencil", salt, 4096); got != want {
-		t.Errorf("got %s, want %s", got, want)
-	}
+	diff.Equal(t, verifier("pencil", salt, 4096), want, "")
 	first, err := verifierOf("pencil")
 	second, failed := verifierOf("pencil")
 	if err != nil || failed != nil || first == second {

@@ -9,6 +9,7 @@ import (
 
 	"pippinterm/broker"
 	"pippinterm/broker/backend/postgres"
+	"pippinterm/internal/diff"
 	"pippinterm/internal/pg/pgtest"
 	"pippinterm/internal/storefaults"
 )
@@ -297,9 +298,7 @@ func TestLocksOfAServerThatIsSilent(t *testing.T) {
 	for n := 0; n < cap(done); n++ {
 		select {
 		case err := <-done:
-			if !errors.Is(err, broker.ErrAway) {
-				t.Errorf("TryLock: got %v, want %v", err, broker.ErrAway)
-			}
+			diff.ErrorIs(t, err, broker.ErrAway, "TryLock")
 		case <-late:
 			t.Fatal("got TryLock or Unlock to wait for the silent server, want their end")
 		}

@@ -57,9 +57,7 @@ func TestTie(t *testing.T) {
 	other, err := pgstore.Open(ctx, r.sibling().url, 2, broker.Silent{})
 	check(t, err)
 	defer other.Close()
-	if err := broker.Tie(ctx, other, d, false); !errors.Is(err, broker.ErrParted) {
-		t.Errorf("Tie with another store: got %v, want %v", err, broker.ErrParted)
-	}
+	diff.ErrorIs(t, broker.Tie(ctx, other, d, false), broker.ErrParted, "Tie with another store")
 }
 
 // The backend of version 0.2 goes on with its store.
@@ -107,9 +105,7 @@ func TestKeys(t *testing.T) {
 		t.Errorf("Own with another key: got %v, want %v", err, postgres.ErrWrongKey)
 	}
 	it := lock(t, late, newInstance(t))
-	if err := late.Create(it.ctx, it.request); !errors.Is(err, postgres.ErrWrongKey) {
-		t.Errorf("Create with another key: got %v, want %v", err, postgres.ErrWrongKey)
-	}
+	diff.ErrorIs(t, late.Create(it.ctx, it.request), postgres.ErrWrongKey, "Create with another key")
 	r.wantNothing(it.request.Key)
 }
 
@@ -172,9 +168,7 @@ func TestRekey(t *testing.T) {
 		t.Errorf("Credentials with the old key: got %v, want %v", err, postgres.ErrWrongKey)
 	}
 	next := lock(t, d, newInstance(t))
-	if err := d.Create(next.ctx, next.request); !errors.Is(err, postgres.ErrWrongKey) {
-		t.Errorf("Create with the old key: got %v, want %v", err, postgres.ErrWrongKey)
-	}
+	diff.ErrorIs(t, d.Create(next.ctx, next.request), postgres.ErrWrongKey, "Create with the old key")
 	r.wantNothing(next.request.Key)
 	if _, err := r.openWith(secret); !errors.Is(err, postgres.ErrWrongKey) {
 		t.Errorf("Open with the old key: got %v, want %v", err, postgres.ErrWrongKey)

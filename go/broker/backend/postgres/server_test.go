@@ -10,6 +10,7 @@ import (
 
 	"pippinterm/broker"
 	"pippinterm/broker/backend/postgres"
+	"pippinterm/internal/diff"
 	"pippinterm/internal/pg"
 	"pippinterm/internal/pg/pgtest"
 )
@@ -263,9 +264,7 @@ func wantAsOwn(t *testing.T, d *postgres.Databases, of lockedKey, database strin
 		t.Errorf("the parameters: got %v, want no error", err)
 	}
 	for name, want := range own {
-		if got := entered[name]; got != want {
-			t.Errorf("%s in the customer's database: got %q, want %q", name, got, want)
-		}
+		diff.Equal(t, entered[name], want, "%s in the customer's database", name)
 	}
 }
 

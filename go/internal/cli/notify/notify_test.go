@@ -42,9 +42,7 @@ func TestReports(t *testing.T) {
 			socket := manager(t, name)
 			for want, call := range map[string]func() error{"READY=1": Ready, "STOPPING=1": Stopping} {
 				check(t, call())
-				if got := nextReport(t, socket); got != want {
-					t.Errorf("got %q, want %q", got, want)
-				}
+				diff.Equal(t, nextReport(t, socket), want, "")
 			}
 		})
 	}

@@ -9,6 +9,8 @@ import (
 	"sync"
 	"testing"
 	"time"
+
+	"pippinterm/internal/diff"
 )
 
 func ask(handler http.Handler, method, target string) *httptest.ResponseRecorder {
@@ -156,9 +158,7 @@ func TestACallThatHangsHoldsNobodyUp(t *testing.T) {
 	if status := ask(handler, "GET", "/healthz").Code; status != http.StatusOK {
 		t.Errorf("/healthz: got the status %d, want 200", status)
 	}
-	if count := hanging.sum(); count != 1 {
-		t.Errorf("got %d calls at once, want 1", count)
-	}
+	diff.Equal(t, hanging.sum(), 1, "calls at once")
 	handler.readiness.waitsFor = 10 * time.Second
 	status := make(chan int)
 	go func() { status <- ask(handler, "GET", "/readyz").Code }()
@@ -182,9 +182,7 @@ func TestManyShareOneCall(t *testing.T) {
 			t.Errorf("got the status %d, want 200", got)
 		}
 	}
-	if count := counted.sum(); count != 1 {
-		t.Errorf("got %d calls, want 1", count)
-	}
+	diff.Equal(t, counted.sum(), 1, "calls")
 }
 
 func TestACallHasALimitOfTime(t *testing.T) {
@@ -206,9 +204,7 @@ func TestARequestThatEndsEndsNoCall(t *testing.T) {
 	go func() { ended <- handler.readiness.check(ctx) }()
 	<-counted.begun
 	cancel()
-	if err := <-ended; !errors.Is(err, context.Canceled) {
-		t.Errorf("the request ended: got %v, want %v", err, context.Canceled)
-	}
+	diff.ErrorIs(t, <-ended, context.Canceled, "the request ended")
 	waits := make(chan error)
 	go func() { waits <- handler.readiness.check(context.Background()) }()
 	close(counted.pass)
@@ -241,7 +237,5 @@ func TestEachReasonIsReportedOnce(t *testing.T) {
 			t.Errorf("got %v, want %v", err, step.err)
 		}
 	}
-	if len(reported) != 0 {
-		t.Errorf("got %d more reported, want none", len(reported))
-	}
+	diff.Equal(t, len(reported), 0, "more reported")
 }

@@ -5,6 +5,8 @@ import (
 	"sync"
 	"testing"
 	"time"
+
+	"pippinterm/internal/diff"
 )
 
 // at returns a Limiter whose clock stands, and a function that moves it.
@@ -30,9 +32,7 @@ func TestTwentyFailuresAndOneMoreEachThreeSeconds(t *testing.T) {
 		want  int
 	}{{0, 20}, {0, 0}, {2999 * time.Millisecond, 0}, {3 * time.Second, 1}, {9 * time.Second, 3}, {time.Hour, 20}} {
 		pass(step.after)
-		if got := failures(limiter, "192.0.2.1"); got != step.want {
-			t.Errorf("%v later: got %d failures free, want %d", step.after, got, step.want)
-		}
+		diff.Equal(t, failures(limiter, "192.0.2.1"), step.want, "%v later: failures free", step.after)
 	}
 }
 
@@ -42,9 +42,7 @@ func TestFailuresBeyondTheLimitDontExtendIt(t *testing.T) {
 		limiter.FailedLogin("192.0.2.1")
 	}
 	pass(burst * interval)
-	if got := failures(limiter, "192.0.2.1"); got != burst {
-		t.Errorf("got %d failures free a minute later, want %d", got, burst)
-	}
+	diff.Equal(t, failures(limiter, "192.0.2.1"), burst, "failures free a minute later")
 }
 
 // The turns of an address are half a second apart, and those of another address are its own.
@@ -101,9 +99,7 @@ func TestMemoryIsBounded(t *testing.T) {
 	}
 	pass(interval)
 	limiter.FailedLogin("192.0.2.1")
-	if len(limiter.of) != 1 {
-		t.Errorf("got %d addresses remembered after the failures of all others are over, want 1", len(limiter.of))
-	}
+	diff.Equal(t, len(limiter.of), 1, "addresses remembered after the failures of all others are over")
 }
 
 func TestAFullLimiterKeepsTheWorst(t *testing.T) {

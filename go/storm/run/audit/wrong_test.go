@@ -229,9 +229,7 @@ func TestBindings(t *testing.T) {
 			if found := texts(s.Wrong(), bound); found != test.found {
 				t.Errorf("%s: while the storm goes on: got %q, want %q", name, found, test.found)
 			}
-			if found := left(t, s, bound); found != test.foundLeft {
-				t.Errorf("%s: at the end: got %q, want %q", name, found, test.foundLeft)
-			}
+			diff.Equal(t, left(t, s, bound), test.foundLeft, "%s: at the end", name)
 		})
 	}
 }
@@ -279,9 +277,7 @@ func TestInstances(t *testing.T) {
 			if found := texts(s.Wrong(), one); found != test.found {
 				t.Errorf("%s: while the storm goes on: got %q, want %q", name, found, test.found)
 			}
-			if found := left(t, s, one); found != test.foundLeft {
-				t.Errorf("%s: at the end: got %q, want %q", name, found, test.foundLeft)
-			}
+			diff.Equal(t, left(t, s, one), test.foundLeft, "%s: at the end", name)
 		})
 	}
 	s := scene{state: Ready, held: "ready", exists: Whole}.sight(t, one)

@@ -7,6 +7,7 @@ import (
 	"testing"
 	"time"
 
+	"pippinterm/internal/diff"
 	"pippinterm/storm/fault"
 	"pippinterm/storm/report"
 	"pippinterm/storm/run"
@@ -162,9 +163,7 @@ func TestCompare(t *testing.T) {
 			for _, difference := range found.Differences {
 				got += names[difference.Kind]
 			}
-			if got != test.wanted {
-				t.Errorf("%s: got %q, want %q", name, got, test.wanted)
-			}
+			diff.Equal(t, got, test.wanted, "%s", name)
 		})
 	}
 }

@@ -61,9 +61,8 @@ func TestPostgres(t *testing.T) {
 		if p.process.Process.Pid == before {
 			t.Error("got the same process, want another")
 		}
-		if found := rows(t, url, "SELECT count(*) || ' ' || max(number) FROM kept"); found != fmt.Sprint(kills, kills) {
-			t.Errorf("after %d kills: got %s, want %s", kills, found, fmt.Sprint(kills, kills))
-		}
+		diff.Equal(t, rows(t, url, "SELECT count(*) || ' ' || max(number) FROM kept"), fmt.Sprint(kills, kills),
+			"after %d kills", kills)
 	}
 	paused := make(chan struct{})
 	go func() {
@@ -76,9 +75,7 @@ func TestPostgres(t *testing.T) {
 		}
 	}
 	<-paused
-	if found := rows(t, url, "SHOW recovery_init_sync_method"); found != "syncfs" {
-		t.Errorf("the synchronisation of files: got %s, want \"syncfs\"", found)
-	}
+	diff.Equal(t, rows(t, url, "SHOW recovery_init_sync_method"), "syncfs", "the synchronisation of files")
 	if found := rows(t, url, "SHOW fsync"); found != "on" || strings.Contains(states(p), "T") {
 		t.Errorf("after the pause: got fsync %s and the states %s, want on and none paused", found, states(p))
 	}
@@ -107,9 +104,7 @@ func TestDatabase(t *testing.T) {
 	server, ctx := pgtest.URL(t), context.Background()
 	d, err := Create(ctx, server, "storm_of_a_test")
 	check(t, err)
-	if found := rows(t, d.URL(), "SELECT current_database()"); found != "storm_of_a_test" {
-		t.Errorf("got %q, want \"storm_of_a_test\"", found)
-	}
+	diff.Equal(t, rows(t, d.URL(), "SELECT current_database()"), "storm_of_a_test", "")
 	if isEnded, err := d.EndSession(ctx); isEnded || err != nil {
 		t.Errorf("got ended %v, %v, want false", isEnded, err)
 	}
@@ -142,9 +137,7 @@ func TestForPrograms(t *testing.T) {
 			at, err := In(given, "own")
 			check(t, err)
 			address, environment := (&Database{url: at}).ForPrograms()
-			if found := fmt.Sprint(address, " ", environment); found != wanted {
-				t.Errorf("%s: got %s, want %s", given, found, wanted)
-			}
+			diff.Equal(t, fmt.Sprint(address, " ", environment), wanted, "%s", given)
 		})
 	}
 }
