@@ -7,6 +7,7 @@ import (
 	"testing"
 
 	"pippinterm/broker"
+	"pippinterm/internal/diff"
 )
 
 // soldWith is a catalogue with these members of the service and of the plan besides those that it must have.
@@ -54,9 +55,7 @@ func TestMembersOfACatalogue(t *testing.T) {
 			text := test.service + test.plan
 			switch {
 			case test.says == "":
-				if err != nil {
-					t.Errorf("%s: got the error %v, want none", text, err)
-				}
+				diff.NoError(t, err, "%s", text)
 			case !errors.Is(err, broker.ErrCatalogueMember) || !strings.Contains(err.Error(), test.says):
 				t.Errorf("%s: got the error %v, want ErrCatalogueMember and its names", text, err)
 			case !strings.Contains(err.Error(), `service "shelf"`) || test.plan != "" && !strings.Contains(err.Error(), `plan "small"`):

@@ -92,9 +92,7 @@ func (s *testBroker) checkSent(t *testing.T, r broker.Request) {
 	if err == nil {
 		err = s.expected.check(r, isDeletion(snapshot.Entry))
 	}
-	if err != nil {
-		t.Error(err)
-	}
+	diff.NoError(t, err, "")
 }
 
 // A recorder keeps what an Observer gets.
@@ -1125,9 +1123,7 @@ func TestServe(t *testing.T) {
 		})
 	}
 	cancel()
-	if err := <-served; err != nil {
-		t.Errorf("got %v, want no error", err)
-	}
+	diff.NoError(t, <-served, "")
 	if len(got.exchanges) != 1 || got.exchanges[0].Status != http.StatusBadRequest || got.exchanges[0].Route != "other" {
 		t.Errorf("got %+v, want the request that was rejected", got.exchanges)
 	}

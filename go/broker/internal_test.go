@@ -53,9 +53,7 @@ func TestOneCallTriesSilentLocks(t *testing.T) {
 		t.Errorf("a further call: got %v, want %v", err, errSilent)
 	}
 	close(release)
-	if err := <-ended; err != nil {
-		t.Errorf("the call that tries: got %v, want nil", err)
-	}
+	diff.NoError(t, <-ended, "the call that tries")
 }
 
 // Once a call has been answered, calls run side by side again. One that fails changes nothing.

@@ -22,6 +22,7 @@ import (
 	"pippinterm/broker/postgres"
 	"pippinterm/broker/sqlite"
 	"pippinterm/internal/crash"
+	"pippinterm/internal/diff"
 	"pippinterm/internal/pg/pgtest"
 	"pippinterm/osb"
 )
@@ -745,12 +746,8 @@ func walksTo(t *testing.T) *bufio.Writer {
 	check(t, err)
 	to := bufio.NewWriter(file)
 	t.Cleanup(func() {
-		if err := to.Flush(); err != nil {
-			t.Error(err)
-		}
-		if err := file.Close(); err != nil {
-			t.Error(err)
-		}
+		diff.NoError(t, to.Flush(), "")
+		diff.NoError(t, file.Close(), "")
 	})
 	return to
 }

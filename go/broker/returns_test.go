@@ -367,9 +367,7 @@ func TestALateWorkerOfTheOldLife(t *testing.T) {
 	backend.overtake = func(broker.Key) {
 		backend.overtake = nil
 		other := l.service(t, backend, losable{newMemoryLocks()}, anHour)
-		if err := other.TakeUp(ctx, key); err != nil {
-			t.Error(err)
-		}
+		diff.NoError(t, other.TakeUp(ctx, key), "")
 		if given, err := other.Handle(ctx, deprovision(now)); err != nil || given.Status != 200 {
 			t.Errorf("got %+v and the error %v, want 200", given, err)
 		}
@@ -545,9 +543,7 @@ func TestALateOperationOfTheOldLife(t *testing.T) {
 	old := l.service(t, backend, losable{newMemoryLocks()}, anHour)
 	l.Service = l.service(t, backend, losable{newMemoryLocks()}, anHour)
 	takeUp := func() {
-		if err := l.TakeUp(ctx, key); err != nil {
-			t.Error(err)
-		}
+		diff.NoError(t, l.TakeUp(ctx, key), "")
 	}
 	l.expect(t, 202, "PUT", one+query, bodyOf(later, `,"parameters":{"life":0}`))
 	l.clock.afterRead = func(broker.Key) {
@@ -581,9 +577,7 @@ func TestAnOperationThatHasEnded(t *testing.T) {
 	l.expect(t, 202, "PUT", one+query, bodyOf(later, ""))
 	other := l.service(t, backend, losable{newMemoryLocks()}, anHour)
 	l.clock.afterRead = func(broker.Key) {
-		if err := other.TakeUp(ctx, key); err != nil {
-			t.Error(err)
-		}
+		diff.NoError(t, other.TakeUp(ctx, key), "")
 	}
 	diff.ErrorIs(t, l.TakeUp(ctx, key), broker.ErrLostWork, "")
 	row, _ := l.holding(t, key).Row()

@@ -103,9 +103,7 @@ func (b *bench) takesUp(t *testing.T, shelf *shelf, expected *sentRequests, it s
 	key, calls := sent.Key, 0
 	shelf.asked = func(got broker.Request) {
 		calls++
-		if err := expected.check(got, it.method == "DELETE"); err != nil {
-			t.Error(err)
-		}
+		diff.NoError(t, expected.check(got, it.method == "DELETE"), "")
 		parameters, about := string(got.Member("parameters")), string(got.Member("context"))
 		if got.Key != key || parameters != `{"size":1.50,"a":"<&>"}` || about != `{"platform":"test"}` {
 			t.Errorf("the backend got the parameters %s and the context %s for %v, want those of the request", parameters, about,
@@ -439,9 +437,7 @@ func TestTakeUpReportsALockThatStaysTaken(t *testing.T) {
 		t.Fatal(err)
 	}
 	defer lock.Unlock()
-	if err := b.TakeUp(ctx, key); err != nil {
-		t.Errorf("nothing is unfinished: got %v, want no error", err)
-	}
+	diff.NoError(t, b.TakeUp(ctx, key), "nothing is unfinished")
 }
 
 // Pending work that a dead worker has left is reported once it has ended, and once.
@@ -510,9 +506,7 @@ func TestWorkThatWasDoneBeforeIsAnswered(t *testing.T) {
 	backend := newShelf(calm)
 	b := newBench(t, backend, losable{newMemoryLocks()})
 	store := &racing{Store: b.store, end: func(key broker.Key) {
-		if err := b.TakeUp(context.Background(), key); err != nil {
-			t.Error(err)
-		}
+		diff.NoError(t, b.TakeUp(context.Background(), key), "")
 	}}
 	service := broker.NewService(catalogueFor(t, catalogue), store, backend, losable{newMemoryLocks()},
 		broker.Rules{}, b.observed)
@@ -571,4 +565,4 @@ func TestARequestThatWaitsForItsLock(t *testing.T) {
 	}
 }
 
-var check = diff.NoError
+var check = diff.Must

@@ -378,9 +378,7 @@ func TestTwoTiesAtOnce(t *testing.T) {
 	case <-time.After(30 * time.Millisecond):
 	}
 	close(first.goOn)
-	if err := soon(t, tied); err != nil {
-		t.Error(err)
-	}
+	diff.NoError(t, soon(t, tied), "")
 	diff.ErrorIs(t, soon(t, refused), broker.ErrParted, "the other has tied the store")
 	diff.Equal(t, g.owner(g.folders("there")), "", "the owner of the second folders")
 }

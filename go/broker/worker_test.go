@@ -528,9 +528,7 @@ func TestLocksThatFail(t *testing.T) {
 	taken, err := locks.TryLock(context.Background(), keyOf("one"))
 	check(t, err)
 	defer taken.Unlock()
-	if err := w.TakeUp(context.Background(), keyOf("one")); err != nil {
-		t.Errorf("TakeUp: got %v, want no error", err)
-	}
+	diff.NoError(t, w.TakeUp(context.Background(), keyOf("one")), "TakeUp")
 	w.expect(t, map[string]int{})
 }
 

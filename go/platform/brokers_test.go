@@ -99,9 +99,7 @@ func TestCheckURL(t *testing.T) {
 		"http://127.0.0.1:8080/postgres", "http://127.1.2.3", "http://[::1]:8080", "https://broker.example/a.b/..c/...",
 	} {
 		for _, allowHTTP := range []bool{false, true} {
-			if err := CheckURL(url, allowHTTP); err != nil {
-				t.Errorf("%s: got %v, want no error", url, err)
-			}
+			diff.NoError(t, CheckURL(url, allowHTTP), "%s", url)
 		}
 	}
 	for url, said := range map[string]string{

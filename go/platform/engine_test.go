@@ -206,9 +206,7 @@ func TestRun(t *testing.T) {
 			p.untilState(binding, Gone)
 		}
 	}
-	if err := stop(); err != nil {
-		t.Error(err)
-	}
+	diff.NoError(t, stop(), "")
 	if len(p.seller.things) > 0 || p.hasFailed("store_failed") > 0 {
 		t.Errorf("got %v left, and the failures %v, want none", p.seller.things, p.failures)
 	}
@@ -551,9 +549,7 @@ func TestPoints(t *testing.T) {
 func TestCheckPoint(t *testing.T) {
 	for _, point := range append([]string{""}, Points...) {
 		t.Setenv("OSB_CRASH_AT", point)
-		if err := CheckPoint(); err != nil {
-			t.Errorf("%q: got %v, want no error", point, err)
-		}
+		diff.NoError(t, CheckPoint(), "%q", point)
 	}
 	t.Setenv("OSB_CRASH_AT", "claim-nxt")
 	if err := CheckPoint(); (err != nil) != hasPoints {
@@ -638,9 +634,7 @@ func TestRunStopsWhileTheStoreIsAway(t *testing.T) {
 	stop := p.start(background)
 	p.create(NewInstance{})
 	<-arrived
-	if err := stop(); err != nil {
-		t.Error(err)
-	}
+	diff.NoError(t, stop(), "")
 }
 
 // A database that is away for a while ends nothing, and is reported once.

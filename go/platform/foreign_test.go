@@ -764,7 +764,7 @@ func newScene(t *testing.T, catalogue string, settings platform.Settings, option
 	return s
 }
 
-var check = diff.NoError
+var check = diff.Must
 
 // time is the time of the store.
 func (s *scene) time() time.Time {
@@ -795,9 +795,7 @@ func (s *scene) Exchange(ctx context.Context, out platform.Outgoing) platform.In
 func (s *scene) serve(w http.ResponseWriter, r *http.Request) {
 	body, err := io.ReadAll(r.Body)
 	s.mu.Lock()
-	if err != nil {
-		s.t.Errorf("the body of %s %s: got %v, want no error", r.Method, r.URL, err)
-	}
+	diff.NoError(s.t, err, "the body of %s %s", r.Method, r.URL)
 	given, hangUp := s.answer(r, body), s.hangUp
 	s.mu.Unlock()
 	if given.hangs {
@@ -879,9 +877,7 @@ func (s *scene) checkRequest(next step, r *http.Request, body []byte) {
 		}
 		s.tries = append(s.tries, parts[0])
 		var sent map[string]any
-		if err := json.Unmarshal(body, &sent); err != nil {
-			s.t.Errorf("the body %s: got %v, want no error", body, err)
-		}
+		diff.NoError(s.t, json.Unmarshal(body, &sent), "the body %s", body)
 		query.Set("service_id", fmt.Sprint(sent["service_id"]))
 		query.Set("plan_id", fmt.Sprint(sent["plan_id"]))
 	}

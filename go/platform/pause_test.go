@@ -99,7 +99,7 @@ func newStage(t *testing.T, hold time.Duration) *stage {
 	return s
 }
 
-var check = diff.NoError
+var check = diff.Must
 
 // step has a worker do all that is due.
 func (s *stage) step(b *bench) {

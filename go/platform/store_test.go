@@ -216,9 +216,7 @@ func TestAnswersThatAreWrittenAgain(t *testing.T) {
 	}
 	one.end()
 	h.nothingDue()
-	if err := h.failing(); err != nil {
-		t.Errorf("once it is written: got %v, want nil", err)
-	}
+	diff.NoError(t, h.failing(), "once it is written")
 }
 
 // A fault names a row by the ids by which it was ordered. Nobody knows the numbers that the database has for these.
@@ -313,9 +311,7 @@ func TestCheckStore(t *testing.T) {
 			err := b.CheckStore(test.named)
 			switch {
 			case test.has == "":
-				if err != nil {
-					t.Errorf("%q: got %v, want no error", test.named, err)
-				}
+				diff.NoError(t, err, "%q", test.named)
 			case !errors.Is(err, ErrOtherStore) || !strings.Contains(err.Error(), test.has):
 				t.Errorf("%q: got %v, want %v with %q", test.named, err, ErrOtherStore, test.has)
 			case test.hasNotIt != "" && strings.Contains(err.Error(), test.hasNotIt):
@@ -323,9 +319,7 @@ func TestCheckStore(t *testing.T) {
 			}
 		})
 	}
-	if err := (Broker{Name: "shelf"}).CheckStore([]string{"6a6b6c6d"}); err != nil {
-		t.Errorf("without a recorded store: got %v, want no error", err)
-	}
+	diff.NoError(t, (Broker{Name: "shelf"}).CheckStore([]string{"6a6b6c6d"}), "without a recorded store")
 }
 
 // Passwords are sealed for this text. With another one, nobody could open those in the store.

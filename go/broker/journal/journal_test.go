@@ -745,7 +745,7 @@ func newTestBroker(t *testing.T) *testBroker {
 	return s
 }
 
-var check = diff.NoError
+var check = diff.Must
 
 // ask sends a request, and returns the answer. An id is that of an instance, or of an instance and a binding.
 func (s *testBroker) ask(method, target, plan string) *httptest.ResponseRecorder {

@@ -45,4 +45,4 @@ func TestUnfinishedStatsReadNoOtherRows(t *testing.T) {
 	}
 }
 
-var check = diff.NoError
+var check = diff.Must

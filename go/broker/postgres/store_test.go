@@ -50,9 +50,7 @@ func TestClosingWhileTheServerHangs(t *testing.T) {
 	openAll(t, store, 4)
 	proxy.Hang(true)
 	begun := time.Now()
-	if err := store.Close(); err != nil {
-		t.Error(err)
-	}
+	diff.NoError(t, store.Close(), "")
 	if took := time.Since(begun); took > 30*time.Second {
 		t.Errorf("got %v, want at most %v", took, 30*time.Second)
 	}
@@ -128,9 +126,7 @@ func TestReadyCommits(t *testing.T) {
 	if _, err := store.Begin(ctx, broker.Untied); err != nil {
 		t.Fatal(err)
 	}
-	if err := store.Ready(ctx); err != nil {
-		t.Errorf("got %v, want nil", err)
-	}
+	diff.NoError(t, store.Ready(ctx), "")
 	trigger(t, url, "osb_store", "DEFERRABLE INITIALLY DEFERRED", "RAISE EXCEPTION 'no';")
 	if err := store.Ready(ctx); err == nil {
 		t.Error("the commit has failed: got nil, want an error")
@@ -190,9 +186,7 @@ func TestTablesOf02(t *testing.T) {
 		if got, err := store.Stats(ctx); err != nil || got != (broker.Stats{Pending: 1, Tombstones: 1}) {
 			t.Errorf("counts: got %+v, %v, want one that is pending and one tombstone", got, err)
 		}
-		if err := store.Close(); err != nil {
-			t.Error(err)
-		}
+		diff.NoError(t, store.Close(), "")
 	}
 	store := open(t, url)
 	defer store.Close()
@@ -277,9 +271,7 @@ func TestManyOpen(t *testing.T) {
 						t.Errorf("got the error %v, want none", err)
 						return
 					}
-					if err := store.Close(); err != nil {
-						t.Error(err)
-					}
+					diff.NoError(t, store.Close(), "")
 				}()
 			}
 			all.Wait()
@@ -313,12 +305,8 @@ func TestARoleThatMayNotAlter(t *testing.T) {
 	err = store.Change(context.Background(), key, 0, func(snapshot broker.Snapshot) (*broker.Entry, error) {
 		return &snapshot.Entry, nil
 	})
-	if err != nil {
-		t.Error(err)
-	}
-	if err := store.Ready(context.Background()); err != nil {
-		t.Error(err)
-	}
+	diff.NoError(t, err, "")
+	diff.NoError(t, store.Ready(context.Background()), "")
 }
 
 func TestAnotherEncoding(t *testing.T) {
@@ -450,9 +438,7 @@ func TestServerThatIsSilent(t *testing.T) {
 	for n := 0; n < cap(done); n++ {
 		select {
 		case err := <-done:
-			if err != nil {
-				t.Error(err)
-			}
+			diff.NoError(t, err, "")
 		case <-late:
 			t.Fatal("got a call that waits for the silent server, want its end")
 		}
@@ -555,9 +541,7 @@ func TestACommitWhoseAnswerIsLost(t *testing.T) {
 		t.Errorf("after %d calls: got %v, want %v after 1", calls, err, pg.ErrUnknownCommit)
 	}
 	proxy.Cut("")
-	if err := store.Change(context.Background(), key, 0, describe("y", &calls)); err != nil {
-		t.Errorf("the next change: got %v, want no error", err)
-	}
+	diff.NoError(t, store.Change(context.Background(), key, 0, describe("y", &calls)), "the next change")
 }
 
 // What another transaction has undone is tried again, and reported, but not for ever.
@@ -614,9 +598,7 @@ func TestSessionsThatTheServerEnds(t *testing.T) {
 			pgtest.Exec(t, pgtest.DB(t, pgtest.URL(t)),
 				"SELECT pg_terminate_backend(pid, 5000) FROM pg_stat_activity WHERE application_name = 'osb_store_ends'")
 			for n := 0; n < most; n++ {
-				if err := call(); err != nil {
-					t.Errorf("got the error %v, want none", err)
-				}
+				diff.NoError(t, call(), "")
 			}
 		})
 	}
@@ -651,9 +633,7 @@ func openAll(t *testing.T, store broker.Store, count int) {
 	}
 	open()
 	for n := 0; n < count; n++ {
-		if err := <-done; err != nil {
-			t.Error(err)
-		}
+		diff.NoError(t, <-done, "")
 	}
 }
 
@@ -733,4 +713,4 @@ func TestAChangeThatWritesNoRow(t *testing.T) {
 	}
 }
 
-var check = diff.NoError
+var check = diff.Must

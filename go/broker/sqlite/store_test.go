@@ -35,9 +35,7 @@ func open(t *testing.T, path string, observer broker.Observer) *Store {
 	s, err := Open(context.Background(), path, observer)
 	check(t, err)
 	t.Cleanup(func() {
-		if err := s.Close(); err != nil {
-			t.Error(err)
-		}
+		diff.NoError(t, s.Close(), "")
 	})
 	return s
 }
@@ -145,9 +143,7 @@ func TestTransactionFails(t *testing.T) {
 	if broken == nil {
 		t.Error("got no error of a commit that failed, want one")
 	}
-	if err := s.Change(context.Background(), keyOf(2), 0, provision(keyOf(2))); err != nil {
-		t.Error(err)
-	}
+	diff.NoError(t, s.Change(context.Background(), keyOf(2), 0, provision(keyOf(2))), "")
 	if snapshot, err := s.Read(context.Background(), keyOf(1)); err != nil || snapshot.Holding.IsHeld() {
 		t.Errorf("got %v and the error %v, want nothing held", snapshot.Holding, err)
 	}
@@ -516,4 +512,4 @@ func TestOpeningThatFails(t *testing.T) {
 	}
 }
 
-var check = diff.NoError
+var check = diff.Must

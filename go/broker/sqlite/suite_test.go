@@ -41,4 +41,4 @@ func TestClose(t *testing.T) {
 	}
 }
 
-var check = diff.NoError
+var check = diff.Must

@@ -142,9 +142,7 @@ func (f *faulty) each(t *testing.T, it faultyCall) {
 
 func (f *faulty) close(t *testing.T) {
 	t.Helper()
-	if err := f.store.Close(); err != nil {
-		t.Errorf("Close: got %v, want no error", err)
-	}
+	diff.NoError(t, f.store.Close(), "Close")
 }
 
 // prepare writes what is there before the call: the instance, a binding of it that is held, one that isn't, and the row

@@ -72,9 +72,7 @@ func openStore(t *testing.T, open func(*testing.T) broker.NamedStore) broker.Nam
 	t.Helper()
 	store := open(t)
 	t.Cleanup(func() {
-		if err := store.Close(); err != nil {
-			t.Errorf("Close: got %v, want no error", err)
-		}
+		diff.NoError(t, store.Close(), "Close")
 	})
 	return store
 }
@@ -189,9 +187,7 @@ func testID(t *testing.T, open func(*testing.T) broker.NamedStore) {
 		store := openStore(t, open)
 		go func() {
 			id, err := store.ID(context.Background())
-			if err != nil {
-				t.Error(err)
-			}
+			diff.NoError(t, err, "")
 			ids <- id
 		}()
 	}
@@ -306,9 +302,7 @@ func testTiesExclude(t *testing.T, open func(*testing.T) broker.NamedStore) {
 			<-release
 			return nil
 		})
-		if err != nil {
-			t.Errorf("the first: got %v, want no error", err)
-		}
+		diff.NoError(t, err, "the first")
 	}()
 	<-entered
 	go func() {
@@ -320,9 +314,7 @@ func testTiesExclude(t *testing.T, open func(*testing.T) broker.NamedStore) {
 			}
 			return nil
 		})
-		if err != nil {
-			t.Errorf("the second: got %v, want no error", err)
-		}
+		diff.NoError(t, err, "the second")
 	}()
 	select {
 	case <-overlapped:
@@ -336,9 +328,7 @@ func testTiesExclude(t *testing.T, open func(*testing.T) broker.NamedStore) {
 func testReady(t *testing.T, open func(*testing.T) broker.NamedStore) {
 	store := openStore(t, open)
 	begin(t, store)
-	if err := store.Ready(context.Background()); err != nil {
-		t.Errorf("a store that works: got %v, want no error", err)
-	}
+	diff.NoError(t, store.Ready(context.Background()), "a store that works")
 	if name, err := store.Name(context.Background()); err != nil || name != "one" {
 		t.Errorf("the name: got %q, %v, want \"one\"", name, err)
 	}
@@ -394,9 +384,7 @@ func testNothing(t *testing.T, open func(*testing.T) broker.NamedStore) {
 			wantEntry(t, "the instance of "+key.String(), snapshot.Instance, broker.Entry{})
 			return nil, nil
 		})
-		if err != nil {
-			t.Errorf("%v: got the error %v, want none", key, err)
-		}
+		diff.NoError(t, err, "%v", key)
 	}
 	if keys, err := store.UnfinishedKeys(context.Background()); err != nil || len(keys) != 0 {
 		t.Errorf("unfinished: got %v, %v, want none", keys, err)
@@ -432,9 +420,7 @@ func testWritten(t *testing.T, open func(*testing.T) broker.NamedStore) {
 				wantEntry(t, "in a step", snapshot.Entry, entry)
 				return nil, nil
 			})
-			if err != nil {
-				t.Error(err)
-			}
+			diff.NoError(t, err, "")
 		}
 	}
 	wantEntry(t, "another instance", read(t, second, instance(2)).Entry, broker.Entry{})
@@ -495,9 +481,7 @@ func testInstanceOfBinding(t *testing.T, open func(*testing.T) broker.NamedStore
 				wantEntry(t, "the instance, by Change of "+key.String(), snapshot.Instance, of)
 				return &broker.Entry{Holding: in(t, "ready")}, nil
 			})
-			if err != nil {
-				t.Error(err)
-			}
+			diff.NoError(t, err, "")
 		}
 	}
 	instance := read(t, first, instance(1)).Entry
@@ -539,9 +523,7 @@ func wantHeld(t *testing.T, store broker.Store, want ...osb.ID) {
 		}
 		return nil, err
 	})
-	if err != nil {
-		t.Error(err)
-	}
+	diff.NoError(t, err, "")
 }
 
 func testUnfinished(t *testing.T, open func(*testing.T) broker.NamedStore) {
@@ -606,9 +588,7 @@ func ages(t *testing.T, store broker.Store, key broker.Key) []time.Duration {
 		found = append(found[:1], snapshot.EndedAgo)
 		return nil, nil
 	})
-	if err != nil {
-		t.Error(err)
-	}
+	diff.NoError(t, err, "")
 	return found
 }
 
@@ -666,9 +646,7 @@ func returns(t *testing.T, stores []broker.Store, key broker.Key) (count int) {
 				}
 				return &broker.Entry{Holding: begun, Life: snapshot.Life + 1}, nil
 			})
-			if err != nil {
-				t.Error(err)
-			}
+			diff.NoError(t, err, "")
 		}(at, store)
 	}
 	all.Wait()
@@ -680,4 +658,4 @@ func returns(t *testing.T, stores []broker.Store, key broker.Key) (count int) {
 	return count
 }
 
-var check = diff.NoError
+var check = diff.Must

@@ -49,9 +49,7 @@ var failing = []func(*testing.T, broker.Store, broker.Key){
 		entry := ready(t)
 		err := changeError(context.Background(), store, key,
 			func(broker.Snapshot) (*broker.Entry, error) { return &entry, nil })
-		if err != nil {
-			t.Errorf("a step beside others that fail: got %v, want no error", err)
-		}
+		diff.NoError(t, err, "a step beside others that fail")
 	},
 	func(t *testing.T, store broker.Store, key broker.Key) {
 		entry := ready(t)
@@ -87,9 +85,7 @@ func testCounter(t *testing.T, open func(*testing.T) broker.NamedStore) {
 			go func(store broker.Store) {
 				defer all.Done()
 				for i := 0; i < each; i++ {
-					if err := store.Change(context.Background(), key, 0, countOne); err != nil {
-						t.Errorf("%v: got the error %v, want none", key, err)
-					}
+					diff.NoError(t, store.Change(context.Background(), key, 0, countOne), "%v", key)
 				}
 			}(stores[n%2])
 		}
@@ -152,9 +148,7 @@ func exclude(t *testing.T, first, second broker.Store, one, other broker.Key) {
 			<-release
 			return &written, nil
 		})
-		if err != nil {
-			t.Errorf("the first: got %v, want no error", err)
-		}
+		diff.NoError(t, err, "the first")
 	}()
 	<-entered
 	go func() {
@@ -163,9 +157,7 @@ func exclude(t *testing.T, first, second broker.Store, one, other broker.Key) {
 			close(overlapped)
 			return nil, seesFirst(one, other, snapshot, written)
 		})
-		if err != nil {
-			t.Errorf("the second: got %v, want no error", err)
-		}
+		diff.NoError(t, err, "the second")
 	}()
 	select {
 	case <-overlapped:
@@ -213,12 +205,8 @@ func testClose(t *testing.T, open func(*testing.T) broker.NamedStore) {
 	case <-time.After(soon):
 	}
 	close(release)
-	if err := <-changed; err != nil {
-		t.Errorf("the Change: got %v, want no error", err)
-	}
-	if err := <-closed; err != nil {
-		t.Errorf("Close: got %v, want no error", err)
-	}
+	diff.NoError(t, <-changed, "the Change")
+	diff.NoError(t, <-closed, "Close")
 	wantEntry(t, "after Close", read(t, other, instance(1)).Entry, broker.Entry{Holding: in(t, "ready")})
 	wantClosed(t, store)
 }
@@ -326,9 +314,7 @@ func testFenceDuringChange(t *testing.T, open func(*testing.T) broker.NamedStore
 		if !isBefore && err != nil {
 			t.Errorf("%v: got the error %v, want none", key, err)
 		}
-		if err := <-fenced; err != nil {
-			t.Errorf("Fence of %v: got %v, want no error", key, err)
-		}
+		diff.NoError(t, <-fenced, "Fence of %v", key)
 		wantFenced(t, first, key, old, false)
 	}
 }

@@ -142,9 +142,7 @@ func (s *servedBroker) stop() {
 	}
 	for range s.lines { // until it ends
 	}
-	if err := s.command.Wait(); err != nil {
-		s.t.Errorf("after SIGTERM: got %v, want no error", err)
-	}
+	diff.NoError(s.t, s.command.Wait(), "after SIGTERM")
 }
 
 const (
@@ -790,4 +788,4 @@ func TestExampleDatabases(t *testing.T) {
 	}
 }
 
-var check = diff.NoError
+var check = diff.Must

@@ -139,9 +139,7 @@ func TestStopWaitsForAnOperation(t *testing.T) {
 	}
 	for range s.lines { // until it ends
 	}
-	if err := s.command.Wait(); err != nil {
-		t.Errorf("after SIGTERM: got %v, want no error", err)
-	}
+	diff.NoError(t, s.command.Wait(), "after SIGTERM")
 	s = g.start("--existing")
 	if status, body := s.ask("GET", poll, ""); status != 200 || !strings.Contains(body, "succeeded") {
 		t.Errorf("got %d %s, want 200 and succeeded", status, body)
@@ -164,9 +162,7 @@ func TestStopDoesNotWaitForEver(t *testing.T) {
 	}
 	for range s.lines { // until it ends
 	}
-	if err := s.command.Wait(); err != nil {
-		t.Errorf("after SIGTERM: got %v, want no error", err)
-	}
+	diff.NoError(t, s.command.Wait(), "after SIGTERM")
 	s = g.start("--existing")
 	g.waits() // the create was killed, and begins again
 	g.open()

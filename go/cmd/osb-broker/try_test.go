@@ -13,6 +13,7 @@ import (
 	"testing"
 	"time"
 
+	"pippinterm/internal/diff"
 	"pippinterm/internal/pg/pgtest"
 )
 
@@ -216,9 +217,7 @@ func signalAt(t *testing.T, path string, signal os.Signal) func(*exec.Cmd) {
 		for _, err := os.Stat(path); err != nil; _, err = os.Stat(path) {
 			time.Sleep(5 * time.Millisecond)
 		}
-		if err := command.Process.Signal(signal); err != nil {
-			t.Error(err)
-		}
+		diff.NoError(t, command.Process.Signal(signal), "")
 	}
 }
 

@@ -92,9 +92,7 @@ func TestListWhileRowsMove(t *testing.T) {
 						snapshot.Entry.State = []platform.State{platform.Abandoned, platform.Withdrawn}[moved%2]
 						return &platform.Change{Entry: snapshot.Entry}, nil
 					})
-				if err != nil {
-					t.Error(err)
-				}
+				diff.NoError(t, err, "")
 			}
 		}}
 		var out bytes.Buffer

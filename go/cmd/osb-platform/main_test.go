@@ -87,7 +87,7 @@ func wantLines(t *testing.T, store string, lines []line) {
 	}
 }
 
-var check = diff.NoError
+var check = diff.Must
 
 // isAll is whether a text is what a regular expression says, but for the line feed at its end.
 func isAll(expression, text string) bool {

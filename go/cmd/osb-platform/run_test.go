@@ -114,9 +114,7 @@ func (p *process) wait() string {
 	for line := range p.lines {
 		rest.WriteString(line + "\n")
 	}
-	if err := p.command.Wait(); err != nil {
-		p.t.Errorf("after SIGTERM: got %v, want no error", err)
-	}
+	diff.NoError(p.t, p.command.Wait(), "after SIGTERM")
 	return rest.String()
 }
 

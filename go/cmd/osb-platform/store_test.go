@@ -165,9 +165,7 @@ func TestStopBeforeTheDatabaseAnswers(t *testing.T) {
 	}
 	begun := time.Now()
 	check(t, command.Process.Signal(syscall.SIGTERM))
-	if err := command.Wait(); err != nil {
-		t.Error(err)
-	}
+	diff.NoError(t, command.Wait(), "")
 	if took := time.Since(begun); took > 20*time.Second { // 10, and what a busy machine adds
 		t.Errorf("got an end after %v, want one within 20 s", took)
 	}
@@ -337,9 +335,7 @@ func TestKeyReplacedBeforeWork(t *testing.T) {
 			return err
 		}
 		r := &running{store: in, keys: old, settings: &runSettings{worker: "one", once: true}}
-		if err := rekey(ctx, places{store: store, keyFiles: []string{key}}, other, new(nothing), nil); err != nil {
-			t.Error(err)
-		}
+		diff.NoError(t, rekey(ctx, places{store: store, keyFiles: []string{key}}, other, new(nothing), nil), "")
 		if err := r.engineRuns(ctx, ctx); !isAll("the store was used with another key.*", fmt.Sprint(err)) {
 			t.Error(err)
 		}
@@ -405,9 +401,7 @@ func executeIn(t *testing.T, store, statements string) {
 	if _, err := db.Exec(statements); err != nil {
 		t.Error(err)
 	}
-	if err := db.Close(); err != nil {
-		t.Error(err)
-	}
+	diff.NoError(t, db.Close(), "")
 }
 
 // Who can write the store has a password sent nowhere else: neither one of this version, nor one that version 0.3 has

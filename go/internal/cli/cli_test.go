@@ -231,4 +231,4 @@ func TestNoCoreDump(t *testing.T) {
 	}
 }
 
-var check = diff.NoError
+var check = diff.Must

@@ -5,14 +5,14 @@ package crash
 import (
 	"strings"
 	"testing"
+
+	"pippinterm/internal/diff"
 )
 
 func TestCheck(t *testing.T) {
 	for _, point := range append([]string{""}, points...) {
 		t.Setenv(variable, point)
-		if err := Check(); err != nil {
-			t.Errorf("%q: got the error %v, want none", point, err)
-		}
+		diff.NoError(t, Check(), "%q", point)
 	}
 	t.Setenv(variable, "begin-nxt")
 	err := Check()

@@ -62,8 +62,16 @@ func shown(got, want any) string {
 	return fmt.Sprintf("got %+v, want %+v", got, want)
 }
 
-// NoError ends the test at an error.
-func NoError(t testing.TB, err error) {
+// NoError fails the test at an error, and says what was called as Equal does. The test goes on.
+func NoError(t testing.TB, err error, format string, arguments ...any) {
+	t.Helper()
+	if err != nil {
+		t.Errorf("%sgot the error %v, want none", said(format, arguments), err)
+	}
+}
+
+// Must ends the test at an error.
+func Must(t testing.TB, err error) {
 	t.Helper()
 	if err != nil {
 		t.Fatalf("got the error %v, want none", err)

@@ -94,7 +94,8 @@ func TestValuesAndErrors(t *testing.T) {
 		"got +, want -\n":                       func(t testing.TB) { Equal(t, "a\nb\n", "a\nc\n", "") },
 		"of 1: got the error no, want wrong":    func(t testing.TB) { ErrorIs(t, errors.New("no"), wrong, "of %d", 1) },
 		"got the error <nil>, want wrong":       func(t testing.TB) { ErrorIs(t, nil, wrong, "") },
-		"ended: got the error wrong, want none": func(t testing.TB) { NoError(t, wrong) },
+		"Read: got the error wrong, want none":  func(t testing.TB) { NoError(t, wrong, "Read") },
+		"ended: got the error wrong, want none": func(t testing.TB) { Must(t, wrong) },
 	} {
 		t.Run(want, func(t *testing.T) {
 			f := &fake{TB: t}
@@ -105,7 +106,8 @@ func TestValuesAndErrors(t *testing.T) {
 		})
 	}
 	f := &fake{TB: t}
-	NoError(f, nil)
+	Must(f, nil)
+	NoError(f, nil, "x")
 	if ErrorIs(f, fmt.Errorf("of x: %w", wrong), wrong, "x"); f.failed != "" {
 		t.Errorf("got %q, want nothing", f.failed)
 	}

@@ -468,9 +468,7 @@ func TestUnlockWhileProcessesStart(t *testing.T) {
 	for {
 		select {
 		case err := <-done:
-			if err != nil {
-				t.Error(err)
-			}
+			diff.NoError(t, err, "")
 			return
 		default:
 			if !isFree(t, locks, one) {
@@ -538,9 +536,7 @@ func TestLendWaits(t *testing.T) {
 		_ = end.Close()
 	}()
 	_ = lend(t, lock).Close()
-	if err := child.Wait(); err != nil {
-		t.Error(err)
-	}
+	diff.NoError(t, child.Wait(), "")
 }
 
 // Nobody else gets a lock while its holder lends it and takes it back, again and again.
@@ -576,4 +572,4 @@ func TestLockStaysWhileItIsLent(t *testing.T) {
 	mustLock(t, others, one).Unlock()
 }
 
-var check = diff.NoError
+var check = diff.Must

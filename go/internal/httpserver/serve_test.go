@@ -153,9 +153,7 @@ func TestStopAnswersWhatRuns(t *testing.T) {
 	if got := running.rest(); !strings.HasSuffix(got, "GET /a ;") || !strings.Contains(got, "Connection: close") {
 		t.Errorf("the running one: got %q, want its answer and a close", got)
 	}
-	if err := <-served; err != nil {
-		t.Errorf("Serve: got %v, want no error", err)
-	}
+	diff.NoError(t, <-served, "Serve")
 }
 
 // A Server without times of its own has limits all the same.
@@ -222,9 +220,7 @@ func TestTheLastSiteStopsLast(t *testing.T) {
 	})
 	ask("while the first stops,")
 	handler.pass <- struct{}{}
-	if err := <-served; err != nil {
-		t.Errorf("Serve: got %v, want no error", err)
-	}
+	diff.NoError(t, <-served, "Serve")
 }
 
 // A stoppable is a handler that answers 503 once its program stops. Before that, it answers as its pause.
@@ -304,9 +300,7 @@ func TestWhileWorkRunsRequestsAreAnswered(t *testing.T) {
 		t.Errorf("a request while the work runs: got %v, want 503", got)
 	}
 	close(goOn)
-	if err := <-served; err != nil {
-		t.Errorf("Serve: got %v, want no error", err)
-	}
+	diff.NoError(t, <-served, "Serve")
 	if connection, err := net.DialTimeout("tcp", listener.Addr().String(), limit); err == nil {
 		connection.Close()
 		t.Error("a connection to it: got no error, want one")
@@ -327,9 +321,7 @@ func TestASharedListenerIsClosedAtOnce(t *testing.T) {
 	if got := statusesIn(running.rest()); !reflect.DeepEqual(got, []string{"200"}) {
 		t.Errorf("the running request: got %v, want 200", got)
 	}
-	if err := <-served; err != nil {
-		t.Errorf("Serve: got %v, want no error", err)
-	}
+	diff.NoError(t, <-served, "Serve")
 }
 
 // Neither a request nor other work keeps the Server for longer than Stop.
@@ -344,9 +336,7 @@ func TestWorkHasALimit(t *testing.T) {
 	if got := running.rest(); !strings.HasSuffix(got, "GET /a ;") {
 		t.Errorf("the running one: got %q, want its answer", got)
 	}
-	if err := <-served; err != nil {
-		t.Errorf("Serve with other work that runs: got %v, want no error", err)
-	}
+	diff.NoError(t, <-served, "Serve with other work that runs")
 }
 
 func TestASiteThatFailsStopsTheOthers(t *testing.T) {
@@ -370,9 +360,7 @@ func TestStopBeforeTheBegin(t *testing.T) {
 	listener := listen(t, Options{})
 	ctx, cancel := context.WithCancel(context.Background())
 	cancel()
-	if err := (Server{Sites: []Site{{listener, http.HandlerFunc(echo)}}}).Serve(ctx); err != nil {
-		t.Errorf("Serve: got %v, want no error", err)
-	}
+	diff.NoError(t, (Server{Sites: []Site{{listener, http.HandlerFunc(echo)}}}).Serve(ctx), "Serve")
 }
 
 // limited is set in a process that TestTheLimitOfFilesIsRaised starts.
@@ -727,4 +715,4 @@ func waitUntil(t *testing.T, what string, isSo func() bool) {
 	}
 }
 
-var check = diff.NoError
+var check = diff.Must

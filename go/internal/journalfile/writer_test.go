@@ -564,4 +564,4 @@ func BenchmarkWrite(b *testing.B) {
 	}
 }
 
-var check = diff.NoError
+var check = diff.Must

@@ -45,7 +45,7 @@ func TestPatterns(t *testing.T) {
 	}
 	defer func() { _ = os.Chdir(here) }()
 	packages, err := load(context.Background(), tags, ordinary...)
-	diff.NoError(t, err)
+	diff.Must(t, err)
 	isLoaded := make(map[string]bool)
 	for _, pkg := range packages {
 		isLoaded[pkg.path] = true
@@ -147,7 +147,7 @@ func TestDrawing(t *testing.T) {
 	folder := t.TempDir()
 	var out bytes.Buffer
 	words := []string{"draw", "-folder", folder, "-count", "1000", "-workers", "4", toy}
-	diff.NoError(t, command(context.Background(), words, &out))
+	diff.Must(t, command(context.Background(), words, &out))
 	if want := "\nleft out: " + toy + " TestSkips: it skipped without a mutant\n"; !strings.Contains(out.String(), want) {
 		t.Errorf("got %s, want %q", out.String(), want)
 	}
@@ -167,7 +167,7 @@ func TestDrawing(t *testing.T) {
 		}
 	}
 	var again bytes.Buffer
-	diff.NoError(t, command(context.Background(), words, &again))
+	diff.Must(t, command(context.Background(), words, &again))
 	if !strings.Contains(again.String(), "\n0 tests are run") || !strings.HasSuffix(again.String(), survivors) {
 		t.Errorf("got %s, want no test to be run, and %s", again.String(), survivors)
 	}
@@ -185,7 +185,7 @@ func TestHang(t *testing.T) {
 		}
 	}
 	binaries, err := build(context.Background(), t.TempDir(), tags, 1, []*pkg{p}, mutants)
-	diff.NoError(t, err)
+	diff.Must(t, err)
 	w := &worker{}
 	o, err := w.do(context.Background(), run{binary: binaries[p.path], test: "TestHangs", mutant: 1, most: 1})
 	if err != nil || o.ending != hung {
@@ -197,9 +197,9 @@ func TestHang(t *testing.T) {
 func TestTraceOfAnotherUser(t *testing.T) {
 	p := loadToy(t)
 	drawn, err := draw([]*pkg{p}, 1, 20)
-	diff.NoError(t, err)
+	diff.Must(t, err)
 	binaries, err := build(context.Background(), t.TempDir(), tags, 1, []*pkg{p}, drawn)
-	diff.NoError(t, err)
+	diff.Must(t, err)
 	r := run{binary: binaries[p.path], test: "TestAsNobody", most: longestTest}
 	found, err := trace(context.Background(), &worker{}, r)
 	if err != nil || found.Ending != passed || len(found.Reaches) == 0 {
@@ -212,18 +212,16 @@ func TestInterruptedServer(t *testing.T) {
 	folder := t.TempDir()
 	ended := filepath.Join(folder, "ended")
 	program := "#!/bin/sh\necho ready\ncat\ntouch " + ended + "\n"
-	diff.NoError(t, os.WriteFile(filepath.Join(folder, "pg_virtualenv"), []byte(program), 0o777))
+	diff.Must(t, os.WriteFile(filepath.Join(folder, "pg_virtualenv"), []byte(program), 0o777))
 	t.Setenv("PATH", folder+":"+os.Getenv("PATH"))
 	ctx, cancel := context.WithCancel(context.Background())
 	s, err := startServer(ctx)
-	diff.NoError(t, err)
+	diff.Must(t, err)
 	if group, err := syscall.Getpgid(s.process.Process.Pid); err != nil || group == syscall.Getpgrp() {
 		t.Errorf("got the process group %d, %v, want one that a terminal doesn't interrupt", group, err)
 	}
 	cancel()
-	if err := s.close(); err != nil {
-		t.Error(err)
-	}
+	diff.NoError(t, s.close(), "")
 	if _, err := os.Stat(ended); err != nil {
 		t.Errorf("got %v, want that it has ended by itself", err)
 	}
@@ -233,9 +231,9 @@ func TestInterruptedServer(t *testing.T) {
 func TestFailsWithoutTheMutant(t *testing.T) {
 	p := loadToy(t)
 	drawn, err := draw([]*pkg{p}, 1, 1)
-	diff.NoError(t, err)
+	diff.Must(t, err)
 	binaries, err := build(context.Background(), t.TempDir(), tags, 1, []*pkg{p}, drawn)
-	diff.NoError(t, err)
+	diff.Must(t, err)
 	for fails, want := range map[string]string{"": survived, "always": survived, "with a mutant": killed} {
 		t.Run("fails "+fails, func(t *testing.T) {
 			t.Setenv("TOY_FAILS", fails)
@@ -252,7 +250,7 @@ func TestFailsWithoutTheMutant(t *testing.T) {
 func write(t *testing.T, lines ...string) string {
 	t.Helper()
 	path := filepath.Join(t.TempDir(), "slip.edit")
-	diff.NoError(t, os.WriteFile(path, []byte(strings.Join(lines, "\n")+"\n"), 0o666))
+	diff.Must(t, os.WriteFile(path, []byte(strings.Join(lines, "\n")+"\n"), 0o666))
 	return path
 }
 

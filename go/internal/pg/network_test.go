@@ -109,4 +109,4 @@ func TestUserTimeout(t *testing.T) {
 	}
 }
 
-var check = diff.NoError
+var check = diff.Must

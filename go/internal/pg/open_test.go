@@ -120,9 +120,7 @@ func TestCloseAfterTheSessionHasEnded(t *testing.T) {
 			}
 		}
 		pgtest.Exec(t, pgtest.DB(t, url), fmt.Sprintf("SELECT pg_terminate_backend(%d, 10000)", number))
-		if err := pg.Close(db); err != nil {
-			t.Errorf("with %d prepared statements: got %v, want no error", statements, err)
-		}
+		diff.NoError(t, pg.Close(db), "with %d prepared statements", statements)
 	}
 }
 
@@ -183,15 +181,11 @@ func TestVariablesThatTheDriverRejects(t *testing.T) {
 		"PGSYSCONFDIR", "PGSERVICEFILE", "PGLOCALEDIR", "PGREALM", "PGKRBSRVNAME", "PGGSSLIB",
 	} {
 		t.Setenv(name, "/nowhere")
-		if err := open(); err != nil {
-			t.Errorf("%s: got the error %v, want none", name, err)
-		}
+		diff.NoError(t, open(), "%s", name)
 	}
 	for _, name := range []string{"PGHOSTADDR", "PGSERVICE", "PGREQUIRESSL", "PGSSLCRL", "PGREQUIREPEER"} {
 		t.Setenv(name, "")
-		if err := open(); err != nil {
-			t.Errorf("an empty %s: got %v, want no error", name, err)
-		}
+		diff.NoError(t, open(), "an empty %s", name)
 		t.Setenv(name, "1")
 		err := open()
 		if _, isLasting := pg.Remedy(err); !isLasting || !strings.Contains(err.Error(), "unset "+name) {
@@ -277,4 +271,4 @@ func TestAnEnvironmentThatIsNotSupported(t *testing.T) {
 	}
 }
 
-var check = diff.NoError
+var check = diff.Must

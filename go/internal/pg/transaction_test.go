@@ -141,9 +141,7 @@ func TestACommitWithANotice(t *testing.T) {
 		"CREATE FUNCTION f() RETURNS trigger LANGUAGE plpgsql AS $$ BEGIN RAISE NOTICE 'x'; RETURN NULL; END $$",
 		"CREATE CONSTRAINT TRIGGER late AFTER INSERT ON t DEFERRABLE INITIALLY DEFERRED "+
 			"FOR EACH ROW EXECUTE FUNCTION f()")
-	if err := transaction(t, context.Background(), url, insert(context.Background())); err != nil {
-		t.Error(err)
-	}
+	diff.NoError(t, transaction(t, context.Background(), url, insert(context.Background())), "")
 }
 
 func TestACommitWhoseAnswerIsLost(t *testing.T) {

@@ -19,7 +19,7 @@ const variable = "OSB_TEST_PASSWORD"
 func fileWith(t *testing.T, text string, mode os.FileMode) string {
 	t.Helper()
 	name := filepath.Join(t.TempDir(), "file")
-	diff.NoError(t, os.WriteFile(name, []byte(text), 0o600))
+	diff.Must(t, os.WriteFile(name, []byte(text), 0o600))
 	if err := os.Chmod(name, mode); err != nil {
 		t.Fatal(err)
 	}
@@ -102,9 +102,9 @@ func TestWarningOfTheMode(t *testing.T) {
 	} {
 		name := fileWith(t, "user:sesame\n", mode)
 		_, first, err := Passwords(variable, name)
-		diff.NoError(t, err)
+		diff.Must(t, err)
 		_, second, err := Users(name)
-		diff.NoError(t, err)
+		diff.Must(t, err)
 		for _, warning := range []string{first, second} {
 			if (warning != "") != isWarned || isWarned && !strings.Contains(warning, name) {
 				t.Errorf("mode %o: got the warning %q, want one %v", mode, warning, isWarned)
@@ -159,9 +159,9 @@ func TestShort(t *testing.T) {
 func TestFilesThatAreNotRegular(t *testing.T) {
 	folder := t.TempDir()
 	pipe := filepath.Join(folder, "pipe")
-	diff.NoError(t, syscall.Mkfifo(pipe, 0o600))
+	diff.Must(t, syscall.Mkfifo(pipe, 0o600))
 	link := filepath.Join(folder, "link")
-	diff.NoError(t, os.Symlink(pipe, link))
+	diff.Must(t, os.Symlink(pipe, link))
 	for _, name := range []string{pipe, link, folder, os.DevNull} {
 		name := name
 		done := make(chan error, 1)

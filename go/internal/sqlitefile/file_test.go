@@ -60,9 +60,7 @@ func open(t *testing.T, path string, options Options[*notes]) *File[*notes] {
 	file, err := Open(background, path, options)
 	check(t, err)
 	t.Cleanup(func() {
-		if err := file.Close(); err != nil {
-			t.Error(err)
-		}
+		diff.NoError(t, file.Close(), "")
 	})
 	return file
 }
@@ -106,9 +104,7 @@ func holdWriter(t *testing.T, file *File[*notes]) (release chan struct{}, all *s
 			<-release
 			return nil
 		})
-		if err != nil {
-			t.Error(err)
-		}
+		diff.NoError(t, err, "")
 	}()
 	<-entered
 	return release, all
@@ -200,9 +196,7 @@ func TestUndoing(t *testing.T) {
 		}
 		return n.Undoing(func() error { return note("d")(n) })
 	})
-	if err != nil {
-		t.Error(err)
-	}
+	diff.NoError(t, err, "")
 	wantNotes(t, file, "a", "d")
 }
 
@@ -224,9 +218,7 @@ func TestTransactionFails(t *testing.T) {
 			file := open(t, filepath.Join(t.TempDir(), "file"), with)
 			breakOff(t, file, it.breaking)
 			wantNotes(t, file)
-			if err := file.Write(background, note("next")); err != nil {
-				t.Error(err)
-			}
+			diff.NoError(t, file.Write(background, note("next")), "")
 			wantNotes(t, file, "next")
 		})
 	}
@@ -290,9 +282,7 @@ func TestTransactionThatFails(t *testing.T) {
 		})
 	}
 	wantNotes(t, file)
-	if err := file.Write(background, note("next")); err != nil {
-		t.Errorf("the next write: got %v, want nil", err)
-	}
+	diff.NoError(t, file.Write(background, note("next")), "the next write")
 }
 
 // Of jobs of one statement, one that fails, panics or breaks a constraint writes nothing. The others are written. None
@@ -375,9 +365,7 @@ func TestCancelled(t *testing.T) {
 	}
 	close(release)
 	all.Wait()
-	if err := file.Write(background, note("stayed")); err != nil {
-		t.Error(err)
-	}
+	diff.NoError(t, file.Write(background, note("stayed")), "")
 	wantNotes(t, file, "stayed")
 }
 
@@ -403,9 +391,7 @@ func TestClose(t *testing.T) {
 	go func() { closed <- file.Close() }()
 	select {
 	case err := <-closed:
-		if err != nil {
-			t.Error(err)
-		}
+		diff.NoError(t, err, "")
 	case <-time.After(deadline):
 		t.Error("Close: got no end beside another process, want one")
 	}
@@ -425,9 +411,7 @@ func TestClose(t *testing.T) {
 	} {
 		diff.ErrorIs(t, err, ErrClosed, "%s after Close", name)
 	}
-	if err := file.Close(); err != nil {
-		t.Errorf("Close again: got %v, want no error", err)
-	}
+	diff.NoError(t, file.Close(), "Close again")
 	wantNotes(t, other)
 }
 
@@ -462,14 +446,10 @@ func TestCloseAfterWriting(t *testing.T) {
 		}()
 	}
 	eventually(t, "not all jobs are written", func() bool { return written.Load() == many })
-	if err := file.Close(); err != nil {
-		t.Error(err)
-	}
+	diff.NoError(t, file.Close(), "")
 	close(late)
 	for n := 0; n < many; n++ {
-		if err := <-failed; err != nil {
-			t.Errorf("got %v, want nil", err)
-		}
+		diff.NoError(t, <-failed, "")
 	}
 }
 
@@ -478,13 +458,9 @@ func TestCloseLeavesOneFile(t *testing.T) {
 	folder := t.TempDir()
 	file, err := Open(background, filepath.Join(folder, "file"), options())
 	check(t, err)
-	if err := file.Write(background, note("x")); err != nil {
-		t.Error(err)
-	}
+	diff.NoError(t, file.Write(background, note("x")), "")
 	wantNotes(t, file, "x")
-	if err := file.Close(); err != nil {
-		t.Error(err)
-	}
+	diff.NoError(t, file.Close(), "")
 	left, err := os.ReadDir(folder)
 	if err != nil || len(left) != 1 || left[0].Name() != "file" {
 		t.Errorf("got the files %v and the error %v, want file alone", left, err)
@@ -496,9 +472,7 @@ func TestPaths(t *testing.T) {
 	for _, name := range []string{"a?mode=memory", "b#c", "d%41", "é 😀 '&=+;", "file:x"} {
 		folder := t.TempDir()
 		file := open(t, filepath.Join(folder, name), options())
-		if err := file.Write(background, note("x")); err != nil {
-			t.Errorf("%q: got the error %v, want none", name, err)
-		}
+		diff.NoError(t, file.Write(background, note("x")), "%q", name)
 		info, err := os.Stat(filepath.Join(folder, name))
 		if err != nil || info.Size() == 0 || info.Mode().Perm() != 0o600 {
 			t.Errorf("%q: got %v and the error %v, want content and mode 0600", name, info, err)
@@ -516,9 +490,7 @@ func TestSymbolicLink(t *testing.T) {
 	if first.Path() != second.Path() {
 		t.Errorf("the paths: got %s and %s, want one", first.Path(), second.Path())
 	}
-	if err := second.Write(background, note("x")); err != nil {
-		t.Error(err)
-	}
+	diff.NoError(t, second.Write(background, note("x")), "")
 	wantNotes(t, first, "x")
 }
 
@@ -610,16 +582,12 @@ func TestSnapshot(t *testing.T) {
 				if err != nil || len(row) != 1 || row[0] != "a" {
 					t.Errorf("turn %d: got %v, %v, want a", turn, row, err)
 				}
-				if err := file.Write(background, note(fmt.Sprint("0 in turn ", turn))); err != nil {
-					t.Error(err)
-				}
+				diff.NoError(t, file.Write(background, note(fmt.Sprint("0 in turn ", turn))), "")
 			}
 			return nil
 		})
 	})
-	if err != nil {
-		t.Error(err)
-	}
+	diff.NoError(t, err, "")
 	wantNotes(t, file, "0 in turn 0", "0 in turn 1", "a")
 }
 
@@ -649,9 +617,8 @@ func TestUnknownCommit(t *testing.T) {
 	if !errors.Is(err, ErrUnknownCommit) || !errors.As(err, &failed) || failed.Code != sqlite3.ErrConstraint {
 		t.Errorf("of a commit: got %v, want %v of a constraint", err, ErrUnknownCommit)
 	}
-	if err := file.Write(background, func(n *notes) error { return n.Exec("INSERT INTO notes VALUES ('next')") }); err != nil {
-		t.Errorf("the next job: got %v, want no error", err)
-	}
+	diff.NoError(t, file.Write(background, func(n *notes) error { return n.Exec("INSERT INTO notes VALUES ('next')") }),
+		"the next job")
 }
 
 // A commit is on the disk when it returns, on each connection that writes or reads: SQLite's level FULL, which has the
@@ -666,12 +633,8 @@ func TestCommitsAreSynced(t *testing.T) {
 			return nil
 		})
 	}
-	if err := file.Write(background, look); err != nil {
-		t.Error(err)
-	}
-	if err := file.Read(background, look); err != nil {
-		t.Error(err)
-	}
+	diff.NoError(t, file.Write(background, look), "")
+	diff.NoError(t, file.Read(background, look), "")
 }
 
 // openWith opens a new file, and executes statements before it is used.
@@ -822,9 +785,7 @@ func TestOpeningThatFails(t *testing.T) {
 		}
 		if err == nil {
 			wantNotes(t, file)
-			if err := file.Close(); err != nil {
-				t.Error(err)
-			}
+			diff.NoError(t, file.Close(), "")
 		}
 		if failed == "" {
 			return
@@ -852,4 +813,4 @@ func TestLook(t *testing.T) {
 	}
 }
 
-var check = diff.NoError
+var check = diff.Must

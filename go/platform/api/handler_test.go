@@ -956,7 +956,7 @@ func newRigOver(t *testing.T, store platform.Store) *rig {
 	return r
 }
 
-var check = diff.NoError
+var check = diff.Must
 
 // A got is an answer.
 type got struct {

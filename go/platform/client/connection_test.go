@@ -791,9 +791,7 @@ func TestOwnCertificate(t *testing.T) {
 		t.Errorf("got %v, want an answer", in.Lost)
 	}
 	next, _ := ours.sign(t, "platform", func(*x509.Certificate) {})
-	if err := c.Reload(); err != nil {
-		t.Error(err)
-	}
+	diff.NoError(t, c.Reload(), "")
 	c.Close() // the connections that were kept have shown the old one
 	if in := exchange(t, c, server.URL, osb.KindDeprovision); in.Lost != nil {
 		t.Errorf("got %v, want an answer", in.Lost)

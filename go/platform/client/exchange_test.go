@@ -924,4 +924,4 @@ func benchmark(b *testing.B, server *httptest.Server) {
 	})
 }
 
-var check = diff.NoError
+var check = diff.Must

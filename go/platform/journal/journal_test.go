@@ -330,9 +330,7 @@ func TestStepThatWritesNothing(t *testing.T) {
 	from := len(s.lines())
 	err := s.to.EngineStore(s.store.Store).Change(background, key,
 		func(time.Time, platform.Snapshot) (*platform.Change, error) { return nil, nil })
-	if err != nil {
-		t.Errorf("got %v, want nil", err)
-	}
+	diff.NoError(t, err, "")
 	want(t, "a step that writes nothing", s.events(from), "")
 }
 
@@ -457,7 +455,7 @@ var (
 	errDoubt   = errors.New("nobody knows")
 )
 
-var check = diff.NoError
+var check = diff.Must
 
 // A faulty store is below the journal. It gets each transaction, and can fail it.
 type faulty struct {

@@ -345,7 +345,7 @@ var (
 	now   = began.Add(24 * time.Hour)
 )
 
-var check = diff.NoError
+var check = diff.Must
 
 func idOf(n int) osb.ID { return osb.MustParseID(fmt.Sprintf("%08x-0000-4000-8000-%012x", n, n)) }
 

@@ -11,6 +11,7 @@ import (
 	"testing"
 	"time"
 
+	"pippinterm/internal/diff"
 	"pippinterm/internal/pg"
 	"pippinterm/internal/pg/pgtest"
 	"pippinterm/internal/storefaults"
@@ -155,9 +156,7 @@ func stepAll(b *testing.B, store platform.Store, worker string, left *int64, isC
 			running.Add(1)
 			go func(key platform.Key) {
 				defer running.Done()
-				if err := store.Change(background, key, take(isChanged)); err != nil {
-					b.Error(err)
-				}
+				diff.NoError(b, store.Change(background, key, take(isChanged)), "")
 				atomic.AddInt64(left, -1)
 				free <- struct{}{}
 			}(row.Key)

@@ -11,6 +11,7 @@ import (
 	"testing"
 	"time"
 
+	"pippinterm/internal/diff"
 	"pippinterm/internal/pg"
 	"pippinterm/internal/pg/pgtest"
 	"pippinterm/internal/storefaults"
@@ -144,9 +145,7 @@ func TestSessionsThatTheServerEnds(t *testing.T) {
 		openAll(t, store, most)
 		terminate(t, name)
 		for n := 0; n < most; n++ {
-			if err := call(); err != nil {
-				t.Errorf("%s: got %v, want no error", of, err)
-			}
+			diff.NoError(t, call(), "%s", of)
 		}
 	}
 }
@@ -173,9 +172,7 @@ func openAll(t *testing.T, store platform.Store, most int) {
 	}
 	gate.Open()
 	for n := 0; n < most; n++ {
-		if err := <-done; err != nil {
-			t.Error(err)
-		}
+		diff.NoError(t, <-done, "")
 	}
 }
 
@@ -205,9 +202,7 @@ func TestASessionThatIsKilledDuringAStep(t *testing.T) {
 				t.Errorf("got %v, want ErrAway, and no change", err)
 			}
 			calls := 0
-			if err := transactions[of](store, background, &calls); err != nil {
-				t.Errorf("the next: got %v, want no error", err)
-			}
+			diff.NoError(t, transactions[of](store, background, &calls), "the next")
 		})
 	}
 }
@@ -474,9 +469,7 @@ func TestAServerThatHangs(t *testing.T) {
 			}
 		})
 	}
-	if err := store.Close(); err != nil {
-		t.Error(err)
-	}
+	diff.NoError(t, store.Close(), "")
 	wantQuick(t, begun)
 }
 
@@ -496,9 +489,7 @@ func TestClosingWhileTheServerHangs(t *testing.T) {
 	openAll(t, store, 4)
 	proxy.Hang(true)
 	begun := time.Now()
-	if err := store.Close(); err != nil {
-		t.Error(err)
-	}
+	diff.NoError(t, store.Close(), "")
 	wantQuick(t, begun)
 }
 
@@ -536,9 +527,7 @@ func TestAServerThatHangsInAStep(t *testing.T) {
 	if !errors.Is(err, platform.ErrAway) || !errors.Is(err, context.Canceled) {
 		t.Error(err)
 	}
-	if err := store.Close(); err != nil {
-		t.Error(err)
-	}
+	diff.NoError(t, store.Close(), "")
 	wantQuick(t, begun)
 }
 
@@ -672,9 +661,7 @@ func TestNoCircle(t *testing.T) {
 		go func(it caller) {
 			defer all.Done()
 			for n := 0; n < 60; n++ {
-				if err := it.call(); err != nil {
-					t.Error(err)
-				}
+				diff.NoError(t, it.call(), "")
 			}
 		}(caller{rand.New(rand.NewSource(int64(n))), stores[n%len(stores)], instances, bindings})
 	}
@@ -683,9 +670,7 @@ func TestNoCircle(t *testing.T) {
 		t.Errorf("got %d rows (%v), want more: no binding was ordered again", len(rows), err)
 	}
 	for _, store := range stores {
-		if err := store.Close(); err != nil {
-			t.Error(err)
-		}
+		diff.NoError(t, store.Close(), "")
 	}
 	await(t, db, "the sessions have ended",
 		"SELECT NOT EXISTS (SELECT FROM pg_stat_activity WHERE datname = $1 AND backend_type = 'client backend')", name)

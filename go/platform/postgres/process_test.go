@@ -99,9 +99,7 @@ func TestTwoProcesses(t *testing.T) {
 		}
 	}
 	for _, process := range processes {
-		if err := process.command.Wait(); err != nil {
-			t.Error(err)
-		}
+		diff.NoError(t, process.command.Wait(), "")
 	}
 	// Two claims that have each locked a row of the other return nothing. So some rows may be left.
 	for _, key := range claimFor(t, store, "the last", 2*rows) {
@@ -273,9 +271,7 @@ func claimFor(t testing.TB, store platform.Store, worker string, most int) (keys
 	}
 	for _, row := range claimed {
 		keys = append(keys, row.Key)
-		if row.Err != nil {
-			t.Errorf("%v: got %v, want no error", row.Key, row.Err)
-		}
+		diff.NoError(t, row.Err, "%v", row.Key)
 	}
 	return keys
 }
@@ -310,9 +306,7 @@ func TestAWorkerThatIsPausedBetweenTransactions(t *testing.T) {
 		}
 		return nil, nil
 	})
-	if err != nil {
-		t.Error(err)
-	}
+	diff.NoError(t, err, "")
 }
 
 // If the row of its instance is locked, a binding is passed over, and its row isn't locked. Otherwise two claims that
@@ -421,14 +415,10 @@ func TestBindingsThatWakeAtOnce(t *testing.T) {
 	}
 	gate.Open()
 	for n := 0; n < steps; n++ {
-		if err := <-done; err != nil {
-			t.Error(err)
-		}
+		diff.NoError(t, <-done, "")
 	}
 	diff.Equal(t, gate.Steps(), 0, "steps tried again")
 	for _, store := range stores {
-		if err := store.Close(); err != nil {
-			t.Error(err)
-		}
+		diff.NoError(t, store.Close(), "")
 	}
 }

@@ -246,4 +246,4 @@ func wantIndexed(t *testing.T, conn *sql.Conn, query, values, mode string) {
 	}
 }
 
-var check = diff.NoError
+var check = diff.Must

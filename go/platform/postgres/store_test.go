@@ -293,11 +293,9 @@ func TestRoundTrips(t *testing.T) {
 		}},
 	} {
 		proxy.Tally()
-		if err := test.call(); err != nil {
-			t.Errorf("%s: got %v, want no error", test.name, err)
-		}
+		diff.NoError(t, test.call(), "%s", test.name)
 		diff.Equal(t, proxy.Tally().Trips, test.want, "%s: round trips", test.name)
 	}
 }
 
-var check = diff.NoError
+var check = diff.Must

@@ -192,9 +192,7 @@ func TestTablesOf02(t *testing.T) {
 			brokers[0].URL != theBroker {
 			t.Errorf("the brokers: got %+v, %v, want the one of version 0.2", brokers, err)
 		}
-		if err := store.Close(); err != nil {
-			t.Error(err)
-		}
+		diff.NoError(t, store.Close(), "")
 	}
 	goOn02(t, open(t, url))
 	rejected02(t, url)
@@ -280,9 +278,7 @@ func TestAWorkerOf02(t *testing.T) {
 	if _, err := conn.ExecContext(background, "SELECT pg_advisory_unlock_all()"); err != nil {
 		t.Fatal(err)
 	}
-	if err := open(t, url).Close(); err != nil {
-		t.Error(err)
-	}
+	diff.NoError(t, open(t, url).Close(), "")
 }
 
 // Platforms that start at once create or extend the tables once.
@@ -304,9 +300,7 @@ func TestManyOpen(t *testing.T) {
 						t.Errorf("got %v, want no error", err)
 						return
 					}
-					if err := store.Close(); err != nil {
-						t.Error(err)
-					}
+					diff.NoError(t, store.Close(), "")
 				}()
 			}
 			all.Wait()
@@ -336,9 +330,7 @@ func TestOpenExisting(t *testing.T) {
 		if brokers, err := store.Brokers(background); err != nil || len(brokers) != 1 {
 			t.Errorf("%s: got %+v, %v, want one broker", tables, brokers, err)
 		}
-		if err := store.Close(); err != nil {
-			t.Error(err)
-		}
+		diff.NoError(t, store.Close(), "")
 	}
 }
 
@@ -372,9 +364,7 @@ func TestMissingColumns(t *testing.T) {
 		check(t, err)
 		diff.Check(t, got.EntryTexts, entry.EntryTexts, "without %q", lost)
 		diff.Check(t, got.OrderTexts, entry.OrderTexts, "without %q", lost)
-		if err := store.Close(); err != nil {
-			t.Error(err)
-		}
+		diff.NoError(t, store.Close(), "")
 	}
 }
 
@@ -402,9 +392,7 @@ func TestARoleThatMayNotAlter(t *testing.T) {
 	check(t, err)
 	defer store.Close()
 	for name, call := range calls(store, instance(7), binding(1, 7)) {
-		if err := call(); err != nil {
-			t.Errorf("%s: got %v, want no error", name, err)
-		}
+		diff.NoError(t, call(), "%s", name)
 	}
 }
 
@@ -436,9 +424,7 @@ func TestReadingLocksNothing(t *testing.T) {
 		go func() { done <- call() }()
 		select {
 		case err := <-done:
-			if err != nil {
-				t.Errorf("%s: got %v, want no error", name, err)
-			}
+			diff.NoError(t, err, "%s", name)
 		case <-ctx.Done():
 			t.Fatalf("%s: got no end in time, want one", name)
 		}

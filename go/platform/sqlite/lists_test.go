@@ -14,6 +14,7 @@ import (
 
 	"github.com/mattn/go-sqlite3"
 
+	"pippinterm/internal/diff"
 	"pippinterm/internal/sqlitefile"
 	"pippinterm/osb"
 	"pippinterm/platform"
@@ -55,9 +56,7 @@ func TestReadingLocksNothing(t *testing.T) {
 	begun := time.Now()
 	second := open(t, path)
 	for name, call := range reads(second, keyOf(1)) {
-		if err := call(background); err != nil {
-			t.Errorf("%s: got %v, want no error", name, err)
-		}
+		diff.NoError(t, call(background), "%s", name)
 	}
 	if took := time.Since(begun); took > 15*time.Second { // a lock that another has is waited for 30 seconds
 		t.Errorf("got an end after %v, want one within 15 s", took)
@@ -151,9 +150,7 @@ func TestNoCallChangesTables(t *testing.T) {
 	}
 	check(t, s.Insert(background, order(1), nil))
 	for name, call := range calls {
-		if err := call(background); err != nil {
-			t.Errorf("%s: got %v, want no error", name, err)
-		}
+		diff.NoError(t, call(background), "%s", name)
 		if after := query(t, path, schema); len(after) != 1 || after[0] != before[0] {
 			t.Fatalf("%s: got the schema %v, want %v", name, after, before)
 		}
@@ -250,9 +247,7 @@ func openMetered(t *testing.T) (*Store, *meter) {
 	check(t, err)
 	s := &Store{file: file}
 	t.Cleanup(func() {
-		if err := s.Close(); err != nil {
-			t.Error(err)
-		}
+		diff.NoError(t, s.Close(), "")
 	})
 	return s, m
 }
@@ -334,9 +329,7 @@ func fill(b *testing.B, rows int) *Store {
 		go func() {
 			defer all.Done()
 			for row := int(next.Add(1)); row <= rows; row = int(next.Add(1)) {
-				if err := s.Insert(background, benchRow(row), nil); err != nil {
-					b.Error(err)
-				}
+				diff.NoError(b, s.Insert(background, benchRow(row), nil), "")
 			}
 		}()
 	}

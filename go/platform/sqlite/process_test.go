@@ -11,6 +11,7 @@ import (
 	"testing"
 	"time"
 
+	"pippinterm/internal/diff"
 	"pippinterm/platform"
 )
 
@@ -114,9 +115,7 @@ func TestProcesses(t *testing.T) {
 	if end, _, err := s.Only(background, "child"); err != nil || end != nil {
 		t.Errorf("beside the child: got %t, %v, want none", end != nil, err)
 	}
-	if err := count(s); err != nil {
-		t.Error(err)
-	}
+	diff.NoError(t, count(s), "")
 	other.wait(t, "counted")
 	if got, err := s.Read(background, keyOf(1)); err != nil || got.Unchanged != 2*each {
 		t.Errorf("got a count of %d, want %d: %v", got.Unchanged, 2*each, err)

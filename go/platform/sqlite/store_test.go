@@ -40,9 +40,7 @@ func open(t testing.TB, path string) *Store {
 	s, err := Open(background, path)
 	check(t, err)
 	t.Cleanup(func() {
-		if err := s.Close(); err != nil {
-			t.Error(err)
-		}
+		diff.NoError(t, s.Close(), "")
 	})
 	return s
 }
@@ -158,9 +156,7 @@ func TestOpenExisting(t *testing.T) {
 		if brokers, err := store.Brokers(background); err != nil || len(brokers) != 1 {
 			t.Errorf("%s: got %+v, %v, want one broker", tables, brokers, err)
 		}
-		if err := store.Close(); err != nil {
-			t.Error(err)
-		}
+		diff.NoError(t, store.Close(), "")
 	}
 }
 
@@ -328,9 +324,7 @@ func TestMigrationsAtOnce(t *testing.T) {
 			if rows, err := s.List(background, platform.Filter{}); err != nil || len(rows) != 12 {
 				t.Errorf("got %d rows, %v, want 12", len(rows), err)
 			}
-			if err := s.Close(); err != nil {
-				t.Error(err)
-			}
+			diff.NoError(t, s.Close(), "")
 		}()
 	}
 	all.Wait()
@@ -548,9 +542,7 @@ func wantIndexed(t *testing.T, c *connection, query string, values int, isFew bo
 		}
 		return nil
 	})
-	if err != nil {
-		t.Error(err)
-	}
+	diff.NoError(t, err, "")
 }
 
 // A symbolic link in place of a worker's lock isn't followed.
@@ -641,4 +633,4 @@ func TestOpeningThatFails(t *testing.T) {
 	}
 }
 
-var check = diff.NoError
+var check = diff.Must

@@ -34,4 +34,4 @@ func TestPausedWorker(t *testing.T) {
 	})
 }
 
-var check = diff.NoError
+var check = diff.Must

@@ -116,9 +116,7 @@ func testCounter(t *testing.T, open opener) {
 			go func(store platform.Store, key platform.Key) {
 				defer all.Done()
 				for i := 0; i < each; i++ {
-					if err := changeError(store, key, countOne); err != nil {
-						t.Errorf("%v: got %v, want no error", key, err)
-					}
+					diff.NoError(t, changeError(store, key, countOne), "%v", key)
 				}
 			}(stores[n%2], key)
 		}
@@ -191,12 +189,8 @@ func exclude(t *testing.T, first, second platform.Store, one, other platform.Key
 	case <-time.After(soon):
 	}
 	gate.Open()
-	if err := <-done; err != nil {
-		t.Errorf("the first: got %v, want no error", err)
-	}
-	if err := <-late; err != nil {
-		t.Errorf("the second: got %v, want no error", err)
-	}
+	diff.NoError(t, <-done, "the first")
+	diff.NoError(t, <-late, "the second")
 }
 
 // seesFirst fails unless the second transaction sees what the first has written.
@@ -230,9 +224,7 @@ func testInstanceOfBinding(t *testing.T, open opener) {
 			snapshot.Instance.Because = "a step can't change this"
 			return &platform.Change{Entry: snapshot.Entry}, nil
 		})
-		if err != nil {
-			t.Error(err)
-		}
+		diff.NoError(t, err, "")
 		wantEntry(t, "the instance", read(t, first, instance(1)), of)
 	}
 	wantEntry(t, "another instance", read(t, first, instance(2)), order(instance(2)))
@@ -298,9 +290,7 @@ func wantAllGone(t *testing.T, store platform.Store, want bool, what string) {
 		}
 		return nil, nil
 	})
-	if err != nil {
-		t.Errorf("%s: got %v, want no error", what, err)
-	}
+	diff.NoError(t, err, "%s", what)
 }
 
 // The removal of an instance's bindings is written to those that may be, and they are due at once.

@@ -27,9 +27,7 @@ func claim(t *testing.T, store platform.Store, of []string, most int, until time
 	keys := []platform.Key{}
 	for _, row := range claimed {
 		keys = append(keys, row.Key)
-		if row.Err != nil {
-			t.Errorf("the claim of %v: got %v, want no error", row.Key, row.Err)
-		}
+		diff.NoError(t, row.Err, "the claim of %v", row.Key)
 	}
 	diff.Check(t, keys, stepped, "the claimed rows, and those that were stepped")
 	return keys
@@ -260,9 +258,7 @@ func testClaimsAtOnce(t *testing.T, open opener) {
 			defer all.Done()
 			for most := 1; most <= 2*rows; most++ {
 				claimed, err := store.Claim(background, brokers, most, leaseFor(worker))
-				if err != nil {
-					t.Errorf("Claim: got %v, want no error", err)
-				}
+				diff.NoError(t, err, "Claim")
 				take(claimed)
 				if len(claimed) == 0 { // others have locked what is left
 					return
@@ -314,9 +310,7 @@ func testClaimPassesOver(t *testing.T, open opener) {
 	case <-time.After(soon):
 	}
 	gate.Open()
-	if err := <-done; err != nil {
-		t.Errorf("Change: got %v, want no error", err)
-	}
+	diff.NoError(t, <-done, "Change")
 	if err := <-late; err != nil || len(claimed) != 1 || claimed[0] != (platform.ClaimedRow{Key: instance(2)}) {
 		t.Errorf("beside a transaction: got %v claimed, %v, want the second only", claimed, err)
 	}

@@ -7,6 +7,7 @@ import (
 	"testing"
 	"time"
 
+	"pippinterm/internal/diff"
 	"pippinterm/internal/storefaults"
 	"pippinterm/platform"
 )
@@ -46,9 +47,7 @@ func TestFaults(t *testing.T, by Faulty) {
 			})
 		}
 	}
-	if err := store.Close(); err != nil {
-		t.Errorf("Close: got %v, want no error", err)
-	}
+	diff.NoError(t, store.Close(), "Close")
 }
 
 // faulty is a store of which one call fails, beside another one of the same database.

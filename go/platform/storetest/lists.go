@@ -127,9 +127,7 @@ func wantList(
 func wantListed(t *testing.T, store platform.Store, filter platform.Filter, want []platform.Key) {
 	t.Helper()
 	got, err := store.List(background, filter)
-	if err != nil {
-		t.Errorf("%+v: got %v, want no error", filter, err)
-	}
+	diff.NoError(t, err, "%+v", filter)
 	wantKeys(t, fmt.Sprintf("%+v", filter), got, want...)
 	wantBrief(t, store, filter, got)
 	inPages(t, store, filter, want)

@@ -97,9 +97,7 @@ func openStore(t *testing.T, open opener) platform.Store {
 	t.Helper()
 	store := open(t)
 	t.Cleanup(func() {
-		if err := store.Close(); err != nil {
-			t.Errorf("Close: got %v, want no error", err)
-		}
+		diff.NoError(t, store.Close(), "Close")
 	})
 	return store
 }
@@ -238,7 +236,7 @@ func answer(t *testing.T, key platform.Key, record osb.Record, status uint16) os
 	return next
 }
 
-var check = diff.NoError
+var check = diff.Must
 
 // brokerOf is a broker of a name.
 func brokerOf(name string) platform.Broker { return platform.Broker{Name: name, URL: "http://" + name} }
@@ -415,13 +413,9 @@ func wantRead(t *testing.T, store platform.Store, want platform.Entry) {
 		}
 		return nil, nil
 	})
-	if err != nil {
-		t.Errorf("Change of %v: got %v, want no error", want.Key, err)
-	}
+	diff.NoError(t, err, "Change of %v", want.Key)
 	rows, err := store.List(background, platform.Filter{States: []platform.State{want.State}})
-	if err != nil {
-		t.Errorf("List: got %v, want no error", err)
-	}
+	diff.NoError(t, err, "List")
 	for _, row := range rows {
 		if row.Key == want.Key {
 			wantEntry(t, "in a list, "+want.Key.String(), row, want)
@@ -600,9 +594,7 @@ func testCancelled(t *testing.T, open opener) {
 func testReady(t *testing.T, open opener) {
 	store := openStore(t, open)
 	for n := 0; n < 2; n++ {
-		if err := store.Ready(background); err != nil {
-			t.Errorf("Ready: got %v, want no error", err)
-		}
+		diff.NoError(t, store.Ready(background), "Ready")
 	}
 	if rows, err := store.List(background, platform.Filter{}); err != nil || len(rows) != 0 {
 		t.Errorf("List: got %v, %v, want none", rows, err)
@@ -631,12 +623,8 @@ func testClose(t *testing.T, open opener) {
 	case <-time.After(soon):
 	}
 	gate.Open()
-	if err := <-changed; err != nil {
-		t.Errorf("the Change: got %v, want no error", err)
-	}
-	if err := <-closed; err != nil {
-		t.Errorf("Close: got %v, want no error", err)
-	}
+	diff.NoError(t, <-changed, "the Change")
+	diff.NoError(t, <-closed, "Close")
 	wantEntry(t, "after Close", read(t, other, instance(1)), written)
 	err := store.Change(background, instance(2), func(time.Time, platform.Snapshot) (*platform.Change, error) {
 		return &platform.Change{Entry: written}, nil
@@ -799,9 +787,7 @@ func testBrokerWithOrders(t *testing.T, open opener) {
 			t.Errorf("%s: got %v, want ErrUsed", name, err)
 		}
 	}
-	if err := store.DropBroker(background, "three"); err != nil {
-		t.Errorf("three: got %v, want no error", err)
-	}
+	diff.NoError(t, store.DropBroker(background, "three"), "three")
 	if all, err := store.Brokers(background); err != nil || len(all) != 2 {
 		t.Errorf("Brokers: got %v, %v, want 2", all, err)
 	}
@@ -857,9 +843,7 @@ func insertBesideDrop(t *testing.T, first, second platform.Store, entry platform
 	case <-time.After(soon):
 	}
 	gate.Open()
-	if err := <-inserted; err != nil {
-		t.Errorf("Insert of %v: got %v, want no error", entry.Key, err)
-	}
+	diff.NoError(t, <-inserted, "Insert of %v", entry.Key)
 	diff.ErrorIs(t, <-dropped, platform.ErrUsed, "DropBroker with %v", entry.Key)
 }
 
@@ -934,9 +918,7 @@ func testBrokerCounter(t *testing.T, open opener) {
 		go func(store platform.Store, isUser bool) {
 			defer all.Done()
 			for n := 0; n < each; n++ {
-				if err := store.ChangeBroker(background, "one", counting(isUser)); err != nil {
-					t.Errorf("ChangeBroker: got %v, want no error", err)
-				}
+				diff.NoError(t, store.ChangeBroker(background, "one", counting(isUser)), "ChangeBroker")
 			}
 		}(stores[n%2], n%3 == 0)
 	}

@@ -15,6 +15,7 @@ import (
 	"testing"
 	"time"
 
+	"pippinterm/internal/diff"
 	"pippinterm/osb"
 	"pippinterm/platform"
 	"pippinterm/platform/client"
@@ -358,9 +359,7 @@ func BenchmarkSteps(b *testing.B, stores ...platform.Store) {
 		all.Add(1)
 		go func() {
 			defer all.Done()
-			if err := engine.Run(background, counting.stop); err != nil {
-				b.Error(err)
-			}
+			diff.NoError(b, engine.Run(background, counting.stop), "")
 		}()
 	}
 	all.Wait()

@@ -57,7 +57,7 @@ func newRig(t *testing.T, by *Vault, bindings int) *rig {
 	return r
 }
 
-var check = diff.NoError
+var check = diff.Must
 
 func secretOf(key platform.Key) string {
 	return fmt.Sprintf(`{"credentials":{"password":"of %s"}}`, key.Binding)
@@ -696,9 +696,7 @@ func TestRenewAtOnce(t *testing.T) {
 			if _, err := newVault(t, one).Renew(background, own); err != nil {
 				t.Error(err)
 			}
-			if err := own.Close(); err != nil {
-				t.Error(err)
-			}
+			diff.NoError(t, own.Close(), "")
 		}()
 	}
 	all.Wait()

@@ -112,4 +112,4 @@ func TestOurBroker(t *testing.T) {
 	}
 }
 
-var check = diff.NoError
+var check = diff.Must

@@ -526,4 +526,4 @@ func TestHider(t *testing.T) {
 	diff.Equal(t, (Hider{}).In("abc")+NewHider("u", "").In("abc"), "abcabc", "")
 }
 
-var check = diff.NoError
+var check = diff.Must

@@ -490,4 +490,4 @@ func TestSilentConnection(t *testing.T) {
 	diff.Equal(t, p.Pending(), 0, "pending")
 }
 
-var check = diff.NoError
+var check = diff.Must

@@ -288,4 +288,4 @@ func TestCandidates(t *testing.T) {
 	}
 }
 
-var check = diff.NoError
+var check = diff.Must

@@ -75,9 +75,7 @@ func TestJournal(t *testing.T) {
 				}
 			})
 		}
-		if err := b.Close(); err != nil {
-			t.Error(err)
-		}
+		diff.NoError(t, b.Close(), "")
 		if files, err := os.ReadDir(config.Folder); err != nil || len(files) > 0 {
 			t.Errorf("got %v %v left, want none", err, files)
 		}
@@ -285,9 +283,7 @@ func TestKeyring(t *testing.T) {
 			k.run(ctx)
 			cancel()
 			s = test.then
-			if err := k.finish(context.Background()); err != nil {
-				t.Errorf("%s: got the error %v, want none", name, err)
-			}
+			diff.NoError(t, k.finish(context.Background()), "%s", name)
 			var found []string
 			for _, difference := range k.differences() {
 				found = append(found, difference.What)
@@ -472,9 +468,7 @@ func (l *leaving) holdings(t *testing.T) map[Key]audit.Row {
 	const ready = `{"attributes":"%064d","row":{"phase":"ready","plan":"%s","service":"%s"},"tombstone":false,` +
 		`"version":2,"work":null}`
 	var holding osb.Holding
-	if err := holding.UnmarshalJSON([]byte(fmt.Sprintf(ready, 0, goods.AtOnce, goods.Service))); err != nil {
-		t.Error(err)
-	}
+	diff.NoError(t, holding.UnmarshalJSON([]byte(fmt.Sprintf(ready, 0, goods.AtOnce, goods.Service))), "")
 	l.mutex.Lock()
 	defer l.mutex.Unlock()
 	all := map[Key]audit.Row{}

@@ -55,9 +55,7 @@ func TestCommandLines(t *testing.T) {
 		func() error { return c.Remove(ctx, one, false) }, func() error { return c.Remove(ctx, bound, false) },
 		func() error { return c.Retry(ctx, one) },
 	} {
-		if err := call(); err != nil {
-			t.Error(err)
-		}
+		diff.NoError(t, call(), "")
 	}
 	if err := c.Bind(ctx, bound); err == nil { // the script writes no order
 		t.Error("the binding: got no error, want one")

@@ -844,4 +844,4 @@ func TestLivesOfTrial(t *testing.T) {
 	diff.Check(t, b.lives(0), wanted, "the lives of the trial")
 }
 
-var check = diff.NoError
+var check = diff.Must

@@ -217,7 +217,7 @@ var (
 	binding  = broker.BindingKey(one, bound)
 )
 
-var check = diff.NoError
+var check = diff.Must
 
 // openEmpty is an empty store.
 func openEmpty(t *testing.T) broker.NamedStore {

@@ -647,9 +647,7 @@ func TestNobodyIsToldWhatAProcessStillChanges(t *testing.T) {
 	if !errors.Is(err, broker.ErrNobodyKnows) || !strings.Contains(err.Error(), filelock.ErrLent.Error()) {
 		t.Errorf("the Provision: got %v, %v, want %v", response, err, filelock.ErrLent)
 	}
-	if err := service.TakeUp(ctx, instance.Key); err != nil {
-		t.Errorf("TakeUp while the process runs: got %v, want no error", err)
-	}
+	diff.NoError(t, service.TakeUp(ctx, instance.Key), "TakeUp while the process runs")
 	if snapshot, err := store.Read(ctx, instance.Key); err != nil || !isPending(snapshot) {
 		t.Errorf("got %v, %v, want the work pending", snapshot.Holding, err)
 	}
@@ -669,4 +667,4 @@ func isPending(snapshot broker.Snapshot) bool {
 	return isPending
 }
 
-var check = diff.NoError
+var check = diff.Must

@@ -62,12 +62,9 @@ func TestLimitsOfTheSupervisor(t *testing.T) {
 func TestInputThatIsNotRead(t *testing.T) {
 	request := instance
 	request.Body = json.RawMessage(`{"parameters": {"x": "` + strings.Repeat("x", 1<<20) + `"}}`)
-	if err := newBackend(t, Options{}, `exec <&-`).Create(ctx, request); err != nil {
-		t.Errorf("Create: got %v, want no error", err)
-	}
-	if err := newBackend(t, Options{}, `[ $(cat | wc -c) -gt 1048576 ]`).Create(ctx, request); err != nil {
-		t.Errorf("a program that reads it: got %v, want no error", err)
-	}
+	diff.NoError(t, newBackend(t, Options{}, `exec <&-`).Create(ctx, request), "Create")
+	diff.NoError(t, newBackend(t, Options{}, `[ $(cat | wc -c) -gt 1048576 ]`).Create(ctx, request),
+		"a program that reads it")
 }
 
 // A process that runs on, such as a server that is sold, may have the input open.
@@ -76,9 +73,7 @@ func TestInputThatStaysOpen(t *testing.T) {
 	request.Body = json.RawMessage(`{"parameters": {"x": "` + strings.Repeat("x", 1<<20) + `"}}`)
 	const text = `exec 4<&0; sleep 600 <&4 >/dev/null 2>&1 3>&- & echo $! >pid`
 	backend := newBackend(t, Options{Limit: 20 * time.Second}, text)
-	if err := backend.Create(ctx, request); err != nil {
-		t.Errorf("Create: got %v, want no error", err)
-	}
+	diff.NoError(t, backend.Create(ctx, request), "Create")
 	ok(t, syscall.Kill(pidOf(t, backend), syscall.SIGKILL)) // it still runs
 }
 
@@ -103,9 +98,7 @@ func TestEndOfARun(t *testing.T) {
 			if _, err := goOn.WriteString("go\n"); err != nil {
 				t.Fatal(err)
 			}
-			if err := <-ended; err != nil {
-				t.Errorf("Create: got %v, want no error", err)
-			}
+			diff.NoError(t, <-ended, "Create")
 			if _, err := os.Stat(backend.state + "/done"); err != nil {
 				t.Errorf("Create before the work was done: got %v, want no error", err)
 			}

@@ -108,9 +108,7 @@ func TestOneCallForAllWhoWait(t *testing.T) {
 		late = append(late, s.start(ctx))
 	}
 	s.end <- nil
-	if err := <-early; err != nil {
-		t.Errorf("the first call: got %v, want no error", err)
-	}
+	diff.NoError(t, <-early, "the first call")
 	<-s.begun
 	time.Sleep(20 * time.Millisecond) // whoever doesn't wait for the end of the call returns meanwhile
 	for n, returned := range late {
@@ -137,15 +135,11 @@ func TestWhoeverWaitsMayLeave(t *testing.T) {
 	leave()
 	diff.ErrorIs(t, <-left, context.Canceled, "who left")
 	s.end <- nil
-	if err := <-first; err != nil {
-		t.Errorf("the first: got %v, want no error", err)
-	}
+	diff.NoError(t, <-first, "the first")
 	next := s.start(ctx)
 	<-s.begun
 	s.end <- nil
-	if err := <-next; err != nil {
-		t.Errorf("the next: got %v, want no error", err)
-	}
+	diff.NoError(t, <-next, "the next")
 }
 
 // Whoever could make a call that has just ended doesn't make it again.

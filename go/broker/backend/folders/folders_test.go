@@ -433,9 +433,7 @@ func TestOwnersAtOnce(t *testing.T) {
 		go func(n int, store string) {
 			defer all.Done()
 			owner, err := f.Own(ctx, store)
-			if err != nil {
-				t.Error(err)
-			}
+			diff.NoError(t, err, "")
 			owners[n] = owner
 		}(n, store)
 	}

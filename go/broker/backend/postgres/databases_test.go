@@ -33,18 +33,14 @@ func TestCreateAndDelete(t *testing.T) {
 	d := r.open()
 	it := lock(t, d, newInstance(t))
 	wantThere(t, d, it, broker.None)
-	if err := d.Delete(it.ctx, it.request); err != nil {
-		t.Errorf("Delete of nothing: got %v, want no error", err)
-	}
+	diff.NoError(t, d.Delete(it.ctx, it.request), "Delete of nothing")
 	for n := 0; n < 2; n++ {
 		if err := d.Create(it.ctx, it.request); err != nil {
 			t.Fatalf("Create: got %v, want no error", err)
 		}
 		wantThere(t, d, it, broker.Whole)
 		pgtest.Exec(t, r.customer(it.request.Key), "CREATE TABLE t (x integer)", "CREATE SCHEMA s", "CREATE EXTENSION hstore")
-		if err := d.Sync(it.ctx, it.request); err != nil {
-			t.Errorf("Sync: got %v, want no error", err)
-		}
+		diff.NoError(t, d.Sync(it.ctx, it.request), "Sync")
 	}
 	for n := 0; n < 2; n++ {
 		if err := d.Delete(it.ctx, it.request); err != nil {
@@ -82,13 +78,9 @@ func TestParts(t *testing.T) {
 				test.undo(t, postgres.NameOf(of.request.Key))
 				wantThere(t, d, of, broker.Part)
 			}
-			if err := d.Delete(deleted.ctx, deleted.request); err != nil {
-				t.Errorf("Delete: got %v, want no error", err)
-			}
+			diff.NoError(t, d.Delete(deleted.ctx, deleted.request), "Delete")
 			wantThere(t, d, deleted, broker.None)
-			if err := d.Create(completed.ctx, completed.request); err != nil {
-				t.Errorf("Create: got %v, want no error", err)
-			}
+			diff.NoError(t, d.Create(completed.ctx, completed.request), "Create")
 			wantThere(t, d, completed, broker.Whole)
 			pgtest.Exec(t, r.customer(completed.request.Key), "CREATE TABLE t (x integer)")
 		})
@@ -222,9 +214,7 @@ func TestBindAndUnbind(t *testing.T) {
 	it := createInstance(t, d)
 	bind := lock(t, d, broker.BindingKey(it.request.Key.Instance, randomID(t)))
 	wantThere(t, d, bind, broker.None)
-	if err := d.DeleteBinding(bind.ctx, bind.request); err != nil {
-		t.Errorf("DeleteBinding of nothing: got %v, want no error", err)
-	}
+	diff.NoError(t, d.DeleteBinding(bind.ctx, bind.request), "DeleteBinding of nothing")
 	for n := 0; n < 2; n++ {
 		if _, err := d.CreateBinding(bind.ctx, bind.request); err != nil {
 			t.Fatalf("CreateBinding: got %v, want no error", err)
@@ -257,9 +247,7 @@ func TestABindingWithoutADatabase(t *testing.T) {
 	if _, err := d.CreateBinding(bind.ctx, bind.request); err == nil {
 		t.Error("CreateBinding: got no error, want one")
 	}
-	if err := d.DeleteBinding(bind.ctx, bind.request); err != nil {
-		t.Errorf("DeleteBinding: got %v, want no error", err)
-	}
+	diff.NoError(t, d.DeleteBinding(bind.ctx, bind.request), "DeleteBinding")
 	r.wantNothing(broker.InstanceKey(bind.request.Key.Instance))
 }
 
@@ -309,9 +297,7 @@ func TestWhoWasBoundDoesNotComeBack(t *testing.T) {
 	if err := r.login(name, "of the application", name).Ping(); err == nil {
 		t.Error("the application's password: got no error, want one")
 	}
-	if err := r.customer(it.request.Key).Ping(); err != nil {
-		t.Errorf("the broker's password: got %v, want no error", err)
-	}
+	diff.NoError(t, r.customer(it.request.Key).Ping(), "the broker's password")
 	if _, err := other.ExecContext(context.Background(), "COMMIT"); err != nil {
 		t.Errorf("the other binding: got %v, want no error", err)
 	}
@@ -350,9 +336,7 @@ func TestARoleThatOwnsALot(t *testing.T) {
 	bind, one := bound(t, d, it.request.Key)
 	name, others := postgres.NameOf(it.request.Key), postgres.NameOf(other.request.Key)
 	count := createMany(t, r, r.login(one.Username, one.Password, one.Database), manyViews)
-	if err := d.DeleteBinding(bind.ctx, bind.request); err != nil {
-		t.Errorf("DeleteBinding: got %v, want no error", err)
-	}
+	diff.NoError(t, d.DeleteBinding(bind.ctx, bind.request), "DeleteBinding")
 	in := &rig{t: t, admin: pgtest.DB(t, pgtest.In(t, pgtest.URL(t), name))}
 	got := in.column("SELECT count(*)::text FROM pg_views WHERE schemaname = 's' AND viewowner = $1", name)
 	if len(got) != 1 || got[0] != count {
@@ -362,9 +346,7 @@ func TestARoleThatOwnsALot(t *testing.T) {
 	pgtest.Exec(t, r.customer(other.request.Key), "GRANT ALL ON DATABASE "+others+" TO "+name)
 	createMany(t, r, r.login(name, postgres.PasswordOf(secret, it.request.Key), others), manyViews,
 		"CREATE FUNCTION s.f%d() RETURNS integer LANGUAGE sql AS ''SELECT 1''", "CREATE COLLATION s.c%d FROM \"C\"")
-	if err := d.Delete(it.ctx, it.request); err != nil {
-		t.Errorf("Delete: got %v, want no error", err)
-	}
+	diff.NoError(t, d.Delete(it.ctx, it.request), "Delete")
 	r.wantNothing(it.request.Key)
 	wantThere(t, d, other, broker.Whole)
 }
@@ -408,9 +390,7 @@ func TestUnbindSideBySide(t *testing.T) {
 		go func() { given <- d.DeleteBinding(bind.ctx, bind.request) }()
 	}
 	for range binds {
-		if err := <-given; err != nil {
-			t.Errorf("DeleteBinding: got %v, want no error", err)
-		}
+		diff.NoError(t, <-given, "DeleteBinding")
 	}
 }
 
@@ -424,9 +404,7 @@ func TestABindingThatHoldsTheInstancesRole(t *testing.T) {
 	hold(t, r.login(two.Username, two.Password, two.Database), "BEGIN", "ALTER ROLE CURRENT_USER PASSWORD 'x'")
 	wantQuick(t, "DeleteBinding", func() error { return d.DeleteBinding(bind.ctx, bind.request) })
 	wantThere(t, d, bind, broker.None)
-	if err := r.customer(it.request.Key).Ping(); err != nil {
-		t.Errorf("the broker's password: got %v, want no error", err)
-	}
+	diff.NoError(t, r.customer(it.request.Key).Ping(), "the broker's password")
 }
 
 // What a binding owns by its own role, and what was granted to that, keeps nobody from unbinding.

@@ -11,6 +11,7 @@ import (
 
 	"pippinterm/broker"
 	"pippinterm/broker/backend/postgres"
+	"pippinterm/internal/diff"
 	"pippinterm/internal/pg/pgtest"
 	"pippinterm/internal/storefaults"
 )
@@ -56,9 +57,7 @@ func statementsOf(statements []string, key broker.Key) (of []string) {
 func wantQuick(t *testing.T, what string, call func() error) {
 	t.Helper()
 	begin := time.Now()
-	if err := call(); err != nil {
-		t.Errorf("%s: got the error %v, want none", what, err)
-	}
+	diff.NoError(t, call(), "%s", what)
 	if took := time.Since(begin); took > 8*time.Second {
 		t.Errorf("%s: got %v, want at most %v", what, took, 8*time.Second)
 	}
@@ -91,9 +90,7 @@ func TestAPreparedTransaction(t *testing.T) {
 	operator := pgtest.DB(t, pgtest.In(t, pgtest.URL(t), name))
 	pgtest.Exec(t, operator, "ROLLBACK PREPARED '"+name+"'")
 	_ = operator.Close() // the broker can't end a superuser's session
-	if err := d.Delete(it.ctx, it.request); err != nil {
-		t.Errorf("Delete once it has ended: got %v, want no error", err)
-	}
+	diff.NoError(t, d.Delete(it.ctx, it.request), "Delete once it has ended")
 	r.wantNothing(it.request.Key)
 }
 
@@ -178,9 +175,7 @@ func TestACustomerThatShutsItsDatabase(t *testing.T) {
 		}()
 	}
 	<-begun
-	if err := d.Delete(of.ctx, of.request); err != nil {
-		t.Errorf("Delete: got %v, want no error", err)
-	}
+	diff.NoError(t, d.Delete(of.ctx, of.request), "Delete")
 	r.wantNothing(of.request.Key)
 }
 
@@ -195,9 +190,7 @@ func TestPoliciesOnManyTables(t *testing.T) {
 	name, thirds := postgres.NameOf(of.request.Key), postgres.NameOf(third.request.Key)
 	count := createMany(t, r, r.customer(other.request.Key), "CREATE TABLE s.t%d ()",
 		"CREATE POLICY one ON s.t%d TO "+name, "CREATE POLICY two ON s.t%d TO "+name+", "+thirds)
-	if err := d.Delete(of.ctx, of.request); err != nil {
-		t.Errorf("Delete: got %v, want no error", err)
-	}
+	diff.NoError(t, d.Delete(of.ctx, of.request), "Delete")
 	r.wantNothing(of.request.Key)
 	in := &rig{t: t, admin: pgtest.DB(t, pgtest.In(t, pgtest.URL(t), postgres.NameOf(other.request.Key)))}
 	got := in.column("SELECT DISTINCT concat_ws(' ', policyname, roles, count(*)) FROM pg_policies GROUP BY policyname, roles")
@@ -219,12 +212,8 @@ func TestPartsOfAnExtension(t *testing.T) {
 		"SET ROLE NONE", `CREATE TABLE s."a table" ()`, `ALTER EXTENSION hstore ADD TABLE s."a table"`,
 		"CREATE FUNCTION s.f(integer[]) RETURNS integer LANGUAGE sql AS 'SELECT 1'",
 		"ALTER EXTENSION hstore ADD FUNCTION s.f(integer[])")
-	if err := d.DeleteBinding(bind.ctx, bind.request); err != nil {
-		t.Errorf("DeleteBinding: got %v, want no error", err)
-	}
-	if err := d.Delete(of.ctx, of.request); err != nil {
-		t.Errorf("Delete: got %v, want no error", err)
-	}
+	diff.NoError(t, d.DeleteBinding(bind.ctx, bind.request), "DeleteBinding")
+	diff.NoError(t, d.Delete(of.ctx, of.request), "Delete")
 	r.wantNothing(of.request.Key)
 }
 
@@ -246,12 +235,8 @@ func TestManyLargeObjects(t *testing.T) {
 		manyLargeObjects)
 	bind, binding := bound(t, d, other.request.Key)
 	hold(t, r.login(binding.Username, binding.Password, binding.Database), "SET ROLE NONE", manyLargeObjects)
-	if err := d.DeleteBinding(bind.ctx, bind.request); err != nil {
-		t.Errorf("DeleteBinding: got %v, want no error", err)
-	}
-	if err := d.Delete(of.ctx, of.request); err != nil {
-		t.Errorf("Delete: got %v, want no error", err)
-	}
+	diff.NoError(t, d.DeleteBinding(bind.ctx, bind.request), "DeleteBinding")
+	diff.NoError(t, d.Delete(of.ctx, of.request), "Delete")
 	r.wantNothing(of.request.Key)
 	wantThere(t, d, other, broker.Whole)
 }
@@ -278,9 +263,7 @@ func TestRolesThatAreLeft(t *testing.T) {
 		of   lockedKey
 	}{{"Delete of another", d.Delete, of}, {"DeleteBinding", d.DeleteBinding, bind}, {"Delete", d.Delete, other}} {
 		pgtest.Exec(t, r.admin, leave)
-		if err := test.call(test.of.ctx, test.of.request); err != nil {
-			t.Errorf("%s: got the error %v, want none", test.name, err)
-		}
+		diff.NoError(t, test.call(test.of.ctx, test.of.request), "%s", test.name)
 		r.wantNothing(test.of.request.Key)
 		leave = "REVOKE " + name + ", " + two.Username + " FROM " + r.role
 	}
@@ -365,9 +348,7 @@ func TestACustomerThatComesAgain(t *testing.T) {
 		}
 	}
 	<-entered
-	if err := d.Delete(it.ctx, it.request); err != nil {
-		t.Errorf("Delete: got %v, want no error", err)
-	}
+	diff.NoError(t, d.Delete(it.ctx, it.request), "Delete")
 	wantThere(t, d, it, broker.None)
 }
 
@@ -397,9 +378,7 @@ func TestInTheBrokersDatabase(t *testing.T) {
 	name := postgres.NameOf(it.request.Key)
 	pgtest.Exec(t, r.admin, "GRANT CONNECT ON DATABASE "+r.role+" TO "+name)
 	pgtest.Exec(t, r.login(name, postgres.PasswordOf(secret, it.request.Key), r.role), "SELECT lo_create(0)")
-	if err := d.Delete(it.ctx, it.request); err != nil {
-		t.Errorf("Delete: got %v, want no error", err)
-	}
+	diff.NoError(t, d.Delete(it.ctx, it.request), "Delete")
 	r.wantNothing(it.request.Key)
 }
 
@@ -411,9 +390,7 @@ func TestBindingsGoToo(t *testing.T) {
 	_, one := bound(t, d, it.request.Key)
 	hold(t, r.login(one.Username, one.Password, one.Database), "SET ROLE NONE", "CREATE TABLE t (x integer)", "BEGIN",
 		"LOCK TABLE t")
-	if err := d.Delete(it.ctx, it.request); err != nil {
-		t.Errorf("Delete: got %v, want no error", err)
-	}
+	diff.NoError(t, d.Delete(it.ctx, it.request), "Delete")
 	r.wantNothing(it.request.Key)
 }
 
@@ -550,9 +527,7 @@ func wantOurs(t *testing.T, r *rig, d *postgres.Databases, held lockedKey) {
 	t.Helper()
 	wantThere(t, d, held, broker.Whole)
 	bound(t, d, held.request.Key)
-	if err := d.Delete(held.ctx, held.request); err != nil {
-		t.Errorf("Delete: got %v, want no error", err)
-	}
+	diff.NoError(t, d.Delete(held.ctx, held.request), "Delete")
 	r.wantNothing(held.request.Key)
 }
 
@@ -723,9 +698,7 @@ func TestWhatSomebodyElseHasGranted(t *testing.T) {
 	pgtest.Exec(t, r.customer(owner.request.Key), first...)
 	pgtest.Exec(t, r.login(grantors, postgres.PasswordOf(secret, grantor.request.Key), owners), second...)
 	pgtest.Exec(t, r.customer(owner.request.Key), "REVOKE USAGE ON SCHEMA s FROM "+owners)
-	if err := d.Delete(of.ctx, of.request); err != nil {
-		t.Errorf("Delete: got %v, want no error", err)
-	}
+	diff.NoError(t, d.Delete(of.ctx, of.request), "Delete")
 	r.wantNothing(of.request.Key)
 	wantThere(t, d, owner, broker.Whole)
 	for _, grant := range grants { // the grantor's own rights stay
@@ -755,9 +728,7 @@ func TestGrantsOnManyColumns(t *testing.T) {
 		return bytes
 	}
 	before := size()
-	if err := d.Delete(of.ctx, of.request); err != nil {
-		t.Errorf("Delete: got %v, want no error", err)
-	}
+	diff.NoError(t, d.Delete(of.ctx, of.request), "Delete")
 	r.wantNothing(of.request.Key)
 	if grown := size() - before; grown > 1<<20 {
 		t.Errorf("got a catalogue of columns that grew by %d bytes, want at most 1 MiB", grown)
@@ -781,9 +752,7 @@ func TestTheHeirLacksRights(t *testing.T) {
 		"REVOKE ALL ON SCHEMA z FROM " + binding.Username, "RESET ROLE", "REVOKE ALL ON SCHEMA s FROM $name",
 		"REVOKE ALL ON DATABASE $name FROM $name", "GRANT CONNECT ON DATABASE $name TO $name"}
 	hold(t, r.login(binding.Username, binding.Password, binding.Database), statementsOf(statements, of.request.Key)...)
-	if err := d.DeleteBinding(bind.ctx, bind.request); err != nil {
-		t.Errorf("DeleteBinding: got %v, want no error", err)
-	}
+	diff.NoError(t, d.DeleteBinding(bind.ctx, bind.request), "DeleteBinding")
 	r.wantNothing(bind.request.Key)
 	pgtest.Exec(t, r.customer(of.request.Key), "GRANT USAGE ON SCHEMA s, z TO CURRENT_USER", "SELECT s.f() + z.g()")
 }
@@ -797,8 +766,6 @@ func TestWhoHoldsALockFromElsewhere(t *testing.T) {
 	pgtest.Exec(t, r.customer(other.request.Key), "GRANT CONNECT ON DATABASE "+others+" TO "+name,
 		"GRANT CONNECT ON DATABASE "+others+" TO "+postgres.NameOf(elsewhere.request.Key)+" WITH GRANT OPTION")
 	hold(t, r.customer(elsewhere.request.Key), "BEGIN", "GRANT CONNECT ON DATABASE "+others+" TO "+r.role)
-	if err := d.Delete(of.ctx, of.request); err != nil {
-		t.Errorf("Delete: got %v, want no error", err)
-	}
+	diff.NoError(t, d.Delete(of.ctx, of.request), "Delete")
 	r.wantNothing(of.request.Key)
 }

@@ -87,9 +87,7 @@ func TestLockWaits(t *testing.T) {
 	case <-time.After(2500 * time.Millisecond):
 	}
 	held.Unlock()
-	if err := <-given; err != nil {
-		t.Errorf("Lock: got %v, want no error", err)
-	}
+	diff.NoError(t, <-given, "Lock")
 }
 
 // waitForWaiter waits until somebody waits for an advisory lock in the brokers' database.
@@ -199,9 +197,7 @@ func TestALockThatOutlivesItsClient(t *testing.T) {
 		t.Fatalf("the lock once the server has ended: got %v, want no error", err)
 	}
 	defer next.Unlock()
-	if err := second.Create(next.Context(ctx), request(key)); err != nil {
-		t.Errorf("Create by the next: got %v, want no error", err)
-	}
+	diff.NoError(t, second.Create(next.Context(ctx), request(key)), "Create by the next")
 }
 
 func TestALockThatIsLost(t *testing.T) {

@@ -47,12 +47,8 @@ func TestTie(t *testing.T) {
 	for n := 0; n < 2; n++ {
 		s, err := pgstore.Open(ctx, r.url, 2, broker.Silent{})
 		check(t, err)
-		if err := broker.Tie(ctx, s, d, n > 0); err != nil {
-			t.Errorf("Tie: got %v, want no error", err)
-		}
-		if err := s.Close(); err != nil {
-			t.Error(err)
-		}
+		diff.NoError(t, broker.Tie(ctx, s, d, n > 0), "Tie")
+		diff.NoError(t, s.Close(), "")
 	}
 	other, err := pgstore.Open(ctx, r.sibling().url, 2, broker.Silent{})
 	check(t, err)
@@ -68,9 +64,7 @@ func TestTieOf02(t *testing.T) {
 	check(t, err)
 	defer s.Close()
 	pgtest.Exec(t, r.login(r.role, "of the broker", r.role), "INSERT INTO osb_store VALUES (true, '"+store+"', true)")
-	if err := broker.Tie(context.Background(), s, r.openUntied(), true); err != nil {
-		t.Errorf("Tie: got %v, want no error", err)
-	}
+	diff.NoError(t, broker.Tie(context.Background(), s, r.openUntied(), true), "Tie")
 }
 
 var another = []byte(strings.Repeat("another key ", 3))
@@ -144,9 +138,7 @@ func (r *rig) rekey(old, new []byte) []string {
 func (r *rig) wantPassword(key broker.Key, opens, doesnt []byte) {
 	r.t.Helper()
 	database := postgres.NameOf(broker.InstanceKey(key.Instance))
-	if err := r.login(postgres.NameOf(key), postgres.PasswordOf(opens, key), database).Ping(); err != nil {
-		r.t.Errorf("%v: got %v, want no error", key, err)
-	}
+	diff.NoError(r.t, r.login(postgres.NameOf(key), postgres.PasswordOf(opens, key), database).Ping(), "%v", key)
 	if err := r.login(postgres.NameOf(key), postgres.PasswordOf(doesnt, key), database).Ping(); err == nil {
 		r.t.Errorf("%v with the other key: got no error, want one", key)
 	}
@@ -177,9 +169,7 @@ func TestRekey(t *testing.T) {
 		t.Errorf("Open with the new key: got %v, want no error", err)
 	}
 	wantThere(t, d, it, broker.Whole)
-	if err := d.Delete(it.ctx, it.request); err != nil {
-		t.Errorf("Delete with the old key: got %v, want no error", err)
-	}
+	diff.NoError(t, d.Delete(it.ctx, it.request), "Delete with the old key")
 }
 
 func TestRekeyRejects(t *testing.T) {
@@ -285,4 +275,4 @@ func TestRekeyBesideCreations(t *testing.T) {
 	}
 }
 
-var check = diff.NoError
+var check = diff.Must

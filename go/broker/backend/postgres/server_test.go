@@ -260,9 +260,7 @@ func (r *rig) settingsOf(database string) string {
 func wantAsOwn(t *testing.T, d *postgres.Databases, of lockedKey, database string) {
 	t.Helper()
 	own, entered, err := d.Parameters(of.ctx, of.request, database)
-	if err != nil {
-		t.Errorf("the parameters: got %v, want no error", err)
-	}
+	diff.NoError(t, err, "the parameters")
 	for name, want := range own {
 		diff.Equal(t, entered[name], want, "%s in the customer's database", name)
 	}

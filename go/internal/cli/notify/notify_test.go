@@ -50,9 +50,7 @@ func TestReports(t *testing.T) {
 
 func TestWithoutAServiceManager(t *testing.T) {
 	t.Setenv(variable, "")
-	if err := Ready(); err != nil {
-		t.Error(err)
-	}
+	diff.NoError(t, Ready(), "")
 }
 
 func TestErrors(t *testing.T) {
@@ -83,4 +81,4 @@ func TestAReportIsNotWaitedForForever(t *testing.T) {
 	t.Fatal("got all reports taken, though nobody reads them, want a deadline")
 }
 
-var check = diff.NoError
+var check = diff.Must

@@ -448,9 +448,7 @@ func TestDatabases(t *testing.T) {
 	}
 	works := func(change func(map[string]any)) bool {
 		is, err := d.Works(background, bound, given(change))
-		if err != nil {
-			t.Error(err)
-		}
+		diff.NoError(t, err, "")
 		return is
 	}
 	same := func(map[string]any) {}
@@ -537,4 +535,4 @@ func port(t *testing.T, address string) int {
 	return number
 }
 
-var check = diff.NoError
+var check = diff.Must

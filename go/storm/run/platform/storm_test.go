@@ -63,9 +63,7 @@ func runStorm(t *testing.T, config Config, wrong mistakes, isListed bool) *run.R
 	stop()
 	cancel()
 	m.group.Wait()
-	if err := storm.Close(); err != nil {
-		t.Error(err)
-	}
+	diff.NoError(t, storm.Close(), "")
 	if files, err := os.ReadDir(config.Folder); err != nil || len(files) > 0 {
 		t.Errorf("got %v %v left in the folder, want none", err, files)
 	}
@@ -358,9 +356,7 @@ func TestEnded(t *testing.T) {
 	if report.IsClean() || !strings.HasPrefix(report.Ended, "no request about an instance came") {
 		t.Errorf("got\n%s\nwant an end because no request came", textOf(t, report))
 	}
-	if err := storm.Close(); err != nil {
-		t.Error(err)
-	}
+	diff.NoError(t, storm.Close(), "")
 	config.WaitTime = time.Minute
 	storm, err = Start(context.Background(), config)
 	check(t, err)
@@ -376,9 +372,7 @@ func TestEnded(t *testing.T) {
 		t.Errorf("got the status %d and %d that are stuck, want 202 and none, in a run that was ended:\n%s",
 			sent.status, len(report.Stuck), textOf(t, report))
 	}
-	if err := storm.Close(); err != nil {
-		t.Error(err)
-	}
+	diff.NoError(t, storm.Close(), "")
 	if files, err := os.ReadDir(config.Folder); err != nil || len(files) > 0 {
 		t.Errorf("got %v %v left, want none", err, files)
 	}
@@ -613,9 +607,7 @@ func runOrders(t *testing.T, ctx context.Context, config Config) (*run.Report, t
 	storm, err := Start(context.Background(), config)
 	check(t, err)
 	report := storm.Run(ctx)
-	if err := storm.Close(); err != nil {
-		t.Error(err)
-	}
+	diff.NoError(t, storm.Close(), "")
 	if files, err := os.ReadDir(config.Folder); err != nil || len(files) > 0 {
 		t.Errorf("got %v %v left in the folder, want none", err, files)
 	}
@@ -1255,4 +1247,4 @@ func (m *model) live(ctx context.Context, key report.Key, n int) {
 	m.remove(ctx, key, plan)
 }
 
-var check = diff.NoError
+var check = diff.Must

@@ -118,9 +118,7 @@ func TestDatabase(t *testing.T) {
 	if isEnded, err := d.EndSession(ctx); !isEnded || err != nil {
 		t.Errorf("got ended %v, %v, want true", isEnded, err)
 	}
-	if err := d.Close(); err != nil {
-		t.Error(err)
-	}
+	diff.NoError(t, d.Close(), "")
 	if found := rows(t, d.URL(), "SELECT 1"); !strings.Contains(found, "does not exist") {
 		t.Errorf("got %q, want \"does not exist\" in it", found)
 	}
@@ -193,4 +191,4 @@ func TestHAProxy(t *testing.T) {
 	}
 }
 
-var check = diff.NoError
+var check = diff.Must

@@ -246,9 +246,7 @@ time.sleep(1000)'`, // the command itself has left its group
 			if !isRunning(pid) {
 				t.Errorf("%s: got the child ended before, want it to run", name)
 			}
-			if err := c.End(); err != nil {
-				t.Errorf("%s: got the error %v, want none", name, err)
-			}
+			diff.NoError(t, c.End(), "%s", name)
 			for until := time.Now().Add(5 * time.Second); isRunning(pid); time.Sleep(10 * time.Millisecond) {
 				if time.Now().After(until) {
 					t.Fatalf("%s: got what the command has started still running, want its end", name)
@@ -272,4 +270,4 @@ func pidIn(t *testing.T, path string) int {
 	return 0
 }
 
-var check = diff.NoError
+var check = diff.Must
