@@ -154,6 +154,8 @@ func TestRunOptions(t *testing.T) {
 		{"serve --api-tokens file --page 127.0.0.1:0", 78, ``, `.*go with --api HOST:PORT`},
 		{"run --api-tls-key file", 78, ``, `.*go with --api HOST:PORT`},
 		{"run --broker-hosts broker.example", 78, ``, `.*go with --api HOST:PORT`},
+		{"run --once --connections-per-address 2", 78, ``, `.*go with --page or --api`},
+		{"serve --health-listen 127.0.0.1:0 --trusted-proxy 127.0.0.1", 78, ``, `.*go with --page or --api`},
 		{"serve --api 127.0.0.1:0 --api-tokens file --broker-hosts a.example,10.0.0.0/33", 78, ``,
 			`osb-platform: --broker-hosts: "10\.0\.0\.0/33": want a name.*`},
 		{"run --api 127.0.0.1:0", 78, ``, `.*--api-tokens FILE`},

@@ -1,6 +1,7 @@
 package main
 
 import (
+	"bufio"
 	"bytes"
 	"context"
 	"crypto/ecdsa"
@@ -11,6 +12,7 @@ import (
 	"crypto/x509"
 	"encoding/json"
 	"encoding/pem"
+	"errors"
 	"fmt"
 	"io"
 	"math/big"
@@ -259,6 +261,50 @@ func newCertificate(t *testing.T, certificate, key string) *x509.CertPool {
 	trusted := x509.NewCertPool()
 	trusted.AppendCertsFromPEM(text)
 	return trusted
+}
+
+// answerFrom connects from an address of this machine, sends a request behind a text, and returns the status line of the
+// answer. It is empty if the connection was closed. The connection stays open until the test ends.
+func answerFrom(t *testing.T, from, url, before string) string {
+	t.Helper()
+	dialer := net.Dialer{Timeout: deadline, LocalAddr: &net.TCPAddr{IP: net.ParseIP(from)}}
+	host := strings.TrimPrefix(url, "http://")
+	connection, err := dialer.Dial("tcp", host)
+	check(t, err)
+	t.Cleanup(func() { _ = connection.Close() })
+	check(t, connection.SetDeadline(time.Now().Add(deadline)))
+	request := before + "GET / HTTP/1.1\r\nHost: " + host + "\r\nAuthorization: Bearer " + token + "\r\n\r\n"
+	_, _ = io.WriteString(connection, request) // it may be closed already
+	line, err := bufio.NewReader(connection).ReadString('\n')
+	if errors.Is(err, os.ErrDeadlineExceeded) {
+		t.Error("got neither an answer nor the end of the connection in time, want one of them")
+	}
+	return strings.TrimSpace(line)
+}
+
+// The API and the page limit the connections of each client, also of those that a trusted proxy names.
+func TestConnectionsOfAClient(t *testing.T) {
+	t.Setenv("XDG_STATE_HOME", t.TempDir())
+	p := launch(t, "serving", osbPlatform(nil, "serve", "--store", filepath.Join(t.TempDir(), "store"),
+		"--api", "127.0.0.1:0", "--api-tokens", newTokens(t), "--page", "127.0.0.1:0",
+		"--connections-per-address", "2", "--trusted-proxy", "127.0.0.2"))
+	const one, other = "PROXY TCP4 198.51.100.1 192.0.2.1 8080 80\r\n", "PROXY TCP4 198.51.100.2 192.0.2.1 8080 80\r\n"
+	for name, site := range map[string]struct{ url, answer string }{
+		"the API": {p.api, "HTTP/1.1 404 Not Found"}, "the page": {p.page, "HTTP/1.1 200 OK"},
+	} {
+		t.Run(name, func(t *testing.T) {
+			for number, test := range []struct{ from, before, want string }{
+				{"127.0.0.1", "", site.answer}, {"127.0.0.1", "", site.answer}, {"127.0.0.1", "", ""},
+				{"127.0.0.2", one, site.answer}, {"127.0.0.2", one, site.answer}, {"127.0.0.2", one, ""},
+				{"127.0.0.2", other, site.answer}, {"127.0.0.3", one, "HTTP/1.1 400 Bad Request"},
+			} {
+				if got := answerFrom(t, test.from, site.url, test.before); got != test.want {
+					t.Errorf("connection %d from %s %s: got %q, want %q", number, test.from, test.before, got, test.want)
+				}
+			}
+		})
+	}
+	p.stop()
 }
 
 // What others than this machine reach without TLS or a password, and a file that others may read, are in the log.
