@@ -759,6 +759,26 @@ func TestTrusted(t *testing.T) {
 	}
 }
 
+// With TLS 1.2, a broker needs a suite with forward secrecy and authenticated encryption.
+func TestSuitesOfABroker(t *testing.T) {
+	ours := newAuthority(t)
+	ours.sign(t, "broker", here)
+	for suite, isIn := range map[uint16]bool{
+		tls.TLS_ECDHE_ECDSA_WITH_AES_128_GCM_SHA256: true, tls.TLS_ECDHE_ECDSA_WITH_AES_128_CBC_SHA: false,
+	} {
+		t.Run(tls.CipherSuiteName(suite), func(t *testing.T) {
+			server := ours.secure(t, "broker", func(config *tls.Config) {
+				config.MaxVersion, config.CipherSuites = tls.VersionTLS12, []uint16{suite}
+			})
+			c := newClient(t, Options{TLS: Files{Authorities: ours.file("authority.crt")}})
+			in := exchange(t, c, server.URL, osb.KindDeprovision)
+			if (in.Lost == nil) != isIn || !isIn && !errors.Is(in.Lost, ErrNotSent) {
+				t.Errorf("got the error %v, want none: %t, otherwise ErrNotSent", in.Lost, isIn)
+			}
+		})
+	}
+}
+
 // A broker that asks for a certificate gets the platform's, also one that was replaced meanwhile.
 func TestOwnCertificate(t *testing.T) {
 	ours := newAuthority(t)
