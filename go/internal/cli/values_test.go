@@ -88,8 +88,12 @@ func TestNetworks(t *testing.T) {
 	} {
 		t.Run(text, func(t *testing.T) {
 			got = nil
-			if err := value.Set(text); (err == nil) != isNetwork || len(got) > 0 != isNetwork {
+			err := value.Set(text)
+			if (err == nil) != isNetwork || len(got) > 0 != isNetwork {
 				t.Errorf("got %v, %v, want a network: %v", got, err, isNetwork)
+			}
+			if err != nil && !strings.HasPrefix(err.Error(), "want a") {
+				t.Errorf("got the error %v, want what is expected in it", err)
 			}
 		})
 	}
