@@ -4,6 +4,7 @@ import (
 	"context"
 	"errors"
 	"net"
+	"regexp"
 	"strconv"
 	"strings"
 	"testing"
@@ -84,6 +85,22 @@ func TestQuestions(t *testing.T) {
 				t.Errorf("got %q, want no body", head)
 			}
 		})
+	}
+}
+
+// The identity of a request is a random GUID of version 4.
+func TestNewID(t *testing.T) {
+	form := regexp.MustCompile("^[0-9a-f]{8}-[0-9a-f]{4}-4[0-9a-f]{3}-[89ab][0-9a-f]{3}-[0-9a-f]{12}$")
+	made, begins := map[string]bool{}, map[string]bool{}
+	for n := 0; n < 1000; n++ {
+		id, err := newID()
+		if err != nil || !form.MatchString(id) || made[id] {
+			t.Fatalf("got %s, %v, want a new GUID of version 4", id, err)
+		}
+		made[id], begins[id[:2]] = true, true
+	}
+	if len(begins) < 128 { // of 256
+		t.Errorf("got %d beginnings, want more", len(begins))
 	}
 }
 
@@ -199,6 +216,8 @@ func TestBrokenConnections(t *testing.T) {
 		return func(c net.Conn) { _, _ = c.Write([]byte(text)) }
 	}
 	reset := func(c net.Conn) { _ = c.(*net.TCPConn).SetLinger(0) }
+	const inTLS = "closed in the TLS handshake: check that the port is one for TLS, and whether the broker wants a " +
+		"certificate (--tls-certificate, --tls-key)"
 	for what, test := range map[string]struct {
 		scheme string
 		does   func(net.Conn)
@@ -210,8 +229,8 @@ func TestBrokenConnections(t *testing.T) {
 		"no HTTP":           {"http", answers("SSH-2.0-OpenSSH_9.2\r\n"), "doesn't speak HTTP"},
 		"TLS at http":       {"http", answers("\x15\x03\x01\x00\x02\x02\x28"), "whether it wants https://"},
 		"http at TLS":       {"https", answers("HTTP/1.1 400 Bad Request\r\n\r\n"), "doesn't speak TLS"},
-		"closed in TLS":     {"https", answers(""), "closed in the TLS handshake"},
-		"reset in TLS":      {"https", reset, "closed in the TLS handshake"},
+		"closed in TLS":     {"https", answers(""), inTLS},
+		"reset in TLS":      {"https", reset, inTLS},
 	} {
 		t.Run(what, func(t *testing.T) {
 			listener, err := net.Listen("tcp", "127.0.0.1:0")
