@@ -109,4 +109,14 @@ func TestUserTimeout(t *testing.T) {
 	}
 }
 
+// There are at most as many connections as the options say.
+func TestMostConnections(t *testing.T) {
+	db, err := Open("postgresql://127.0.0.1/none", Options{Most: 3, Lock: time.Second, Statement: time.Second, Idle: time.Second})
+	check(t, err)
+	defer db.Close()
+	if most := db.Stats().MaxOpenConnections; most != 3 {
+		t.Errorf("got at most %d connections, want 3", most)
+	}
+}
+
 var check = diff.Must
