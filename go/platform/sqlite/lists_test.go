@@ -21,6 +21,26 @@ import (
 	"pippinterm/platform/storetest"
 )
 
+// The rows of more brokers than one query has are put into one order, and only as many are due as are asked for.
+func TestLongestDue(t *testing.T) {
+	due := func(seconds ...int) (found []dueKey) {
+		for _, at := range seconds {
+			found = append(found, dueKey{at: time.Unix(int64(at), 0)})
+		}
+		return found
+	}
+	for _, test := range []struct {
+		most        int
+		found, want []dueKey
+	}{
+		{3, due(1, 4, 2, 3), due(1, 2, 3)}, {4, due(4, 3, 2, 1), due(1, 2, 3, 4)}, {5, due(2, 1), due(1, 2)}, {1, due(), due()},
+	} {
+		if got := longestDue(test.found, test.most); fmt.Sprint(got) != fmt.Sprint(test.want) {
+			t.Errorf("at most %d: got %v, want %v", test.most, got, test.want)
+		}
+	}
+}
+
 // reads are the calls of a store that only read.
 func reads(s *Store, key platform.Key) map[string]func(context.Context) error {
 	return map[string]func(context.Context) error{
