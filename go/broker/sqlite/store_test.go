@@ -245,6 +245,19 @@ func TestUnreadableRow(t *testing.T) {
 	}
 }
 
+// The number of tombstones that was counted less than a minute ago counts, and then they are counted again.
+func TestTombstonesAreCountedAgain(t *testing.T) {
+	s := open(t, filepath.Join(t.TempDir(), "store"), broker.Silent{})
+	for ago, want := range map[time.Duration]int{30 * time.Second: 7, time.Minute: 0} {
+		t.Run(ago.String(), func(t *testing.T) {
+			s.tombstones.value, s.tombstones.at = 7, time.Now().Add(-ago)
+			if stats, err := s.Stats(context.Background()); err != nil || stats.Tombstones != want {
+				t.Errorf("got %d, %v, want %d", stats.Tombstones, err, want)
+			}
+		})
+	}
+}
+
 // Nobody knows whether a row that can't be read has a tombstone, so the tombstones aren't counted.
 func TestTombstonesOfAnUnreadableRow(t *testing.T) {
 	for _, table := range []string{"holdings", "bindings"} {
