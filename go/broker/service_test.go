@@ -516,6 +516,29 @@ func TestWorkThatWasDoneBeforeIsAnswered(t *testing.T) {
 	}
 }
 
+// Nor is the work done of a worker whose lock can be lost if other work is pending by then: that of a deletion, which
+// nobody knows how it ended.
+func TestWorkThatIsNotPendingAnyMore(t *testing.T) {
+	b := newBench(t, newShelf(calm), losable{newMemoryLocks()})
+	deletes := broker.NewService(catalogueFor(t, catalogue), b.store,
+		&scriptedBackend{failure: errScripted, blindness: errScripted}, losable{newMemoryLocks()}, broker.Rules{}, b.observed)
+	store := &racing{Store: b.store, end: func(key broker.Key) {
+		if err := b.TakeUp(context.Background(), key); err != nil {
+			t.Error(err)
+		}
+		if given, err := deletes.Handle(context.Background(), deprovision(now)); err == nil || !b.isPending(t, key) {
+			t.Errorf("the deletion: got %+v, %v, want it pending", given, err)
+		}
+	}}
+	backend := &scriptedBackend{}
+	service := broker.NewService(catalogueFor(t, catalogue), store, backend, losable{newMemoryLocks()},
+		broker.Rules{}, b.observed)
+	given, err := service.Handle(context.Background(), provision(now))
+	if strings.Contains(strings.Join(backend.calls, " "), "create") {
+		t.Errorf("got %+v, %v, and the calls %v, want no creation", given, err, backend.calls)
+	}
+}
+
 // takenLocks are held by somebody who never gives them back. Each wait ends at once, as if its time were over.
 type takenLocks struct {
 	waits []time.Duration // how long each wait was allowed to take, or 0 for ever
