@@ -7,6 +7,7 @@ import (
 	"strings"
 	"sync"
 	"sync/atomic"
+	"syscall"
 	"testing"
 	"time"
 
@@ -32,6 +33,22 @@ func TestOrderOfFsyncs(t *testing.T) {
 	ok(t, f.Delete(ctx, first))
 	wanted := []string{".bindings .locks " + whole, ".bindings .locks " + part + " data", ".bindings .locks"}
 	diff.Check(t, seen, wanted, "what was there at the fsyncs")
+}
+
+// A file is synced after it was written, and what fails isn't hidden by the other: a full disk has no error of fsync, and
+// /dev/null can't be synced.
+func TestErrorsOfWriteFile(t *testing.T) {
+	for path, want := range map[string]os.PathError{
+		"/dev/full": {Op: "write", Err: syscall.ENOSPC}, "/dev/null": {Op: "fsync", Err: syscall.EINVAL},
+	} {
+		t.Run(want.Op, func(t *testing.T) {
+			var got *os.PathError
+			err := writeFile(path, []byte("text"))
+			if !errors.As(err, &got) || got.Op != want.Op || got.Err != want.Err || got.Path != path {
+				t.Errorf("got %v, want %s %s: %v", err, want.Op, path, want.Err)
+			}
+		})
+	}
 }
 
 // A part that another process has renamed without the fsync is written to disk before its content is deleted.
