@@ -3,6 +3,7 @@ package postgres
 import (
 	"context"
 	"errors"
+	"net"
 	"strings"
 	"testing"
 
@@ -54,6 +55,36 @@ var (
 	one   = osb.MustParseID("0f1e2d3c-4b5a-6978-8796-a5b4c3d2e1f0")
 	other = osb.MustParseID("ffffffff-ffff-ffff-ffff-ffffffffffff")
 )
+
+// The statements of Rekey have a limit, so that it doesn't wait for ever for a server that is silent.
+func TestLongestStatementOfRekey(t *testing.T) {
+	listener, err := net.Listen("tcp", "127.0.0.1:0")
+	if err != nil {
+		t.Fatal(err)
+	}
+	defer listener.Close()
+	begun := make(chan string, 10)
+	go func() {
+		for {
+			conn, err := listener.Accept()
+			if err != nil {
+				return
+			}
+			start := make([]byte, 4096) // the settings of the session
+			n, _ := conn.Read(start)
+			begun <- string(start[:n])
+			_ = conn.Close()
+		}
+	}()
+	key := []byte(strings.Repeat("k", 32))
+	address := "postgresql://osb@" + listener.Addr().String() + "/osb?sslmode=disable"
+	if _, err := Rekey(context.Background(), address, key, key); err == nil {
+		t.Error("got no error, want one")
+	}
+	if got, want := <-begun, "statement_timeout\x00600000\x00"; !strings.Contains(got, want) {
+		t.Errorf("got the session %q, want %q in it", got, want)
+	}
+}
 
 // What version 0.2 gives for these arguments, so that what it has sold goes on working.
 func TestAsIn02(t *testing.T) {
