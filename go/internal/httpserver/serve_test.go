@@ -156,9 +156,10 @@ func TestStopAnswersWhatRuns(t *testing.T) {
 	diff.NoError(t, <-served, "Serve")
 }
 
+const half = 30 * time.Second
+
 // A Server without times of its own has limits all the same.
 func TestDefaultTimes(t *testing.T) {
-	const half = 30 * time.Second
 	for _, test := range []struct {
 		name                string
 		server              Server
@@ -174,6 +175,19 @@ func TestDefaultTimes(t *testing.T) {
 				t.Errorf("got %v, %v, %v, want %v, %v, %v", got.Request, got.Idle, got.Stop, test.request, test.idle, test.stop)
 			}
 		})
+	}
+}
+
+// So has a Listener.
+func TestDefaultsOfAListener(t *testing.T) {
+	got := Options{}.withDefaults()
+	if got.Connections != 800 || got.PerAddress != 200 || got.Silent != 5*time.Second || got.Write != half ||
+		got.Observer == nil {
+		t.Errorf("got %+v, want 800 connections, 200 of an address, 5 s of silence, 30 s to write, and an observer", got)
+	}
+	got = Options{Connections: 10, PerAddress: 4, Silent: 1, Write: 2}.withDefaults()
+	if got.Connections != 10 || got.PerAddress != 4 || got.Silent != 1 || got.Write != 2 {
+		t.Errorf("got %+v, want it as it was", got)
 	}
 }
 
