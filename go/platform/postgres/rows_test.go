@@ -36,6 +36,24 @@ func TestExtensionOfTheTables(t *testing.T) {
 	check(t, err)
 }
 
+// The session of a worker's right lives as long as it answers.
+func TestARightLives(t *testing.T) {
+	store, err := Open(context.Background(), pgtest.Schema(t, pgtest.URL(t), "osb_platform_right_lives"), 1)
+	check(t, err)
+	defer store.Close()
+	it, err := store.right(context.Background(), "osb_platform_right_lives")
+	check(t, err)
+	for range [2]int{} {
+		if !it.lives() {
+			t.Error("got a session that is dead, want it alive")
+		}
+	}
+	it.close()
+	if it.lives() {
+		t.Error("once it is closed: got a session that is alive, want it dead")
+	}
+}
+
 // A time is read as it was written, to the microsecond, and a place in a list finds its row again.
 func TestTimes(t *testing.T) {
 	random := rand.New(rand.NewSource(1))
