@@ -949,6 +949,12 @@ func TestProxy(t *testing.T) {
 	if got := next(t, asked); got != "CONNECT "+server.Listener.Addr().String()+" " {
 		t.Errorf("got %q, want no login", got)
 	}
+	closing, err := url.Parse(serve(t, always("")).url)
+	check(t, err)
+	tunnelless := newClient(t, Options{Proxy: func(*http.Request) (*url.URL, error) { return closing, nil }})
+	if in := exchange(t, tunnelless, "https://127.0.0.1:1", osb.KindDeprovision); !errors.Is(in.Lost, ErrNotSent) {
+		t.Errorf("a proxy that closes the connection: got %v, want %v", in.Lost, ErrNotSent)
+	}
 	at.Scheme = "socks5"
 	if in := exchange(t, c, "https://127.0.0.1:1", osb.KindDeprovision); !errors.Is(in.Lost, ErrNotSent) {
 		t.Errorf("got %v, want %v", in.Lost, ErrNotSent)
