@@ -87,6 +87,15 @@ func wantEvents(t *testing.T, path, want string) {
 	diff.Equal(t, strings.Join(eventsOf(linesOf(t, path)), ", "), want, "%s", path)
 }
 
+// A line that comes while the journal ends doesn't wait for a goroutine that writes no more.
+func TestALineAfterTheEnd(t *testing.T) {
+	w := &Writer{lines: make(chan *job), ending: make(chan struct{})}
+	close(w.ending)
+	if err := w.hand(&job{}, time.After(10*time.Second)); err != errClosed {
+		t.Errorf("got %v, want %v", err, errClosed)
+	}
+}
+
 // filesIn are the paths of the files of a folder, by name.
 func filesIn(t *testing.T, folder string) (paths []string) {
 	t.Helper()
