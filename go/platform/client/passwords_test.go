@@ -160,6 +160,17 @@ func TestSettledPasswordFile(t *testing.T) {
 			t.Errorf("%s: got %q, %v, want %q", row.text, got, err, row.wanted)
 		}
 	}
+	put("six", hour)
+	if got, err := passwords.Of(platform.Broker{Name: "postgres", PasswordFile: name}); got != "six" || err != nil {
+		t.Errorf("got %q, %v, want \"six\"", got, err)
+	}
+	file := name
+	name += ".new"
+	put("ten", hour)
+	check(t, os.Rename(name, file)) // another file, with the same length and time
+	if got, err := passwords.Of(platform.Broker{Name: "postgres", PasswordFile: file}); got != "ten" || err != nil {
+		t.Errorf("once it is replaced: got %q, %v, want \"ten\"", got, err)
+	}
 }
 
 // The file with the key is no password, under whatever name.
