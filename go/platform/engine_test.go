@@ -564,8 +564,12 @@ func TestRunStops(t *testing.T) {
 	usual := p.line.exchange
 	p.line.exchange = func(ctx context.Context, out Outgoing) Incoming {
 		arrived <- struct{}{}
-		<-answer
-		return usual(ctx, out)
+		select {
+		case <-answer:
+			return usual(ctx, out)
+		case <-ctx.Done():
+			return Incoming{Lost: ctx.Err()}
+		}
 	}
 	ending, ended := make(chan struct{}), make(chan error, 1)
 	go func() { ended <- p.engine.Run(background, ending) }()
