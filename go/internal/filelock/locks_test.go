@@ -215,6 +215,27 @@ func TestLockRestsBetweenItsTries(t *testing.T) {
 	}
 }
 
+// However long somebody has waited for a lock, the pauses stay short.
+func TestPausesForALockStayShort(t *testing.T) {
+	locks := newLocks(t, filepath.Join(t.TempDir(), "locks"))
+	lock := mustLock(t, locks, one)
+	defer lock.Unlock()
+	ctx, cancel := context.WithTimeout(context.Background(), 10*time.Second)
+	defer cancel()
+	shortest, last := time.Hour, time.Now()
+	_, err := locks.Lock(&turns{Context: ctx, call: func(turn int) {
+		if gap := time.Since(last); turn > 8 && gap < shortest { // 128 ms if they went on to double
+			shortest = gap
+		}
+		if last = time.Now(); turn == 12 {
+			cancel()
+		}
+	}}, one)
+	if shortest >= 5*longestPause || !errors.Is(err, context.Canceled) {
+		t.Errorf("got pauses from %v on, and %v, want shorter ones", shortest, err)
+	}
+}
+
 // openFiles returns how many files are open, without those that were deleted: the locks of an earlier test leave some
 // open until they are collected as garbage.
 func openFiles(t *testing.T) (count int) {
