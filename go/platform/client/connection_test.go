@@ -879,6 +879,26 @@ func TestCutOverTLS(t *testing.T) {
 	}
 }
 
+// A slowConn takes a second for each write, by its clock.
+type slowConn struct {
+	net.Conn
+	now time.Time
+}
+
+func (s *slowConn) Write(text []byte) (int, error) {
+	s.now = s.now.Add(time.Second)
+	return len(text), nil
+}
+
+// The rest of a long request isn't written once its time is over: the broker must not get it whole.
+func TestALongRequestWhoseTimeIsOver(t *testing.T) {
+	slow := &slowConn{now: time.Unix(0, 0)}
+	conn := &timedConn{Conn: slow, now: func() time.Time { return slow.now }, until: time.Unix(2, 0)}
+	if written, err := conn.Write(make([]byte, 5*piece)); err != ErrTimeOver || written != 2*piece {
+		t.Errorf("got %d bytes written, %v, want %d, %v", written, err, 2*piece, ErrTimeOver)
+	}
+}
+
 // A tunnelling proxy notes what it is asked for.
 func tunnelling(t *testing.T, asked chan<- string) *httptest.Server {
 	t.Helper()
@@ -954,6 +974,11 @@ func TestProxy(t *testing.T) {
 	tunnelless := newClient(t, Options{Proxy: func(*http.Request) (*url.URL, error) { return closing, nil }})
 	if in := exchange(t, tunnelless, "https://127.0.0.1:1", osb.KindDeprovision); !errors.Is(in.Lost, ErrNotSent) {
 		t.Errorf("a proxy that closes the connection: got %v, want %v", in.Lost, ErrNotSent)
+	}
+	closing.Host = ":80"
+	if in := exchange(t, tunnelless, "https://127.0.0.1:1", osb.KindDeprovision); !errors.Is(in.Lost, ErrNotSent) ||
+		!strings.Contains(in.Lost.Error(), "must be named by") {
+		t.Errorf("a proxy without a host: got %v, want %v and how to name it", in.Lost, ErrNotSent)
 	}
 	at.Scheme = "socks5"
 	if in := exchange(t, c, "https://127.0.0.1:1", osb.KindDeprovision); !errors.Is(in.Lost, ErrNotSent) {
