@@ -539,6 +539,19 @@ func TestWorkThatIsNotPendingAnyMore(t *testing.T) {
 	}
 }
 
+// An operation that runs has the time since when it does: it is reported, and what takes too long is found by it.
+func TestSinceOfAnOperation(t *testing.T) {
+	l := newLone(t)
+	l.expect(t, 202, "PUT", instances+"i"+query, bodyOf(later, ""))
+	snapshot, err := l.store.Read(context.Background(), keyOf("i"))
+	if row, _ := snapshot.Holding.Row(); err != nil || row.Phase != osb.PhaseMaking {
+		t.Fatalf("got %+v, %v, want an operation that runs", row, err)
+	}
+	if since := time.Since(snapshot.Since); since < -time.Minute || since > time.Minute {
+		t.Errorf("got an operation that began %v ago, want one that has just begun", since)
+	}
+}
+
 // takenLocks are held by somebody who never gives them back. Each wait ends at once, as if its time were over.
 type takenLocks struct {
 	waits []time.Duration // how long each wait was allowed to take, or 0 for ever
