@@ -3,11 +3,14 @@ package cli
 import (
 	"bytes"
 	"context"
+	"errors"
 	"net/netip"
 	"os"
+	"os/signal"
 	"path/filepath"
 	"regexp"
 	"strings"
+	"syscall"
 	"testing"
 	"time"
 
@@ -167,6 +170,30 @@ func TestKeyIsPrinted(t *testing.T) {
 }
 
 // A key is written to a new file that only its owner reads, and to no other.
+// A secret that the disk doesn't take isn't reported as written, and leaves no file.
+func TestASecretThatIsNotWritten(t *testing.T) {
+	var limit syscall.Rlimit
+	if err := syscall.Getrlimit(syscall.RLIMIT_FSIZE, &limit); err != nil {
+		t.Fatal(err)
+	}
+	signal.Ignore(syscall.SIGXFSZ)
+	defer signal.Reset(syscall.SIGXFSZ)
+	file := filepath.Join(t.TempDir(), "key")
+	if err := syscall.Setrlimit(syscall.RLIMIT_FSIZE, &syscall.Rlimit{Cur: 0, Max: limit.Max}); err != nil {
+		t.Fatal(err)
+	}
+	err := WriteSecret(file, []byte("secret"))
+	if err := syscall.Setrlimit(syscall.RLIMIT_FSIZE, &limit); err != nil {
+		t.Fatal(err)
+	}
+	if !errors.Is(err, syscall.EFBIG) {
+		t.Errorf("got %v, want %v", err, syscall.EFBIG)
+	}
+	if _, err := os.Stat(file); !os.IsNotExist(err) {
+		t.Errorf("the file: got %v, want none", err)
+	}
+}
+
 func TestKeyIsWritten(t *testing.T) {
 	file := filepath.Join(t.TempDir(), "key")
 	if status, out, failed := key("--to", file); status != StatusDone || out+failed != "" {
