@@ -586,3 +586,13 @@ func TestBrokersThatAreNotRead(t *testing.T) {
 		t.Errorf("once it is dropped: got %v, want no broker", s.byName)
 	}
 }
+
+// A broker that doesn't answer is asked less and less often, and at least every five seconds.
+func TestRestsBetweenQuestions(t *testing.T) {
+	got := []time.Duration{firstAsking}
+	for len(got) < 8 {
+		got = append(got, longerRest(got[len(got)-1]))
+	}
+	const ms = time.Millisecond
+	diff.Check(t, got, []time.Duration{100 * ms, 200 * ms, 400 * ms, 800 * ms, 1600 * ms, 3200 * ms, 5000 * ms, 5000 * ms}, "")
+}

@@ -120,7 +120,7 @@ func (s *sites) ask(ctx context.Context, it *site, group *sync.WaitGroup, every 
 // askOnce asks a broker for its catalogue until it is answered. It returns false if ctx is done before, or if the
 // broker refuses the platform and that ends it. Until then the last catalogue counts.
 func (s *sites) askOnce(ctx context.Context, it *site, refusalEnds bool) bool {
-	for rest := firstAsking; ; rest *= 2 {
+	for rest := firstAsking; ; rest = longerRest(rest) {
 		broker := s.brokerOf(it)
 		catalogue, status, err := s.catalogue(ctx, broker)
 		if err == nil {
@@ -134,13 +134,18 @@ func (s *sites) askOnce(ctx context.Context, it *site, refusalEnds bool) bool {
 		if refusalEnds && refusesPlatform(status) {
 			return false
 		}
-		if rest > longestAsking {
-			rest = longestAsking
-		}
 		if !sleep(ctx, rest) {
 			return false
 		}
 	}
+}
+
+// longerRest is the rest after this one: twice as long, up to longestAsking.
+func longerRest(rest time.Duration) time.Duration {
+	if rest > longestAsking/2 {
+		return longestAsking
+	}
+	return 2 * rest
 }
 
 // eventOf is the event of a catalogue that couldn't be fetched.

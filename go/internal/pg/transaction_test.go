@@ -172,6 +172,26 @@ func TestATransactionThatCannotBegin(t *testing.T) {
 	}
 }
 
+// A server that is silent is waited for as long as one that only has to answer, and not as long as a statement.
+func TestATransactionAtASilentServer(t *testing.T) {
+	t.Parallel()
+	proxy, url := storefaults.NewProxy(t, table(t, "osb_session_silent"))
+	conn, err := pgtest.DB(t, url).Conn(context.Background())
+	check(t, err)
+	proxy.Hang(true)
+	ended := make(chan error, 1)
+	go func() {
+		ended <- pg.Transaction(context.Background(), conn, insert(context.Background()))
+		conn.Close()
+	}()
+	select {
+	case err := <-ended:
+		diff.ErrorIs(t, err, pg.ErrNotBegun, "")
+	case <-time.After(6 * pg.Answer):
+		t.Errorf("got no answer within %v, want one after %v", 6*pg.Answer, pg.Answer)
+	}
+}
+
 // A step that ends its goroutine, as t.FailNow does, leaves no transaction behind.
 func TestWorkThatEndsItsGoroutine(t *testing.T) {
 	url := table(t, "osb_session_goexit")

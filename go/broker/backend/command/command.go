@@ -446,10 +446,7 @@ func (p *program) writeOwner(store string) error {
 		return err
 	}
 	defer os.Remove(file.Name())
-	_, err = file.WriteString(store + "\n")
-	if err == nil {
-		err = file.Sync()
-	}
+	err = writeSynced(file, store+"\n")
 	if wrong := file.Close(); err == nil {
 		err = wrong
 	}
@@ -460,6 +457,14 @@ func (p *program) writeOwner(store string) error {
 		return err
 	}
 	return syncFolder(p.state)
+}
+
+// writeSynced writes a text to a file, and returns once it is on disk.
+func writeSynced(file *os.File, text string) error {
+	if _, err := file.WriteString(text); err != nil {
+		return err
+	}
+	return file.Sync()
 }
 
 // syncFolder returns once the names in a folder are on disk.

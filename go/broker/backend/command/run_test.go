@@ -35,6 +35,22 @@ func TestMostOutput(t *testing.T) {
 	}
 }
 
+// The text is written before the disk is waited for: a pipe takes a text, and has no disk.
+func TestWriteSynced(t *testing.T) {
+	read, write, err := os.Pipe()
+	diff.NoError(t, err, "")
+	defer read.Close()
+	err = writeSynced(write, "name\n")
+	diff.ErrorIs(t, err, syscall.EINVAL, "a disk that can't be waited for")
+	diff.NoError(t, write.Close(), "")
+	text, err := io.ReadAll(read)
+	diff.NoError(t, err, "")
+	diff.Equal(t, string(text), "name\n", "the text")
+	if err := writeSynced(write, "name\n"); !errors.Is(err, os.ErrClosed) {
+		t.Errorf("a closed file: got %v, want %v", err, os.ErrClosed)
+	}
+}
+
 func TestEndOfStandardError(t *testing.T) {
 	backend := newBackend(t, Options{}, `head -c 1000000 /dev/zero | tr '\0' a >&2; printf end >&2; exit 1`)
 	err := backend.Create(ctx, instance)
