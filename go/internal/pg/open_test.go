@@ -32,6 +32,23 @@ func TestSynchronousCommit(t *testing.T) {
 	}
 }
 
+// A connection of which nobody can see whether its commits are durable isn't used.
+func TestDurabilityThatCannotBeSeen(t *testing.T) {
+	const schema = "osb_durability"
+	url := pgtest.Schema(t, pgtest.URL(t), schema)
+	pgtest.Exec(t, pgtest.DB(t, url), "CREATE FUNCTION set_config(text, text, boolean) RETURNS text LANGUAGE plpgsql AS "+
+		"$$ BEGIN RAISE EXCEPTION 'no'; END $$")
+	db, err := pg.Open(url, pg.Options{
+		Most: 1, Lock: time.Second, Statement: 3 * time.Second, Idle: time.Minute,
+		Settings: map[string]string{"search_path": schema + ", pg_catalog"},
+	})
+	check(t, err)
+	defer db.Close()
+	if err := db.Ping(); !pg.IsCode(err, "P0001") {
+		t.Errorf("got %v, want the error of the function", err)
+	}
+}
+
 func TestSettings(t *testing.T) {
 	db, err := pg.Open(pgtest.URL(t), pg.Options{
 		Most: 1, Lock: 1500 * time.Millisecond, Statement: 3 * time.Second, Idle: time.Minute,
@@ -124,6 +141,8 @@ func TestCloseAfterTheSessionHasEnded(t *testing.T) {
 	}
 }
 
+// The user, the password and the database of the options take the place of those of the URL, also if they are its
+// parameters.
 func TestAnotherUser(t *testing.T) {
 	url := pgtest.URL(t)
 	pgtest.Exec(t, pgtest.DB(t, url), "DROP DATABASE IF EXISTS osb_session_user",
@@ -132,16 +151,20 @@ func TestAnotherUser(t *testing.T) {
 	t.Cleanup(func() {
 		pgtest.Exec(t, pgtest.DB(t, url), "DROP DATABASE osb_session_user WITH (FORCE)", "DROP ROLE osb_session_user")
 	})
-	db, err := pg.Open(url, pg.Options{
-		Most: 1, Lock: time.Second, Statement: time.Second, Idle: time.Minute,
-		Database: "osb_session_user", User: "osb_session_user", Password: "of its own",
-	})
-	check(t, err)
-	defer db.Close()
-	var user, database string
-	err = db.QueryRowContext(context.Background(), "SELECT current_user, current_database()").Scan(&user, &database)
-	if err != nil || user != "osb_session_user" || database != user {
-		t.Errorf("got %s in %s, %v, want osb_session_user in its own", user, database, err)
+	for _, address := range []string{
+		url, pgtest.With(t, url, "user", "zed"), pgtest.With(t, url, "password", "zed"), pgtest.With(t, url, "dbname", "zed"),
+	} {
+		db, err := pg.Open(address, pg.Options{
+			Most: 1, Lock: time.Second, Statement: time.Second, Idle: time.Minute,
+			Database: "osb_session_user", User: "osb_session_user", Password: "of its own",
+		})
+		check(t, err)
+		defer db.Close()
+		var user, database string
+		err = db.QueryRowContext(context.Background(), "SELECT current_user, current_database()").Scan(&user, &database)
+		if err != nil || user != "osb_session_user" || database != user {
+			t.Errorf("%s: got %s in %s, %v, want osb_session_user in its own", address, user, database, err)
+		}
 	}
 }
 
