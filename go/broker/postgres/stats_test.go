@@ -10,6 +10,25 @@ import (
 	"pippinterm/internal/pg/pgtest"
 )
 
+// The server ends what takes too long in a session of the store.
+func TestLimitsOfASession(t *testing.T) {
+	store, err := Open(context.Background(), pgtest.Schema(t, pgtest.URL(t), "osb_store_limits"), 1, broker.Silent{})
+	if err != nil {
+		t.Fatal(err)
+	}
+	defer store.Close()
+	for name, want := range map[string]string{
+		"lock_timeout": "30s", "statement_timeout": "30s", "idle_in_transaction_session_timeout": "1min",
+	} {
+		t.Run(name, func(t *testing.T) {
+			var got string
+			if err := store.db.QueryRow("SHOW " + name).Scan(&got); err != nil || got != want {
+				t.Errorf("got %s, %v, want %s", got, err, want)
+			}
+		})
+	}
+}
+
 // However many rows have ended, the unfinished ones are counted by the indexes that have them alone.
 func TestUnfinishedStatsReadNoOtherRows(t *testing.T) {
 	url := pgtest.Schema(t, pgtest.URL(t), "osb_store_stats")

@@ -637,6 +637,38 @@ func openAll(t *testing.T, store broker.Store, count int) {
 	}
 }
 
+// A look at the fence that the server ends is an error that may be over later, and the step isn't called.
+func TestALookAtTheFenceThatIsEnded(t *testing.T) {
+	const name = "osb_store_fence"
+	ctx, url := context.Background(), pgtest.Schema(t, pgtest.URL(t), name)
+	store := open(t, pgtest.With(t, url, "application_name", name))
+	defer store.Close()
+	key, calls := broker.InstanceKey(id(1)), 0
+	fence, err := store.Fence(ctx, key)
+	check(t, err)
+	db := pgtest.DB(t, url)
+	holder, err := db.BeginTx(ctx, nil)
+	check(t, err)
+	defer func() { _ = holder.Rollback() }()
+	_, err = holder.Exec("SELECT FROM osb_workers FOR UPDATE")
+	check(t, err)
+	changed := make(chan error, 1)
+	go func() { changed <- store.Change(ctx, key, fence, describe("x", &calls)) }()
+	for until := time.Now().Add(time.Minute); time.Now().Before(until); {
+		pgtest.Exec(t, db, "SELECT pg_cancel_backend(pid) FROM pg_stat_activity WHERE application_name = '"+name+
+			"' AND wait_event_type = 'Lock'")
+		select {
+		case err := <-changed:
+			if !errors.Is(err, broker.ErrAway) || calls != 0 {
+				t.Errorf("got %v after %d calls, want %v before any", err, calls, broker.ErrAway)
+			}
+			return
+		case <-time.After(10 * time.Millisecond):
+		}
+	}
+	t.Error("got a look at the fence that goes on, want its end")
+}
+
 // A session that ends while its step runs writes nothing.
 func TestASessionThatEndsDuringAStep(t *testing.T) {
 	url := pgtest.With(t, pgtest.Schema(t, pgtest.URL(t), "osb_store_step"), "application_name", "osb_store_step")
