@@ -4,6 +4,7 @@ import (
 	"context"
 	"database/sql"
 	"errors"
+	"fmt"
 	"strings"
 	"sync"
 	"testing"
@@ -307,6 +308,28 @@ func TestWhatDependsOnIt(t *testing.T) {
 	wantQuick(t, "Delete", func() error { return d.Delete(of.ctx, of.request) })
 	r.wantNothing(of.request.Key)
 	pgtest.Exec(t, r.customer(other.request.Key), "SELECT FROM kept")
+}
+
+// What a binding's role owns in another customer's database goes too. It becomes nobody's, and not the other customer's.
+func TestWhatABindingOwnsElsewhere(t *testing.T) {
+	r := newRig(t)
+	d := r.open()
+	of, other := createInstance(t, d), createInstance(t, d)
+	bind, one := bound(t, d, of.request.Key)
+	others := postgres.NameOf(other.request.Key)
+	pgtest.Exec(t, r.customer(other.request.Key), "GRANT ALL ON DATABASE "+others+" TO "+one.Username, "CREATE TABLE kept ()")
+	hold(t, r.login(one.Username, one.Password, others), "SET ROLE NONE", "CREATE SCHEMA theirs",
+		"CREATE TABLE theirs.t (x integer)", "GRANT ALL ON SCHEMA theirs TO PUBLIC", "GRANT ALL ON theirs.t TO PUBLIC")
+	pgtest.Exec(t, r.customer(other.request.Key), "CREATE VIEW v AS SELECT * FROM theirs.t")
+	wantQuick(t, "DeleteBinding", func() error { return d.DeleteBinding(bind.ctx, bind.request) })
+	r.wantNothing(bind.request.Key)
+	wantThere(t, d, of, broker.Whole)
+	in := &rig{t: t, admin: r.customer(other.request.Key)}
+	left := in.column("SELECT relname FROM pg_class WHERE relname IN ('kept', 't', 'v') UNION ALL " +
+		"SELECT nspname FROM pg_namespace WHERE nspname = 'theirs'")
+	if len(left) != 1 || left[0] != "kept" {
+		t.Errorf("left in the other database: got %v, want kept", left)
+	}
 }
 
 // A database that another customer has closed altogether is opened again.
@@ -617,6 +640,9 @@ func (c faultyCall) fails(t *testing.T, countdown *storefaults.Countdown) {
 		if failed == "" && (err != nil || n == 1) {
 			t.Fatalf("%s: got %v after %d statements that fail, want nil", c.name, err, n-1)
 		}
+		if err != nil && strings.Contains(err.Error(), "panic") {
+			t.Errorf("%s, and %q has failed: got %v, want no panic", c.name, failed, err)
+		}
 		if err != nil {
 			continue
 		}
@@ -650,29 +676,52 @@ func TestSyncCommits(t *testing.T) {
 	}
 }
 
-// Each statement of Open, and of Rekey, fails once: the error is returned. Later they succeed.
+// Each statement of Open, and of Rekey, fails once: the error is returned. Later they succeed. It is the same over a
+// database of version 0.2, which has a role of which Rekey has to see whose it is.
 func TestOpeningAndRekeyThatFail(t *testing.T) {
+	for _, isOld := range []bool{false, true} {
+		t.Run(fmt.Sprint("of version 0.2: ", isOld), func(t *testing.T) {
+			r := newRig(t)
+			if isOld {
+				r.of02(store)
+				r.create02(newInstance(t), "of the customer")
+			}
+			proxy, url := storefaults.NewProxy(t, r.url)
+			r.url = url
+			other := append([]byte("another"), secret...)
+			open := faultyCall{name: "Open", want: broker.None, undo: nothing, call: func() error {
+				d, err := postgres.Open(context.Background(), r.url, postgres.Options{Key: secret, Sessions: 4})
+				if err == nil {
+					_ = d.Close()
+				}
+				return err
+			}}
+			open.look = func() (broker.There, error) { return broker.None, nil }
+			open.fails(t, &proxy.Countdown)
+			d := r.open()
+			i := lock(t, d, newInstance(t))
+			check(t, d.Create(i.ctx, i.request))
+			rekey := open
+			rekey.name = "Rekey"
+			rekey.call = func() error { _, err := postgres.Rekey(context.Background(), r.url, secret, other); return err }
+			rekey.undo = func() error { _, err := postgres.Rekey(context.Background(), r.url, other, secret); return err }
+			rekey.fails(t, &proxy.Countdown)
+		})
+	}
+}
+
+// Each statement of Warnings fails once: the error is returned.
+func TestWarningsThatFail(t *testing.T) {
 	r := newRig(t)
+	template := withTemplate(r.template())
 	proxy, url := storefaults.NewProxy(t, r.url)
 	r.url = url
-	other := append([]byte("another"), secret...)
-	open := faultyCall{name: "Open", want: broker.None, undo: nothing, call: func() error {
-		d, err := postgres.Open(context.Background(), r.url, postgres.Options{Key: secret, Sessions: 4})
-		if err == nil {
-			_ = d.Close()
-		}
-		return err
-	}}
-	open.look = func() (broker.There, error) { return broker.None, nil }
-	open.fails(t, &proxy.Countdown)
-	d := r.open()
-	i := lock(t, d, newInstance(t))
-	check(t, d.Create(i.ctx, i.request))
-	rekey := open
-	rekey.name = "Rekey"
-	rekey.call = func() error { _, err := postgres.Rekey(context.Background(), r.url, secret, other); return err }
-	rekey.undo = func() error { _, err := postgres.Rekey(context.Background(), r.url, other, secret); return err }
-	rekey.fails(t, &proxy.Countdown)
+	d := r.open(template)
+	faultyCall{
+		name: "Warnings", want: broker.None, undo: nothing,
+		look: func() (broker.There, error) { return broker.None, nil },
+		call: func() error { _, err := d.Warnings(context.Background()); return err },
+	}.fails(t, &proxy.Countdown)
 }
 
 // Nothing that was granted to a role keeps the role, whoever has granted it: the owner, or another customer with the

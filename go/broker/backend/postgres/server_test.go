@@ -175,6 +175,25 @@ func TestTemplatesThatCantBeCopied(t *testing.T) {
 	}
 }
 
+// A template that is gone later fails a creation by its name, and whoever is sold nothing gets no role that logs in.
+func TestATemplateThatIsGone(t *testing.T) {
+	r := newRig(t)
+	name := r.template()
+	d := r.open(withTemplate(name))
+	pgtest.Exec(t, r.admin, "ALTER DATABASE "+name+" RENAME TO "+name+"_gone")
+	it := lock(t, d, newInstance(t))
+	if err := d.Create(it.ctx, it.request); !pg.IsCode(err, pg.InvalidCatalogName) || !strings.Contains(err.Error(), name) {
+		t.Errorf("got %v, want that there is no database %s", err, name)
+	}
+	if r.exists("pg_roles WHERE rolname = $1 AND rolcanlogin", postgres.NameOf(it.request.Key)) {
+		t.Error("got a role that logs in, want none")
+	}
+	pgtest.Exec(t, r.admin, "ALTER DATABASE "+name+"_gone RENAME TO "+name)
+	if err := d.Create(it.ctx, it.request); err != nil {
+		t.Errorf("with the template again: got %v, want no error", err)
+	}
+}
+
 // An assignment is a parameter of the server with a hostile value. In the value, $name is the role that sets it.
 type assignment struct{ name, value string }
 
