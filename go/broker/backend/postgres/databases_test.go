@@ -104,7 +104,7 @@ func TestWhoGetsIn(t *testing.T) {
 	}
 }
 
-// Finding H2: neither one role nor one database takes all connections, and no role can lift its own limit.
+// Neither one role nor one database takes all connections, and no role can lift its own limit.
 func TestLimits(t *testing.T) {
 	r := newRig(t)
 	d := r.open(func(o *postgres.Options) { o.ConnectionsPerInstance = 3 })

@@ -5,8 +5,10 @@ import (
 	"database/sql"
 	"errors"
 	"fmt"
+	"os"
 	"strings"
 	"sync"
+	"syscall"
 	"testing"
 	"time"
 
@@ -17,7 +19,7 @@ import (
 	"pippinterm/internal/storefaults"
 )
 
-// Findings H1: nothing that a customer leaves open or changes keeps its database from being deleted, or created anew.
+// Nothing that a customer leaves open or changes keeps its database from being deleted, or created anew.
 func TestWhatACustomerHolds(t *testing.T) {
 	r := newRig(t)
 	d := r.open()
@@ -64,7 +66,7 @@ func wantQuick(t *testing.T, what string, call func() error) {
 	}
 }
 
-// Finding H1b: a prepared transaction keeps the database, but not its customer, and holds up no worker.
+// A prepared transaction keeps the database, but not its customer, and holds up no worker.
 func TestAPreparedTransaction(t *testing.T) {
 	r := newRig(t)
 	if r.exists("pg_settings WHERE name = 'max_prepared_transactions' AND setting = '0'") {
@@ -332,6 +334,36 @@ func TestWhatABindingOwnsElsewhere(t *testing.T) {
 	}
 }
 
+// A session that the server can't end, such as one in a long call of libxml, is waited for a short time, and keeps no
+// binding.
+func TestASessionThatDoesNotEnd(t *testing.T) {
+	r := newRig(t)
+	d := r.open()
+	of := createInstance(t, d)
+	bind, one := bound(t, d, of.request.Key)
+	session := hold(t, r.login(one.Username, one.Password, postgres.NameOf(of.request.Key)))
+	stopped(t, session, one.Username)
+	ctx, cancel := context.WithTimeout(bind.ctx, time.Minute)
+	defer cancel()
+	begin := time.Now()
+	diff.NoError(t, d.DeleteBinding(ctx, bind.request), "DeleteBinding after %v", time.Since(begin))
+	r.wantNothing(bind.request.Key)
+	wantThere(t, d, of, broker.Whole)
+}
+
+// stopped stops the server's process of a session of a user until the end of the test.
+func stopped(t *testing.T, session *sql.Conn, user string) {
+	t.Helper()
+	var process int
+	check(t, session.QueryRowContext(context.Background(), "SELECT pg_backend_pid()").Scan(&process))
+	title, err := os.ReadFile(fmt.Sprintf("/proc/%d/cmdline", process))
+	if err != nil || !strings.Contains(string(title), user) {
+		t.Skipf("process %d isn't the session: the server runs on another host: %v", process, err)
+	}
+	check(t, syscall.Kill(process, syscall.SIGSTOP))
+	t.Cleanup(func() { check(t, syscall.Kill(process, syscall.SIGCONT)) })
+}
+
 // A database that another customer has closed altogether is opened again.
 func TestADatabaseThatAcceptsNobody(t *testing.T) {
 	r := newRig(t)
@@ -460,7 +492,7 @@ func (r *rig) create02(key broker.Key, password string) {
 		"ALTER DATABASE "+name+" ALLOW_CONNECTIONS true")
 }
 
-// Finding H3: two stores on one server, with one role or with two, don't take each other's databases for their own.
+// Two stores on one server, with one role or with two, don't take each other's databases for their own.
 func TestAnotherStore(t *testing.T) {
 	r := newRig(t)
 	d := r.open()

@@ -195,7 +195,7 @@ func TestOptions(t *testing.T) {
 	}
 }
 
-// What is warned of. Findings H1b and M5 are among it.
+// What is warned of.
 func TestWarningsOf(t *testing.T) {
 	good := server{version: 160000, locks: fewestLocks, limitsTempFiles: true, hasFsync: true}
 	for _, test := range []struct {

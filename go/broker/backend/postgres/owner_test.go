@@ -78,7 +78,7 @@ func (r *rig) openWith(key []byte) (*postgres.Databases, error) {
 	return d, err
 }
 
-// Findings H4: a key that can be guessed is rejected, and so is another key than the one that is in use.
+// A key that can be guessed is rejected, and so is another key than the one that is in use.
 func TestKeys(t *testing.T) {
 	r := newRig(t)
 	for _, short := range []string{"", "hunter2", strings.Repeat("k", postgres.ShortestKey-1)} {
