@@ -308,6 +308,9 @@ func TestGarbled(t *testing.T) {
 		if in.Lost != nil && strings.Contains(in.Lost.Error(), secret) {
 			t.Fatalf("seed %d: got %v, want no secret in it", seed, in.Lost)
 		}
+		if in.Lost != nil && strings.Contains(in.Lost.Error(), "%!") {
+			t.Fatalf("seed %d: got %v, want the words for why it is lost", seed, in.Lost)
+		}
 		switch {
 		case in.Lost != nil:
 			counts["lost"]++
