@@ -14,8 +14,8 @@ has, too:
    `scripts/prebuilt --fits`: they are undamaged, and of these sources.
 3. pytest, several tests at once. Beside them, few at once, those that go by the clock: all others leave the processors
    to them. If a few tests fail, each is tried again with nothing beside it, since a busy machine may be the cause. What
-   fails three times has failed. If it goes by the clock, a slow machine may be the cause, so it is a skip that is named;
-   with --anew or --tests, it has failed, too.
+   fails three times has failed. If it goes by the clock, a slow machine may be the cause: it is a skip that is named,
+   and with --anew or --tests it has failed, too.
 
 Hosts differ, so the cost is also given in units: one is what `rt check` of osb_message takes from nothing, in processor
 seconds. It is measured before the steps, by itself.
