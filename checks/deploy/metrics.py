@@ -70,6 +70,12 @@ def unknown(query: str, metrics: Metrics) -> set[str]:
     return found
 
 
+def is_chosen(query: str) -> bool:
+    """Whether each metric of a query is that of the chosen jobs, and each rate that of the dashboard's interval."""
+    selected = all('job=~"$job"' in selector for _, selector in _SELECTOR.findall(query))
+    return selected and set(re.findall(r"\[(.*?)\]", query)) <= {"$__rate_interval"}
+
+
 def asked(query: str, metrics: Metrics) -> set[str]:
     """The metrics that a query asks for."""
     return {it if it in metrics else _SUFFIX.sub("", it) for it, _ in _SELECTOR.findall(query)}

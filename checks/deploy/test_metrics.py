@@ -7,7 +7,7 @@ import re
 from pathlib import Path
 
 import pytest
-from deploy.metrics import Metrics, asked, exported, failing, foreign, listed, queries, unknown
+from deploy.metrics import Metrics, asked, exported, failing, foreign, is_chosen, listed, queries, unknown
 from deploy.programs import OF_BROKER, PROVISION, ask, environment, order, running, serve
 from docs.pages import TOP, read
 from ports import free_address
@@ -75,7 +75,7 @@ def dashboard(program: str) -> str:
 def test_dashboard(program: str, metrics: Metrics) -> None:
     """Its queries use only metrics and labels that the program exports, and all of the program's own metrics."""
     found = queries(dashboard(program))
-    assert [it for it in found if unknown(it, metrics)] == []
+    assert [it for it in found if unknown(it, metrics) or not is_chosen(it)] == []
     own = {it for it in metrics if it.startswith("osb_")}
     assert own - {name for it in found for name in asked(it, metrics)} == set()
     named = set(re.findall(r"\bosb_\w+", dashboard(program)))
@@ -103,4 +103,7 @@ def test_each_dashboard_is_tested() -> None:
         found = json.loads(file.read_text(encoding="utf-8"))
         numbers = [it["id"] for it in found["panels"]]
         assert len(set(numbers)) == len(numbers) > 10
+        assert all(it["datasource"]["uid"] == "${datasource}" for it in found["panels"])
+        places = [(it["gridPos"]["x"], it["gridPos"]["y"]) for it in found["panels"]]
+        assert places == [(at % 3 * 8, at // 3 * 8) for at in range(len(places))]
         assert found["uid"] == found["title"] == file.stem
