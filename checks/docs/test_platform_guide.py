@@ -253,9 +253,11 @@ def test_routes() -> None:
 
 def test_queries_of_lists() -> None:
     """The table has each name that the query of a list may have, and no other."""
-    described = json.loads(read("go/platform/api/openapi.json"))["paths"]
+    described = json.loads(read("go/platform/api/openapi.json"))
     lists = ("/v1/records", "/v1/instances", "/v1/bindings", "/v1/instances/{id}/bindings")
-    program = {it["name"] for path in lists for it in described[path]["get"]["parameters"] if it["in"] == "query"}
+    listed = [it["$ref"].split("/")[-1] for path in lists for it in described["paths"][path]["get"]["parameters"]]
+    parameters = [described["components"]["parameters"][it] for it in listed]
+    program = {it["name"] for it in parameters if it["in"] == "query"}
     table = read(PLATFORM).partition("\n| query | which rows |\n|---|---|\n")[2].partition("\n\n")[0]
     named = [name for row in table.splitlines() for name in re.findall(r"`([a-z]+)=", row.split(" | ")[0])]
     assert len(program) > 10 and sorted(named) == sorted(program)

@@ -692,7 +692,7 @@ func checkOperation(t *testing.T, it route, found *openapi3.Operation) {
 }
 
 // The document is one of OpenAPI 3.0, and has no member that OpenAPI doesn't know. Each reference leads somewhere, each
-// schema is used, and each thing that is needed is described.
+// component is used, and each thing that is needed is described.
 func TestDocumentIsWhole(t *testing.T) {
 	check(t, errDescribed)
 	check(t, described.Validate(background))
@@ -716,6 +716,11 @@ func TestDocumentIsWhole(t *testing.T) {
 	for name, response := range described.Components.Responses {
 		if *response.Value.Description == "" || !strings.Contains(text, `"#/components/responses/`+name+`"`) {
 			t.Errorf("the response %s: got no description or no use, want both", name)
+		}
+	}
+	for name := range described.Components.Parameters {
+		if !strings.Contains(text, `"#/components/parameters/`+name+`"`) {
+			t.Errorf("the parameter %s: got no use, want one", name)
 		}
 	}
 }
