@@ -10,7 +10,7 @@ import time
 from email.utils import formatdate
 from pathlib import Path
 
-from release import python_programs
+from release import pages, python_programs
 from release.archives import compressed
 from release.linked import Package, notices
 from release.sources import PROGRAMS, SERVICES, TOP, Sources, run
@@ -138,9 +138,9 @@ def _python_programs(tree: Tree) -> None:
 def _pages(tree: Tree, sources: Sources) -> None:
     """The manual pages, and what completes command lines."""
     month = time.strftime("%B %Y", time.gmtime(sources.epoch))
-    for it in sorted((TOP / "release" / "man").glob("*.1")):
-        text = it.read_text(encoding="utf-8").replace("@DATE@", month).replace("@VERSION@", sources.version)
-        tree.put(f"usr/share/man/man1/{it.name}.gz", compressed(text.encode()))
+    for name in pages.ABOUT:
+        text = pages.page(name, pages.help_of(name, sources.replay), sources.version, month)
+        tree.put(f"usr/share/man/man1/{name}.1.gz", compressed(text.encode()))
     for it in sorted((sources.built / "pages").glob("*.1")):
         tree.put(f"usr/share/man/man1/{it.name}.gz", compressed(it.read_bytes()))
     for name in PROGRAMS:

@@ -18,6 +18,7 @@ from typing import Any
 import pytest
 from docs.pages import TOP, block, read
 
+from release import pages
 from release.making import make
 
 pytestmark = pytest.mark.slow
@@ -142,15 +143,19 @@ def options(text: str) -> set[str]:
     ("name", "commands"),
     [("osb-replay", "replay trace network"), ("osb-replay-log", "replay split merge"), ("osb-audit", "")],
 )
-def test_manual_page_by_hand(name: str, commands: str, replay: Path) -> None:
-    """The page has each option and each exit status of the help, and no other."""
+def test_manual_page_of_a_help(name: str, commands: str, replay: Path) -> None:
+    """The page has each option and each exit status of the help, and no other. groff has nothing to warn of."""
     program = replay if name == "osb-replay" else TOP / name
     lines: list[list[str]] = [[], *([it] for it in commands.split())]
     texts = [run(program, *line, "--help", OSB_REPLAY=str(replay)) for line in lines]
-    page = read(f"release/man/{name}.1").replace(r"\-", "-").replace("\\", "")
+    made = pages.page(name, pages.help_of(name, replay), "0.0.0", "January 1970")
+    page = made.replace(r"\-", "-").replace("\\", "")
     assert options("".join(texts)) == options(page)
     statuses = re.findall(r"^  (\d+)  ", texts[0].partition("Exit status:")[2], re.MULTILINE)
     assert re.findall(r"^\.B (\d+)$", page, re.MULTILINE) == [it.strip() for it in statuses] and len(statuses) > 5
+    if shutil.which("groff"):  # lintian needs it
+        ran = subprocess.run(["groff", "-man", "-Tutf8", "-ww"], input=made, capture_output=True, text=True)
+        assert (ran.returncode, ran.stderr) == (0, "")
 
 
 def test_completion(dist: Path, version: str, tmp_path: Path) -> None:
