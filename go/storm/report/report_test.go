@@ -2,9 +2,7 @@ package report
 
 import (
 	"bytes"
-	"context"
 	"encoding/json"
-	"errors"
 	"fmt"
 	"reflect"
 	"strings"
@@ -196,95 +194,6 @@ func TestCourse(t *testing.T) {
 	page.Reset()
 	if err := (&Page{}).Write(&page); err != nil || strings.Contains(page.String(), "<svg") {
 		t.Errorf("got %v, or a picture of nothing, want neither", err)
-	}
-}
-
-// listOf returns a list of faults.
-func listOf(t *testing.T, text string) []fault.Entry {
-	t.Helper()
-	list, err := fault.ReadList(strings.NewReader(text))
-	check(t, err)
-	return list
-}
-
-// The first candidate that loses something is shrunk. A list that loses nothing is tried twice, and none is tried again
-// once it is known that nothing is lost without faults.
-func TestShrink(t *testing.T) {
-	const one, other = "1.1 hang-up\n1.2 answer-lost\n", "2.1 hang-up\n2.2 answer-slow\n2.3 answer-lost\n2.4 hang-up\n"
-	for name, test := range map[string]struct {
-		needed  string // without these faults, nothing is lost
-		minimal []string
-		runs    int
-	}{
-		"the second": {"2.3 answer-lost", []string{"2.3 answer-lost"}, 9},
-		"two faults": {"2.1 hang-up 2.4 hang-up", []string{"2.1 hang-up", "2.4 hang-up"}, 33},
-		"no fault":   {"", []string{}, 2},
-		"nothing":    {"3.1 hang-up", nil, 4},
-	} {
-		t.Run(name, func(t *testing.T) {
-			shrunk := Minimum{}
-			shrunk.Shrink(context.Background(), []Candidate{
-				{listOf(t, one), map[int]bool{1: true}}, {listOf(t, other), map[int]bool{2: true}},
-			}, func(_ context.Context, of Candidate) (Loss, error) {
-				if len(of.List) > 0 && !of.Only[of.List[0].Number.Instance] {
-					t.Errorf("%s: got %v tried with the lives of %v, want its own", name, of.List, of.Only)
-				}
-				if contains(of.List, test.needed) {
-					return Loss{Lost: []Finding{{What: "they disagree"}}}, nil
-				}
-				return Loss{}, nil
-			})
-			if !reflect.DeepEqual(shrunk.Minimal, test.minimal) || shrunk.MinimizeRuns != test.runs ||
-				len(shrunk.ReplayList(nil)) != len(test.minimal) {
-				t.Errorf("%s: got %v after %d runs, want %v after %d", name, shrunk.Minimal, shrunk.MinimizeRuns, test.minimal,
-					test.runs)
-			}
-			if shrunk.NeedsNoFault() != (name == "no fault") || shrunk.HasTriedAll() != (name == "nothing") {
-				t.Errorf("%s: got no fault %v and all tried %v, want what the name says", name, shrunk.NeedsNoFault(),
-					shrunk.HasTriedAll())
-			}
-			if hasLife := len(shrunk.MinimalLost) == 1; hasLife != (test.minimal != nil) {
-				t.Errorf("%s: got the lives %v, want one exactly with a list", name, shrunk.MinimalLost)
-			}
-		})
-	}
-}
-
-// contains returns whether a list has these faults.
-func contains(list []fault.Entry, needed string) bool {
-	words := strings.Fields(needed)
-	for at := 0; at < len(words); at += 2 {
-		if !strings.Contains(fmt.Sprint(list), words[at]+" "+words[at+1]) {
-			return false
-		}
-	}
-	return true
-}
-
-// A run that fails loses nothing.
-func TestShrinkFailing(t *testing.T) {
-	shrunk := Minimum{}
-	shrunk.Shrink(context.Background(), []Candidate{{listOf(t, "1.1 hang-up"), nil}},
-		func(context.Context, Candidate) (Loss, error) {
-			return Loss{Lost: []Finding{{What: "a part"}}}, errors.New("no")
-		})
-	if shrunk.Minimal != nil || shrunk.MinimizeRuns != tries {
-		t.Errorf("got %v after %d runs, want none after %d", shrunk.Minimal, shrunk.MinimizeRuns, tries)
-	}
-}
-
-// The faults of each instance are tried alone, the fewest first, and of five instances at most. Then come those of all.
-func TestCandidates(t *testing.T) {
-	given := listOf(t, "1.1 hang-up\n1.2 hang-up\n2.1 hang-up\n3.1 hang-up\n4/1.1 hang-up\n4/1.2 hang-up\n4.3 hang-up")
-	var lists []string
-	for _, candidate := range Candidates(given, []int{4, 1, 2, 1, 9}) {
-		lists = append(lists, strings.Join(ListLines(candidate.List), " "))
-	}
-	two, three := "1.1 hang-up 1.2 hang-up", "4/1.1 hang-up 4/1.2 hang-up 4.3 hang-up"
-	wanted := []string{"", "2.1 hang-up", two, three, two + " 2.1 hang-up " + three}
-	diff.Check(t, lists, wanted, "the lists")
-	if all := Candidates(given, []int{1, 2, 3, 4, 5, 6, 7}); len(all) != mostCandidates+1 {
-		t.Errorf("got %d candidates, want %d", len(all), mostCandidates+1)
 	}
 }
 

@@ -18,7 +18,7 @@ import (
 // Errors: a program can't be started, or, if crash points are to be visited, was built without them.
 func (b *Both) Run(ctx context.Context) (*Report, error) {
 	into := b.newReport()
-	once := func(ctx context.Context, of *report.Candidate) (*Result, error) {
+	once := func(ctx context.Context, of *Candidate) (*Result, error) {
 		if of == nil {
 			return b.once(ctx)
 		}
@@ -46,7 +46,7 @@ func (b *Both) once(ctx context.Context) (*Result, error) {
 }
 
 // again is a further run, which is calm, with the faults of a candidate.
-func (b *Both) again(ctx context.Context, of report.Candidate) (*Result, error) {
+func (b *Both) again(ctx context.Context, of Candidate) (*Result, error) {
 	config := b.config
 	config.Calm, config.CrashPoints, config.Unruly, config.password = true, "", false, b.password
 	config.List, config.only = append([]fault.Entry{}, of.List...), of.Only

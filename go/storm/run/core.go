@@ -3,12 +3,10 @@ package run
 import (
 	"context"
 	"errors"
-	"fmt"
 	"time"
 
 	"pippinterm/storm/conform"
 	"pippinterm/storm/fault"
-	"pippinterm/storm/report"
 )
 
 // A Config says which faults a storm of any kind has, and within which limits it goes on.
@@ -118,7 +116,7 @@ type Core struct {
 	Config
 	Report *Report
 	// Once is a run: the first one if the candidate is nil, or a further one with the faults of the candidate.
-	Once func(ctx context.Context, of *report.Candidate) (*Result, error)
+	Once func(ctx context.Context, of *Candidate) (*Result, error)
 	// Add adds to the report what only this kind of storm knows of its first run. It may be nil.
 	Add func(*Result)
 	// Stop gets the error of a further run. If it isn't nil, such an error ends the further runs.
@@ -136,7 +134,8 @@ func (c Core) Run(ctx context.Context) error {
 	if err == nil && c.Add != nil {
 		c.Add(found)
 	}
-	if err == nil && c.MinimizeTime > 0 && found.IsLoser() && !c.fails(found) && ctx.Err() == nil {
+	wouldFail := c.Stop != nil && len(found.Failed) > 0 // as a further run would, too
+	if err == nil && c.MinimizeTime > 0 && found.IsLoser() && !wouldFail && ctx.Err() == nil {
 		c.minimize(ctx, found)
 	}
 	if ctx.Err() != nil {
@@ -144,71 +143,6 @@ func (c Core) Run(ctx context.Context) error {
 	}
 	c.Report.takeUntried(c.Config)
 	return err
-}
-
-// fails returns whether a further run would fail as the first one did.
-func (c Core) fails(found *Result) bool { return c.Stop != nil && len(found.Failed) > 0 }
-
-// minimize shrinks the list of faults to the shortest one that still loses one, and writes it into the report.
-func (c Core) minimize(ctx context.Context, found *Result) {
-	limited, cancel := context.WithTimeout(ctx, c.MinimizeTime)
-	defer cancel()
-	c.Report.shrink(limited, candidates(found), func(ctx context.Context, of report.Candidate) (*Result, error) {
-		again, err := c.Once(ctx, &of)
-		if err != nil && c.Stop != nil && ctx.Err() == nil {
-			c.Stop(fmt.Errorf("--minimize: %w", err))
-			cancel()
-		}
-		return again, err
-	})
-}
-
-// shrink shrinks the list of the first candidate that loses something, and writes it into the report. once is a run.
-func (r *Report) shrink(
-	ctx context.Context, candidates []report.Candidate,
-	once func(context.Context, report.Candidate) (*Result, error),
-) {
-	r.Shrink(ctx, candidates, func(ctx context.Context, of report.Candidate) (report.Loss, error) {
-		again, err := once(ctx, of)
-		if err != nil {
-			return report.Loss{}, err
-		}
-		return report.Loss{Lost: r.findings(again, losses...), Kills: r.runOf(again).Kills()}, nil
-	})
-	words := r.words()
-	switch {
-	case r.NeedsNoFault():
-		r.Notes = append(r.Notes, fmt.Sprintf("--minimize: something is %s without any fault, too", words.lost))
-	case r.HasTriedAll():
-		r.Notes = append(r.Notes, fmt.Sprintf("--minimize: in %d %s, nothing was %s", r.MinimizeRuns, words.runs, words.lost))
-	}
-}
-
-// candidates returns the faults of each instance of which something was lost, the shortest list first. The next one has
-// the faults of all these instances. If there were restarts, the last ones have all restarts, and all faults: a restart
-// is the fault of one instance, and another one may be lost by it. If each run has all instances, the last one has all
-// faults, too.
-func candidates(found *Result) []report.Candidate {
-	var numbers []int
-	for _, difference := range found.Differences {
-		place, is := found.Keys.Place(difference.Key.Instance, "")
-		if is && isOneOf(difference.Kind, losses) && place.Instance < firstOther {
-			numbers = append(numbers, place.Instance)
-		}
-	}
-	all := report.Candidates(found.Given, numbers)
-	if found.Restarts > 0 {
-		lost, restarted := all[len(all)-1].Only, map[int]bool{}
-		for _, numbered := range found.Given {
-			number := numbered.Number.Instance
-			restarted[number] = lost[number] || numbered.Kind.IsRestart() || restarted[number]
-		}
-		all = append(all, report.Candidate{List: report.Part(found.Given, restarted), Only: restarted})
-	}
-	if found.Restarts > 0 || found.OrdersAll {
-		all = append(all, report.Candidate{List: found.Given})
-	}
-	return all
 }
 
 // either returns the first error that isn't nil.

@@ -45,7 +45,7 @@ type Report struct {
 
 	Programs *Programs `json:"-"` // of a storm of both programs
 	Given    []string  `json:"fault_list"`
-	report.Minimum
+	Minimum
 
 	given          []fault.Entry
 	user, password string
@@ -252,7 +252,7 @@ func (r *Report) unknownLines() []string {
 }
 
 // WriteFaults writes the faults of the run as a list that fault.ReadList reads, or the list to which it was shrunk.
-func (r *Report) WriteFaults(w io.Writer) error { return fault.WriteList(w, r.ReplayList(r.given)) }
+func (r *Report) WriteFaults(w io.Writer) error { return fault.WriteList(w, r.replayList(r.given)) }
 
 // WriteText writes the report for people.
 func (r *Report) WriteText(w io.Writer) error {
@@ -265,7 +265,7 @@ func (r *Report) WriteText(w io.Writer) error {
 	report.WriteFindings(&text, "DISAGREEMENT", r.Disagree)
 	report.WriteBroken(&text, words.answer, r.Broken)
 	r.writeExists(&text)
-	r.WriteMinimal(&text, words.lost)
+	r.writeMinimal(&text, words.lost)
 	r.writeEnd(&text)
 	_, err := io.WriteString(w, text.String())
 	return err
@@ -374,13 +374,13 @@ func (r *Report) WriteHTML(w io.Writer) error {
 	page := &report.Page{
 		Title:   "Storm against " + r.URL,
 		Summary: r.verdict(),
-		Minimal: r.MinimalLines(r.words().lost), MinimalTitle: r.MinimalTitle(),
+		Minimal: r.minimalLines(r.words().lost), MinimalTitle: r.minimalTitle(),
 		Sections: []report.Section{
 			{Title: lost, Findings: r.Lost, Kills: r.kills}, {Title: "False records", Findings: r.False, Kills: r.kills},
 			{Title: "Not converged", Findings: r.Stuck, Kills: r.kills},
 			{Title: "Disagreements", Findings: r.Disagree, Kills: r.kills},
 			{Title: "What exists, to compare with what the platform has", Findings: r.Exists},
-			{Title: lost + " with this list of faults", Findings: r.MinimalLost, Kills: r.MinimalKills()},
+			{Title: lost + " with this list of faults", Findings: r.MinimalLost, Kills: r.minimalKills},
 		},
 		Course: r.course, Kills: r.kills, Noun: capital(r.words().answer), Broken: r.Broken, Given: r.Given,
 	}

@@ -56,7 +56,7 @@ func hostileReport() *Report {
 	return &Report{
 		URL: "http://" + hostile, Service: hostile, Plan: hostile, Ended: hostile, Inventory: hostile,
 		Lost: []Finding{finding}, False: []Finding{finding}, Stuck: []Finding{finding},
-		Minimum: report.Minimum{MinimalLost: []Finding{finding}, Minimal: []string{hostile}}, Given: []string{hostile}, Notes: []string{hostile}, Failed: []string{hostile},
+		Minimum: Minimum{MinimalLost: []Finding{finding}, Minimal: []string{hostile}}, Given: []string{hostile}, Notes: []string{hostile}, Failed: []string{hostile},
 		Leftovers: []conform.Leftover{{Instance: hostile, Reason: hostile}},
 		Broken:    []Violation{brokenWith(conform.Result{Reason: hostile, Sent: hostile, Came: hostile}, hostile)},
 	}

@@ -95,7 +95,7 @@ func (s *Storm) Run(running, deleting context.Context) (into *Report, err error)
 	}
 	into.Inventory = s.describe()
 	into.Instances++ // the one that was created without faults
-	once := func(running context.Context, of *report.Candidate) (*Result, error) {
+	once := func(running context.Context, of *Candidate) (*Result, error) {
 		if of == nil {
 			source := s.config.Source(fault.StandardWeights(s.config.Commands.restarts()))
 			return s.once(running, deleting, source, nil)

@@ -18,7 +18,6 @@ import (
 	"pippinterm/internal/diff"
 	"pippinterm/storm/conform"
 	"pippinterm/storm/fault"
-	"pippinterm/storm/report"
 )
 
 // configFor is a Config of short times.
@@ -524,37 +523,6 @@ func TestLives(t *testing.T) {
 	}
 }
 
-// The faults of each lost instance are tried alone, the fewest first. Then come those of all, and the restarts. An
-// instance whose number isn't one of a life isn't tried: in another run, another instance may have that number.
-func TestCandidates(t *testing.T) {
-	k := newKeys(func(number int) string { return fmt.Sprint("id-", number) })
-	one, two, three := k.instance(1), k.instance(2), k.instance(3)
-	numbered := func(instance, request int, kind fault.Kind) fault.Entry {
-		return fault.Entry{Number: fault.Number{Place: fault.Place{Instance: instance}, Request: request}, Kind: kind}
-	}
-	a, b, c := numbered(1, 1, fault.HangUp), numbered(1, 2, fault.HangUp), numbered(2, 1, fault.HangUp)
-	d, other := numbered(3, 1, fault.RestartAfter), Key{Instance: "another"}
-	if place, _ := k.placeOrNew(other.Instance, ""); place.Instance != firstOther {
-		t.Fatalf("another instance: got the number %s, want the first of the others", place)
-	}
-	found := &Result{
-		Keys: k, Given: []fault.Entry{a, b, c, d, numbered(4, 1, fault.HangUp), numbered(firstOther, 1, fault.HangUp)},
-		Differences: []Difference{{Key: one}, {Key: one}, {Key: two, Kind: False}, {Key: three, Kind: Stuck}, {Key: other}},
-	}
-	lists := func() (all []string) {
-		for _, candidate := range candidates(found) {
-			all = append(all, fmt.Sprint(candidate.List))
-		}
-		return all
-	}
-	text := func(list ...fault.Entry) string { return fmt.Sprint(list) }
-	wanted := []string{text(c), text(a, b), text(a, b, c)}
-	diff.Check(t, lists(), wanted, "the lists")
-	found.Restarts = 1
-	wanted = append(wanted, text(a, b, c, d), text(found.Given...))
-	diff.Check(t, lists(), wanted, "the lists with restarts")
-}
-
 // A command that fails, or that doesn't print what exists, ends the run before the storm, whoever makes the trial. The
 // error names the option, and says what the command must print. Nothing is left.
 func TestWrongLists(t *testing.T) {
@@ -671,117 +639,6 @@ func TestHangingCommands(t *testing.T) {
 			})
 		}
 	}
-}
-
-// listOf returns a list of faults.
-func listOf(t *testing.T, text string) []fault.Entry {
-	t.Helper()
-	list, err := fault.ReadList(strings.NewReader(text))
-	check(t, err)
-	return list
-}
-
-// contains returns whether a list has these faults.
-func contains(list []fault.Entry, needed string) bool {
-	words := strings.Fields(needed)
-	for at := 0; at < len(words); at += 2 {
-		if !strings.Contains(fmt.Sprint(list), words[at]+" "+words[at+1]) {
-			return false
-		}
-	}
-	return true
-}
-
-// The report says that something is lost without any fault, or that nothing was lost in the runs.
-func TestShrinkNotes(t *testing.T) {
-	for note, loses := range map[string]bool{
-		"--minimize: something is lost without any fault, too":                                true,
-		"--minimize: in 2 runs with the faults of the lost instances alone, nothing was lost": false,
-	} {
-		t.Run(note, func(t *testing.T) {
-			got, found := emptyReport(), &Result{Keys: newKeys(nil)}
-			if loses {
-				found.Differences = []Difference{{Kind: Disagree, What: "they disagree"}}
-			}
-			got.shrink(context.Background(), []report.Candidate{{List: listOf(t, "1.1 hang-up")}},
-				func(context.Context, report.Candidate) (*Result, error) { return found, nil })
-			if !reflect.DeepEqual(got.Notes, []string{note}) {
-				t.Errorf("got the notes %q, want %q", got.Notes, note)
-			}
-		})
-	}
-}
-
-// A run that was cut off says nothing, and a list that it has cut short isn't called the shortest, in no report.
-func TestShrinkCutOff(t *testing.T) {
-	const four = "2.1 hang-up\n2.2 answer-slow\n2.3 answer-lost\n2.4 hang-up\n"
-	const isCut = "the time for --minimize was over: the list may not be the shortest"
-	const notFound = "the time for --minimize was over before a list was found that loses something"
-	for name, test := range map[string]struct {
-		needed  string // without these faults, nothing is lost
-		cutAt   int    // the number of the run that is cut off
-		lost    bool   // whether that run has lost something before
-		minimal []string
-		ended   string
-	}{
-		"the first":       {"2.3 answer-lost", 1, false, nil, notFound},
-		"the first loses": {"2.3 answer-lost", 1, true, nil, notFound},
-		"the second":      {"3.1 hang-up", 2, false, nil, notFound},
-		"without faults":  {"2.3 answer-lost", 3, true, strings.Split(strings.TrimSpace(four), "\n"), isCut},
-		"again without":   {"2.3 answer-lost", 2, false, strings.Split(strings.TrimSpace(four), "\n"), isCut},
-		"while shrinking": {"2.3 answer-lost", 7, true, []string{"2.3 answer-lost", "2.4 hang-up"}, isCut},
-		"whole":           {"2.3 answer-lost", 100, false, []string{"2.3 answer-lost"}, ""},
-	} {
-		t.Run(name, func(t *testing.T) {
-			got, runs := emptyReport(), 0
-			ctx, cancel := context.WithCancel(context.Background())
-			got.shrink(expiring{ctx}, []report.Candidate{{List: listOf(t, four), Only: map[int]bool{2: true}}},
-				func(_ context.Context, of report.Candidate) (*Result, error) {
-					runs++
-					found := &Result{Keys: newKeys(nil)}
-					loses := contains(of.List, test.needed)
-					if runs == test.cutAt {
-						loses = test.lost
-						cancel()
-					}
-					if loses {
-						found.Differences = []Difference{{Kind: Lost, What: fmt.Sprint(of.List)}}
-					}
-					return found, nil
-				})
-			cancel()
-			if !reflect.DeepEqual(got.Minimal, test.minimal) || got.MinimizeEnded != test.ended {
-				t.Errorf("%s: got %q, %q after %d runs, want %q, %q", name, got.Minimal, got.MinimizeEnded, runs, test.minimal,
-					test.ended)
-			}
-			if len(got.Notes) > 0 { // such as that nothing was lost, or also without any fault
-				t.Errorf("%s: got the notes %q, want none", name, got.Notes)
-			}
-			if test.ended != "" && got.MinimizeRuns != test.cutAt-1 || test.ended != "" && runs != test.cutAt {
-				t.Errorf("%s: got %d counted of %d runs, want all before the cut", name, got.MinimizeRuns, runs)
-			}
-			if test.minimal != nil && got.MinimalLost[0].What != fmt.Sprint(got.ReplayList(nil)) {
-				t.Errorf("%s: got the life of %s, want that of the list", name, got.MinimalLost[0].What)
-			}
-			for form, text := range reports(t, got) {
-				isCalledShortest := strings.Contains(text, "shortest list") || strings.Contains(text, "Shortest list")
-				isShortest := test.minimal != nil && test.ended == ""
-				if form != "JSON" && isCalledShortest != isShortest || !strings.Contains(text, test.ended) {
-					t.Errorf("%s: got %s, want the end %q", name, text, test.ended)
-				}
-			}
-		})
-	}
-}
-
-// An expiring context is one whose end is that of a time.
-type expiring struct{ context.Context }
-
-func (e expiring) Err() error {
-	if e.Context.Err() == nil {
-		return nil
-	}
-	return context.DeadlineExceeded
 }
 
 // In a calm storm nothing is killed or has to be tried, and it ends with its lives.

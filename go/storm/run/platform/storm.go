@@ -80,7 +80,7 @@ func (s *Storm) Close() error {
 // the list of faults. If ctx is done, the run ends at once. Afterwards no request is answered any more.
 func (s *Storm) Run(ctx context.Context) *run.Report {
 	into := s.newReport()
-	once := func(ctx context.Context, of *report.Candidate) (*run.Result, error) {
+	once := func(ctx context.Context, of *run.Candidate) (*run.Result, error) {
 		if of == nil {
 			return s.once(ctx), nil
 		}
