@@ -1,46 +1,38 @@
-"""What the library has to make of each line of `lines.txt`, by the model.
-
-A line has the name of a call and its arguments. A text that begins with `hex:` stands for the bytes that its digits
-write.
-"""
+"""The calls of the lines of bindings: what the model and the library make of each line (wire.cases)."""
 
 from __future__ import annotations
 
 import urllib.parse
-from collections.abc import Callable
 from pathlib import Path
 
 from binding_wire import model
-from wire.cases import data, form, given, rejection, spaceless, split, text, told
-from wire.model import Refused
-from wire.model import answer as life_answer
-from wire.model import member, number_of
+from osb import Id, Request, binding_wire, wire
+from wire.cases import METHODS, Call, asked, form, kind_of, plans, read_answer, rejection, shown, spaceless
+from wire.model import Refused, answer, guid, member
 
 TEXT = Path(__file__).resolve().with_name("lines.txt")
-METHODS = {"provision": "PUT", "deprovision": "DELETE", "poll": "GET"}
 APP = "This Service supports generation of credentials through binding an application only."
 
 
-def parts_of(body: bytes) -> list[str]:
-    return [told(name, member(body, name)) for name in model.PARTS]
+def request(prefix: str, longest: int, method: str, target: bytes, body: bytes) -> list[str | None]:
+    it = model.received(method, prefix.encode(), target, body, longest)
+    return [it.asked(), *it[1:5], *(member(it.body, name) for name in model.PARTS)]
 
 
-def request(rest: str) -> list[str]:
-    prefix, longest, method, target, body = split(rest, 5)
-    before = (given(prefix) or "").encode()
-    try:
-        it = model.received(method, before, data(target), data(body), int(longest))
-    except Refused as refused:
-        return [rejection(refused)]
-    texts = [("instance", it.instance), ("binding", it.binding), ("service", it.service), ("plan", it.plan)]
-    return [it.asked(), *(told(name, text) for name, text in texts), *parts_of(it.body)]
+def received(prefix: str, longest: int, method: str, target: bytes, body: bytes) -> list[str | None]:
+    it = binding_wire.receive_binding_request(method, target, body, longest, prefix)
+    kind, _, others = asked(it.asked.asked).partition(" ")
+    if it.asked.is_fetch:
+        kind, others = "fetch", others.rpartition(" ")[0] + " -"
+    texts = it.instance, it.binding, it.service, it.plan
+    return [f"{kind} {it.asked.instance} {others}", *texts, *vars(it.parts).values()]
 
 
-def sent(kind: str, instance: str, binding: str, service: str, plan: str) -> list[str]:
+def named(kind: str, instance: str, binding: str, service: str, plan: str) -> list[str]:
     """What is sent of these ids, and then the Fetch."""
-    for name, it in (("instance", instance), ("binding", binding)):
+    for name, it in (("INSTANCE", instance), ("BINDING", binding)):
         if it in (".", ".."):
-            return [f"the text is not that of the request's {name}"]
+            raise Refused(f"NOT_{name}_TEXT")
     quoted = [urllib.parse.quote(it, safe="") for it in (instance, binding)]
     target = f"/v2/service_instances/{quoted[0]}/service_bindings/{quoted[1]}"
     ids = [("service_id", service), ("plan_id", plan)]
@@ -51,60 +43,51 @@ def sent(kind: str, instance: str, binding: str, service: str, plan: str) -> lis
     return [f"{METHODS[kind]} {target}{end}?{query}", body, f"GET {target}?{form(ids)}"]
 
 
-def named(rest: str) -> list[str]:
-    kind, instance, binding, service, plan = split(rest, 5)
-    return sent(kind, text(instance), text(binding), text(service), text(plan))
+def sent(kind: str, *names: str) -> list[str]:
+    instance, binding, service, plan = map(Id.of_text, names)
+    made, texts = Request(kind_of(kind), True, binding, service, plan), binding_wire.BindingNames(*names)
+    target = binding_wire.write_binding_target(made, instance, texts, "a b")
+    fetched = binding_wire.write_fetch_target(made, instance, texts)
+    body = binding_wire.write_binding_body(made.kind, texts).decode()
+    return [f"{wire.write_method(made.kind)} {target}", body, f"GET {fetched}"]
 
 
-def answer(rest: str) -> list[str]:
-    kind, status, body = split(rest, 3)
-    said = data(body)
-    return [life_answer(kind, int(status), said), told("object", model.bound(kind, int(status), said))]
+def lacking(body: bytes) -> tuple[int, str] | None:
+    return rejection(422, APP, "RequiresApp") if model.lacks_app(body) else None
 
 
-def fetched(rest: str) -> list[str]:
-    status, body = split(rest, 2)
-    return [told("object", model.fetched(int(status), data(body)))]
+def app(body: bytes) -> None:
+    binding_wire.requires_app(False, body)
+    binding_wire.requires_app(True, body)
 
 
-def stored(rest: str) -> list[str]:
-    return ["-" if model.object_of(data(rest)) is None else "an object"]
+def stored(body: bytes) -> None:
+    if model.object_of(body) is None:
+        raise Refused("NOT_AN_OBJECT")
 
 
-def app(rest: str) -> list[str]:
-    if model.lacks_app(data(rest)):
-        return [f"422 {spaceless({'description': APP, 'error': 'RequiresApp'})}"]
-    return ["-"]
+def mode(modes: list[tuple[str, str, str]], service: str, plan: str) -> list[str]:
+    """The mode of a plan, if it is among these."""
+    return [it for *pair, it in modes if pair == [guid(service), guid(plan)]]
 
 
-def modes(rest: str) -> list[str]:
-    service, plan, document = split(rest, 3)
-    try:
-        found = model.modes(data(document))
-    except Refused as refused:
-        return [str(refused)]
-    numbers = number_of(service), number_of(plan)
-    return [next((mode for pair, mode in found.items() if pair == numbers), "-")]
-
-
-def retrievable(rest: str) -> list[str]:
-    service, document = split(rest, 2)
-    return [str(model.retrievable(service, data(document))).lower()]
-
-
-CALLS: dict[str, Callable[[str], list[str]]] = {
-    "answer": answer,
-    "app": app,
-    "fetched": fetched,
-    "modes": modes,
-    "named": named,
-    "request": request,
-    "retrievable": retrievable,
-    "stored": stored,
+CALLS: dict[str, Call] = {
+    "answer": Call(
+        "word number bytes",
+        lambda *of: [answer(*of), model.bound(*of)],
+        lambda kind, *of: [read_answer(kind, *of), binding_wire.read_binding(kind_of(kind), *of)],
+    ),
+    "app": Call("bytes", lacking, app),
+    "fetched": Call("number bytes", model.fetched, binding_wire.read_fetched),
+    "modes": Call(
+        "word word bytes",
+        lambda service, plan, of: mode(shown(model.modes(of)), service, plan),
+        lambda service, plan, of: mode(plans(binding_wire.binding_modes(of)), service, plan),
+    ),
+    "named": Call("word text text text text", named, sent),
+    "request": Call("prefix number word bytes bytes", request, received),
+    "retrievable": Call(
+        "word bytes", model.retrievable, lambda service, of: binding_wire.bindings_retrievable(of, Id.of_text(service))
+    ),
+    "stored": Call("bytes", stored, binding_wire.check_binding),
 }
-
-
-def wanted(line: str) -> list[str]:
-    """What the library has to make of a line."""
-    call, _, rest = line.partition(" ")
-    return CALLS[call](rest)

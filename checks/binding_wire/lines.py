@@ -5,25 +5,10 @@ from __future__ import annotations
 import json
 
 from hypothesis import strategies as st
+from wire import texts
 from wire.lines import AT_ONCE, KINDS, NAMED_IDS, SEEDS, Lines, changed, changed_requests, hexed, some
-from wire.texts import (
-    IDS,
-    IN_BODY,
-    IN_PROVISION,
-    SOUND_VALUE,
-    STATUSES,
-    WHOLE_BODY,
-    Asked,
-    joined,
-    members,
-    queries,
-    quoted,
-    variants,
-)
+from wire.texts import IN_BODY, IN_PROVISION, SOUND_VALUE, STATUSES, WHOLE_BODY, bodies, joined, members, variants
 
-FRONTS = ["/v2"] * 12 + ["//v2", "///v2", "http://host:80/v2", "HTTPS://host/v2", "https://host//v2"]
-ENDS = ["", "", "/last_operation", "", ""]
-METHODS = ["PUT", "DELETE", "GET", "GET", "PUT"]
 APPS = st.sampled_from(['{"app_guid":"a"}', '{"app_guid":""}', '{"app_guid":1}', '{"route":"r"}', '"a"', "[]"])
 IN_BINDS = members(
     ["bind_resource", "parameters", "context", "predecessor_binding_id", "app_guid", "vendor"],
@@ -34,41 +19,16 @@ IN_BINDS = members(
 # The ids of the services and of the plans of a catalogue.
 SERVICES, PLANS = ["s", "t"], ["p", "q", "r"]
 
-
-@st.composite
-def binds(draw: st.DrawFn) -> bytes:
-    """The body of a Bind."""
-    made = {name: draw(IDS) for name in ("service_id", "plan_id")}
-    if draw(st.sampled_from([False] * 8 + [True])):
-        made[draw(st.sampled_from([*made]))] = draw(st.sampled_from(["", "x"]))
-    escapes = draw(st.booleans())
-    pairs = [(json.dumps(name), ":", json.dumps(text, ensure_ascii=escapes)) for name, text in made.items()]
-    pairs += draw(IN_BINDS)
-    return joined(draw(st.permutations(pairs)), draw(st.sampled_from([",", " ,", ", "]))).encode()
-
-
-@st.composite
-def whole_requests(draw: st.DrawFn) -> Asked:
-    """A request of a binding, mostly of a method that its target has."""
-    at = draw(st.integers(0, len(METHODS) - 1))
-    method = draw(st.sampled_from([METHODS[at]] * 14 + ["GET", "PUT", "DELETE", "POST", "put"]))
-    end = draw(st.sampled_from([ENDS[at]] * 14 + ["", "/", "/last_operation", "/x"]))
-    query = draw(st.sampled_from(["?"] * 15 + [""]))
-    ids = [quoted(draw(IDS)) for _ in range(2)]
-    path = f"{draw(st.sampled_from(FRONTS))}/service_instances/{ids[0]}/service_bindings/{ids[1]}{end}"
-    target = f"{path}{query}{draw(queries()) if query else ''}".encode()
-    body = draw(binds()) if method == "PUT" else b""
-    return Asked(method, target, body, draw(st.sampled_from([10_000] * 15 + [200])))
-
-
-REQUESTS = changed_requests(whole_requests())
+BINDS = bodies("service_id plan_id", IN_BINDS, 8)
+METHODS = [("PUT", ""), ("DELETE", ""), ("GET", "/last_operation"), ("GET", ""), ("PUT", "")]
+REQUESTS = changed_requests(texts.requests_at(f"{texts.INSTANCE}/service_bindings/{{}}", METHODS, "/x", BINDS))
 SENT = some(
-    st.builds(lambda kind, *texts: " ".join(["named", kind, *map(hexed, texts)]), KINDS, *[NAMED_IDS for _ in range(4)])
+    st.builds(lambda kind, *ids: " ".join(["named", kind, *map(hexed, ids)]), KINDS, *[NAMED_IDS for _ in range(4)])
 )
 
 # ---- bodies
 
-APPS_NAMED = changed(["app"], binds(), IN_PROVISION)
+APPS_NAMED = changed(["app"], BINDS, IN_PROVISION)
 OBJECTS = members(
     ["credentials", "syslog_drain_url", "route_service_url", "volume_mounts", "endpoints", "metadata"],
     SOUND_VALUE,

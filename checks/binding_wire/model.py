@@ -82,16 +82,16 @@ def received(method: str, prefix: bytes, target: bytes, body: bytes, longest: in
 # ---- bodies
 
 
-def object_of(body: bytes) -> str | None:
-    """The text of a body that is an object."""
-    return None if model.members(body) is None else body.decode()
+def object_of(body: bytes) -> bytes | None:
+    """A body that is an object."""
+    return None if model.members(body) is None else body
 
 
-def bound(kind: str, status: int, body: bytes) -> str | None:
+def bound(kind: str, status: int, body: bytes) -> bytes | None:
     return object_of(body) if kind == "provision" and status in (200, 201) else None
 
 
-def fetched(status: int, body: bytes) -> str | None:
+def fetched(status: int, body: bytes) -> bytes | None:
     return object_of(body) if status == 200 else None
 
 
@@ -107,13 +107,10 @@ def lacks_app(body: bytes) -> bool:
 # ---- catalogues
 
 
-NOT_A_FLAG = "bindable, bindings_retrievable and x-osb-asynchronous-bindings must be true or false"
-
-
 def flag(of: dict[str, Any], name: str, otherwise: bool) -> bool:
     says = of.get(name, otherwise)
     if not isinstance(says, bool):
-        raise Refused(NOT_A_FLAG)
+        raise Refused("NOT_A_BOOLEAN")
     return says
 
 
@@ -121,21 +118,21 @@ def modes(document: bytes) -> dict[tuple[int, int], str]:
     """How the plans of a document bind, or `Refused` with the first fault."""
     found: dict[tuple[int, int], str] = {}
     top = model.top_of(document)
-    for service in model.listed(top, "services", "the document must have a list of services"):
-        number = model.own_number(service, "the id of a service must be a string of 1 to 255 bytes")
+    for service in model.listed(top, "services", "NO_SERVICES"):
+        number = model.own_number(service, "BAD_SERVICE")
         bindable = flag(service, "bindable", False)
         asynchronous = flag(service, "x-osb-asynchronous-bindings", False)
         retrievable = flag(service, "bindings_retrievable", False)
-        for plan in model.listed(service, "plans", "a service must have a list of plans"):
-            pair = number, model.own_number(plan, "the id of a plan must be a string of 1 to 255 bytes")
+        for plan in model.listed(service, "plans", "NO_PLANS"):
+            pair = number, model.own_number(plan, "BAD_PLAN")
             binds = flag(plan, "bindable", bindable)
             later = flag(plan, "x-osb-asynchronous-bindings", asynchronous)
             if not binds:
                 continue
             if later and not retrievable:
-                raise Refused("a service with asynchronous bindings must be bindings_retrievable")
+                raise Refused("NOT_RETRIEVABLE")
             if pair in found:
-                raise Refused("a plan of a service stands twice")
+                raise Refused("PLAN_TWICE")
             found[pair] = "async" if later else "sync"
     return found
 

@@ -1,4 +1,4 @@
-"""What the library has to make of each line of `lines.txt`, by the model.
+"""The calls of the lines: what a line gives a call, and what the model and the library make of that.
 
 A line has the name of a call and its arguments. A text that begins with `hex:` stands for the bytes that its digits
 write.
@@ -8,10 +8,13 @@ from __future__ import annotations
 
 import json
 import urllib.parse
-from collections.abc import Callable
+from collections.abc import Callable, Mapping
 from pathlib import Path
+from typing import Any, NamedTuple
 
+from osb import Answer, Body, Endpoints, Id, Kind, OsbError, Plan, Refusal, Request, wire
 from wire import model
+from wire.model import Refused
 
 TEXT = Path(__file__).resolve().with_name("lines.txt")
 REASONS = {
@@ -48,51 +51,88 @@ def text(word: str) -> str:
     return data(word).decode()
 
 
-def split(rest: str, many: int) -> list[str]:
-    """So many words, the last of which has all that is left. One that is missing is empty."""
-    words = rest.split(" ", many - 1)
-    return words + [""] * (many - len(words))
-
-
 def given(word: str) -> str | None:
     return None if word == "-" else word
+
+
+ARGUMENTS: dict[str, Callable[[str], Any]] = {
+    "word": str,
+    "number": int,
+    "bytes": data,
+    "text": text,
+    "optional": lambda word: given(text(word)),
+    "prefix": lambda word: given(word) or "",
+}
+
+
+class Call(NamedTuple):
+    """The kinds of its arguments, the last of which has all that is left of a line, and what is made of them."""
+
+    arguments: str
+    by_model: Callable[..., Any]
+    by_library: Callable[..., Any]
+
+
+def compare(calls: Mapping[str, Call], line: str) -> None:
+    """Fails unless the model and the library make the same of a line."""
+    name, _, rest = line.partition(" ")
+    call, kinds = calls[name], calls[name].arguments.split()
+    words = rest.split(" ", len(kinds) - 1)
+    given = [ARGUMENTS[kind](word) for kind, word in zip(kinds, words + [""] * len(kinds))]
+    assert outcome(call.by_library, given) == outcome(call.by_model, given), line
+
+
+def outcome(call: Callable[..., Any], given: list[Any]) -> Any:
+    """What a call gives, or the name of its status, or the answer to a request that is refused."""
+    try:
+        return call(*given)
+    except Refusal as refusal:
+        return refusal.http_status, refusal.body.decode()
+    except OsbError as error:
+        return error.status.name
+    except Refused as refused:
+        return refusal_of(refused)
+
+
+def refusal_of(refused: Refused) -> str | tuple[int, str]:
+    """A status, or the answer to a request that is refused with an HTTP status and a description."""
+    status, _, description = str(refused).partition(" ")
+    return rejection(int(status), description, REASONS[int(status)]) if description else status
+
+
+def rejection(status: int, description: str, error: str) -> tuple[int, str]:
+    return status, spaceless({"description": description, "error": error})
 
 
 def spaceless(value: object) -> str:
     return json.dumps(value, ensure_ascii=False, separators=(",", ":"))
 
 
-def told(name: str, it: str | bool | None) -> str:
-    """A text or a boolean under its name, and `-` if there is none."""
-    return f"{name} {'-' if it is None else str(it).lower() if isinstance(it, bool) else f'[{it}]'}"
+def kind_of(word: str) -> Kind:
+    return Kind[word.upper()]
 
 
-def rejection(refused: model.Refused) -> str:
-    status, _, description = str(refused).partition(" ")
-    return f"{status} {spaceless({'description': description, 'error': REASONS[int(status)]})}"
+def body_of(word: str) -> Body:
+    return Body[{**model.ERRORS, "error": "other-error"}.get(word, word).upper().replace("-", "_")]
 
 
 # ---- requests
 
 
-def number(rest: str) -> list[str]:
-    return [model.guid(text(rest))]
+def request(prefix: str, longest: int, method: str, target: bytes, body: bytes) -> list[str | None]:
+    it = model.received(method, prefix.encode(), target, body, longest)
+    parts = [model.member(it.body, name) for name in ("parameters", "context", "maintenance_info")]
+    return [it.asked(), it.instance, it.service, it.plan, *parts, model.others(it.body)]
 
 
-def parts_of(body: bytes) -> list[str]:
-    names = ("parameters", "context", "maintenance_info")
-    return [*(told(name, model.member(body, name)) for name in names), told("others", model.others(body))]
+def received(prefix: str, longest: int, method: str, target: bytes, body: bytes) -> list[str | None]:
+    it = wire.receive_request(method, target, body, longest, prefix)
+    return [asked(it.asked), it.instance, it.service, it.plan, *vars(it.parts).values()]
 
 
-def request(rest: str) -> list[str]:
-    prefix, longest, method, target, body = split(rest, 5)
-    before = (given(prefix) or "").encode()
-    try:
-        it = model.received(method, before, data(target), data(body), int(longest))
-    except model.Refused as refused:
-        return [rejection(refused)]
-    texts = [told("instance", it.instance), told("service", it.service), told("plan", it.plan)]
-    return [it.asked(), *texts, *parts_of(it.body)]
+def asked(it: wire.Asked) -> str:
+    ids = " ".join("-" if id is None else str(id) for id in (it.id, it.service, it.plan))
+    return f"{it.kind} {ids} {str(it.accepts_incomplete).lower()}"
 
 
 def form(pairs: list[tuple[str, str]]) -> str:
@@ -100,10 +140,10 @@ def form(pairs: list[tuple[str, str]]) -> str:
     return "&".join(f"{name}={urllib.parse.quote_plus(it, safe='*').replace('~', '%7E')}" for name, it in pairs)
 
 
-def sent(kind: str, instance: str, service: str, plan: str) -> list[str]:
+def named(kind: str, instance: str, service: str, plan: str) -> list[str]:
     """What is sent of these ids."""
     if instance in (".", ".."):
-        return ["the text is not that of the request's instance"]
+        raise Refused("NOT_INSTANCE_TEXT")
     target = "/v2/service_instances/" + urllib.parse.quote(instance, safe="")
     pairs = [("accepts_incomplete", "true"), ("operation", "a b")]
     body = ""
@@ -116,138 +156,114 @@ def sent(kind: str, instance: str, service: str, plan: str) -> list[str]:
     return [f"{METHODS[kind]} {target}?{form(pairs)}", body]
 
 
-def named(rest: str) -> list[str]:
-    kind, instance, service, plan = split(rest, 4)
-    return sent(kind, text(instance), text(service), text(plan))
-
-
-def misnamed(rest: str) -> list[str]:
-    for word, own, what in zip(rest.split(" "), ("i", "s", "p"), ("instance", "service", "plan")):
+def misnamed(*words: str) -> list[str]:
+    for word, own, what in zip(words, "isp", ("INSTANCE", "SERVICE", "PLAN")):
         if word != own:
-            return [f"the text is not that of the request's {what}"]
-    return sent("poll", "i", "s", "p")
+            raise Refused(f"NOT_{what}_TEXT")
+    return named("poll", *words)
 
 
-# ---- bodies
+def sent(kind: str, ids: tuple[str, ...], names: tuple[str, ...]) -> list[str]:
+    """What is sent of the request of these ids with these texts."""
+    made = Request(kind_of(kind), True, *map(Id.of_text, ids))
+    target = wire.write_named_target(made, wire.Names(*names), "a b")
+    body = wire.write_named_body(made.kind, wire.Names(*names), "o", "s").decode()
+    return [f"{wire.write_method(made.kind)} {target}", body]
 
 
-def member(rest: str) -> list[str]:
-    name, body = split(rest, 2)
-    return [told(name, model.member(data(body), name))]
+# ---- bodies and answers
 
 
-def digest(rest: str) -> list[str]:
-    return [model.attributes_digest(data(rest)).hex()]
+def conflict(version: str | None, body: bytes) -> tuple[int, str] | None:
+    if not model.conflicts(version, body):
+        return None
+    return rejection(422, "The plan has another maintenance_info.version.", "MaintenanceInfoConflict")
 
 
-def parameters(rest: str) -> list[str]:
-    found = model.parameters_digest(data(rest))
-    return ["-" if found is None else found.hex()]
-
-
-def conflict(rest: str) -> list[str]:
-    version, body = split(rest, 2)
-    if not model.conflicts(given(version), data(body)):
-        return ["-"]
-    description = "The plan has another maintenance_info.version."
-    return [f"422 {spaceless({'description': description, 'error': 'MaintenanceInfoConflict'})}"]
-
-
-# ---- answers
-
-
-def answer(rest: str) -> list[str]:
-    status, word, description = split(rest, 3)
-    said = given(text(description))
-    cut = None if said is None else said[:LONGEST_DESCRIPTION]
-    if word == "malformed":
-        return [""]
-    if word == "empty":
-        return ["{}"]
+def answer(status: int, word: str, description: str | None) -> str:
+    cut = None if description is None else description[:LONGEST_DESCRIPTION]
+    if word in ("malformed", "empty"):
+        return "" if word == "malformed" else "{}"
     if word in STATES:
         why = {"description": cut} if word == "failed" and cut is not None else {}
-        return [spaceless({**why, "state": STATES[word]})]
-    error = REASONS.get(int(status), "Refused") if word == "error" else word
+        return spaceless({**why, "state": STATES[word]})
+    error = REASONS.get(status, "Refused") if word == "error" else word
     usual = USUAL.get(error, "The request was refused.")
-    return [spaceless({"description": usual if cut is None else cut, "error": error})]
+    return spaceless({"description": usual if cut is None else cut, "error": error})
 
 
-def details(rest: str) -> list[str]:
-    return [told(name, it) for name, it in model.details(data(rest))._asdict().items()]
+def written(status: int, word: str, description: str | None) -> str:
+    return wire.write_answer(Answer(status, body_of(word)), None, description).decode()
 
 
-# ---- headers
+def read_answer(kind: str, status: int, body: bytes) -> str:
+    """What a platform reads of an answer, in the words of the model."""
+    found = wire.read_answer(kind_of(kind), status, body)
+    return "none" if found is None else f"{found.status} {found.body}"
 
 
-def identity(rest: str) -> list[str]:
-    found = model.identity(text(rest))
-    return ["-" if found is None else f"[{found[0]}] [{found[1]}]"]
+def identity(value: str) -> tuple[str, str] | None:
+    found = wire.originating_identity(value)
+    return None if found is None else (found.platform, found.object)
 
 
-def request_identity(rest: str) -> list[str]:
-    return [told("text", model.request_identity(text(rest)))]
+# ---- ids and catalogues
+
+Modes = list[tuple[str, str, str]]
 
 
-# ---- catalogues
+def number(text: str) -> str:
+    found = model.number_of(text)
+    if found is None:
+        raise Refused("NOT_AN_ID")
+    return model.shown(found)
 
 
-def asks(rest: str) -> list[str]:
-    prefix, target = split(rest, 2)
-    return [str(model.asks_for_catalogue((given(prefix) or "").encode(), data(target))).lower()]
+def shown(modes: dict[tuple[int, int], str]) -> Modes:
+    return [(model.shown(service), model.shown(plan), mode) for (service, plan), mode in sorted(modes.items())]
 
 
-def shown(modes: dict[tuple[int, int], str]) -> list[str]:
-    return [f"{model.shown(service)} {model.shown(plan)} {mode}" for (service, plan), mode in sorted(modes.items())]
+def plans(found: list[Plan]) -> Modes:
+    return [(str(it.service), str(it.plan), "async" if it.is_asynchronous else "sync") for it in found]
 
 
-def plans(rest: str) -> list[str]:
-    try:
-        return ["plans", *shown(model.sold(data(rest)))]
-    except model.Refused as fault:
-        return [str(fault)]
+def document(letters: str, of: bytes) -> Modes:
+    return shown(model.judge(of, {LETTERS[it] for it in letters if it in LETTERS}))
 
 
-def document(rest: str) -> list[str]:
-    letters, it = split(rest, 2)
-    try:
-        modes = model.judge(data(it), {LETTERS[letter] for letter in letters if letter in LETTERS})
-    except model.Refused as fault:
-        return [str(fault)]
-    return ["kept", *shown(modes)]
+def checked(letters: str, of: bytes) -> Modes:
+    wire.check_catalogue(of, Endpoints(**{LETTERS[it]: True for it in letters if it in LETTERS}))
+    return plans(wire.catalogue_plans(of))
 
 
-def served(rest: str) -> list[str]:
-    return [told("served", model.served(data(rest)))]
+def version(service: str, plan: str, of: bytes) -> str | None:
+    return model.plan_version(of, model.number_of(service), model.number_of(plan))
 
 
-def version(rest: str) -> list[str]:
-    service, plan, it = split(rest, 3)
-    found = model.plan_version(data(it), model.number_of(text(service)), model.number_of(text(plan)))
-    return [told("version", found)]
-
-
-CALLS: dict[str, Callable[[str], list[str]]] = {
-    "answer": answer,
-    "asks": asks,
-    "conflict": conflict,
-    "details": details,
-    "digest": digest,
-    "document": document,
-    "id": number,
-    "identity": identity,
-    "member": member,
-    "misnamed": misnamed,
-    "named": named,
-    "parameters": parameters,
-    "plans": plans,
-    "request": request,
-    "request-identity": request_identity,
-    "served": served,
-    "version": version,
+CALLS = {
+    "answer": Call("number word optional", answer, written),
+    "asks": Call(
+        "prefix bytes",
+        lambda prefix, target: model.asks_for_catalogue(prefix.encode(), target),
+        lambda prefix, target: wire.asks_for_catalogue(target, prefix),
+    ),
+    "conflict": Call("optional bytes", conflict, wire.maintenance_conflict),
+    "details": Call("bytes", lambda of: [*model.details(of)], lambda of: [*vars(wire.read_details(of)).values()]),
+    "digest": Call("bytes", model.attributes_digest, wire.attributes_digest),
+    "document": Call("word bytes", document, checked),
+    "id": Call("text", number, lambda text: str(Id.of_text(text))),
+    "identity": Call("text", model.identity, identity),
+    "member": Call("word bytes", lambda name, of: model.member(of, name), lambda name, of: wire.member_text(of, name)),
+    "misnamed": Call("word word word", misnamed, lambda *words: sent("poll", ("i", "s", "p"), words)),
+    "named": Call("word text text text", named, lambda kind, *names: sent(kind, names, names)),
+    "parameters": Call("bytes", model.parameters_digest, wire.parameters_digest),
+    "plans": Call("bytes", lambda of: shown(model.sold(of)), lambda of: plans(wire.catalogue_plans(of))),
+    "request": Call("prefix number word bytes bytes", request, received),
+    "request-identity": Call("text", model.request_identity, wire.request_identity),
+    "served": Call("bytes", model.served, wire.served_catalogue),
+    "version": Call(
+        "text text bytes",
+        version,
+        lambda service, plan, of: wire.plan_version(of, Id.of_text(service), Id.of_text(plan)),
+    ),
 }
-
-
-def wanted(line: str) -> list[str]:
-    """What the library has to make of a line."""
-    call, _, rest = line.partition(" ")
-    return CALLS[call](rest)

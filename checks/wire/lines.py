@@ -6,23 +6,9 @@ import base64
 import json
 
 from hypothesis import strategies as st
+from wire import texts
 from wire.model import FLAGS, number_of
-from wire.texts import (
-    IDS,
-    IN_BODY,
-    IN_PROVISION,
-    IN_TARGET,
-    PLACES,
-    SOUND_VALUE,
-    VERSIONS,
-    Asked,
-    escaped,
-    joined,
-    members,
-    provisions,
-    variants,
-    whole_requests,
-)
+from wire.texts import IDS, IN_BODY, IN_PROVISION, IN_TARGET, SOUND_VALUE, joined, members, variants
 
 # How many lines there are at once.
 AT_ONCE = 20
@@ -57,7 +43,7 @@ def changed(calls: list[str], wholes: st.SearchStrategy[bytes], of: bytes) -> Li
 # ---- requests
 
 
-def changed_request(asked: Asked, seed: int, prefix: str) -> list[str]:
+def changed_request(asked: texts.Asked, seed: int, prefix: str) -> list[str]:
     """Lines with the variants of the target, or of the body."""
     method, target, body, longest = asked
     if prefix != "-":
@@ -68,28 +54,26 @@ def changed_request(asked: Asked, seed: int, prefix: str) -> list[str]:
     return [f"request {prefix} {longest} {method} {hexed(one)} {hexed(other)}" for one, other in pairs]
 
 
-def changed_requests(wholes: st.SearchStrategy[Asked]) -> Lines:
+def changed_requests(wholes: st.SearchStrategy[texts.Asked]) -> Lines:
     return st.builds(changed_request, wholes, SEEDS, st.sampled_from(["-"] * 5 + ["/broker"]))
 
 
-REQUESTS = changed_requests(whole_requests())
+REQUESTS = changed_requests(texts.WHOLE_REQUESTS)
 NUMBERS = some(st.builds(lambda text: f"id {hexed(text)}", IDS))
 KINDS = st.sampled_from(["provision", "deprovision", "poll"])
 SENT = some(
-    st.builds(
-        lambda kind, *texts: " ".join(["named", kind, *map(hexed, texts)]), KINDS, NAMED_IDS, NAMED_IDS, NAMED_IDS
-    )
+    st.builds(lambda kind, *ids: " ".join(["named", kind, *map(hexed, ids)]), KINDS, NAMED_IDS, NAMED_IDS, NAMED_IDS)
 )
 
 # ---- bodies
 
-PARTS = changed(["member parameters", "member context", "digest"], provisions(), IN_PROVISION)
+PARTS = changed(["member parameters", "member context", "digest"], texts.PROVISIONS, IN_PROVISION)
 PARAMETERS = changed(["parameters"], SOUND_VALUE.map(str.encode), IN_BODY)
 CONFLICTS = changed(
     ["conflict 1.0", "conflict 2.0", "conflict -"],
-    members(["maintenance_info", "maintenance_info", "vendor"], VERSIONS | VERSIONS | SOUND_VALUE, 1, 3).map(
-        lambda pairs: joined(pairs, ",").encode()
-    ),
+    members(
+        ["maintenance_info", "maintenance_info", "vendor"], texts.VERSIONS | texts.VERSIONS | SOUND_VALUE, 1, 3
+    ).map(lambda pairs: joined(pairs, ",").encode()),
     IN_BODY,
 )
 
@@ -114,13 +98,9 @@ DETAILS = changed(["details"], SAYING, IN_BODY)
 WORDS = ["error"] * 4 + ["AsyncRequired", "ConcurrencyError", "failed", "failed", "succeeded", "in-progress", "empty"]
 
 
-def long_text(character: str, size: int) -> str:
-    return character * size
-
-
 DESCRIPTIONS = st.one_of(
     st.text(ANY_TEXT, max_size=30),
-    st.builds(long_text, st.sampled_from("aé\U0001f600\n"), st.integers(990, 1010)),
+    st.builds(str.__mul__, st.sampled_from("aé\U0001f600\n"), st.integers(990, 1010)),
 )
 ANSWERS = some(
     st.builds(
@@ -191,12 +171,21 @@ def documents(draw: st.DrawFn) -> bytes:
 ENDPOINTS = ["-", "b", "ub", "bi", "uif", "ubif", "ubif"]
 KEPT = changed([f"document {letters}" for letters in ENDPOINTS], documents(), IN_PROVISION)
 OF_DOCUMENTS = changed(["plans", "served", "version s s", "version postgres t"], documents(), IN_PROVISION)
-FRONTS = ["/v2", "/v2", "//v2", "/broker/v2", "//broker/v2", "http://host/v2", "HTTPS://host/broker/v2", "http://v2"]
+CATALOGUES = [
+    "/v2",
+    "/v2",
+    "//v2",
+    "/broker/v2",
+    "//broker/v2",
+    "http://host/v2",
+    "HTTPS://host/broker/v2",
+    "http://v2",
+]
 TARGETS = st.builds(
-    lambda front, end, places: escaped(f"{front}/catalog{end}", places).encode(),
-    st.sampled_from(FRONTS),
+    lambda front, end, places: texts.escaped(f"{front}/catalog{end}", places).encode(),
+    st.sampled_from(CATALOGUES),
     st.sampled_from(["", "", "/", "?x=/", "/?", "//", "/x", "ue"]),
-    st.just(set()) | PLACES,
+    st.just(set()) | texts.PLACES,
 )
 ASKS = changed(["asks -", "asks /broker"], TARGETS, IN_TARGET)
 

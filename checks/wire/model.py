@@ -13,6 +13,8 @@ import math
 import re
 import urllib.parse
 import uuid
+from collections.abc import Callable
+from contextlib import suppress
 from typing import Any, NamedTuple
 
 # What gateways, proxies and servers say of themselves.
@@ -24,7 +26,9 @@ DEEPEST = 127
 
 
 class Refused(Exception):
-    """A text isn't JSON by the rules of docs/wire.md, or a request is rejected with this status and description."""
+    """A text isn't JSON by the rules of docs/wire.md, or a call has the status of this name, or a request is rejected
+    with this HTTP status and description.
+    """
 
 
 class Pairs:
@@ -59,16 +63,23 @@ def is_sound(value: Any, deep: int = 0) -> bool:
     return True
 
 
+def read(body: bytes, number: Callable[[str], Any], deep: int = 0) -> Any:
+    """The value of a text, with its numbers as is said, or `Refused`."""
+    with suppress(ValueError, RecursionError, Refused):
+        text = body.decode()
+        value = json.loads(text, parse_constant=refuse, parse_float=number, parse_int=number, object_pairs_hook=Pairs)
+        if is_sound(value, deep):
+            return value
+    raise Refused("NOT_JSON")
+
+
 def members(body: bytes) -> dict[str, Any] | None:
     """The members of the object that a body is. If a name stands twice, the last counts."""
     try:
-        text = body.decode("utf-8")
-        value = json.loads(text, parse_constant=refuse, parse_float=finite, parse_int=finite, object_pairs_hook=Pairs)
-    except (ValueError, RecursionError, Refused):
+        value = read(body, finite)
+    except Refused:
         return None
-    if not is_sound(value) or not isinstance(value, Pairs):
-        return None
-    return dict(value.pairs)
+    return dict(value.pairs) if isinstance(value, Pairs) else None
 
 
 def text_at(found: dict[str, Any], name: str) -> str | None:
@@ -78,6 +89,8 @@ def text_at(found: dict[str, Any], name: str) -> str | None:
 
 # ---- answers
 
+ERRORS = {"AsyncRequired": "async-required", "ConcurrencyError": "concurrency-error"}
+
 
 def body_of(kind: str, status: int, found: dict[str, Any] | None) -> str:
     if found is None:
@@ -86,11 +99,11 @@ def body_of(kind: str, status: int, found: dict[str, Any] | None) -> str:
         return "empty"
     if kind == "poll" and status == 200:
         state = text_at(found, "state")
-        return state if state in ("in progress", "succeeded", "failed") else "empty"
+        return state.replace(" ", "-") if state in ("in progress", "succeeded", "failed") else "empty"
     error = text_at(found, "error")
     if error is None:
         return "empty"
-    return error if error in ("AsyncRequired", "ConcurrencyError") else "another error"
+    return ERRORS.get(error, "other-error")
 
 
 def answer(kind: str, status: int, body: bytes) -> str:
@@ -269,15 +282,7 @@ class Written(str):
 
 def value_of(body: bytes) -> Any:
     """The value of a body, or `Refused`. Arrays and objects may nest one deeper than those of `members`."""
-    try:
-        value = json.loads(
-            body.decode(), parse_constant=refuse, parse_float=Written, parse_int=Written, object_pairs_hook=Pairs
-        )
-    except (ValueError, RecursionError) as error:
-        raise Refused(str(error)) from error
-    if not is_sound(value, -1):
-        raise Refused("a lone surrogate, or too deep")
-    return value
+    return read(body, Written, -1)
 
 
 def compact(value: Any) -> str:
@@ -300,16 +305,17 @@ def ascending(value: Any) -> Any:
     return value
 
 
-def pairs_of(body: bytes) -> list[tuple[str, Any]]:
+def object_in(body: bytes) -> list[tuple[str, Any]] | None:
+    """Every member of the object that a body is."""
     try:
         value = value_of(body)
     except Refused:
-        return []
-    return value.pairs if isinstance(value, Pairs) else []
+        return None
+    return value.pairs if isinstance(value, Pairs) else None
 
 
 def member(body: bytes, name: str) -> str | None:
-    found = dict(pairs_of(body))
+    found = dict(object_in(body) or [])
     return compact(found[name]) if name in found else None
 
 
@@ -318,11 +324,8 @@ PARTS = ("service_id", "plan_id", "parameters", "context", "maintenance_info")
 
 def others(body: bytes) -> str | None:
     """The object of the members that have no text of their own."""
-    try:
-        value = value_of(body)
-    except Refused:
-        return None
-    return compact(Pairs([it for it in value.pairs if it[0] not in PARTS])) if isinstance(value, Pairs) else None
+    pairs = object_in(body)
+    return None if pairs is None else compact(Pairs([it for it in pairs if it[0] not in PARTS]))
 
 
 def digest_of(value: Any) -> bytes:
@@ -330,15 +333,12 @@ def digest_of(value: Any) -> bytes:
     return bytes(32) if text in ("{}", "null") else hashlib.sha256(text.encode()).digest()
 
 
-def parameters_digest(text: bytes) -> bytes | None:
-    try:
-        return digest_of(value_of(text))
-    except Refused:
-        return None
+def parameters_digest(text: bytes) -> bytes:
+    return digest_of(value_of(text))
 
 
 def attributes_digest(body: bytes) -> bytes:
-    found = dict(pairs_of(body))
+    found = dict(object_in(body) or [])
     return digest_of(found["parameters"]) if "parameters" in found else bytes(32)
 
 
@@ -410,8 +410,7 @@ def plan_version(document: bytes, service: int | None, plan: int | None) -> str 
 
 
 def entries(of: dict[str, Any], name: str) -> list[dict[str, Any]]:
-    found = of.get(name)
-    return [dict(it.pairs) if isinstance(it, Pairs) else {} for it in found] if isinstance(found, list) else []
+    return listed(of, name, "") if isinstance(of.get(name), list) else []
 
 
 def number_at(of: dict[str, Any]) -> int | None:
@@ -427,22 +426,20 @@ def asks_for_catalogue(prefix: bytes, target: bytes) -> bool:
 
 
 FLAGS = {
-    "bindable": "bindings",
-    "plan_updateable": "updating",
-    "instances_retrievable": "fetching_instances",
-    "bindings_retrievable": "fetching_bindings",
+    "bindable": ("bindings", "BINDABLE_UNSERVED"),
+    "plan_updateable": ("updating", "UPDATE_UNSERVED"),
+    "instances_retrievable": ("fetching_instances", "INSTANCES_UNSERVED"),
+    "bindings_retrievable": ("fetching_bindings", "BINDINGS_UNSERVED"),
 }
+"""The endpoint that each flag promises, and the status if the broker doesn't serve it."""
 
 
-def served(document: bytes) -> str | None:
-    try:
-        value = value_of(document)
-    except Refused:
-        return None
-    if not isinstance(value, Pairs):
-        return None
-    kept = [it for it in value.pairs if it[0] != "x-osb-tombstones"]
-    return compact(Pairs([("x-osb-tombstones", True), *kept]))
+def served(document: bytes) -> bytes:
+    object = object_in(document)
+    if object is None:
+        raise Refused("NOT_AN_OBJECT")
+    kept = [it for it in object if it[0] != "x-osb-tombstones"]
+    return compact(Pairs([("x-osb-tombstones", True), *kept])).encode()
 
 
 def listed(of: dict[str, Any], name: str, fault: str) -> list[dict[str, Any]]:
@@ -455,13 +452,12 @@ def listed(of: dict[str, Any], name: str, fault: str) -> list[dict[str, Any]]:
 def plan_mode(plan: dict[str, Any]) -> str:
     says = plan.get("x-osb-asynchronous", plan.get("asynchronous", False))
     if not isinstance(says, bool):
-        raise Refused("x-osb-asynchronous must be true or false")
+        raise Refused("BAD_PLAN_MODE")
     return "async" if says else "sync"
 
 
 def own_number(of: dict[str, Any], fault: str) -> int:
-    text = text_at(of, "id")
-    number = None if text is None else number_of(text)
+    number = number_at(of)
     if number is None:
         raise Refused(fault)
     return number
@@ -469,14 +465,7 @@ def own_number(of: dict[str, Any], fault: str) -> int:
 
 def top_of(document: bytes) -> dict[str, Any]:
     """The members of a document, none if it is no object, or `Refused` if it isn't JSON."""
-    try:
-        value = json.loads(
-            document.decode(), parse_constant=refuse, parse_float=finite, parse_int=finite, object_pairs_hook=Pairs
-        )
-    except (ValueError, RecursionError, Refused):
-        value = refuse
-    if value is refuse or not is_sound(value):
-        raise Refused("the document must be JSON")
+    value = read(document, finite)
     return dict(value.pairs) if isinstance(value, Pairs) else {}
 
 
@@ -484,13 +473,13 @@ def sold(document: bytes) -> dict[tuple[int, int], str]:
     """The modes of the plans that a document names, or `Refused` with the first fault."""
     modes: dict[tuple[int, int], str] = {}
     top = top_of(document)
-    for service in listed(top, "services", "the document must have a list of services"):
-        number = own_number(service, "the id of a service must be a string of 1 to 255 bytes")
-        for plan in listed(service, "plans", "a service must have a list of plans"):
-            pair = number, own_number(plan, "the id of a plan must be a string of 1 to 255 bytes")
+    for service in listed(top, "services", "NO_SERVICES"):
+        number = own_number(service, "BAD_SERVICE")
+        for plan in listed(service, "plans", "NO_PLANS"):
+            pair = number, own_number(plan, "BAD_PLAN")
             mode = plan_mode(plan)
             if pair in modes:
-                raise Refused("a plan of a service stands twice")
+                raise Refused("PLAN_TWICE")
             modes[pair] = mode
     return modes
 
@@ -498,57 +487,43 @@ def sold(document: bytes) -> dict[tuple[int, int], str]:
 def judge_own(of: dict[str, Any], names: list[str]) -> None:
     name = text_at(of, "name")
     if not name:
-        raise Refused("each service and each plan must have a name")
+        raise Refused("NO_NAME")
     if name in names:
-        raise Refused("two services, or two plans of a service, have one name")
+        raise Refused("NAME_TWICE")
     if not text_at(of, "description"):
-        raise Refused("each service and each plan must have a description")
+        raise Refused("NO_DESCRIPTION")
     names.append(name)
-
-
-WHY = {
-    "bindable": "bindings are not served",
-    "plan_updateable": "updating is not served",
-    "instances_retrievable": "fetching an instance is not served",
-    "bindings_retrievable": "fetching a binding is not served",
-}
 
 
 def judge_flags(of: dict[str, Any], names: list[str], serves: set[str]) -> None:
     for name in names:
         says = of.get(name, False)
         if not isinstance(says, bool):
-            raise Refused(f"{', '.join([*FLAGS][:-1])} and {[*FLAGS][-1]} must be true or false")
-        if says and FLAGS[name] not in serves:
-            raise Refused(f"{name} must be false: {WHY[name]}")
+            raise Refused("NOT_A_BOOLEAN")
+        endpoint, status = FLAGS[name]
+        if says and endpoint not in serves:
+            raise Refused(status)
 
 
 def judge(document: bytes, serves: set[str]) -> dict[tuple[int, int], str]:
     """The plans of a catalogue that can be kept, given the endpoints that are served, or `Refused`."""
     modes = sold(document)
-    top = dict(json.loads(document.decode(), object_pairs_hook=Pairs).pairs)
+    services = listed(top_of(document), "services", "")
     names: list[str] = []
-    for service in listed(top, "services", ""):
+    for service in services:
         judge_own(service, names)
         if "bindable" not in service:
-            raise Refused("each service must say whether it is bindable")
+            raise Refused("NO_BINDABLE")
         judge_flags(service, [*FLAGS], serves)
         plans = listed(service, "plans", "")
         if not plans:
-            raise Refused("each service must have a plan")
+            raise Refused("NO_PLAN")
         plan_names: list[str] = []
         for plan in plans:
             judge_own(plan, plan_names)
             judge_flags(plan, ["bindable", "plan_updateable"], serves)
-    for texts in id_texts(document):
+    all_plans = [plan for service in services for plan in listed(service, "plans", "")]
+    for texts in ({it["id"] for it in services}, {it["id"] for it in all_plans}):
         if len({number_of(text) for text in texts}) < len(texts):
-            raise Refused("two ids have one number")
+            raise Refused("SAME_NUMBER")
     return modes
-
-
-def id_texts(document: bytes) -> tuple[set[str], set[str]]:
-    """The different texts of the services' ids, and those of the plans', of a document that can be read."""
-    top = dict(json.loads(document.decode(), object_pairs_hook=Pairs).pairs)
-    services = listed(top, "services", "")
-    plans = [plan for service in services for plan in listed(service, "plans", "")]
-    return {service["id"] for service in services}, {plan["id"] for plan in plans}

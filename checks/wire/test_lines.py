@@ -9,11 +9,9 @@ OSB_EXAMPLES=100 compares a hundred times as many in `make test`, too, drawn at 
 from __future__ import annotations
 
 import binding_wire.cases
-import binding_wire.library
 import binding_wire.lines
 import pytest
 import wire.cases
-import wire.library
 import wire.lines
 from generated import examples
 from hypothesis import given
@@ -22,10 +20,8 @@ from whole import ANEW, WHOLE
 TIMES = 100 if ANEW else 10 if WHOLE else 1
 """How many times as many examples are taken of bindings."""
 
-READERS = {
-    "instances": (wire.cases, wire.library),
-    "bindings": (binding_wire.cases, binding_wire.library),
-}
+CALLS = {"instances": wire.cases.CALLS, "bindings": binding_wire.cases.CALLS}
+TEXTS = {"instances": wire.cases.TEXT, "bindings": binding_wire.cases.TEXT}
 LINES = [pytest.param("instances", *it, id=what) for what, it in wire.lines.LINES.items()]
 LINES += [
     pytest.param("bindings", lines, TIMES * count, id=f"of bindings: {what}", marks=pytest.mark.long(20))
@@ -36,24 +32,21 @@ LINES += [
 pytestmark = [pytest.mark.slow, pytest.mark.usefixtures("library")]
 
 
-@pytest.mark.parametrize("of", READERS)
+@pytest.mark.parametrize("of", CALLS)
 def test_cases(of: str) -> None:
     """Each line of `lines.txt`, which names each call."""
-    cases, library = READERS[of]
-    lines = [line for line in cases.TEXT.read_text().splitlines() if line and not line.startswith("#")]
-    assert {line.partition(" ")[0] for line in lines} == set(cases.CALLS)
+    lines = [line for line in TEXTS[of].read_text().splitlines() if line and not line.startswith("#")]
+    assert {line.partition(" ")[0] for line in lines} == set(CALLS[of])
     for line in lines:
-        assert library.read(line) == cases.wanted(line), line
+        wire.cases.compare(CALLS[of], line)
 
 
 @pytest.mark.parametrize(("of", "lines", "count"), LINES)
 def test_lines(of: str, lines: wire.lines.Lines, count: int) -> None:
-    cases, library = READERS[of]
-
     @examples(count)
     @given(some=lines)
     def compared(some: list[str]) -> None:
         for line in some:
-            assert library.read(line) == cases.wanted(line), line
+            wire.cases.compare(CALLS[of], line)
 
     compared()

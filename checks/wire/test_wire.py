@@ -17,8 +17,8 @@ from hypothesis import given
 from hypothesis import strategies as st
 from osb import wire
 from wire import model
-from wire.library import asked as asked_of
-from wire.library import read_answer
+from wire.cases import asked as asked_of
+from wire.cases import read_answer
 from wire.texts import (
     BODY,
     IN_BODY,
@@ -27,10 +27,10 @@ from wire.texts import (
     KINDS,
     STATUSES,
     WHOLE_BODY,
+    WHOLE_REQUESTS,
     Asked,
     neighbours,
     requests,
-    whole_requests,
 )
 
 # The package osb has loaded the library.
@@ -65,7 +65,7 @@ def test_requests(asked: Asked) -> None:
 
 
 @examples(15)
-@given(asked=whole_requests())
+@given(asked=WHOLE_REQUESTS)
 def test_neighbours_of_requests(asked: Asked) -> None:
     changed = [asked._replace(target=target) for target in neighbours(asked.target, IN_TARGET)]
     if asked.body:

@@ -220,9 +220,6 @@ class Asked(NamedTuple):
     longest: int
 
 
-ENDS = {"GET": "/last_operation", "PUT": "", "DELETE": ""}
-
-
 VERSIONS = st.sampled_from(
     ['{"version":"1.0"}', '{"version":"2.0"}', '{"version":2}', '{"version":"1.0","version":"2.0"}']
 )
@@ -245,36 +242,44 @@ IN_PROVISIONS = members(
 
 
 @st.composite
-def provisions(draw: st.DrawFn) -> bytes:
-    """The body of a Provision."""
-    made = {name: draw(IDS) for name in ("service_id", "plan_id", "organization_guid", "space_guid")}
-    if draw(st.sampled_from([False] * 4 + [True])):
+def bodies(draw: st.DrawFn, names: str, further: st.SearchStrategy[list[Member]], sound: int) -> bytes:
+    """The body of a request with these texts, of which one is seldom wrong, and with further members."""
+    made = {name: draw(IDS) for name in names.split()}
+    if draw(st.sampled_from([False] * sound + [True])):
         made[draw(st.sampled_from([*made]))] = draw(st.sampled_from(["", "x"]))
     escapes = draw(st.booleans())
     pairs = [(json.dumps(name), ":", json.dumps(text, ensure_ascii=escapes)) for name, text in made.items()]
-    pairs += draw(IN_PROVISIONS)
+    pairs += draw(further)
     return joined(draw(st.permutations(pairs)), draw(st.sampled_from([",", " ,", ", "]))).encode()
 
 
+PROVISIONS = bodies("service_id plan_id organization_guid space_guid", IN_PROVISIONS, 4)
+FRONTS = ["/v2"] * 12 + ["//v2", "///v2", "http://host:80/v2", "HTTPS://host/v2", "https://host//v2"]
+INSTANCE = "/service_instances/{}"
+
+
 @st.composite
-def whole_requests(draw: st.DrawFn) -> Asked:
-    """A request, mostly of a method that its target has."""
-    of = draw(st.sampled_from(["GET", "PUT", "DELETE"]))
+def requests_at(
+    draw: st.DrawFn, path: str, methods: Sequence[tuple[str, str]], strange: str, puts: st.SearchStrategy[bytes]
+) -> Asked:
+    """A request, mostly of a method that its target has. `methods`: each with the end of its path."""
+    of, usual = draw(st.sampled_from(methods))
     method = draw(st.sampled_from([of] * 14 + ["GET", "PUT", "DELETE", "POST", "put"]))
-    end = draw(st.sampled_from([ENDS[of]] * 14 + ["", "/", "/last_operation", "/service_bindings/1"]))
+    end = draw(st.sampled_from([usual] * 14 + ["", "/", "/last_operation", strange]))
     query = draw(st.sampled_from(["?"] * 15 + [""]))
-    front = draw(
-        st.sampled_from(["/v2"] * 12 + ["//v2", "///v2", "http://host:80/v2", "HTTPS://host/v2", "https://host//v2"])
-    )
-    segment = quoted(draw(IDS))
-    target = f"{front}/service_instances/{segment}{end}{query}{draw(queries()) if query else ''}".encode()
-    body = draw(provisions()) if method == "PUT" else b""
+    place = path.format(*(quoted(draw(IDS)) for _ in range(path.count("{}"))))
+    target = f"{draw(st.sampled_from(FRONTS))}{place}{end}{query}{draw(queries()) if query else ''}".encode()
+    body = draw(puts) if method == "PUT" else b""
     return Asked(method, target, body, draw(st.sampled_from([10_000] * 15 + [200])))
+
+
+OF_INSTANCES = [("GET", "/last_operation"), ("PUT", ""), ("DELETE", "")]
+WHOLE_REQUESTS = requests_at(INSTANCE, OF_INSTANCES, "/service_bindings/1", PROVISIONS)
 
 
 @st.composite
 def requests(draw: st.DrawFn) -> Asked:
     """A request, half of whose targets and bodies are broken."""
-    method, target, body, longest = draw(whole_requests())
+    method, target, body, longest = draw(WHOLE_REQUESTS)
     body = edited(body, draw(edits(IN_PROVISION))) if body else body
     return Asked(method, edited(target, draw(edits(IN_TARGET))), body, longest)
