@@ -1,7 +1,9 @@
 """The shortest ways to a broken promise: one for each part of the design that is left out.
 
 Each is a list of events for model.Tied, the last of which breaks the promise. None of them is broken if nothing is left
-out. `PYTHONPATH=checks python3 -m binding.cells --without PART ..` finds such a way.
+out. In the events, I stands for the instance, and B for its binding.
+
+`PYTHONPATH=checks python3 -m binding.cells --without PART ..` finds such a way.
 """
 
 from __future__ import annotations
@@ -13,33 +15,27 @@ from network.model import error
 SYNC, ASYNC, FIRST_POLL = Order("sync"), Order("async"), Order("async", first_poll=True)
 
 # The instance is created, and recorded `ready`.
-READY = ("instance create", "instance arrive 1", "instance work whole", "instance end done", "instance take 0")
+READY = "I create; I arrive 1; I work whole; I end done; I take 0"
 # The Provision times out. It arrives while the instance is cleaned up, and the instance is created all the same.
-GIVEN_UP = (
-    "instance create",
-    "instance timeout",
-    "instance send",
-    "instance arrive 1",
-    "instance work whole",
-    "instance end done",
-)
+GIVEN_UP = "I create; I timeout; I send; I arrive 1; I work whole; I end done"
 # The Bind times out. The Unbind finds nothing, and the binding is recorded `gone`.
-ENDED = ("binding 1 create", "binding 1 timeout", "binding 1 send", "binding 1 arrive 2", "binding 1 take 0")
+ENDED = "B create; B timeout; B send; B arrive 2; B take 0"
 # The Deprovision arrives, and succeeds.
-DEPROVISIONED = ("instance arrive 2", "instance work absent", "instance end done")
+DEPROVISIONED = "I arrive 2; I work absent; I end done"
 # An instance that is `ready` is removed, and deleted at the broker.
-DELETED = ("instance remove", "instance send", *DEPROVISIONED)
+DELETED = f"I remove; I send; {DEPROVISIONED}"
 # The Bind is carried out, and the binding is recorded `ready`.
-BOUND = ("binding 1 create", "binding 1 arrive 1", "binding 1 work whole 1", "binding 1 end done", "binding 1 take 0")
+BOUND = "B create; B arrive 1; B work whole 1; B end done; B take 0"
 # The Bind times out, and arrives after the Unbind is sent.
-OVERTAKEN = ("binding 1 create", "binding 1 timeout", "binding 1 send", "binding 1 arrive 1")
+OVERTAKEN = "B create; B timeout; B send; B arrive 1"
 # The broker rejects the Bind.
-REFUSED = ("binding 1 create", "binding 1 arrive 1", "binding 1 end refused 400")
+REFUSED = "B create; B arrive 1; B end refused 400"
 
 
-def way(rules: Rules, broken: str, *events: str, binding: Order = SYNC) -> Way:
-    """A way of a binding whose instance has a synchronous plan."""
-    return Way(rules, SYNC, binding, broken, events)
+def way(rules: Rules, broken: str, events: str, binding: Order = SYNC) -> Way:
+    """A way of a binding whose instance has a synchronous plan. Semicolons separate the events."""
+    events = events.replace("I ", "instance ").replace("B ", "binding 1 ")
+    return Way(rules, SYNC, binding, broken, tuple(events.split("; ")))
 
 
 def without(*parts: str, platform: bool = True) -> Rules:
@@ -52,211 +48,91 @@ WAYS = {
     "rule a, and deleted tombstones": way(
         without("deleted tombstones", "rule a"),
         LIVES_AGREE,
-        *READY,
-        *REFUSED,
-        "binding 1 take 0",
-        *DELETED,
-        "binding 1 forget",
-        "binding 1 arrive 1",
+        f"{READY}; {REFUSED}; B take 0; {DELETED}; B forget; B arrive 1",
     ),
     "rule a of waiting rows, and deleted tombstones": way(
         without("deleted tombstones", "rule a of waiting rows"),
         LIVES_AGREE,
-        *READY,
-        *ENDED,
-        *DELETED,
-        "binding 1 forget",
-        "binding 1 arrive 1",
+        f"{READY}; {ENDED}; {DELETED}; B forget; B arrive 1",
         binding=FIRST_POLL,
     ),
     "rule a, and rule c of removal": way(
-        without("rule a", "rule c of removal"),
-        GONE_HAS_NONE,
-        *READY,
-        "binding 1 create",
-        *DELETED,
-        "instance take 1",
-        "binding 1 arrive 1",
+        without("rule a", "rule c of removal"), GONE_HAS_NONE, f"{READY}; B create; {DELETED}; I take 1; B arrive 1"
     ),
     "rule b, and rule c of removal": way(
         without("rule b", "rule c of removal"),
         GONE_HAS_NONE,
-        *READY,
-        "binding 1 create",
-        "instance remove",
-        "instance send",
-        "binding 1 arrive 1",
-        *DEPROVISIONED,
-        "instance take 1",
+        f"{READY}; B create; I remove; I send; B arrive 1; {DEPROVISIONED}; I take 1",
     ),
     "rule a of pending work, and rule c": way(
         without("rule a of pending work", platform=False),
         GONE_HAS_NONE,
-        *GIVEN_UP,
-        "instance arrive 2",
-        "instance work absent",
-        "binding 1 create",
-        "binding 1 arrive 1",
-        "instance end done",
-        "instance take 1",
+        f"{GIVEN_UP}; I arrive 2; I work absent; B create; B arrive 1; I end done; I take 1",
     ),
     "rule a of waiting rows, and rule c": way(
-        without("rule a of waiting rows", platform=False),
-        GONE_HAS_NONE,
-        "binding 1 create",
-        "binding 1 arrive 1",
-        binding=FIRST_POLL,
+        without("rule a of waiting rows", platform=False), GONE_HAS_NONE, "B create; B arrive 1", binding=FIRST_POLL
     ),
     "rule b of pending work, and rule c": way(
         without("rule b of pending work", platform=False),
         GONE_HAS_NONE,
-        *GIVEN_UP,
-        "binding 1 create",
-        "binding 1 arrive 1",
-        *DEPROVISIONED,
-        "instance take 1",
+        f"{GIVEN_UP}; B create; B arrive 1; {DEPROVISIONED}; I take 1",
     ),
     "rule b of waiting rows, and rule c": way(
         without("rule b of waiting rows", platform=False),
         GONE_HAS_NONE,
-        *GIVEN_UP,
-        "binding 1 create",
-        "binding 1 arrive 1",
-        *DEPROVISIONED,
-        "instance take 1",
+        f"{GIVEN_UP}; B create; B arrive 1; {DEPROVISIONED}; I take 1",
         binding=FIRST_POLL,
     ),
-    "rule c": way(
-        Rules(platform=False),
-        SETTLES,
-        "instance create",
-        "instance arrive 1",
-        "instance work whole",
-        "instance end done",
-        *BOUND,
-    ),
+    "rule c": way(Rules(platform=False), SETTLES, f"I create; I arrive 1; I work whole; I end done; {BOUND}"),
     "rule c, and a deletion that fails": way(
-        Rules(platform=False),
-        READY_HAS_INSTANCE,
-        *GIVEN_UP,
-        "instance arrive 2",
-        "instance work absent",
-        "instance end before",
-        *BOUND,
+        Rules(platform=False), READY_HAS_INSTANCE, f"{GIVEN_UP}; I arrive 2; I work absent; I end before; {BOUND}"
     ),
     "rule c of creation": way(
         without("rule c of creation"),
         READY_HAS_INSTANCE,
-        *GIVEN_UP,
-        "instance arrive 2",
-        "instance work absent",
-        "instance end before",
-        *BOUND,
+        f"{GIVEN_UP}; I arrive 2; I work absent; I end before; {BOUND}",
     ),
     "rule c of removal": way(
         without("rule c of removal"),
         SETTLES,
-        *READY,
-        "binding 1 create",
-        "instance remove",
-        "binding 1 arrive 1",
-        "binding 1 work whole 1",
-        "binding 1 end done",
-        "binding 1 take 0",
+        f"{READY}; B create; I remove; B arrive 1; B work whole 1; B end done; B take 0",
     ),
-    "rules a, b and c": way(
-        Rules(platform=False, broker=False), GONE_HAS_NONE, "binding 1 create", "binding 1 arrive 1"
-    ),
+    "rules a, b and c": way(Rules(platform=False, broker=False), GONE_HAS_NONE, "B create; B arrive 1"),
     "one transaction": way(
         without("one transaction"),
         LIVES_AGREE,
-        *READY,
-        *OVERTAKEN,
-        "binding 1 arrive 2",
-        "binding 1 take 0",
-        "instance remove",
-        "instance send",
-        "instance arrive 2",
-        "instance begin",
-        "instance work absent",
-        "instance end done",
-        "binding 1 forget",
-        "binding 1 begin",
+        f"{READY}; {OVERTAKEN}; B arrive 2; B take 0; I remove; I send; I arrive 2; I begin; I work absent; I end done; B forget; B begin",
     ),
     "one transaction, and rule c": way(
         without("one transaction", platform=False),
         GONE_HAS_NONE,
-        *GIVEN_UP,
-        "instance arrive 2",
-        "binding 1 create",
-        "binding 1 arrive 1",
-        "instance begin",
-        "instance work absent",
-        "instance end done",
-        "instance take 1",
-        "binding 1 begin",
+        f"{GIVEN_UP}; I arrive 2; B create; B arrive 1; I begin; I work absent; I end done; I take 1; B begin",
     ),
-    "tombstones": way(without("tombstones"), LIVES_AGREE, *READY, *REFUSED, "binding 1 arrive 1", "binding 1 take 0"),
+    "tombstones": way(without("tombstones"), LIVES_AGREE, f"{READY}; {REFUSED}; B arrive 1; B take 0"),
     "tombstone of a refusal": way(
-        without("tombstone of a refusal"), LIVES_AGREE, *READY, *REFUSED, "binding 1 arrive 1", "binding 1 take 0"
+        without("tombstone of a refusal"), LIVES_AGREE, f"{READY}; {REFUSED}; B arrive 1; B take 0"
     ),
     "pending work": way(
-        without("pending work"),
-        LIVES_AGREE,
-        *READY,
-        *OVERTAKEN,
-        "binding 1 work part",
-        "binding 1 crash-broker",
-        "binding 1 arrive 2",
-        "binding 1 take 0",
+        without("pending work"), LIVES_AGREE, f"{READY}; {OVERTAKEN}; B work part; B crash-broker; B arrive 2; B take 0"
     ),
-    "busy": way(without("busy"), LIVES_AGREE, *READY, *OVERTAKEN, "binding 1 arrive 2", "binding 1 take 0"),
+    "busy": way(without("busy"), LIVES_AGREE, f"{READY}; {OVERTAKEN}; B arrive 2; B take 0"),
     "attempts": way(
         without("attempts"),
         LIVES_AGREE,
-        *READY,
-        "binding 1 create",
-        "binding 1 arrive 1",
-        "binding 1 end done",
-        "binding 1 take 0",
-        "binding 1 send",
-        "binding 1 timeout",
-        "binding 1 expire",
-        "binding 1 send",
-        "binding 1 work whole 1",
-        "binding 1 finish ok",
-        "binding 1 arrive 2",
-        "binding 1 arrive 3",
-        "binding 1 end done",
-        "binding 1 take 2",
-        "binding 1 send",
-        "binding 1 take 1",
+        f"{READY}; B create; B arrive 1; B end done; B take 0; B send; B timeout; B expire; B send; B work whole 1; B finish ok; B arrive 2; B arrive 3; B end done; B take 2; B send; B take 1",
         binding=ASYNC,
     ),
     "stored credentials": way(
         without("stored credentials"),
         LIVES_AGREE,
-        *READY,
-        "binding 1 create",
-        "binding 1 arrive 1",
-        "binding 1 work whole 1",
-        "binding 1 end done",
-        "binding 1 fetch",
-        "binding 1 take 0",
+        f"{READY}; B create; B arrive 1; B work whole 1; B end done; B fetch; B take 0",
     ),
 }
 WAYS |= {
     f"503 to a Bind that is put off, and rule c: {status}": way(
         Rules(platform=False, refusal=error(status)),
         LIVES_AGREE,
-        "instance create",
-        "instance arrive 1",
-        "instance work whole",
-        "binding 1 create",
-        "binding 1 arrive 1",
-        "instance end done",
-        "binding 1 arrive 1",
-        "binding 1 take 0",
+        "I create; I arrive 1; I work whole; B create; B arrive 1; I end done; B arrive 1; B take 0",
     )
     for status in (400, 404, 410)
 }
@@ -264,19 +140,11 @@ WAYS |= {
 # Further ways to the same broken promises, which begin with another fault, or end with another request.
 FURTHER = {
     "rule a, and deleted tombstones: after a Bind that timed out": way(
-        without("deleted tombstones", "rule a"),
-        LIVES_AGREE,
-        *READY,
-        *ENDED,
-        *DELETED,
-        "binding 1 forget",
-        "binding 1 arrive 1",
+        without("deleted tombstones", "rule a"), LIVES_AGREE, f"{READY}; {ENDED}; {DELETED}; B forget; B arrive 1"
     ),
-    "tombstones: after a Bind that timed out": way(
-        without("tombstones"), LIVES_AGREE, *READY, *ENDED, "binding 1 arrive 1"
-    ),
+    "tombstones: after a Bind that timed out": way(without("tombstones"), LIVES_AGREE, f"{READY}; {ENDED}; B arrive 1"),
     "stored credentials: at a repeated Bind": way(
-        without("stored credentials"), LIVES_AGREE, *READY, *BOUND, "binding 1 arrive 1"
+        without("stored credentials"), LIVES_AGREE, f"{READY}; {BOUND}; B arrive 1"
     ),
 }
 
