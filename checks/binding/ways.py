@@ -101,7 +101,8 @@ WAYS = {
     "one transaction": way(
         without("one transaction"),
         LIVES_AGREE,
-        f"{READY}; {OVERTAKEN}; B arrive 2; B take 0; I remove; I send; I arrive 2; I begin; I work absent; I end done; B forget; B begin",
+        f"{READY}; {OVERTAKEN}; B arrive 2; B take 0; I remove; I send; I arrive 2; I begin; I work absent; "
+        "I end done; B forget; B begin",
     ),
     "one transaction, and rule c": way(
         without("one transaction", platform=False),
@@ -119,7 +120,8 @@ WAYS = {
     "attempts": way(
         without("attempts"),
         LIVES_AGREE,
-        f"{READY}; B create; B arrive 1; B end done; B take 0; B send; B timeout; B expire; B send; B work whole 1; B finish ok; B arrive 2; B arrive 3; B end done; B take 2; B send; B take 1",
+        f"{READY}; B create; B arrive 1; B end done; B take 0; B send; B timeout; B expire; B send; B work whole 1; "
+        "B finish ok; B arrive 2; B arrive 3; B end done; B take 2; B send; B take 1",
         binding=ASYNC,
     ),
     "stored credentials": way(

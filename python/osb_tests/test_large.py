@@ -12,55 +12,8 @@ from typing import Any
 from urllib.parse import parse_qs, quote
 
 import pytest
-from osb import (
-    Answer,
-    Body,
-    BrokerRow,
-    Endpoints,
-    Holding,
-    Id,
-    Kind,
-    OsbError,
-    Phase,
-    Plan,
-    Record,
-    Request,
-    State,
-    Status,
-)
-from osb.binding_wire import (
-    BindingNames,
-    binding_modes,
-    bindings_retrievable,
-    check_binding,
-    read_binding,
-    read_fetched,
-    receive_binding_request,
-    requires_app,
-    write_binding_body,
-    write_binding_target,
-    write_fetch_target,
-)
-from osb.wire import (
-    Details,
-    Names,
-    attributes_digest,
-    basic_auth,
-    catalogue_plans,
-    check_catalogue,
-    maintenance_conflict,
-    member_text,
-    originating_identity,
-    parameters_digest,
-    plan_version,
-    read_answer,
-    read_details,
-    receive_request,
-    served_catalogue,
-    write_answer,
-    write_named_body,
-    write_named_target,
-)
+from osb import Answer, BrokerRow, Endpoints, Holding, Id, OsbError, Plan, Record, Request, binding_wire, wire
+from osb.enums import Body, Kind, Phase, State, Status
 from osb_tests.support import ASYNC, ONE, SERVICE, SYNC, TWO, authorization, guids, request, status_of
 
 OPERATION = "a" * 10_000
@@ -71,8 +24,8 @@ FURTHER = {"parameters": {"long": LONG}, **MEMBERS}
 LARGEST = Id(2**64 - 1, 2**64 - 1)
 LARGEST_GUID = "ffffffff-ffff-ffff-ffff-ffffffffffff"
 LONGEST_ID = "/" * 255
-LONG_NAMES = Names(LONGEST_ID, LONGEST_ID, LONGEST_ID)
-LONG_BINDING = BindingNames(LONGEST_ID, LONGEST_ID, LONGEST_ID, LONGEST_ID)
+LONG_NAMES = wire.Names(LONGEST_ID, LONGEST_ID, LONGEST_ID)
+LONG_BINDING = binding_wire.BindingNames(LONGEST_ID, LONGEST_ID, LONGEST_ID, LONGEST_ID)
 
 
 def compact(value: Any) -> bytes:
@@ -120,12 +73,12 @@ CATALOGUE = compact(
 @pytest.mark.parametrize("filler", [b" ", b"\n"])
 def test_a_body_of_two_megabytes_is_read(filler: bytes) -> None:
     body = filler * 2_000_000 + b'{"state":"succeeded"}'
-    assert read_answer(Kind.POLL, 200, body) == Answer(200, Body.SUCCEEDED)
+    assert wire.read_answer(Kind.POLL, 200, body) == Answer(200, Body.SUCCEEDED)
 
 
 def test_a_string_of_two_megabytes_is_read() -> None:
     body = json.dumps({"operation": "a" * 2_000_000}).encode()
-    assert read_answer(Kind.PROVISION, 202, body) == Answer(202, Body.EMPTY)
+    assert wire.read_answer(Kind.PROVISION, 202, body) == Answer(202, Body.EMPTY)
 
 
 def test_blanks_around_a_text_of_one_instance_change_nothing() -> None:
@@ -139,7 +92,12 @@ def test_blanks_around_a_text_of_one_instance_change_nothing() -> None:
 
 def test_the_largest_numbers_are_written() -> None:
     record = Record(LARGEST, LARGEST, 2**64 - 1, State.CLEANING_POLLING, Kind.POLL)
-    wanted = {"attempt": 2**64 - 1, "out": "poll", "plan": LARGEST_GUID, "service": LARGEST_GUID}
+    wanted = {
+        "attempt": 2**64 - 1,
+        "out": "poll",
+        "plan": LARGEST_GUID,
+        "service": LARGEST_GUID,
+    }
     assert (
         record.to_text()
         == record.to_binding_text()
@@ -161,10 +119,15 @@ def test_the_largest_numbers_are_written() -> None:
 def test_17_further_members_of_a_body_are_written() -> None:
     further = {f"member{number}": number for number in range(17)}
     names = guids(request(Kind.PROVISION))
-    body = write_named_body(Kind.PROVISION, names, "organization", "space", json.dumps(further))
+    body = wire.write_named_body(Kind.PROVISION, names, "organization", "space", json.dumps(further))
     written = json.loads(body)
     assert {name: written.pop(name) for name in further} == further
-    assert sorted(written) == ["organization_guid", "plan_id", "service_id", "space_guid"]
+    assert sorted(written) == [
+        "organization_guid",
+        "plan_id",
+        "service_id",
+        "space_guid",
+    ]
 
 
 @pytest.mark.parametrize("depth", [126, 127, 128])
@@ -173,11 +136,11 @@ def test_further_members_that_nest_too_deep_are_refused(depth: int) -> None:
     further, names = '{"parameters":' + "[" * depth + "]" * depth + "}", guids(request(Kind.PROVISION))
     if depth > 126:
         with pytest.raises(OsbError) as refused:
-            write_named_body(Kind.PROVISION, names, "organization", "space", further)
+            wire.write_named_body(Kind.PROVISION, names, "organization", "space", further)
         assert refused.value.status == Status.NOT_JSON
         return
-    body = write_named_body(Kind.PROVISION, names, "organization", "space", further)
-    asked = receive_request("PUT", f"/v2/service_instances/{ONE}".encode(), body, len(body)).asked
+    body = wire.write_named_body(Kind.PROVISION, names, "organization", "space", further)
+    asked = wire.receive_request("PUT", f"/v2/service_instances/{ONE}".encode(), body, len(body)).asked
     assert (asked.kind, asked.service) == (Kind.PROVISION, SERVICE)
 
 
@@ -185,25 +148,30 @@ def test_further_members_that_nest_too_deep_are_refused(depth: int) -> None:
 
 
 def test_long_details_of_an_answer_are_read() -> None:
-    named = {"description": LONG, "error": LONG, "dashboard_url": LONG, "operation": OPERATION}
+    named = {
+        "description": LONG,
+        "error": LONG,
+        "dashboard_url": LONG,
+        "operation": OPERATION,
+    }
     metadata = {"labels": {"long": LONG}}
     body = compact({**named, "metadata": metadata, **MEMBERS})
-    wanted = Details(LONG, LONG, LONG, OPERATION, compact(metadata).decode())
-    assert read_details(body) == wanted
-    assert member_text(body, "description") == json.dumps(LONG, ensure_ascii=False)
+    wanted = wire.Details(LONG, LONG, LONG, OPERATION, compact(metadata).decode())
+    assert wire.read_details(body) == wanted
+    assert wire.member_text(body, "description") == json.dumps(LONG, ensure_ascii=False)
 
 
 def test_a_long_description_is_written_as_far_as_it_goes() -> None:
-    written = json.loads(write_answer(Answer(500, Body.OTHER_ERROR), None, LONG))
+    written = json.loads(wire.write_answer(Answer(500, Body.OTHER_ERROR), None, LONG))
     assert written["description"] == LONG[:1_000]
-    assert json.loads(write_answer(Answer(202, Body.EMPTY), OPERATION)) == {"operation": OPERATION}
+    assert json.loads(wire.write_answer(Answer(202, Body.EMPTY), OPERATION)) == {"operation": OPERATION}
 
 
 def test_a_long_object_of_a_binding_is_passed_on() -> None:
     object = compact({"credentials": {"long": LONG}, **MEMBERS})
-    check_binding(object)
-    assert read_binding(Kind.PROVISION, 201, object) == object
-    assert read_fetched(200, object) == object
+    binding_wire.check_binding(object)
+    assert binding_wire.read_binding(Kind.PROVISION, 201, object) == object
+    assert binding_wire.read_fetched(200, object) == object
 
 
 # ---- requests that are written
@@ -212,16 +180,20 @@ def test_a_long_object_of_a_binding_is_passed_on() -> None:
 def test_long_texts_go_into_a_target() -> None:
     prefix, escaped = "/" + "b" * 1_000_000, quote(LONGEST_ID, safe="")
     asked = long_request(Kind.POLL)
-    target = write_named_target(asked, LONG_NAMES, LONG, prefix)
+    target = wire.write_named_target(asked, LONG_NAMES, LONG, prefix)
     path, _, query = target.partition("?")
     assert path == f"{prefix}/v2/service_instances/{escaped}/last_operation"
-    ids = {"service_id": [LONGEST_ID], "plan_id": [LONGEST_ID], "accepts_incomplete": ["true"]}
+    ids = {
+        "service_id": [LONGEST_ID],
+        "plan_id": [LONGEST_ID],
+        "accepts_incomplete": ["true"],
+    }
     assert parse_qs(query) == ids | {"operation": [LONG]}
-    target = write_binding_target(asked, asked.id, LONG_BINDING, LONG, prefix)
+    target = binding_wire.write_binding_target(asked, asked.id, LONG_BINDING, LONG, prefix)
     path, _, query = target.partition("?")
     assert path == f"{prefix}/v2/service_instances/{escaped}/service_bindings/{escaped}/last_operation"
     assert parse_qs(query) == ids | {"operation": [LONG]}
-    target = write_fetch_target(asked, asked.id, LONG_BINDING, prefix)
+    target = binding_wire.write_fetch_target(asked, asked.id, LONG_BINDING, prefix)
     path, _, query = target.partition("?")
     assert path == f"{prefix}/v2/service_instances/{escaped}/service_bindings/{escaped}"
     assert parse_qs(query) == {"service_id": [LONGEST_ID], "plan_id": [LONGEST_ID]}
@@ -231,9 +203,9 @@ def test_long_members_go_into_a_body() -> None:
     further = compact(FURTHER).decode()
     of_space = {"organization_guid": LONG, "space_guid": LONG}
     ids = {"service_id": LONGEST_ID, "plan_id": LONGEST_ID}
-    written = write_named_body(Kind.PROVISION, LONG_NAMES, LONG, LONG, further)
+    written = wire.write_named_body(Kind.PROVISION, LONG_NAMES, LONG, LONG, further)
     assert written == compact(FURTHER | ids | of_space)
-    assert write_binding_body(Kind.PROVISION, LONG_BINDING, further) == compact(FURTHER | ids)
+    assert binding_wire.write_binding_body(Kind.PROVISION, LONG_BINDING, further) == compact(FURTHER | ids)
 
 
 # ---- requests that are read
@@ -241,28 +213,51 @@ def test_long_members_go_into_a_body() -> None:
 
 def test_a_long_provision_is_read() -> None:
     of_space = {"organization_guid": LONG, "space_guid": LONG}
-    parts = {"context": {"long": LONG}, "parameters": {"long": LONG}, "maintenance_info": {"version": LONG}}
-    body = compact({**MEMBERS, **parts, **of_space, "service_id": LONGEST_ID, "plan_id": LONGEST_ID})
+    parts = {
+        "context": {"long": LONG},
+        "parameters": {"long": LONG},
+        "maintenance_info": {"version": LONG},
+    }
+    body = compact(
+        {
+            **MEMBERS,
+            **parts,
+            **of_space,
+            "service_id": LONGEST_ID,
+            "plan_id": LONGEST_ID,
+        }
+    )
     target = f"/v2/service_instances/{quote(LONGEST_ID, safe='')}?other={quote(LONG)}".encode()
-    received = receive_request("PUT", target, body, len(body))
-    assert (received.asked.kind, received.asked.service) == (Kind.PROVISION, Id.of_text(LONGEST_ID))
-    assert (received.instance, received.service, received.plan) == (LONGEST_ID, LONGEST_ID, LONGEST_ID)
+    received = wire.receive_request("PUT", target, body, len(body))
+    assert (received.asked.kind, received.asked.service) == (
+        Kind.PROVISION,
+        Id.of_text(LONGEST_ID),
+    )
+    assert (received.instance, received.service, received.plan) == (
+        LONGEST_ID,
+        LONGEST_ID,
+        LONGEST_ID,
+    )
     assert received.parts.context == received.parts.parameters == compact({"long": LONG}).decode()
-    assert status_of(lambda: maintenance_conflict(LONG, body)) is None
-    assert status_of(lambda: maintenance_conflict(LONG[1:], body)) == Status.REFUSED_MAINTENANCE
+    assert status_of(lambda: wire.maintenance_conflict(LONG, body)) is None
+    assert status_of(lambda: wire.maintenance_conflict(LONG[1:], body)) == Status.REFUSED_MAINTENANCE
 
 
 def test_a_long_bind_is_read() -> None:
-    parts = {"context": {"long": LONG}, "parameters": {"long": LONG}, "bind_resource": {"app_guid": LONG}}
+    parts = {
+        "context": {"long": LONG},
+        "parameters": {"long": LONG},
+        "bind_resource": {"app_guid": LONG},
+    }
     body = compact({**MEMBERS, **parts, "service_id": LONGEST_ID, "plan_id": LONGEST_ID})
     escaped = quote(LONGEST_ID, safe="")
     target = f"/v2/service_instances/{escaped}/service_bindings/{escaped}?other={quote(LONG)}".encode()
-    received = receive_binding_request("PUT", target, body, len(body))
+    received = binding_wire.receive_binding_request("PUT", target, body, len(body))
     assert (received.instance, received.binding) == (LONGEST_ID, LONGEST_ID)
     assert (received.service, received.plan) == (LONGEST_ID, LONGEST_ID)
     assert received.parts.context == received.parts.parameters == compact({"long": LONG}).decode()
     assert received.parts.bind_resource == compact({"app_guid": LONG}).decode()
-    assert status_of(lambda: requires_app(True, body)) is None
+    assert status_of(lambda: binding_wire.requires_app(True, body)) is None
 
 
 @pytest.mark.parametrize("method, kind", [("GET", Kind.POLL), ("DELETE", Kind.DEPROVISION)])
@@ -272,11 +267,15 @@ def test_a_query_of_many_parameters_is_read(method: str, kind: Kind) -> None:
     query = f"?{more}service_id={SERVICE}&plan_id={SYNC}&accepts_incomplete=true&operation={quote(LONG)}"
     last = "/last_operation" if kind == Kind.POLL else ""
     target = f"/v2/service_instances/{ONE}{last}{query}".encode()
-    received = receive_request(method, target, b"", 0)
-    assert (received.asked.kind, received.asked.service, received.asked.plan) == (kind, SERVICE, SYNC)
+    received = wire.receive_request(method, target, b"", 0)
+    assert (received.asked.kind, received.asked.service, received.asked.plan) == (
+        kind,
+        SERVICE,
+        SYNC,
+    )
     assert (received.service, received.plan) == (str(SERVICE), str(SYNC))
     target = f"/v2/service_instances/{ONE}/service_bindings/{TWO}{last}{query}".encode()
-    binding = receive_binding_request(method, target, b"", 0)
+    binding = binding_wire.receive_binding_request(method, target, b"", 0)
     assert (binding.instance, binding.binding) == (str(ONE), str(TWO))
     assert (binding.service, binding.plan) == (str(SERVICE), str(SYNC))
 
@@ -287,15 +286,15 @@ def test_a_query_of_many_parameters_is_read(method: str, kind: Kind) -> None:
 def test_digests_of_long_parameters() -> None:
     parameters = {"long": LONG, "list": list(range(100_000)), **MEMBERS}
     digest = hashlib.sha256(compact(parameters)).digest()
-    assert parameters_digest(json.dumps(parameters).encode()) == digest
-    assert attributes_digest(json.dumps({**MEMBERS, "parameters": parameters}).encode()) == digest
+    assert wire.parameters_digest(json.dumps(parameters).encode()) == digest
+    assert wire.attributes_digest(json.dumps({**MEMBERS, "parameters": parameters}).encode()) == digest
 
 
 def test_long_headers() -> None:
-    assert basic_auth(authorization(LONG, LONG), LONG, LONG)
-    assert not basic_auth(authorization(LONG, LONG + "a"), LONG, LONG)
+    assert wire.basic_auth(authorization(LONG, LONG), LONG, LONG)
+    assert not wire.basic_auth(authorization(LONG, LONG + "a"), LONG, LONG)
     object = compact({"user": LONG, **MEMBERS})
-    identity = originating_identity("p" * 1_000_000 + " " + base64.b64encode(object).decode())
+    identity = wire.originating_identity("p" * 1_000_000 + " " + base64.b64encode(object).decode())
     assert identity is not None
     assert (identity.platform, identity.object) == ("p" * 1_000_000, object.decode())
 
@@ -306,10 +305,10 @@ def test_long_headers() -> None:
 def test_a_catalogue_of_2000_plans() -> None:
     ids = [Id.of(str(plan["id"])) for plan in PLANS]
     is_asynchronous = [bool(plan["x-osb-asynchronous"]) for plan in PLANS]
-    assert catalogue_plans(CATALOGUE) == [Plan(SERVICE, *it) for it in zip(ids, is_asynchronous)]
-    check_catalogue(CATALOGUE, Endpoints(bindings=True, fetching_bindings=True))
-    assert plan_version(CATALOGUE, SERVICE, ids[-1]) == "1.0.2000"
+    assert wire.catalogue_plans(CATALOGUE) == [Plan(SERVICE, *it) for it in zip(ids, is_asynchronous)]
+    wire.check_catalogue(CATALOGUE, Endpoints(bindings=True, fetching_bindings=True))
+    assert wire.plan_version(CATALOGUE, SERVICE, ids[-1]) == "1.0.2000"
     document = json.loads(CATALOGUE)
-    assert json.loads(served_catalogue(CATALOGUE)) == document | {"x-osb-tombstones": True}
-    assert binding_modes(CATALOGUE) == [Plan(SERVICE, plan, False) for plan in ids]
-    assert bindings_retrievable(CATALOGUE, SERVICE)
+    assert json.loads(wire.served_catalogue(CATALOGUE)) == document | {"x-osb-tombstones": True}
+    assert binding_wire.binding_modes(CATALOGUE) == [Plan(SERVICE, plan, False) for plan in ids]
+    assert binding_wire.bindings_retrievable(CATALOGUE, SERVICE)

@@ -1,25 +1,11 @@
 """What api/cases.txt leaves of records and holdings: what Python's types add, and values of Python alone."""
 from __future__ import annotations
 
-import unittest
-
 import osb.holding
 import osb.record
-from osb import (
-    Answer,
-    Body,
-    BrokerRow,
-    Endpoints,
-    Holding,
-    Id,
-    Kind,
-    Phase,
-    PlatformRow,
-    Record,
-    State,
-    Status,
-    _crossing,
-)
+import pytest
+from osb import Answer, BrokerRow, Endpoints, Holding, Id, PlatformRow, Record, _crossing
+from osb.enums import Body, Kind, Phase, State, Status
 from osb_tests.support import ASYNC, ONE, SERVICE, SYNC, TWO, request, status_of
 
 POLL = Kind.POLL
@@ -33,88 +19,88 @@ def row(phase: Phase, plan: Id = ASYNC) -> BrokerRow:
     return BrokerRow(SERVICE, plan, phase)
 
 
-class Ids(unittest.TestCase):
-    def test_text(self) -> None:
-        text = "12345678-9abc-def0-1234-56789abcdef0"
-        self.assertEqual(Id.of(text.upper()), Id(0x123456789ABCDEF0, 0x123456789ABCDEF0))
-        self.assertEqual(str(Id.of(text.upper())), text)
-        self.assertEqual(eval(repr(Id.of(text))), Id.of(text))
-        self.assertEqual(len({Id.of(text), Id.of(text.upper()), ONE}), 2)
-        self.assertLess(ONE, TWO)
-
-    def test_others(self) -> None:
-        for high, low in ((-1, 0), (0, 2**64)):
-            self.assertRaises(ValueError, Id, high, low)
-
-    def test_new(self) -> None:
-        made = {Id.new() for _ in range(100)}
-        self.assertEqual(len(made), 100)
-        for text in map(str, made):
-            self.assertEqual((text[14], text[19] in "89ab"), ("4", True), text)
+def test_text_of_an_id() -> None:
+    text = "12345678-9abc-def0-1234-56789abcdef0"
+    assert Id.of(text.upper()) == Id(0x123456789ABCDEF0, 0x123456789ABCDEF0)
+    assert str(Id.of(text.upper())) == text
+    assert eval(repr(Id.of(text))) == Id.of(text)
+    assert len({Id.of(text), Id.of(text.upper()), ONE}) == 2
+    assert ONE < TWO
 
 
-class Names(unittest.TestCase):
-    def test_shown(self) -> None:
-        """By `print` and in f-strings, alike in every Python; a number is what it was."""
-        for it, name in (
-            (State.READY, "ready"),
-            (Phase.DELETE_FAILED, "delete-failed"),
-            (Status.NOT_UTF8, "not-utf8"),
-        ):
-            self.assertEqual((str(it), f"{it}", f"{it:>20}"), (name, name, name.rjust(20)))
-        self.assertEqual(
-            (int(State.READY), State(2), f"{State.READY.value:02}"),
-            (2, State.READY, "02"),
-        )
-        self.assertEqual(Status.BUSY.meaning, "a request is in flight")
+@pytest.mark.parametrize(("high", "low"), [(-1, 0), (0, 2**64)])
+def test_no_id(high: int, low: int) -> None:
+    with pytest.raises(ValueError):
+        Id(high, low)
 
 
-class Structs(unittest.TestCase):
-    def test_each_member_crosses(self) -> None:
-        """None of these values is zero. A member of a struct that isn't carried to C is."""
-        asked, held = request(POLL), row(Phase.READY)
-        for made in (
-            _crossing.request_to(asked),
-            _crossing.answer_to(Answer(201, Body.EMPTY)),
-            _crossing.platform_row_to(PlatformRow(SERVICE, SYNC, State.POLLING, POLL)),
-            _crossing.broker_row_to(held),
-            _crossing.endpoints_to(Endpoints(True, True, True, True)),
-            osb.record._to(record(State.POLLING, POLL)),
-            osb.holding._to(Holding(held, asked, True, b"\1" * 32)),
-        ):
-            for name, _ in made._fields_:
-                place = getattr(type(made), name)
-                self.assertTrue(
-                    any(bytes(made)[place.offset : place.offset + place.size]),
-                    (made, name),
-                )
+def test_new_ids() -> None:
+    made = {Id.new() for _ in range(100)}
+    assert len(made) == 100
+    for text in map(str, made):
+        assert (text[14], text[19] in "89ab") == ("4", True), text
 
 
-class Records(unittest.TestCase):
-    def test_attempt(self) -> None:
-        """A number that C's uint64_t can't have isn't taken for another one."""
-        busy = record(State.POLLING, POLL, 2)
-        self.assertRaises(ValueError, busy.timeout, 2**64 + 2)
-        self.assertRaises(ValueError, busy.answer, 2**64 + 2, Answer(200, Body.SUCCEEDED))
-        self.assertRaises(ValueError, busy.answer_binding, 2**64 + 2, Answer(200, Body.SUCCEEDED), retrievable=True)
+def test_names_are_shown() -> None:
+    """By `print` and in f-strings, alike in every Python; a number is what it was."""
+    for it, name in (
+        (State.READY, "ready"),
+        (Phase.DELETE_FAILED, "delete-failed"),
+        (Status.NOT_UTF8, "not-utf8"),
+    ):
+        assert (str(it), f"{it}", f"{it:>20}") == (name, name, name.rjust(20))
+    assert (int(State.READY), State(2), f"{State.READY.value:02}") == (
+        2,
+        State.READY,
+        "02",
+    )
+    assert Status.BUSY.meaning == "a request is in flight"
 
 
-class Texts(unittest.TestCase):
-    def test_no_text(self) -> None:
-        kinds: tuple[type[Record] | type[Holding], ...] = (Record, Holding)
-        for of in kinds:
-            self.assertEqual(status_of(lambda: of.from_text("\ud800")), Status.NOT_UTF8)
+def test_each_member_of_a_struct_crosses() -> None:
+    """None of these values is zero. A member of a struct that isn't carried to C is."""
+    asked, held = request(POLL), row(Phase.READY)
+    for made in (
+        _crossing.request_to(asked),
+        _crossing.answer_to(Answer(201, Body.EMPTY)),
+        _crossing.platform_row_to(PlatformRow(SERVICE, SYNC, State.POLLING, POLL)),
+        _crossing.broker_row_to(held),
+        _crossing.endpoints_to(Endpoints(True, True, True, True)),
+        osb.record._to(record(State.POLLING, POLL)),
+        osb.holding._to(Holding(held, asked, True, b"\1" * 32)),
+    ):
+        for name, _ in made._fields_:
+            place = getattr(type(made), name)
+            assert any(bytes(made)[place.offset : place.offset + place.size]), (
+                made,
+                name,
+            )
 
 
-class Holdings(unittest.TestCase):
-    def test_unfinished(self) -> None:
-        for held, is_it in (
-            (Holding.NONE, False),
-            (Holding(row(Phase.READY)), False),
-            (Holding(row(Phase.FAILED)), False),
-            (Holding(row(Phase.MAKING)), True),
-            (Holding(row(Phase.DELETING)), True),
-            (Holding(work=request(Kind.PROVISION)), True),
-            (Holding(row(Phase.READY, SYNC), request(Kind.DEPROVISION)), True),
-        ):
-            self.assertEqual(held.is_unfinished, is_it, held)
+def test_attempt_of_a_record() -> None:
+    """A number that C's uint64_t can't have isn't taken for another one."""
+    busy, succeeded = record(State.POLLING, POLL, 2), Answer(200, Body.SUCCEEDED)
+    with pytest.raises(ValueError):
+        busy.timeout(2**64 + 2)
+    with pytest.raises(ValueError):
+        busy.answer(2**64 + 2, succeeded)
+    with pytest.raises(ValueError):
+        busy.answer_binding(2**64 + 2, succeeded, retrievable=True)
+
+
+@pytest.mark.parametrize("of", [Record, Holding])
+def test_no_text(of: type[Record] | type[Holding]) -> None:
+    assert status_of(lambda: of.from_text("\ud800")) == Status.NOT_UTF8
+
+
+def test_unfinished_holdings() -> None:
+    for held, is_it in (
+        (Holding.NONE, False),
+        (Holding(row(Phase.READY)), False),
+        (Holding(row(Phase.FAILED)), False),
+        (Holding(row(Phase.MAKING)), True),
+        (Holding(row(Phase.DELETING)), True),
+        (Holding(work=request(Kind.PROVISION)), True),
+        (Holding(row(Phase.READY, SYNC), request(Kind.DEPROVISION)), True),
+    ):
+        assert held.is_unfinished == is_it, held
