@@ -23,10 +23,57 @@ type Finding struct {
 	Life     []Line `json:"life"`
 }
 
-// A Discovery is what becomes a Finding.
-type Discovery struct {
+// A Difference is what a record and what exists disagree in, or what somebody has to compare.
+type Difference struct {
 	Key  Key
-	What string
+	Kind Kind
+	What string // in words
+}
+
+// A Kind is the kind of a Difference.
+type Kind int
+
+// The kinds of differences.
+const (
+	Lost     Kind = iota // it exists, and the platform has no record, or one that says that nothing exists
+	False                // the record says ready, and that isn't true
+	Stuck                // the record hasn't converged
+	Disagree             // the platform's record, the broker's row and what exists disagree in something else
+	Present              // it exists, and by its requests the platform has it
+)
+
+// IsOneOf returns whether a kind is one of some.
+func (k Kind) IsOneOf(kinds ...Kind) bool {
+	for _, kind := range kinds {
+		if kind == k {
+			return true
+		}
+	}
+	return false
+}
+
+// Differences are what was found.
+type Differences []Difference
+
+// Add adds one.
+func (d *Differences) Add(key Key, kind Kind, what string) {
+	*d = append(*d, Difference{key, kind, what})
+}
+
+// InOrder sorts them by their ids, and returns them.
+func (d Differences) InOrder() Differences {
+	sort.SliceStable(d, func(one, other int) bool { return d[one].Key.Less(d[other].Key) })
+	return d
+}
+
+// Without returns those of all other kinds.
+func (d Differences) Without(kind Kind) (rest Differences) {
+	for _, difference := range d {
+		if difference.Kind != kind {
+			rest = append(rest, difference)
+		}
+	}
+	return rest
 }
 
 // A Run is what happened in a run, from which Findings are written.
@@ -37,23 +84,23 @@ type Run struct {
 	Hide      Hider
 }
 
-// Findings returns what was found, each instance or binding once, with their lives.
-func (r Run) Findings(found []Discovery) []Finding {
+// Findings returns the differences of some kinds, each instance or binding once, with their lives.
+func (r Run) Findings(found []Difference, kinds ...Kind) []Finding {
 	all, at := []Finding{}, map[Key]int{}
-	for _, discovery := range found {
-		if known, is := at[discovery.Key]; is {
-			if !strings.Contains(all[known].What, discovery.What) {
-				all[known].What += "; " + discovery.What
+	for _, it := range found {
+		switch known, is := at[it.Key]; {
+		case !it.Kind.IsOneOf(kinds...):
+		case is && !strings.Contains(all[known].What, it.What):
+			all[known].What += "; " + it.What
+		case !is:
+			number := "?"
+			if place, is := r.Place(it.Key.Instance, it.Key.Binding); is {
+				number = place.String()
 			}
-			continue
+			at[it.Key] = len(all)
+			life := LifeOf(it.Key, r.Exchanges, r.Events, r.Hide)
+			all = append(all, Finding{number, it.Key.Instance, it.Key.Binding, it.What, life})
 		}
-		number := "?"
-		if place, is := r.Place(discovery.Key.Instance, discovery.Key.Binding); is {
-			number = place.String()
-		}
-		at[discovery.Key] = len(all)
-		life := LifeOf(discovery.Key, r.Exchanges, r.Events, r.Hide)
-		all = append(all, Finding{number, discovery.Key.Instance, discovery.Key.Binding, discovery.What, life})
 	}
 	return all
 }
@@ -257,6 +304,11 @@ type Key struct{ Instance, Binding string }
 
 // InstanceKey returns the key of the instance.
 func (k Key) InstanceKey() Key { return Key{Instance: k.Instance} }
+
+// Less returns whether a key comes first in the order of the ids.
+func (k Key) Less(other Key) bool {
+	return k.Instance < other.Instance || k.Instance == other.Instance && k.Binding < other.Binding
+}
 
 // An Event is something that has happened to an instance or a binding, besides its requests.
 type Event struct {

@@ -20,7 +20,7 @@ func TestFindings(t *testing.T) {
 	run := Run{Place: func(instance, binding string) (fault.Place, bool) {
 		return fault.Place{Instance: 7}, binding == ""
 	}}
-	all := run.Findings([]Discovery{{one, "a"}, {two, "b"}, {one, "c"}, {one, "a"}})
+	all := run.Findings([]Difference{{one, Lost, "a"}, {two, Lost, "b"}, {one, Lost, "c"}, {one, Lost, "a"}, {one, Stuck, "d"}}, Lost)
 	var got []string
 	for _, finding := range all {
 		got = append(got, finding.Number+" "+finding.Name()+" "+finding.What)
@@ -160,7 +160,7 @@ func runOf(instances int, hasFault map[int]bool) Run {
 // Kills before the creation of the first finding are drawn if they are within the picture.
 func TestPictureOfAllKills(t *testing.T) {
 	run := runOf(3, nil)
-	found := run.Findings([]Discovery{{Key{Instance: "id-3"}, "a"}, {Key{Instance: "id-1"}, "b"}})
+	found := run.Findings([]Difference{{Key: Key{Instance: "id-3"}}, {Key: Key{Instance: "id-1"}}}, Lost)
 	var page bytes.Buffer
 	written := &Page{Sections: []Section{{"Lost", found, run.Kills()}}, Course: run.Course(), Kills: run.Kills()}
 	check(t, written.Write(&page))

@@ -250,7 +250,7 @@ func (b *Both) addPlatform(ctx context.Context) error {
 	}
 	book := &notedBook{
 		book:       book{service: goods.Service, plan: b.plan},
-		stateNotes: &stateNotes{events: b.events, states: map[Key]string{}},
+		stateNotes: &stateNotes{events: b.events, states: map[Key]platform.State{}},
 	}
 	chance := fault.Chance(b.config.Seed, "commands")
 	b.commands = newCommands(book, chance, b.platformLine(), journal, b.places.environment)
@@ -274,34 +274,20 @@ func (b *Both) addPlatform(ctx context.Context) error {
 func (b *Both) look() {
 	if b.config.Unruly {
 		b.unruly = &unruly{
-			url: b.proxy.URL(), password: b.password, records: b.records, held: b.places.holdings.Read,
+			url: b.proxy.URL(), password: b.password, records: b.commands.book.Records, held: b.places.holdings.Read,
 			newID: func() string { return b.ids.NewID(0) }, client: http.Client{Timeout: unrulyRequest},
 			perSecond: float64(b.config.Instances) / 2 / b.config.Time.Seconds(),
 			chance:    fault.Chance(b.config.Seed, "unruly"), bound: map[Key]bool{}, sending: map[Key]bool{},
 		}
 	}
-	keep := func(it Difference) { b.events.add(it.Key, "osb-storm", it.What) }
 	b.keyring = &keyring{
-		read: b.commands.Credentials, records: b.records, works: b.places.resources.Works, keep: keep,
-		given: map[Key]json.RawMessage{},
+		read: b.commands.Credentials, records: b.commands.book.Records, works: b.places.resources.Works,
+		finds: &finds{events: b.events}, given: map[Key]json.RawMessage{},
 	}
 	b.auditor = newAuditor(audit.Place{
-		Records: b.records, Holdings: b.places.holdings, Resources: b.places.resources, Given: b.keyring.all,
+		Records: b.commands.book.Records, Holdings: b.places.holdings, Resources: b.places.resources, Given: b.keyring.all,
 		Foreign: b.foreign, IsOurs: b.isOurs,
-	}, keep)
-}
-
-// records returns all records, as the audit compares them.
-func (b *Both) records(ctx context.Context) (map[Key]audit.Record, error) {
-	entries, err := b.store.List(ctx, platform.Filter{})
-	if err != nil {
-		return nil, err
-	}
-	all := map[Key]audit.Record{}
-	for _, entry := range entries {
-		all[Key{Instance: entry.Names.Instance, Binding: entry.Names.Binding}] = audit.RecordOf(entry)
-	}
-	return all, nil
+	}, b.events)
 }
 
 // isOurs returns whether an instance that the platform doesn't have may be the storm's.
@@ -327,7 +313,7 @@ func (b *Both) Close() error {
 	var all []error
 	var isOurs func(string) bool
 	if b.store != nil {
-		if records, err := b.records(context.Background()); err == nil {
+		if records, err := b.commands.book.Records(context.Background()); err == nil {
 			isOurs = func(instance string) bool {
 				_, isRecorded := records[Key{Instance: instance}]
 				return isRecorded || b.isOurs(instance)

@@ -26,23 +26,6 @@ import (
 
 func pidOf(v *victim) string { return strconv.Itoa(v.running.Process.Pid) }
 
-// A part that a record doesn't know of is lost. A record that says ready of a part is false.
-func TestComparePartial(t *testing.T) {
-	key := Key{Instance: "one"}
-	for state, wanted := range map[string]string{stateGone: "[0]", stateReady: "[1]"} {
-		t.Run(state, func(t *testing.T) {
-			var kinds []DifferenceKind
-			records := map[Key]Record{key: {State: state, Rests: true, Known: true}}
-			for _, difference := range compare(records, Sight{Of: map[Key]Existence{key: Partial}}) {
-				kinds = append(kinds, difference.Kind)
-			}
-			if fmt.Sprint(kinds) != wanted {
-				t.Errorf("%s: got %v, want %s", state, kinds, wanted)
-			}
-		})
-	}
-}
-
 // fakes writes programs that can do no more than make a key.
 func fakes(t *testing.T) BothConfig {
 	t.Helper()
@@ -247,13 +230,13 @@ func (s *site) keyring() *keyring {
 			}
 			return json.RawMessage(s.object), nil
 		},
-		records: func(context.Context) (map[Key]audit.Record, error) {
-			return map[Key]audit.Record{{Instance: "one", Binding: "two"}: {State: s.state}}, nil
+		records: func(context.Context) (map[Key]Record, error) {
+			return map[Key]Record{{Instance: "one", Binding: "two"}: {State: s.state}}, nil
 		},
 		works: func(_ context.Context, _ Key, given json.RawMessage) (bool, error) {
 			return s.letsIn && string(given) == `{"token":"t"}`, s.away
 		},
-		keep: func(Difference) {}, given: map[Key]json.RawMessage{},
+		finds: &finds{events: silentEvents()}, given: map[Key]json.RawMessage{},
 	}
 }
 
@@ -285,7 +268,7 @@ func TestKeyring(t *testing.T) {
 			s = test.then
 			diff.NoError(t, k.finish(context.Background()), "%s", name)
 			var found []string
-			for _, difference := range k.differences() {
+			for _, difference := range k.list() {
 				found = append(found, difference.What)
 			}
 			if text := strings.Join(found, "; "); !strings.Contains(text, test.wrong) || (text == "") != (test.wrong == "") {
@@ -295,8 +278,8 @@ func TestKeyring(t *testing.T) {
 	}
 	s := site{"ready", object, false, errors.New("away")}
 	k := s.keyring()
-	if err := k.finish(context.Background()); err == nil || len(k.differences()) > 0 {
-		t.Errorf("a server that is away: got %v and %v, want an error and no difference", err, k.differences())
+	if err := k.finish(context.Background()); err == nil || len(k.list()) > 0 {
+		t.Errorf("a server that is away: got %v and %v, want an error and no difference", err, k.list())
 	}
 }
 
@@ -312,19 +295,19 @@ func (fixedPlace) Look(context.Context, func(string) bool) (audit.There, error) 
 // The looks count what they compare, and what is found stays, once.
 func TestAuditor(t *testing.T) {
 	t.Parallel()
-	ready, kept := map[Key]audit.Record{{Instance: "one"}: {State: audit.Ready, Rests: true}}, 0
+	ready, events := map[Key]Record{{Instance: "one"}: {State: audit.Ready, Rests: true}}, silentEvents()
 	a := newAuditor(audit.Place{
-		Records:  func(context.Context) (map[Key]audit.Record, error) { return ready, nil },
+		Records:  func(context.Context) (map[Key]Record, error) { return ready, nil },
 		Holdings: fixedPlace{}, Resources: fixedPlace{}, IsOurs: func(string) bool { return true },
 		Given: func() map[Key]json.RawMessage { return nil }, Foreign: func() map[Key]bool { return nil },
-	}, func(Difference) { kept++ })
+	}, events)
 	for look := 0; look < 3; look++ {
 		a.look(context.Background())
 	}
 	all, err := a.end(context.Background())
 	counts := a.counts()
-	if err != nil || kept != 1 || len(all) != 2 || counts["instances that are ready"] != 3 || len(counts) != 4 {
-		t.Errorf("got %v, %d kept, %v and %v, want the counts of what is kept", err, kept, all, counts)
+	if err != nil || len(events.list()) != 1 || len(all) != 2 || counts["instances that are ready"] != 3 || len(counts) != 4 {
+		t.Errorf("got %v, %d kept, %v and %v, want the counts of what is kept", err, len(events.list()), all, counts)
 	}
 	if all[0].What != "during the storm, its record says ready, and it doesn't exist, or not as a whole" ||
 		all[1].What != strings.TrimPrefix(all[0].What, "during the storm, ") || all[0].Kind != False {
@@ -495,10 +478,10 @@ func TestUnruly(t *testing.T) {
 	u := &unruly{
 		url: server.URL, password: "secret", perSecond: 400, client: http.Client{Timeout: time.Second},
 		held: func(context.Context) (map[Key]audit.Row, error) { return broker.holdings(t), nil },
-		records: func(context.Context) (map[Key]audit.Record, error) {
-			all := map[Key]audit.Record{}
+		records: func(context.Context) (map[Key]Record, error) {
+			all := map[Key]Record{}
 			for id, state := range states {
-				all[Key{Instance: id}] = audit.Record{State: state, Plan: plan}
+				all[Key{Instance: id}] = Record{State: state, Plan: plan}
 			}
 			return all, nil
 		},

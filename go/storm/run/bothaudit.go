@@ -17,15 +17,11 @@ import (
 // An auditor compares what the platform records, what the broker holds and what exists, all through a storm of both.
 type auditor struct {
 	place audit.Place
-	keep  func(Difference)
+	*finds
 
 	mutex    sync.Mutex
 	compared map[string]int // how many records of each kind were compared
-	known    map[Key]bool
-	found    []Difference
 }
-
-var _ looker = (*auditor)(nil)
 
 // A comparedKind is a kind of records that is compared while a storm goes on.
 type comparedKind struct {
@@ -39,20 +35,8 @@ var comparedKinds = []comparedKind{
 	{"bindings that are ready", audit.Ready, true}, {"bindings that are gone", audit.Gone, true},
 }
 
-func newAuditor(place audit.Place, keep func(Difference)) *auditor {
-	return &auditor{place: place, keep: keep, compared: map[string]int{}, known: map[Key]bool{}}
-}
-
-// kinds are those of differences.
-var kinds = map[audit.Kind]DifferenceKind{
-	audit.Lost: Lost, audit.False: False, audit.Stuck: Stuck, audit.Disagree: Disagree,
-}
-
-// run looks until ctx is done.
-func (a *auditor) run(ctx context.Context, each time.Duration) {
-	for fault.Sleep(ctx, each) {
-		a.look(ctx)
-	}
+func newAuditor(place audit.Place, events *events) *auditor {
+	return &auditor{place: place, finds: &finds{events: events}, compared: map[string]int{}}
 }
 
 // look looks once. A look that fails, such as while the database is away, says nothing.
@@ -67,39 +51,23 @@ func (a *auditor) look(ctx context.Context) {
 		a.compared[kind.name] += len(sight.SteadyKeys(kind.state, kind.isBinding))
 	}
 	for _, wrong := range sight.Wrong() {
-		if !a.known[wrong.Key] {
-			a.known[wrong.Key] = true
-			difference := Difference{Key: wrong.Key, Kind: kinds[wrong.Kind], What: "during the storm, " + wrong.What}
-			a.found = append(a.found, difference)
-			a.keep(difference)
-		}
+		wrong.What = "during the storm, " + wrong.What
+		a.addOnce(wrong)
 	}
 }
 
 // end returns what the looks have found, and what is wrong at the end.
-func (a *auditor) end(ctx context.Context) (all []Difference, failed error) {
-	a.mutex.Lock()
-	all = append(all, a.found...)
-	a.mutex.Unlock()
+func (a *auditor) end(ctx context.Context) (all report.Differences, failed error) {
+	all = a.list()
 	sight, err := a.place.Look(ctx)
 	if err != nil {
 		return all, fmt.Errorf("the records, the rows and what exists can't be compared: %w", err)
 	}
 	left, err := sight.Left(ctx, a.place.Resources)
-	for _, wrong := range left {
-		all = append(all, Difference{Key: wrong.Key, Kind: kinds[wrong.Kind], What: wrong.What})
-	}
 	if err != nil {
 		err = fmt.Errorf("a resource can't be tried: %w", err)
 	}
-	return all, err
-}
-
-// hasFound returns whether a look has found something.
-func (a *auditor) hasFound() bool {
-	a.mutex.Lock()
-	defer a.mutex.Unlock()
-	return len(a.found) > 0
+	return append(all, left...), err
 }
 
 // counts returns how many records of each kind were compared.
@@ -116,13 +84,12 @@ func (a *auditor) counts() map[string]int {
 // A keyring reads the credentials of each binding once it is ready, and tries them.
 type keyring struct {
 	read    func(context.Context, Key) (json.RawMessage, error) // the object, or nil if the binding isn't ready
-	records func(context.Context) (map[Key]audit.Record, error)
+	records func(context.Context) (map[Key]Record, error)
 	works   func(context.Context, Key, json.RawMessage) (bool, error)
-	keep    func(Difference)
+	*finds
 
 	mutex sync.Mutex
 	given map[Key]json.RawMessage // the objects that were read, also of bindings that are gone now
-	wrong []Difference
 }
 
 // credentialsEach is how often the keyring looks for bindings that are ready.
@@ -169,7 +136,7 @@ func (k *keyring) finish(ctx context.Context) error {
 			return fmt.Errorf("credentials can't be tried: %w", err)
 		}
 		if works {
-			k.note(key, Lost, "its record says gone, and its credentials give access")
+			k.add(key, Lost, "its record says gone, and its credentials give access")
 		}
 	}
 	return nil
@@ -182,7 +149,7 @@ func (k *keyring) again(ctx context.Context, key Key, before json.RawMessage) er
 	}
 	after, isGiven := k.all()[key]
 	if !isGiven || before != nil && string(before) != string(after) {
-		k.note(key, False, "its record says ready, and osb-platform prints no credentials, or other ones than before")
+		k.add(key, False, "its record says ready, and osb-platform prints no credentials, or other ones than before")
 	}
 	return nil
 }
@@ -207,16 +174,8 @@ func (k *keyring) try(ctx context.Context, key Key) error {
 	if failed != nil {
 		return failed
 	}
-	k.note(key, False, "its record says ready, and its credentials give no access")
+	k.add(key, False, "its record says ready, and its credentials give no access")
 	return nil
-}
-
-func (k *keyring) note(key Key, kind DifferenceKind, what string) {
-	difference := Difference{Key: key, Kind: kind, What: what}
-	k.mutex.Lock()
-	k.wrong = append(k.wrong, difference)
-	k.mutex.Unlock()
-	k.keep(difference)
 }
 
 func (k *keyring) has(key Key) bool {
@@ -235,13 +194,6 @@ func (k *keyring) all() map[Key]json.RawMessage {
 		all[key] = object
 	}
 	return all
-}
-
-// differences returns what was wrong.
-func (k *keyring) differences() []Difference {
-	k.mutex.Lock()
-	defer k.mutex.Unlock()
-	return append([]Difference(nil), k.wrong...)
 }
 
 // Programs are what a storm of both programs did to them, and what is wrong with the storm itself.

@@ -11,6 +11,7 @@ import (
 	"pippinterm/platform"
 	"pippinterm/storm/fault"
 	"pippinterm/storm/report"
+	"pippinterm/storm/run/audit"
 )
 
 // Run runs the storm, and returns what was lost. If ctx is done, it ends at once.
@@ -142,13 +143,13 @@ func (b *Both) course(ctx context.Context) *Result {
 		orders: b.commands, keys: b.keys, events: b.events, source: b.source, now: b.journal.Now, lives: b.lives,
 		isQuiet: func() bool { return b.proxy.Pending() == 0 && (b.unruly == nil || b.unruly.isDone(ctx)) },
 		time:    b.config.time(), settleTime: b.config.SettleTime,
-		watch: b.auditor, lookEach: lookEach / 2,
+		look: b.auditor.look, lookEach: lookEach / 2,
 		isDone: func() bool {
 			if b.config.Calm {
 				return true
 			}
 			since := b.journal.Now() - begun
-			if since < b.config.Time || b.auditor.hasFound() {
+			if since < b.config.Time || len(b.auditor.list()) > 0 {
 				return since >= b.config.Time
 			}
 			return b.config.Without != "" && since >= 2*b.config.Time || b.config.Without == "" && len(b.omissions()) == 0
@@ -195,9 +196,9 @@ func (b *Both) compare(ctx context.Context, found *Result) {
 	if err != nil {
 		found.Failed = append(found.Failed, err.Error())
 	}
-	found.Differences = append(append(found.Differences, b.keyring.differences()...), ofAudit...)
+	found.Differences = append(append(found.Differences, b.keyring.list()...), ofAudit...)
 	if !isWhole {
-		found.LeaveOut(Stuck)
+		found.Differences = found.Differences.Without(Stuck)
 		return
 	}
 	records, err := b.commands.Records(ctx)
@@ -219,14 +220,14 @@ func (b *Both) comparePrinted(ctx context.Context, records map[Key]Record) {
 	}
 	shown := 0
 	for key, record := range records {
-		if listed[ofKey(key)] != record.State {
+		if listed[ofKey(key)] != string(record.State) {
 			b.commands.note(fmt.Sprintf("osb-platform list prints %q for %s, which is %s", listed[ofKey(key)], ofKey(key), record.State))
 			return
 		}
 		if shown++; shown > shownRows {
 			continue
 		}
-		if state, err := b.commands.ShowState(ctx, key); err != nil || state != record.State {
+		if state, err := b.commands.ShowState(ctx, key); err != nil || state != string(record.State) {
 			b.commands.note(fmt.Sprintf("osb-platform show prints %q for %s, which is %s", state, ofKey(key), record.State))
 		}
 	}
@@ -342,14 +343,13 @@ const meddleEach = 300 * time.Millisecond
 
 // The share of the records in a state that are removed, retried or abandoned at each turn.
 var (
-	isRemoved = map[string]float64{
-		string(platform.Ready): 0.01, string(platform.Polling): 0.02, string(platform.Unsettled): 0.1,
-		string(platform.Wanted): 0.02, string(platform.Ordered): 0.02,
+	isRemoved = map[platform.State]float64{
+		platform.Ready: 0.01, platform.Polling: 0.02, platform.Unsettled: 0.1, platform.Wanted: 0.02, platform.Ordered: 0.02,
 	}
-	isRetried = map[string]float64{
-		string(platform.Polling): 0.01, string(platform.Cleaning): 0.02, string(platform.CleaningPolling): 0.02,
+	isRetried = map[platform.State]float64{
+		platform.Polling: 0.01, platform.Cleaning: 0.02, platform.CleaningPolling: 0.02,
 	}
-	isAbandoned = map[string]float64{string(platform.Cleaning): 0.005, string(platform.CleaningPolling): 0.005}
+	isAbandoned = map[platform.State]float64{platform.Cleaning: 0.005, platform.CleaningPolling: 0.005}
 )
 
 // meddle removes, retries and abandons by chance.
@@ -360,27 +360,22 @@ func (b *Both) meddle(ctx context.Context) {
 		if err != nil {
 			continue
 		}
-		var all differences
-		for key, record := range records {
-			all = append(all, Difference{Key: key, Record: record})
+		for _, key := range sortedKeys(records) {
+			b.meddleWith(ctx, chance, key, records[key])
 		}
-		sortDifferences(all)
-		for _, difference := range all {
-			b.meddleWith(ctx, chance, difference.Key, difference.Record)
-		}
-		b.bindOne(ctx, chance, all)
+		b.bindOne(ctx, chance, records)
 	}
 }
 
 // bindOne now and then creates a binding of an instance that is ready: half as many as there are instances.
-func (b *Both) bindOne(ctx context.Context, chance *rand.Rand, all differences) {
+func (b *Both) bindOne(ctx context.Context, chance *rand.Rand, records map[Key]Record) {
 	if chance.Float64() > float64(b.config.Instances)/2*float64(meddleEach)/float64(b.config.Time) {
 		return
 	}
 	var ready []Key
-	for _, difference := range all {
-		if difference.Key.Binding == "" && difference.Record.State == stateReady {
-			ready = append(ready, difference.Key)
+	for _, key := range sortedKeys(records) {
+		if key.Binding == "" && records[key].State == audit.Ready {
+			ready = append(ready, key)
 		}
 	}
 	if len(ready) == 0 {
@@ -474,7 +469,7 @@ type notedBook struct {
 type stateNotes struct {
 	events *events
 	mutex  sync.Mutex
-	states map[Key]string
+	states map[Key]platform.State
 }
 
 // Record returns the record of a key.
@@ -503,9 +498,9 @@ func (n *stateNotes) note(key Key, record Record) {
 		return
 	}
 	n.states[key] = record.State
-	what := record.State
+	what := string(record.State)
 	if before != "" {
-		what = before + " -> " + what
+		what = string(before) + " -> " + what
 	}
 	n.events.add(key, "record", what)
 }

@@ -17,6 +17,8 @@ import (
 	"pippinterm/internal/cli"
 	"pippinterm/platform"
 	"pippinterm/storm/fault"
+	"pippinterm/storm/report"
+	"pippinterm/storm/run/audit"
 	"pippinterm/storm/run/goods"
 )
 
@@ -149,7 +151,7 @@ func (c *commands) Abandon(ctx context.Context, key Key) error {
 	if err != nil {
 		return err
 	}
-	isAbandoned := record.State == string(platform.Abandoned)
+	isAbandoned := record.State == platform.Abandoned
 	if (ended.status == cli.StatusDone || ended.killedAt == orderWritten) && !isAbandoned {
 		c.note(fmt.Sprintf("%s was abandoned, and is %s", ofKey(key), record.State))
 	}
@@ -231,29 +233,25 @@ func (c *commands) counts() (instances, bindings int) {
 }
 
 // undone returns what the records don't show of the operator's deeds.
-func (c *commands) undone(records map[Key]Record) (all []Difference) {
+func (c *commands) undone(records map[Key]Record) (all report.Differences) {
 	c.turn.Lock()
 	defer c.turn.Unlock()
-	add := func(key Key, what string) {
-		all = append(all, Difference{Key: key, Kind: Stuck, What: what, Record: records[key]})
-	}
 	for key := range c.deeds.ordered {
 		if !records[key].Known {
-			add(key, "it was ordered, and the platform has no record")
+			all.Add(key, Stuck, "it was ordered, and the platform has no record")
 		}
 	}
 	for key := range c.deeds.removed {
-		if it := records[key]; !it.isEnded() && it.State != string(platform.Abandoned) {
-			add(key, "it was to be removed, and its record says "+it.State)
+		if it := records[key]; !it.IsEnded() && it.State != platform.Abandoned {
+			all.Add(key, Stuck, "it was to be removed, and its record says "+string(it.State))
 		}
 	}
 	for key := range c.deeds.abandoned {
-		if it := records[key]; it.State != string(platform.Abandoned) {
-			add(key, "it was abandoned, and its record says "+it.State)
+		if it := records[key]; it.State != platform.Abandoned {
+			all.Add(key, Stuck, "it was abandoned, and its record says "+string(it.State))
 		}
 	}
-	sortDifferences(all)
-	return all
+	return all.InOrder()
 }
 
 // An endedCommand is how a command has ended, at its last call.
@@ -372,25 +370,6 @@ func (c *commands) odd() []string {
 	return append([]string{}, c.wrong...)
 }
 
-// A Record is what a platform says about an instance or a binding.
-type Record struct {
-	State string
-	Since time.Time
-	Rests bool // nothing is to be done until somebody asks
-	Known bool // the platform has a record
-}
-
-// The states of a record that the operator and the audit tell apart.
-const (
-	stateReady     = "ready"
-	stateGone      = "gone"
-	stateWithdrawn = "withdrawn"
-	stateUnsettled = "unsettled"
-)
-
-// isEnded returns whether a record says that nothing exists.
-func (r Record) isEnded() bool { return !r.Known || r.State == stateGone || r.State == stateWithdrawn }
-
 // Orders are what an operator can do at a platform.
 type Orders interface {
 	Create(ctx context.Context, key Key) error
@@ -434,7 +413,7 @@ func (o *operator) live(ctx context.Context, l life) {
 		_ = fault.Sleep(ctx, l.pause) && o.remove(ctx, key, true)
 		return
 	}
-	if o.rest(ctx, key).State != stateReady {
+	if o.rest(ctx, key).State != audit.Ready {
 		return
 	}
 	bindings := o.bind(ctx, key, l)
@@ -499,7 +478,7 @@ func (o *operator) settle(ctx context.Context, isQuiet func() bool) bool {
 		records, err := o.orders.Records(ctx)
 		rests := err == nil && isQuiet()
 		for key, record := range records {
-			if record.State == stateUnsettled && record.Rests {
+			if record.State == platform.Unsettled && record.Rests {
 				rests = !o.remove(ctx, key, true) && rests
 			}
 			rests = rests && record.Rests

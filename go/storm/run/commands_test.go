@@ -15,6 +15,7 @@ import (
 	"pippinterm/platform"
 	"pippinterm/platform/sqlite"
 	"pippinterm/storm/fault"
+	"pippinterm/storm/run/audit"
 	"pippinterm/storm/run/goods"
 )
 
@@ -39,8 +40,7 @@ func commandsOver(t *testing.T, script string) (c *commands, one Key, folder str
 	program := filepath.Join(folder, "program")
 	text := "#!/bin/sh\ncd " + folder + "\necho \"$*\" >>calls\n" + script + "\n"
 	check(t, os.WriteFile(program, []byte(text), 0o700))
-	events := &events{now: func() time.Duration { return 0 }, keyOf: keyOf}
-	noted := &notedBook{book: book, stateNotes: &stateNotes{events: events, states: map[Key]string{}}}
+	noted := &notedBook{book: book, stateNotes: &stateNotes{events: silentEvents(), states: map[Key]platform.State{}}}
 	return newCommands(noted, fault.Chance(1, "test"), []string{program}, []string{"--journal", "j"}, os.Environ()), one, folder
 }
 
@@ -136,7 +136,7 @@ func TestUndone(t *testing.T) {
 	key := func(n int) Key { return Key{Instance: fmt.Sprint(n)} }
 	c := newCommands(nil, nil, nil, nil, nil)
 	records := map[Key]Record{}
-	for n, state := range []string{"ready", stateGone, stateWithdrawn, string(platform.Abandoned), "cleaning"} {
+	for n, state := range []platform.State{audit.Ready, audit.Gone, platform.Withdrawn, platform.Abandoned, platform.Cleaning} {
 		records[key(n)] = Record{State: state, Known: true}
 		c.deeds.removed[key(n)] = true
 	}
@@ -153,7 +153,7 @@ func TestUndone(t *testing.T) {
 
 // memory is an Orders whose records rest at once: what is created in the state created, and what is removed as gone.
 type memory struct {
-	created string
+	created platform.State
 	rejects bool
 
 	mutex   sync.Mutex
@@ -161,7 +161,7 @@ type memory struct {
 	calls   []string
 }
 
-func (m *memory) set(call string, key Key, state string) error {
+func (m *memory) set(call string, key Key, state platform.State) error {
 	m.mutex.Lock()
 	defer m.mutex.Unlock()
 	m.calls = append(m.calls, strings.TrimRight(fmt.Sprintf("%s %s/%s", call, key.Instance, key.Binding), "/"))
@@ -176,13 +176,13 @@ func (m *memory) set(call string, key Key, state string) error {
 }
 
 func (m *memory) Create(_ context.Context, key Key) error { return m.set("create", key, m.created) }
-func (m *memory) Bind(_ context.Context, key Key) error   { return m.set("bind", key, stateReady) }
+func (m *memory) Bind(_ context.Context, key Key) error   { return m.set("bind", key, audit.Ready) }
 
 func (m *memory) Remove(_ context.Context, key Key, withBindings bool) error {
 	if withBindings {
-		return m.set("remove whole", key, stateGone)
+		return m.set("remove whole", key, audit.Gone)
 	}
-	return m.set("remove", key, stateGone)
+	return m.set("remove", key, audit.Gone)
 }
 
 func (m *memory) Record(_ context.Context, key Key) (Record, error) {
@@ -204,7 +204,7 @@ func (m *memory) Records(context.Context) (map[Key]Record, error) {
 func operatorOf(m *memory) *operator {
 	return &operator{
 		orders: m, keys: newKeys(func(number int) string { return fmt.Sprint(number) }),
-		events: &events{now: func() time.Duration { return 0 }}, look: time.Millisecond,
+		events: silentEvents(), look: time.Millisecond,
 	}
 }
 
@@ -213,16 +213,16 @@ func TestLive(t *testing.T) {
 	for _, test := range []struct {
 		name    string
 		life    life
-		created string
+		created platform.State
 		wanted  []string
 	}{
-		{"removed with its bindings", life{number: 7, bindings: 2, whole: true}, stateReady,
+		{"removed with its bindings", life{number: 7, bindings: 2, whole: true}, audit.Ready,
 			[]string{"create 7", "bind 7/1", "bind 7/2", "remove whole 7"}},
-		{"removed after its bindings", life{number: 7, bindings: 1}, stateReady,
+		{"removed after its bindings", life{number: 7, bindings: 1}, audit.Ready,
 			[]string{"create 7", "bind 7/1", "remove 7/1", "remove whole 7"}},
-		{"stays", life{number: 7, bindings: 1, stays: true}, stateReady, []string{"create 7", "bind 7/1"}},
-		{"removed early", life{number: 7, bindings: 1, early: true}, stateReady, []string{"create 7", "remove whole 7"}},
-		{"not ready", life{number: 7, bindings: 1}, stateGone, []string{"create 7"}},
+		{"stays", life{number: 7, bindings: 1, stays: true}, audit.Ready, []string{"create 7", "bind 7/1"}},
+		{"removed early", life{number: 7, bindings: 1, early: true}, audit.Ready, []string{"create 7", "remove whole 7"}},
+		{"not ready", life{number: 7, bindings: 1}, audit.Gone, []string{"create 7"}},
 	} {
 		t.Run(test.name, func(t *testing.T) {
 			m := &memory{created: test.created}
@@ -238,7 +238,7 @@ func TestLive(t *testing.T) {
 	}
 	ended, end := context.WithCancel(context.Background())
 	end()
-	m := &memory{created: stateReady}
+	m := &memory{created: audit.Ready}
 	operatorOf(m).run(ended, []life{{number: 7}})
 	if operatorOf(m).remove(ended, one, false) {
 		t.Error("after the end: got something removed, want nothing")
@@ -280,9 +280,9 @@ func TestSettle(t *testing.T) {
 func TestCourseEndsWhenDone(t *testing.T) {
 	t.Parallel()
 	begun, ends := time.Now(), make(chan struct{}, 1)
-	k, e := newKeys(func(n int) string { return fmt.Sprint(n) }), &events{now: func() time.Duration { return 0 }, keyOf: keyOf}
+	k := newKeys(func(n int) string { return fmt.Sprint(n) })
 	c := &course{
-		orders: &memory{created: stateReady}, keys: k, events: e, source: fault.BySeed(1, 0, nil), watch: never{},
+		orders: &memory{created: audit.Ready}, keys: k, events: silentEvents(), source: fault.BySeed(1, 0, nil),
 		now: func() time.Duration { return time.Since(begun) }, isQuiet: func() bool { return true }, lookEach: time.Hour,
 		lives: func(int) []life { return []life{{number: 1}, {number: 2, begin: time.Hour}} }, endsWhenDone: true,
 		isDone: func() bool { return time.Since(begun) > doneEach/2 }, calm: func() { ends <- struct{}{} },
@@ -293,8 +293,3 @@ func TestCourseEndsWhenDone(t *testing.T) {
 		t.Errorf("got converged %v after %s and %d instances, want true within a minute and 1", converged, took, len(k.All()))
 	}
 }
-
-// never looks at nothing.
-type never struct{}
-
-func (never) run(ctx context.Context, _ time.Duration) { <-ctx.Done() }

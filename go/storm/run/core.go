@@ -7,6 +7,7 @@ import (
 
 	"pippinterm/storm/conform"
 	"pippinterm/storm/fault"
+	"pippinterm/storm/report"
 )
 
 // A Config says which faults a storm of any kind has, and within which limits it goes on.
@@ -76,7 +77,7 @@ type Result struct {
 	Keys        Keys
 	Exchanges   []fault.Exchange
 	Events      []Event
-	Differences []Difference
+	Differences report.Differences
 	Broken      []Violation
 	Given       []fault.Entry
 	Unmet       []fault.Entry // of the list that was given
@@ -94,21 +95,16 @@ type Result struct {
 }
 
 // losses are the differences in which something is lost or false.
-var losses = []DifferenceKind{Lost, False, Disagree}
+var losses = []report.Kind{Lost, False, Disagree}
 
 // IsLoser returns whether something was lost, or a record was false.
 func (r *Result) IsLoser() bool {
 	for _, difference := range r.Differences {
-		if isOneOf(difference.Kind, losses) {
+		if difference.Kind.IsOneOf(losses...) {
 			return true
 		}
 	}
 	return false
-}
-
-// LeaveOut leaves out the differences of a kind.
-func (r *Result) LeaveOut(kind DifferenceKind) {
-	r.Differences = differences(r.Differences).without(kind)
 }
 
 // A Core runs a storm of any kind.

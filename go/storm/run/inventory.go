@@ -19,7 +19,6 @@ const (
 	Unknown Existence = iota
 	Exists
 	Missing
-	Partial // a part of it exists, which nobody can use
 )
 
 // A Sight is what exists. A key that it lacks is Unknown.

@@ -15,6 +15,7 @@ import (
 	"pippinterm/storm/conform"
 	"pippinterm/storm/fault"
 	"pippinterm/storm/report"
+	"pippinterm/storm/run/audit"
 )
 
 // judge returns the first answer that breaks each rule, with the numbers of all requests whose answers break it, in the
@@ -266,79 +267,46 @@ func (s *delivery) breaks() (name, reason string) {
 	return "", ""
 }
 
-// A Difference is what a record and what exists disagree in, or what somebody has to compare.
-type Difference struct {
-	Key    Key
-	Kind   DifferenceKind
-	What   string // in words
-	Record Record
-}
-
-// A DifferenceKind is the kind of a difference.
-type DifferenceKind int
-
-// The kinds of differences.
-const (
-	Lost     DifferenceKind = iota // it exists, and the platform has no record, or one that says that nothing exists
-	False                          // the record says ready, and it doesn't exist
-	Stuck                          // the record hasn't converged
-	Disagree                       // the platform's record, the broker's row and what exists disagree in something else
-	Present                        // it exists, and by its requests the platform has it
-)
-
 // compare returns what records and what exists disagree in at the end, in the order of the ids.
-func compare(records map[Key]Record, sight Sight) (all differences) {
+func compare(records map[Key]Record, sight Sight) (all report.Differences) {
 	for key, existence := range sight.Of {
-		if record := records[key]; (existence == Exists || existence == Partial) && record.isEnded() {
-			all = append(all, Difference{key, Lost, lostBecause(record), record})
+		if record := records[key]; existence == Exists && record.IsEnded() {
+			all.Add(key, Lost, lostBecause(record))
 		}
 	}
 	for _, key := range sight.Twice {
-		all = append(all, Difference{key, Lost, "it exists twice, and the platform knows one of them", records[key]})
+		all.Add(key, Lost, "it exists twice, and the platform knows one of them")
 	}
 	for key, record := range records {
 		switch {
 		case !record.Rests:
-			all = append(all, Difference{key, Stuck, stuckBecause(record), record})
-		case record.State == stateReady && (sight.Of[key] == Missing || sight.Of[key] == Partial):
-			all = append(all, Difference{key, False, "its record says ready, and it doesn't exist", record})
+			all.Add(key, Stuck, stuckBecause(record))
+		case record.State == audit.Ready && sight.Of[key] == Missing:
+			all.Add(key, False, "its record says ready, and it doesn't exist")
 		}
 	}
-	sortDifferences(all)
-	return all
+	return all.InOrder()
 }
 
 func stuckBecause(record Record) string {
-	if record.isEnded() { // only its last deletion is still sent
+	if record.IsEnded() { // only its last deletion is still sent
 		return "its last deletion isn't answered yet"
 	}
-	return "its record is still " + record.State
+	return "its record is still " + string(record.State)
 }
 
 func lostBecause(record Record) string {
 	if !record.Known {
 		return "it exists, and the platform has no record"
 	}
-	return "it exists, and its record says " + record.State
-}
-
-// differences are some, in the order of the ids.
-type differences []Difference
-
-// without returns the differences of all other kinds.
-func (d differences) without(kind DifferenceKind) (rest differences) {
-	for _, difference := range d {
-		if difference.Kind != kind {
-			rest = append(rest, difference)
-		}
-	}
-	return rest
+	return "it exists, and its record says " + string(record.State)
 }
 
 // compareSteady returns the false records of those that were the same before and after the look.
 func compareSteady(before, after map[Key]Record, sight Sight) (all []Difference) {
 	for _, difference := range compare(before, sight) {
-		same := after[difference.Key] == difference.Record && difference.Record.Known
+		record := before[difference.Key]
+		same := after[difference.Key] == record && record.Known
 		if same && difference.Kind == Lost {
 			difference.What = "during the storm, " + difference.What
 		}
@@ -350,13 +318,6 @@ func compareSteady(before, after map[Key]Record, sight Sight) (all []Difference)
 		}
 	}
 	return all
-}
-
-func sortDifferences(all []Difference) {
-	sort.SliceStable(all, func(one, other int) bool {
-		a, b := all[one].Key, all[other].Key
-		return a.Instance < b.Instance || a.Instance == b.Instance && a.Binding < b.Binding
-	})
 }
 
 // standard asks the broker itself for each instance and binding, without faults: by a fetch if the catalogue promises
@@ -436,21 +397,9 @@ func (s *standard) describe() string {
 type watch struct {
 	orders    Orders
 	inventory Inventory
-	isCheap   bool // one look is enough for all keys, so each look is about all
-	keep      func(Difference)
-
-	mutex sync.Mutex
-	seen  map[Key]Record // what was looked at, unless all are looked at each time
-	looks int
-	found []Difference
-	known map[Key]bool
-}
-
-// run looks until ctx is done.
-func (w *watch) run(ctx context.Context, each time.Duration) {
-	for fault.Sleep(ctx, each) {
-		w.look(ctx)
-	}
+	isCheap   bool           // one look is enough for all keys, so each look is about all
+	seen      map[Key]Record // what was looked at, unless all are looked at each time
+	*finds
 }
 
 // look looks once. A look that fails, such as while the broker is away, says nothing.
@@ -477,45 +426,32 @@ func (w *watch) look(ctx context.Context) {
 		}
 	}
 	sight.Twice = nil // one may be about to be deleted
-	w.mutex.Lock()
-	defer w.mutex.Unlock()
-	w.looks++
 	for _, difference := range compareSteady(before, after, sight) {
-		if !w.known[difference.Key] {
-			w.known[difference.Key] = true
-			w.found = append(w.found, difference)
-			w.keep(difference)
-		}
+		w.addOnce(difference)
 	}
 }
 
 // due returns the keys to look at.
 func (w *watch) due(records map[Key]Record) (keys []Key) {
 	for key, record := range records {
-		if (record.State == stateReady || record.isEnded()) && (w.isCheap || w.seen[key] != record) {
+		if (record.State == audit.Ready || record.IsEnded()) && (w.isCheap || w.seen[key] != record) {
 			keys = append(keys, key)
 		}
 	}
 	return keys
 }
 
-func (w *watch) differences() []Difference {
-	w.mutex.Lock()
-	defer w.mutex.Unlock()
-	return append([]Difference(nil), w.found...)
-}
-
 // An ending is what exists at the end, and what the records and what exists disagree in.
 type ending struct {
 	last        Sight
-	differences []Difference
+	differences report.Differences
 	failed      []string // what went wrong with the comparison
 }
 
 // end compares at the end, and adds what was found before. isWhole is whether the run has waited until the records
 // converged.
 func (w *watch) end(ctx context.Context, isWhole bool) (e ending) {
-	e.differences = w.differences()
+	e.differences = w.list()
 	records, err := w.orders.Records(context.Background())
 	if err != nil {
 		e.failed = append(e.failed, "the records can't be read: "+err.Error())
@@ -530,10 +466,40 @@ func (w *watch) end(ctx context.Context, isWhole bool) (e ending) {
 	}
 	found := compare(records, e.last)
 	if !isWhole {
-		found = found.without(Stuck)
+		found = found.Without(Stuck)
 	}
 	e.differences = append(e.differences, found...)
 	return e
+}
+
+// finds are the differences that were found so far. Each is an event, too. Any number of goroutines use them.
+type finds struct {
+	events *events
+	mutex  sync.Mutex
+	all    report.Differences
+}
+
+func (f *finds) add(key Key, kind report.Kind, what string) {
+	f.mutex.Lock()
+	f.all.Add(key, kind, what)
+	f.mutex.Unlock()
+	f.events.add(key, "osb-storm", what)
+}
+
+// addOnce adds a difference, unless one of the same key was found before. One goroutine calls it.
+func (f *finds) addOnce(it Difference) {
+	for _, known := range f.list() {
+		if known.Key == it.Key {
+			return
+		}
+	}
+	f.add(it.Key, it.Kind, it.What)
+}
+
+func (f *finds) list() report.Differences {
+	f.mutex.Lock()
+	defer f.mutex.Unlock()
+	return append(report.Differences(nil), f.all...)
 }
 
 // events are those of a run. Any number of goroutines use them.

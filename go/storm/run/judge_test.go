@@ -11,6 +11,7 @@ import (
 	"time"
 
 	"pippinterm/internal/diff"
+	"pippinterm/platform"
 	"pippinterm/storm/fault"
 	"pippinterm/storm/report"
 )
@@ -204,7 +205,7 @@ var (
 	since   = time.Unix(1000, 0)
 )
 
-func recordIn(state string) Record {
+func recordIn(state platform.State) Record {
 	return Record{State: state, Since: since, Rests: true, Known: true}
 }
 
@@ -285,9 +286,7 @@ func (f *stub) Look(_ context.Context, keys []Key) (Sight, error) {
 }
 
 func watchOf(f *stub, isCheap bool) *watch {
-	return &watch{
-		orders: f, inventory: f, isCheap: isCheap, seen: map[Key]Record{}, known: map[Key]bool{}, keep: func(Difference) {},
-	}
+	return &watch{orders: f, inventory: f, isCheap: isCheap, seen: map[Key]Record{}, finds: &finds{events: silentEvents()}}
 }
 
 // Only a record that is the same before and after the look is compared, and each is found once.
@@ -314,14 +313,14 @@ func TestWatch(t *testing.T) {
 			if test.wanted != "" {
 				w.look(context.Background())
 			}
-			diff.Equal(t, textsOf(w.differences()), test.wanted, "%s", test.name)
+			diff.Equal(t, textsOf(w.list()), test.wanted, "%s", test.name)
 		})
 	}
 	failing := &stub{records: []map[Key]Record{ready}, sight: Sight{Of: map[Key]Existence{one: Missing}}}
 	failing.err = errors.New("away")
 	w := watchOf(failing, true)
-	if w.look(context.Background()); len(w.differences()) > 0 {
-		t.Errorf("a look that failed: got %q, want nothing", textsOf(w.differences()))
+	if w.look(context.Background()); len(w.list()) > 0 {
+		t.Errorf("a look that failed: got %q, want nothing", textsOf(w.list()))
 	}
 }
 

@@ -161,7 +161,7 @@ func candidates(found *Result) (all []Candidate) {
 	for _, difference := range found.Differences {
 		place, is := found.Keys.Place(difference.Key.Instance, "")
 		number := place.Instance
-		if is && isOneOf(difference.Kind, losses) && number < firstOther && !lost[number] {
+		if is && difference.Kind.IsOneOf(losses...) && number < firstOther && !lost[number] {
 			lost[number] = true
 			all = append(all, part(found.Given, map[int]bool{number: true}))
 		}

@@ -23,6 +23,7 @@ import (
 	"pippinterm/storm/conform"
 	"pippinterm/storm/fault"
 	"pippinterm/storm/report"
+	"pippinterm/storm/run/audit"
 )
 
 // The names of the worker and the broker in the store.
@@ -266,21 +267,21 @@ func (s *Storm) trialByPlatform(ctx context.Context) (keys []Key, remove func() 
 	key := r.keys.instance(0)
 	s.broker.Owe(conform.Debt{Instance: key.Instance})
 	operator := &operator{orders: r.platform, keys: r.keys, events: r.events, look: readEach}
-	wait := func(wanted string, isAccepted bool) string {
+	wait := func(wanted platform.State, isAccepted bool) string {
 		if state := operator.rest(ctx, key).State; !isAccepted || state != wanted {
 			return fmt.Sprintf("the platform records %s, and not %s. A storm without --journal shows the answer", state, wanted)
 		}
 		return ""
 	}
 	creates := func() error { return r.platform.Create(ctx, key) }
-	if problem := wait(stateReady, operator.do(ctx, key, "creates the instance", creates)); problem != "" {
+	if problem := wait(audit.Ready, operator.do(ctx, key, "creates the instance", creates)); problem != "" {
 		return nil, nil, end(problem)
 	}
 	keys = []Key{key}
 	if s.listsBindings() {
 		keys = append(keys, s.bindByPlatform(ctx, operator, key)...)
 	}
-	return keys, func() string { return end(wait(stateGone, operator.remove(ctx, key, true))) }, ""
+	return keys, func() string { return end(wait(audit.Gone, operator.remove(ctx, key, true))) }, ""
 }
 
 // bindByPlatform has the platform create a binding, and returns its key if the binding is ready.
@@ -288,7 +289,7 @@ func (s *Storm) bindByPlatform(ctx context.Context, o *operator, of Key) []Key {
 	key := o.keys.binding(of)
 	s.broker.Owe(conform.Debt{Instance: key.Instance, Binding: key.Binding})
 	binds := func() error { return o.orders.Bind(ctx, key) }
-	if o.do(ctx, key, "creates the binding", binds) && o.rest(ctx, key).State == stateReady {
+	if o.do(ctx, key, "creates the binding", binds) && o.rest(ctx, key).State == audit.Ready {
 		return []Key{key}
 	}
 	return nil
@@ -397,7 +398,7 @@ func (b book) Record(ctx context.Context, key Key) (Record, error) {
 	if errors.Is(err, platform.ErrUnknown) {
 		return Record{}, nil
 	}
-	return recordOf(entry), err
+	return audit.RecordOf(entry), err
 }
 
 // Records returns all records.
@@ -408,13 +409,9 @@ func (b book) Records(ctx context.Context) (map[Key]Record, error) {
 	}
 	all := map[Key]Record{}
 	for _, entry := range entries {
-		all[Key{Instance: entry.Names.Instance, Binding: entry.Names.Binding}] = recordOf(entry)
+		all[Key{Instance: entry.Names.Instance, Binding: entry.Names.Binding}] = audit.RecordOf(entry)
 	}
 	return all, nil
-}
-
-func recordOf(e platform.Entry) Record {
-	return Record{State: string(e.State), Since: e.Since, Rests: e.Rests() && !e.HasLast, Known: true}
 }
 
 func numberOf(key Key) (platform.Key, error) {
@@ -520,6 +517,10 @@ func (k *keys) All() []Key {
 type (
 	// A Key names an instance, or a binding of it.
 	Key = report.Key
+	// A Record is what the platform records about an instance or a binding.
+	Record = audit.Record
+	// A Difference is what a record and what exists disagree in, or what somebody has to compare.
+	Difference = report.Difference
 	// An Event is something that has happened to an instance or a binding, besides its requests.
 	Event = report.Event
 	// A Finding is an instance or a binding that was lost, or whose record was false.
@@ -528,6 +529,15 @@ type (
 	Violation = report.Violation
 	// A KindCount is how many requests had a kind of fault.
 	KindCount = report.KindCount
+)
+
+// The kinds of differences.
+const (
+	Lost     = report.Lost
+	False    = report.False
+	Stuck    = report.Stuck
+	Disagree = report.Disagree
+	Present  = report.Present
 )
 
 // The programs that are killed and started again.

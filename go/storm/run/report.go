@@ -132,7 +132,7 @@ func (r *Report) take(found *Result) {
 	r.Requests, r.Restarts, r.Ended = len(found.Exchanges), found.Restarts, found.Ended
 	r.Converged, r.Took, r.Unknown = found.Converged, found.Took.Seconds(), found.Unknown
 	r.Counts = report.CountKinds(found.Exchanges)
-	for kind, to := range map[DifferenceKind]*[]Finding{
+	for kind, to := range map[report.Kind]*[]Finding{
 		Lost: &r.Lost, False: &r.False, Stuck: &r.Stuck, Disagree: &r.Disagree, Present: &r.Exists,
 	} {
 		*to = r.findings(found, kind)
@@ -156,30 +156,15 @@ func (r *Report) hider(found *Result) report.Hider {
 	return report.NewHider(r.user, r.password, found.Exchanges)
 }
 
-// findings returns the differences of some kinds, each instance or binding once, with their lives.
-func (r *Report) findings(found *Result, kinds ...DifferenceKind) []Finding {
-	var all []report.Discovery
-	for _, difference := range found.Differences {
-		if isOneOf(difference.Kind, kinds) {
-			all = append(all, report.Discovery{Key: difference.Key, What: difference.What})
-		}
-	}
-	return r.runOf(found).Findings(all)
+// findings returns the differences of some kinds, with their lives.
+func (r *Report) findings(found *Result, kinds ...report.Kind) []Finding {
+	return r.runOf(found).Findings(found.Differences, kinds...)
 }
 
 func (r *Report) runOf(found *Result) report.Run {
 	return report.Run{
 		Place: found.Keys.Place, Exchanges: found.Exchanges, Events: found.Events, Hide: r.hider(found),
 	}
-}
-
-func isOneOf(kind DifferenceKind, kinds []DifferenceKind) bool {
-	for _, differenceKind := range kinds {
-		if differenceKind == kind {
-			return true
-		}
-	}
-	return false
 }
 
 // BreaksMust returns whether an answer broke what the standard demands.

@@ -22,6 +22,7 @@ import (
 	"pippinterm/storm/conform"
 	"pippinterm/storm/fault"
 	"pippinterm/storm/report"
+	"pippinterm/storm/run/audit"
 )
 
 // A Storm drives a broker through faults. Use one goroutine.
@@ -223,7 +224,7 @@ func (s *Storm) byDeletion(
 	for key, record := range records {
 		isSent := hasCreation(found.Exchanges, key)
 		switch {
-		case last.Of[key] != Unknown || !record.Rests || !isSent || record.State != stateReady && !record.isEnded():
+		case last.Of[key] != Unknown || !record.Rests || !isSent || record.State != audit.Ready && !record.IsEnded():
 		case deleted[key] != Unknown:
 			shown[key] = deleted[key]
 		default:
@@ -237,7 +238,7 @@ func (s *Storm) byDeletion(
 	for key, existence := range told {
 		shown[key] = existence
 	}
-	return compare(records, Sight{Of: shown}).without(Stuck)
+	return compare(records, Sight{Of: shown}).Without(Stuck)
 }
 
 // deletedSince returns what existed by the first answer to each deletion that the platform has sent since a time.
@@ -343,8 +344,7 @@ func (s *Storm) startRun(ctx, deleting context.Context, folder string, source *f
 		return nil, err
 	}
 	r.watch = &watch{
-		orders: r.platform, inventory: s.inventory, isCheap: s.isListed, seen: map[Key]Record{}, known: map[Key]bool{},
-		keep: func(it Difference) { r.events.add(it.Key, "osb-storm", it.What) },
+		orders: r.platform, inventory: s.inventory, isCheap: s.isListed, seen: map[Key]Record{}, finds: &finds{events: r.events},
 	}
 	return r, nil
 }
@@ -375,7 +375,7 @@ func (r *running) fail(what string) {
 func (r *running) storm(ctx, deleting context.Context, only map[int]bool) *Result {
 	found := &Result{Keys: r.keys}
 	course := &course{
-		orders: r.platform, keys: r.keys, events: r.events, watch: r.watch, source: r.source, now: r.journal.Now,
+		orders: r.platform, keys: r.keys, events: r.events, look: r.watch.look, source: r.source, now: r.journal.Now,
 		isQuiet: r.isQuiet, isDone: func() bool { return true }, calm: func() {}, time: r.config.Time,
 		settleTime: r.config.SettleTime, lookEach: lookEach,
 	}
@@ -391,7 +391,7 @@ func (r *running) storm(ctx, deleting context.Context, only map[int]bool) *Resul
 	r.last, found.Differences = end.last, end.differences
 	if r.deletionsTell {
 		for _, event := range r.events.foundGone() {
-			found.Differences = append(found.Differences, Difference{Key: event.Key, Kind: Lost, What: event.What})
+			found.Differences.Add(event.Key, Lost, event.What)
 		}
 	}
 	found.Failed = append(r.failed, end.failed...)
@@ -407,7 +407,7 @@ func (r *running) clear(ctx context.Context, records map[Key]Record) error {
 	r.platform.resume()
 	operator := &operator{orders: r.platform, keys: r.keys, events: r.events, look: readEach}
 	for key, record := range records {
-		if key.Binding == "" && !record.isEnded() {
+		if key.Binding == "" && !record.IsEnded() {
 			operator.remove(within, key, true)
 		}
 	}
@@ -418,19 +418,13 @@ func (r *running) clear(ctx context.Context, records map[Key]Record) error {
 // isQuiet returns whether no request is on its way to the broker.
 func (r *running) isQuiet() bool { return r.proxy.Pending() == 0 }
 
-// A looker compares the records with what exists while a storm goes on.
-type looker interface {
-	// run looks until ctx is done.
-	run(ctx context.Context, each time.Duration)
-}
-
 // A course is how a run goes: the lives, the end of the faults, and the time until everything has converged.
 type course struct {
 	orders           Orders
 	keys             *keys
 	events           *events
-	watch            looker
-	lookEach         time.Duration // between two looks
+	look             func(context.Context) // compares the records with what exists
+	lookEach         time.Duration         // between two looks
 	source           *fault.Source
 	now              func() time.Duration
 	isQuiet          func() bool            // no request is on its way to the broker
@@ -449,7 +443,9 @@ func (c *course) run(ctx context.Context) (converged bool, took time.Duration) {
 	looks.Add(1)
 	go func() {
 		defer looks.Done()
-		c.watch.run(looking, c.lookEach)
+		for fault.Sleep(looking, c.lookEach) {
+			c.look(looking)
+		}
 	}()
 	operator := &operator{orders: c.orders, keys: c.keys, events: c.events, look: readEach}
 	storming, endStorm := context.WithTimeout(ctx, c.time)

@@ -32,7 +32,7 @@ const (
 // that isn't ready from having credentials, and one that has bindings from being deleted.
 type unruly struct {
 	url, password string // where the broker is reached
-	records       func(context.Context) (map[Key]audit.Record, error)
+	records       func(context.Context) (map[Key]Record, error)
 	held          func(context.Context) (map[Key]audit.Row, error)
 	newID         func() string
 	perSecond     float64 // how many bindings it creates
@@ -72,7 +72,7 @@ type bindingRequest struct {
 }
 
 // due returns what is to be sent now, and notes it.
-func (u *unruly) due(ctx context.Context, records map[Key]audit.Record, since time.Duration) (all []bindingRequest) {
+func (u *unruly) due(ctx context.Context, records map[Key]Record, since time.Duration) (all []bindingRequest) {
 	unbound := u.toUnbind(ctx)
 	u.mutex.Lock()
 	defer u.mutex.Unlock()
@@ -104,7 +104,7 @@ func (u *unruly) due(ctx context.Context, records map[Key]audit.Record, since ti
 }
 
 // sentOf returns the instances that may have reached the broker, and that aren't recorded gone.
-func sentOf(records map[Key]audit.Record) (ids []string) {
+func sentOf(records map[Key]Record) (ids []string) {
 	for key, record := range records {
 		isSent := record.State != platform.Ordered && record.State != platform.Withdrawn && record.State != audit.Gone
 		if key.Binding == "" && isSent {
@@ -132,11 +132,12 @@ func (u *unruly) toUnbind(ctx context.Context) (keys []Key) {
 	return keys
 }
 
-func sortedKeys(of map[Key]bool) (keys []Key) {
+// sortedKeys returns the keys of a map, in the order of the ids.
+func sortedKeys[V any](of map[Key]V) (keys []Key) {
 	for key := range of {
 		keys = append(keys, key)
 	}
-	sort.Slice(keys, func(one, other int) bool { return ofKey(keys[one]) < ofKey(keys[other]) })
+	sort.Slice(keys, func(one, other int) bool { return keys[one].Less(keys[other]) })
 	return keys
 }
 

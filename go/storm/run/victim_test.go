@@ -33,9 +33,12 @@ func victimOf(t *testing.T, script string, points ...string) (v *victim, folder 
 			environment: append(os.Environ(), "PWD="+folder), log: filepath.Join(folder, "log"),
 		},
 		chance: fault.Chance(1, "test"), times: shortTimes(), open: points,
-		events: &events{now: func() time.Duration { return 0 }, keyOf: keyOf},
+		events: silentEvents(),
 	}, folder
 }
+
+// silentEvents are events at no time.
+func silentEvents() *events { return &events{now: func() time.Duration { return 0 }, keyOf: keyOf} }
 
 // runs runs a victim in its folder until a condition is met.
 func runs(t *testing.T, v *victim, folder string, until func() bool) {

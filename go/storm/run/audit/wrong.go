@@ -6,30 +6,12 @@ import (
 	"bytes"
 	"context"
 	"encoding/json"
-	"sort"
+	"time"
 
 	"pippinterm/osb"
 	"pippinterm/platform"
 	"pippinterm/storm/report"
 )
-
-// A Kind is what is wrong.
-type Kind int
-
-// The kinds of what is wrong.
-const (
-	Lost     Kind = iota // something exists, and the platform has no record, or one that says that nothing exists
-	False                // the record says ready, and that isn't true
-	Stuck                // the record hasn't converged
-	Disagree             // the platform's record, the broker's row and the resource disagree in something else
-)
-
-// A Wrong is something that is wrong with an instance or a binding.
-type Wrong struct {
-	Key  Key
-	Kind Kind
-	What string
-}
 
 // Ready and Gone are the states of records that are compared while a storm goes on.
 const (
@@ -50,33 +32,22 @@ func (s Sight) SteadyKeys(state platform.State, isBinding bool) (keys []Key) {
 // A finder collects what is wrong.
 type finder struct {
 	Sight
-	all []Wrong
-}
-
-func (f *finder) add(key Key, kind Kind, what string) { f.all = append(f.all, Wrong{key, kind, what}) }
-
-// inOrder returns what was found, in the order of the ids.
-func (f *finder) inOrder() []Wrong {
-	sort.SliceStable(f.all, func(one, other int) bool {
-		a, b := f.all[one].Key, f.all[other].Key
-		return a.Instance < b.Instance || a.Instance == b.Instance && a.Binding < b.Binding
-	})
-	return f.all
+	report.Differences
 }
 
 // Wrong returns what is wrong while a storm goes on.
-func (s Sight) Wrong() []Wrong {
+func (s Sight) Wrong() report.Differences {
 	f := &finder{Sight: s}
 	f.findUnrecorded()
 	for key, record := range s.Records {
 		if record.Says != "" && !record.isOfNoRecord() && record.Says != record.State {
-			f.add(key, False, "its state is "+string(record.State)+", and its record says "+string(record.Says))
+			f.Add(key, report.False, "its state is "+string(record.State)+", and its record says "+string(record.Says))
 		}
 	}
 	for _, isBinding := range []bool{false, true} {
 		for _, key := range s.SteadyKeys(Ready, isBinding) {
 			if why := s.notReady(key, s.Records[key]); why != "" {
-				f.add(key, False, "its record says ready, and "+why)
+				f.Add(key, report.False, "its record says ready, and "+why)
 			}
 		}
 		for _, key := range s.SteadyKeys(Gone, isBinding) {
@@ -84,8 +55,11 @@ func (s Sight) Wrong() []Wrong {
 		}
 	}
 	f.withoutInstance()
-	return f.inOrder()
+	return f.InOrder()
 }
+
+// IsEnded returns whether a record says that nothing exists.
+func (r Record) IsEnded() bool { return !r.Known || r.State == Gone || r.State == platform.Withdrawn }
 
 // isOfNoRecord returns whether the state isn't that of a record.
 func (r Record) isOfNoRecord() bool {
@@ -96,12 +70,12 @@ func (r Record) isOfNoRecord() bool {
 func (f *finder) findUnrecorded() {
 	for key := range f.There.Of {
 		if _, isKnown := f.After[key]; !isKnown && !f.Foreign[key] && f.There.Some(key) {
-			f.add(key, Lost, "it exists, and the platform has no record")
+			f.Add(key, report.Lost, "it exists, and the platform has no record")
 		}
 	}
 	for key, row := range f.Held {
 		if _, isKnown := f.After[key]; !isKnown && !f.Foreign[key] && !row.isEmpty() {
-			f.add(key, Disagree, "the broker has a row, and the platform has no record")
+			f.Add(key, report.Disagree, "the broker has a row, and the platform has no record")
 		}
 	}
 }
@@ -133,10 +107,10 @@ func (s Sight) notReady(key Key, record Record) string {
 // notGone finds what a record that says that nothing exists is belied by.
 func (f *finder) notGone(key Key, says string) {
 	if f.There.Some(key) {
-		f.add(key, Lost, "it exists, and "+says)
+		f.Add(key, report.Lost, "it exists, and "+says)
 	}
 	if f.Held[key].Holding.IsHeld() {
-		f.add(key, Disagree, "the broker holds it, and "+says)
+		f.Add(key, report.Disagree, "the broker holds it, and "+says)
 	}
 }
 
@@ -164,7 +138,7 @@ func (f *finder) withoutInstance() {
 		row, isHeld := f.Held[key.InstanceKey()].Holding.Row()
 		_, isPending := f.Held[key.InstanceKey()].Holding.Work()
 		if !isHeld || row.Phase != osb.PhaseReady || isPending {
-			f.add(key, Disagree, "its credentials exist, and the broker doesn't hold its instance ready")
+			f.Add(key, report.Disagree, "its credentials exist, and the broker doesn't hold its instance ready")
 		}
 	}
 	for key, row := range f.Held {
@@ -173,7 +147,7 @@ func (f *finder) withoutInstance() {
 		}
 		service, plan, isHeld := heldFor(row.Holding)
 		if isHeld && !f.Held[key.InstanceKey()].Holding.IsThere(service, plan) {
-			f.add(key, Disagree, "the broker holds it, and doesn't hold its instance ready at the same plan")
+			f.Add(key, report.Disagree, "the broker holds it, and doesn't hold its instance ready at the same plan")
 		}
 	}
 }
@@ -220,15 +194,19 @@ type Key = report.Key
 // A Record is what the platform records about an instance or a binding.
 type Record struct {
 	State         platform.State
+	Since         time.Time
 	Service, Plan osb.ID
 	// Says is the state of the record itself, or empty if nothing was sent yet.
 	Says  platform.State
-	Rests bool // nobody goes on with it until somebody asks
+	Rests bool // nothing is to be done until somebody asks
+	Known bool // the platform has a record
 }
 
 // RecordOf returns the Record of a row.
 func RecordOf(e platform.Entry) Record {
-	record := Record{State: e.State, Service: e.Service, Plan: e.Plan, Rests: e.Rests() && !e.HasLast}
+	record := Record{
+		State: e.State, Since: e.Since, Service: e.Service, Plan: e.Plan, Rests: e.Rests() && !e.HasLast, Known: true,
+	}
 	if e.IsSent {
 		record.Says = platform.StateOf(e.Record)
 	}
@@ -329,14 +307,14 @@ func (p Place) Look(ctx context.Context) (s Sight, err error) {
 // Left returns what the three disagree in at the end: each instance and each binding has to be ready in all three, or
 // in none. Nobody knows of the instances that were abandoned. usable tries each resource that is ready; what it fails
 // with is returned.
-func (s Sight) Left(ctx context.Context, usable Resources) ([]Wrong, error) {
+func (s Sight) Left(ctx context.Context, usable Resources) (report.Differences, error) {
 	f := &finder{Sight: s}
 	f.findUnrecorded()
 	var failed error
 	for key, record := range s.After {
 		switch {
 		case !record.Rests || !isFinal(record.State):
-			f.add(key, Stuck, "its record is still "+string(record.State))
+			f.Add(key, report.Stuck, "its record is still "+string(record.State))
 		case record.State == Ready:
 			if err := f.readyAtEnd(ctx, key, record, usable); err != nil && failed == nil {
 				failed = err
@@ -346,7 +324,7 @@ func (s Sight) Left(ctx context.Context, usable Resources) ([]Wrong, error) {
 		}
 	}
 	f.withoutInstance()
-	return f.inOrder(), failed
+	return f.InOrder(), failed
 }
 
 // isFinal returns whether a record may stay in a state at the end of a storm. One that is unsettled waits for an
@@ -362,7 +340,7 @@ func isFinal(state platform.State) bool {
 // readyAtEnd finds what is wrong with a record that is ready at the end.
 func (f *finder) readyAtEnd(ctx context.Context, key Key, record Record, usable Resources) error {
 	if why := f.notReady(key, record); why != "" {
-		f.add(key, False, "its record says ready, and "+why)
+		f.Add(key, report.False, "its record says ready, and "+why)
 		return nil
 	}
 	if key.Binding != "" {
@@ -371,7 +349,7 @@ func (f *finder) readyAtEnd(ctx context.Context, key Key, record Record, usable 
 	}
 	isUsable, err := usable.IsUsable(ctx, key, record)
 	if err == nil && !isUsable {
-		f.add(key, False, "its record says ready, and it can't be used, or isn't what was ordered")
+		f.Add(key, report.False, "its record says ready, and it can't be used, or isn't what was ordered")
 	}
 	return err
 }
@@ -379,9 +357,9 @@ func (f *finder) readyAtEnd(ctx context.Context, key Key, record Record, usable 
 // bindingAtEnd finds what is wrong with a binding that is ready at the end, and that exists.
 func (f *finder) bindingAtEnd(key Key) {
 	if _, isGiven := f.Given[key]; !isGiven {
-		f.add(key, False, "its record says ready, and its credentials aren't given out")
+		f.Add(key, report.False, "its record says ready, and its credentials aren't given out")
 	}
 	if instance := f.After[key.InstanceKey()]; instance.State != Ready {
-		f.add(key, Disagree, "its record says ready, and that of its instance says "+string(instance.State))
+		f.Add(key, report.Disagree, "its record says ready, and that of its instance says "+string(instance.State))
 	}
 }

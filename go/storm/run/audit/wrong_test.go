@@ -19,6 +19,7 @@ import (
 	"pippinterm/internal/pg/pgtest"
 	"pippinterm/osb"
 	"pippinterm/platform"
+	"pippinterm/storm/report"
 )
 
 var (
@@ -148,7 +149,7 @@ type usable struct {
 
 func (u usable) IsUsable(context.Context, Key, Record) (bool, error) { return u.is, nil }
 
-func texts(all []Wrong, key Key) string {
+func texts(all report.Differences, key Key) string {
 	var found []string
 	for _, wrong := range all {
 		if wrong.Key == key {

@@ -199,9 +199,7 @@ func (k kind) is(kinds ...kind) bool {
 // compare finds what exists and the platform doesn't have, and the other way round. What the platform has is known from
 // its list. Without one, it follows from the answers that the platform got.
 func compare(found *result, keys []report.Key, existing map[report.Key]bool, listed list) {
-	add := func(key report.Key, kind run.DifferenceKind, what string) {
-		found.Differences = append(found.Differences, run.Difference{Key: key, Kind: kind, What: what})
-	}
+	add := found.Differences.Add
 	for _, key := range keys {
 		v, exists := found.views[key], existing[key]
 		has, isListed := listed.of(key)

@@ -151,7 +151,7 @@ func (s *Storm) finish(ctx context.Context, found *result) {
 	}
 	s.lookLast(ctx, found)
 	if found.Ended != "" { // nobody has waited
-		found.LeaveOut(run.Stuck)
+		found.Differences = found.Differences.Without(run.Stuck)
 	}
 }
 
