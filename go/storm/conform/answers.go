@@ -31,14 +31,10 @@ var accessCases = scenario{
 		catalog := func(headers map[string]string) *exchange {
 			return r.send(request{method: "GET", path: "/v2/catalog", headers: headers})
 		}
-		x := catalog(map[string]string{"X-Broker-API-Version": ""})
-		r.judge("version-missing", x, x.want(400, 412))
-		x = catalog(map[string]string{"X-Broker-API-Version": "99.0"})
-		r.judge("version-of-another-major", x, x.want(412))
-		x = catalog(map[string]string{"Authorization": ""})
-		r.judge("auth-missing", x, x.want(401))
-		x = catalog(r.wrongPassword())
-		r.judge("auth-wrong-password", x, x.want(401))
+		r.wants("version-missing", catalog(map[string]string{"X-Broker-API-Version": ""}), 400, 412)
+		r.wants("version-of-another-major", catalog(map[string]string{"X-Broker-API-Version": "99.0"}), 412)
+		r.wants("auth-missing", catalog(map[string]string{"Authorization": ""}), 401)
+		r.wants("auth-wrong-password", catalog(r.wrongPassword()), 401)
 		if r.hasPlan() {
 			r.accessToInstances()
 		}
@@ -47,14 +43,11 @@ var accessCases = scenario{
 
 func (r *Runner) accessToInstances() {
 	k := key{instance: r.id()}
-	sent := r.provision(k.instance, nil)
-	wrong := sent
+	wrong := r.creation(k, nil)
 	wrong.headers = r.wrongPassword()
-	x := r.create(k, r.target.pair, wrong)
-	r.judge("auth-provision", x, x.want(401))
-	x = r.create(k, r.target.pair, anonymous(sent))
-	r.judge("auth-provision", x, x.want(401))
-	x = r.create(k, r.target.pair, sent)
+	r.wants("auth-provision", r.create(k, r.target.pair, wrong), 401)
+	r.wants("auth-provision", r.create(k, r.target.pair, anonymous(wrong)), 401)
+	x := r.put(k, nil)
 	if !x.is(200, 201, 202) {
 		return
 	}
@@ -64,7 +57,7 @@ func (r *Runner) accessToInstances() {
 		return
 	}
 	if r.target.instancesRetrievable {
-		r.askAnonymously("auth-fetch", request{method: "GET", path: pathOf(k), query: namesOf(r.target.pair)})
+		r.askAnonymously("auth-fetch", fetching(k, r.target.pair))
 	}
 	r.skip(reasonNotFetched, "auth-fetch")
 	r.accessToBindings(k)
@@ -92,9 +85,8 @@ func (r *Runner) accessToBindings(of key) {
 		return
 	}
 	k := key{of.instance, r.id()}
-	x := r.create(k, r.target.pair, anonymous(r.bind(k, nil)))
-	r.judge("auth-bind", x, x.want(401))
-	x = r.put(k, r.bind(k, nil))
+	r.wants("auth-bind", r.create(k, r.target.pair, anonymous(r.creation(k, nil))), 401)
+	x := r.put(k, nil)
 	if !x.is(200, 201, 202) {
 		return
 	}
@@ -103,7 +95,7 @@ func (r *Runner) accessToBindings(of key) {
 		return
 	}
 	if r.target.bindingsRetrieved {
-		r.askAnonymously("auth-fetch-binding", request{method: "GET", path: pathOf(k), query: namesOf(r.target.pair)})
+		r.askAnonymously("auth-fetch-binding", fetching(k, r.target.pair))
 	}
 	r.skip(reasonNotRetrievable, "auth-fetch-binding")
 	r.askAnonymously("auth-unbind", deletion(k, r.target.pair, true)) // CleanUp deletes it, whatever the answer says
@@ -118,13 +110,12 @@ func (r *Runner) accessToPolls(name string, k key, created *exchange) {
 		r.skip("the broker has no such endpoint for a plan without asynchronous operations", name)
 		return
 	}
-	r.judge(name, x, x.want(401))
+	r.wants(name, x, 401)
 }
 
 // askAnonymously judges the answer to a request without a password.
 func (r *Runner) askAnonymously(name string, sent request) {
-	x := r.send(anonymous(sent))
-	r.judge(name, x, x.want(401))
+	r.wants(name, r.send(anonymous(sent)), 401)
 }
 
 // anonymous returns the request without a password.

@@ -49,27 +49,19 @@ var bindingCases = scenario{
 			return
 		}
 		k := key{r.existing, r.id()}
-		first := r.put(k, r.bind(k, nil))
-		r.judge("bind-new", first, first.want(201, 202))
+		first := r.wants("bind-new", r.put(k, nil), 201, 202)
 		r.judge("bind-fields", first, wrongFields(first, textsOfBinding, objectsOfBinding))
 		r.bindsAsync = first.is(202)
-		if r.bindsAsync {
-			state, last := r.await(k, first.string("operation"))
-			problem := ""
-			if state != "succeeded" {
-				problem = "the operation doesn't succeed"
-			}
-			r.judge("bind-ends", last, problem)
-			if problem != "" {
-				return
-			}
-		} else if !first.is(200, 201) {
+		if !r.ends("bind-ends", k, first) {
 			return
 		}
 		r.skip("the plan binds synchronously",
 			"binding-last-operation-state", "binding-last-operation-fields", "bind-ends")
 		r.fetchesBinding(k, r.repeatedBinds(k, first))
-		r.unbinds(k)
+		r.deletes("unbind", k, key{k.instance, r.id()}, func() (key, bool) {
+			another := key{k.instance, r.id()}
+			return another, r.settle(another, r.put(another, nil))
+		})
 	},
 }
 
@@ -87,8 +79,7 @@ func (r *Runner) canBind() bool {
 
 // repeatedBinds repeats a Bind, and returns the first answer with the credentials.
 func (r *Runner) repeatedBinds(k key, first *exchange) *exchange {
-	x := r.put(k, r.bind(k, nil))
-	r.judge("bind-repeated", x, x.want(200))
+	x := r.wants("bind-repeated", r.put(k, nil), 200)
 	if x.is(200) && first.is(201) {
 		problem := ""
 		if !reflect.DeepEqual(first.object["credentials"], x.object["credentials"]) {
@@ -100,8 +91,7 @@ func (r *Runner) repeatedBinds(k key, first *exchange) *exchange {
 	if first.is(202) {
 		first = x
 	}
-	x = r.put(k, r.bind(k, with("parameters", object{"osb-storm": "other"})))
-	r.judge("bind-conflict", x, x.want(409, 400))
+	r.wants("bind-conflict", r.put(k, with("parameters", object{"osb-storm": "other"})), 409, 400)
 	return first
 }
 
@@ -125,65 +115,25 @@ func (r *Runner) fetchesBinding(k key, bound *exchange) {
 		r.judge("fetch-binding-credentials", x, problem)
 	}
 	r.skip("no answer to the Bind had credentials", "fetch-binding-credentials")
-	x = r.fetch(key{k.instance, r.id()})
-	r.judge("fetch-binding-unknown", x, x.want(404))
+	r.wants("fetch-binding-unknown", r.fetch(key{k.instance, r.id()}), 404)
 }
 
-func (r *Runner) fetch(k key) *exchange {
-	return r.send(request{method: "GET", path: pathOf(k), query: namesOf(r.target.pair)})
-}
-
-func (r *Runner) unbinds(k key) {
-	for _, pair := range r.lackingPairs("unbind") {
-		x := r.send(deletion(k, pair.pair, true)) // CleanUp deletes it, whatever the answer says
-		r.judge(pair.name, x, x.want(400))
-		if x.is(400) {
-			continue
-		}
-		k = key{k.instance, r.id()} // the first one may be gone
-		if !r.settle(k, r.put(k, r.bind(k, nil))) {
-			return
-		}
-	}
-	x := r.delete(k)
-	r.judge("unbind-existing", x, x.want(200, 202))
-	isGone := x.is(200)
-	if x.is(202) {
-		state, _ := r.await(k, x.string("operation"))
-		isGone = notDeleted(state) == ""
-	}
-	if isGone {
-		x = r.delete(k)
-		r.judge("unbind-repeated", x, x.want(410))
-	}
-	x = r.delete(key{k.instance, r.id()})
-	r.judge("unbind-unknown", x, x.want(410))
+var rejectedBindings = []rejection{
+	{"bind-without-service-id", Must, "400 without service_id", lacks("service_id")},
+	{"bind-without-plan-id", Must, "400 without plan_id", lacks("plan_id")},
+	{"bind-malformed", Must, "400 to a body that isn't JSON", nil},
 }
 
 var rejectedBindingCases = scenario{
-	cases: []Case{
-		{"bind-without-service-id", sectionBind, Must, "400 without service_id"},
-		{"bind-without-plan-id", sectionBind, Must, "400 without plan_id"},
-		{"bind-malformed", sectionBind, Must, "400 to a body that isn't JSON"},
-		{"bind-unknown-fields", sectionExtensions, Must, "a Bind with unknown fields is accepted"},
-	},
+	cases: append(casesOf(rejectedBindings, sectionBind),
+		Case{"bind-unknown-fields", sectionExtensions, Must, "a Bind with unknown fields is accepted"}),
 	run: func(r *Runner) {
 		if !r.canBind() {
 			return
 		}
-		for _, pair := range r.lackingPairs("bind") {
-			k := key{r.existing, r.id()}
-			x := r.put(k, r.bind(k, without(pair.member)))
-			r.judge(pair.name, x, x.want(400))
-		}
-		k := key{r.existing, r.id()}
-		sent := r.bind(k, nil)
-		sent.body = sent.body[:len(sent.body)-1]
-		x := r.put(k, sent)
-		r.judge("bind-malformed", x, x.want(400))
-		k = key{r.existing, r.id()}
-		x = r.put(k, r.bind(k, with("x-osb-storm-unknown", []int{1})))
-		r.judge("bind-unknown-fields", x, x.want(201, 202))
+		newKey := func() key { return key{r.existing, r.id()} }
+		r.rejects(rejectedBindings, newKey)
+		r.wants("bind-unknown-fields", r.put(newKey(), with("x-osb-storm-unknown", []int{1})), 201, 202)
 	},
 }
 
@@ -207,47 +157,17 @@ var asyncBindingCases = scenario{
 			return
 		}
 		k := key{r.existing, r.id()}
-		x := r.put(k, notAsync(r.bind(k, nil)))
-		problem := x.wantError("AsyncRequired")
-		if x.is(201) {
-			problem = ""
-		}
-		r.judge("async-bind-required", x, problem)
-		k = key{r.existing, r.id()}
-		first := r.put(k, r.bind(k, nil))
+		first := r.begins("async-bind-", key{r.existing, r.id()}, k)
 		if !first.is(202) {
 			return
 		}
-		x = r.put(k, r.bind(k, nil))
-		r.judgeDuring("async-bind-repeated", k, first.string("operation"), x, repeats(first, x))
 		if r.target.bindingsRetrieved {
-			x = r.fetch(k)
+			x := r.fetch(k)
 			r.judgeDuring("async-fetch-during-bind", k, first.string("operation"), x, x.want(404))
 		}
 		r.skip(reasonNotRetrievable, "async-fetch-during-bind")
 		if r.settle(k, first) {
-			r.asyncUnbinds(k)
+			r.deletesLater("unbind", "Unbind", k)
 		}
 	},
-}
-
-func (r *Runner) asyncUnbinds(k key) {
-	x := r.deleteBy(k, deletion(k, r.target.pair, false))
-	r.judge("async-unbind-required", x, asyncRequiredToDelete(x))
-	if !x.is(422) {
-		return
-	}
-	first := r.delete(k)
-	if !first.is(202) {
-		r.because = "the Unbind isn't asynchronous"
-		return
-	}
-	x = r.delete(k)
-	r.judgeDuring("async-unbind-repeated", k, first.string("operation"), x, repeats(first, x))
-	state, last := r.await(k, first.string("operation"))
-	r.judge("async-unbind-ends", last, notDeleted(state))
-	if notDeleted(state) == "" {
-		x = r.delete(k)
-		r.judge("async-unbind-gone", x, x.want(410))
-	}
 }

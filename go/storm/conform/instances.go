@@ -18,13 +18,7 @@ const (
 	fieldsOfLastOperation = "description, if present, is a string, and instance_usable and update_repeatable are booleans"
 )
 
-// rejected are the Provisions that have to be rejected with 400: each is a case, with its level and its body.
-var rejected = []struct {
-	name     string
-	level    Level
-	expected string
-	change   func(*Runner, object)
-}{
+var rejected = []rejection{
 	{"provision-without-service-id", Must, "400 without service_id", lacks("service_id")},
 	{"provision-without-plan-id", Must, "400 without plan_id", lacks("plan_id")},
 	{"provision-without-organization", Must, "400 without organization_guid", lacks("organization_guid")},
@@ -36,10 +30,6 @@ var rejected = []struct {
 	{"provision-unknown-plan", Should, "400 to a plan_id that isn't in the catalogue", unknown("plan_id")},
 }
 
-func lacks(member string) func(*Runner, object) {
-	return func(_ *Runner, body object) { delete(body, member) }
-}
-
 func empties(member string) func(*Runner, object) {
 	return func(_ *Runner, body object) { body[member] = "" }
 }
@@ -49,29 +39,10 @@ func unknown(member string) func(*Runner, object) {
 }
 
 var rejectedCases = scenario{
-	cases: func() (cases []Case) {
-		for _, test := range rejected {
-			cases = append(cases, Case{test.name, sectionProvision, test.level, test.expected})
-		}
-		return cases
-	}(),
+	cases: casesOf(rejected, sectionProvision),
 	run: func(r *Runner) {
-		if !r.hasPlan() {
-			return
-		}
-		for _, test := range rejected {
-			k, body := key{instance: r.id()}, object{}
-			sent := r.provision(k.instance, func(of object) {
-				if test.change != nil {
-					test.change(r, of)
-				}
-				body = of
-			})
-			if test.change == nil {
-				sent.body = sent.body[:len(sent.body)-1]
-			}
-			x := r.create(k, pair{textIn(body, "service_id"), textIn(body, "plan_id")}, sent)
-			r.judge(test.name, x, x.want(400))
+		if r.hasPlan() {
+			r.rejects(rejected, func() key { return key{instance: r.id()} })
 		}
 	},
 }
@@ -98,21 +69,10 @@ var lifeCases = scenario{
 			return
 		}
 		k := key{instance: r.id()}
-		x := r.put(k, r.provision(k.instance, nil))
-		r.judge("provision-new", x, x.want(201, 202))
+		x := r.wants("provision-new", r.put(k, nil), 201, 202)
 		r.judge("provision-fields", x, wrongFields(x, []string{"dashboard_url", "operation"}, []string{"metadata"}))
 		r.isAsync = x.is(202)
-		if r.isAsync {
-			state, last := r.await(k, x.string("operation"))
-			problem := ""
-			if state != "succeeded" {
-				problem = "the operation doesn't succeed"
-			}
-			r.judge("provision-ends", last, problem)
-			if problem != "" {
-				return
-			}
-		} else if !x.is(200, 201) {
+		if !r.ends("provision-ends", k, x) {
 			return
 		}
 		r.skip("the plan is provisioned synchronously", "last-operation-state", "last-operation-fields", "provision-ends")
@@ -123,19 +83,19 @@ var lifeCases = scenario{
 }
 
 func (r *Runner) repeatedProvisions(k key) {
-	x := r.put(k, r.provision(k.instance, nil))
-	r.judge("provision-repeated", x, x.want(200))
-	x = r.put(k, r.provision(k.instance, with("parameters", object{"osb-storm": "other"})))
-	r.judge("provision-conflict-parameters", x, x.want(409, 400))
-	other := r.target.other
-	if other.plan == "" {
-		r.skip(reasonOnePlan, "provision-conflict-plan")
-		return
+	r.wants("provision-repeated", r.put(k, nil), 200)
+	r.wants("provision-conflict-parameters", r.put(k, with("parameters", object{"osb-storm": "other"})), 409, 400)
+	r.conflicts("provision-conflict-plan", k)
+}
+
+// conflicts judges a Provision with another plan, if there is one.
+func (r *Runner) conflicts(name string, k key) {
+	if other := r.target.other; other.plan != "" {
+		r.wants(name, r.create(k, other, r.creation(k, func(body object) {
+			body["service_id"], body["plan_id"] = other.service, other.plan
+		})), 409)
 	}
-	x = r.create(k, other, r.provision(k.instance, func(body object) {
-		body["service_id"], body["plan_id"] = other.service, other.plan
-	}))
-	r.judge("provision-conflict-plan", x, x.want(409))
+	r.skip(reasonOnePlan, name)
 }
 
 func (r *Runner) fetches(k key) {
@@ -143,7 +103,7 @@ func (r *Runner) fetches(k key) {
 		r.skip(reasonNotFetched, "fetch-instance", "fetch-instance-unknown")
 		return
 	}
-	x := r.send(request{method: "GET", path: pathOf(k), query: namesOf(r.target.pair)})
+	x := r.fetch(k)
 	problem := x.want(200)
 	for member, wanted := range map[string]string{"service_id": r.target.service, "plan_id": r.target.plan} {
 		if value, has := x.object[member]; has && problem == "" && value != wanted {
@@ -151,8 +111,7 @@ func (r *Runner) fetches(k key) {
 		}
 	}
 	r.judge("fetch-instance", x, problem)
-	x = r.send(request{method: "GET", path: pathOf(key{instance: r.id()}), query: namesOf(r.target.pair)})
-	r.judge("fetch-instance-unknown", x, x.want(404))
+	r.wants("fetch-instance-unknown", r.fetch(key{instance: r.id()}), 404)
 }
 
 // wrongLastOperation returns a problem if a member of the answer to a Poll is present and has another type.
@@ -202,40 +161,14 @@ var deletionCases = scenario{
 			"201 or 202 for the id of an instance that was deleted"},
 	},
 	run: func(r *Runner) {
-		id := r.ready()
-		for _, pair := range r.lackingPairs("deprovision") {
-			if id == "" {
-				return
-			}
-			k := key{instance: id}
-			x := r.send(deletion(k, pair.pair, true)) // CleanUp deletes it, whatever the answer says
-			r.judge(pair.name, x, x.want(400))
-			if !x.is(400) { // it may be gone
-				id = r.ready()
-			}
+		ready := func() (key, bool) {
+			id := r.ready()
+			return key{instance: id}, id != ""
 		}
-		if id != "" {
-			r.deletesOne(key{instance: id})
+		if k, is := ready(); is {
+			r.deletes("deprovision", k, key{instance: r.id()}, ready)
 		}
 	},
-}
-
-func (r *Runner) deletesOne(k key) {
-	x := r.delete(k)
-	r.judge("deprovision-existing", x, x.want(200, 202))
-	isGone := x.is(200)
-	if x.is(202) {
-		state, _ := r.await(k, x.string("operation"))
-		isGone = state == "gone" || state == "succeeded"
-	}
-	if isGone {
-		x = r.delete(k)
-		r.judge("deprovision-repeated", x, x.want(410))
-		x = r.put(k, r.provision(k.instance, nil))
-		r.judge("provision-again-after-deletion", x, x.want(201, 202))
-	}
-	x = r.delete(key{instance: r.id()})
-	r.judge("deprovision-unknown", x, x.want(410))
 }
 
 var acceptedCases = scenario{
@@ -270,11 +203,10 @@ var acceptedCases = scenario{
 
 // judgeAcceptance judges a case whose Provision has to be accepted.
 func (r *Runner) judgeAcceptance(name, id string, change func(object), headers map[string]string) *exchange {
-	sent := r.provision(id, change)
+	k := key{instance: id}
+	sent := r.creation(k, change)
 	sent.headers = headers
-	x := r.put(key{instance: id}, sent)
-	r.judge(name, x, x.want(201, 202))
-	return x
+	return r.wants(name, r.create(k, r.target.pair, sent), 201, 202)
 }
 
 var asyncCases = scenario{
@@ -297,51 +229,27 @@ var asyncCases = scenario{
 			return
 		}
 		k := key{instance: r.id()}
-		x := r.put(k, notAsync(r.provision(k.instance, nil)))
-		problem := x.wantError("AsyncRequired")
-		if x.is(201) {
-			problem = ""
-		}
-		r.judge("async-required", x, problem)
-		k = key{instance: r.id()}
-		if first := r.put(k, r.provision(k.instance, nil)); first.is(202) {
-			r.duringProvision(k, first)
+		if first := r.begins("async-", key{instance: r.id()}, k); first.is(202) {
+			r.duringProvision(k, first.string("operation"))
 		}
 	},
 }
 
-func (r *Runner) duringProvision(k key, first *exchange) {
-	operation := first.string("operation")
-	x := r.put(k, r.provision(k.instance, nil))
-	r.judgeDuring("async-repeated", k, operation, x, repeats(first, x))
-	if other := r.target.other; other.plan != "" {
-		x = r.create(k, other, r.provision(k.instance, func(body object) {
-			body["service_id"], body["plan_id"] = other.service, other.plan
-		}))
-		r.judge("async-conflict", x, x.want(409))
-	}
-	r.skip(reasonOnePlan, "async-conflict")
+func (r *Runner) duringProvision(k key, operation string) {
+	r.conflicts("async-conflict", k)
 	if r.target.instancesRetrievable {
-		x = r.send(request{method: "GET", path: pathOf(k), query: namesOf(r.target.pair)})
+		x := r.fetch(k)
 		r.judgeDuring("async-fetch-during-provision", k, operation, x, x.want(404))
 	}
 	r.skip(reasonNotFetched, "async-fetch-during-provision")
 	if r.target.bindable {
 		binding := key{k.instance, r.id()}
-		x = r.put(binding, r.bind(binding, nil))
-		r.judgeDuring("async-bind-during-provision", k, operation, x, blockProblem(x))
+		x := r.put(binding, nil)
+		r.judgeDuring("async-bind-during-provision", k, operation, x, x.wantOr("ConcurrencyError", 200, 201, 202))
 	}
 	r.skip(reasonNotBindable, "async-bind-during-provision")
-	x = r.delete(k)
-	r.judgeDuring("async-deprovision-during-provision", k, operation, x, blockProblem(x))
-}
-
-// blockProblem returns a problem unless a request was accepted, or rejected because of another operation.
-func blockProblem(x *exchange) string {
-	if x.is(200, 201, 202) {
-		return ""
-	}
-	return x.wantError("ConcurrencyError")
+	x := r.delete(k)
+	r.judgeDuring("async-deprovision-during-provision", k, operation, x, x.wantOr("ConcurrencyError", 200, 201, 202))
 }
 
 var asyncDeletionCases = scenario{
@@ -360,45 +268,8 @@ var asyncDeletionCases = scenario{
 			r.because = "the plan is provisioned synchronously, or can't be provisioned"
 			return
 		}
-		id := r.ready()
-		if id == "" {
-			return
+		if id := r.ready(); id != "" {
+			r.deletesLater("deprovision", "Deprovision", key{instance: id})
 		}
-		k := key{instance: id}
-		x := r.deleteBy(k, deletion(k, r.target.pair, false))
-		r.judge("async-deprovision-required", x, asyncRequiredToDelete(x))
-		if !x.is(422) {
-			return
-		}
-		first := r.delete(k)
-		if !first.is(202) {
-			r.because = "the Deprovision isn't asynchronous"
-			return
-		}
-		x = r.delete(k)
-		r.judgeDuring("async-deprovision-repeated", k, first.string("operation"), x, repeats(first, x))
-		state, last := r.await(k, first.string("operation"))
-		r.judge("async-deprovision-ends", last, notDeleted(state))
-		if notDeleted(state) != "" {
-			return
-		}
-		x = r.send(poll(k, r.target.pair, first.string("operation")))
-		r.judge("async-last-operation-gone", x, x.want(410))
-		x = r.delete(k)
-		r.judge("async-deprovision-gone", x, x.want(410))
 	},
-}
-
-func asyncRequiredToDelete(x *exchange) string {
-	if x.is(200) {
-		return ""
-	}
-	return x.wantError("AsyncRequired")
-}
-
-func notDeleted(state string) string {
-	if state == "gone" || state == "succeeded" {
-		return ""
-	}
-	return "the deletion doesn't succeed within the time for operations"
 }

@@ -15,21 +15,12 @@ import (
 	"unicode"
 )
 
-// provision is a valid Provision of the target that accepts an asynchronous operation. change may change its body.
-func (r *Runner) provision(id string, change func(object)) request {
-	body := object{
-		"service_id": r.target.service, "plan_id": r.target.plan,
-		"organization_guid": "osb-storm-organization", "space_guid": "osb-storm-space",
+// creation is a valid Provision or Bind of the target that accepts an asynchronous operation. change may change its body.
+func (r *Runner) creation(k key, change func(object)) request {
+	body := object{"service_id": r.target.service, "plan_id": r.target.plan}
+	if k.binding == "" {
+		body["organization_guid"], body["space_guid"] = "osb-storm-organization", "osb-storm-space"
 	}
-	return creation(key{instance: id}, body, change)
-}
-
-// bind is a valid Bind of the target that accepts an asynchronous operation. change may change its body.
-func (r *Runner) bind(k key, change func(object)) request {
-	return creation(k, object{"service_id": r.target.service, "plan_id": r.target.plan}, change)
-}
-
-func creation(k key, body object, change func(object)) request {
 	if change != nil {
 		change(body)
 	}
@@ -37,9 +28,6 @@ func creation(k key, body object, change func(object)) request {
 		method: "PUT", path: pathOf(k), query: url.Values{"accepts_incomplete": {"true"}}, body: text(body),
 	}
 }
-
-// without returns a change that removes a member.
-func without(member string) func(object) { return func(body object) { delete(body, member) } }
 
 // with returns a change that sets a member.
 func with(member string, value any) func(object) { return func(body object) { body[member] = value } }
@@ -56,8 +44,10 @@ func notAsync(sent request) request {
 	return sent
 }
 
-// put sends a creation of the target's pair.
-func (r *Runner) put(k key, sent request) *exchange { return r.create(k, r.target.pair, sent) }
+// put sends a creation of the target's pair. change may change its body.
+func (r *Runner) put(k key, change func(object)) *exchange {
+	return r.create(k, r.target.pair, r.creation(k, change))
+}
 
 // delete sends a deletion that accepts an asynchronous operation.
 func (r *Runner) delete(k key) *exchange { return r.deleteBy(k, deletion(k, r.target.pair, true)) }
@@ -68,6 +58,15 @@ func (r *Runner) deleteBy(k key, sent request) *exchange {
 	if x.is(200, 410) {
 		r.ledger.forget(k)
 	}
+	return x
+}
+
+// fetch fetches what exists.
+func (r *Runner) fetch(k key) *exchange { return r.send(fetching(k, r.target.pair)) }
+
+// wants judges a case: the answer has one of these statuses. It returns the exchange.
+func (r *Runner) wants(name string, x *exchange, statuses ...int) *exchange {
+	r.judge(name, x, x.want(statuses...))
 	return x
 }
 
@@ -158,7 +157,7 @@ func (r *Runner) ready() string {
 		return ""
 	}
 	k := key{instance: r.id()}
-	x := r.put(k, r.provision(k.instance, nil))
+	x := r.put(k, nil)
 	if r.settle(k, x) {
 		return k.instance
 	}
@@ -169,18 +168,130 @@ func (r *Runner) ready() string {
 	return ""
 }
 
-// A lackingPair is the target's pair without one of its ids, and the case of a request that has it.
-type lackingPair struct {
-	name, member string
-	pair         pair
+// A rejection is a case of a creation that has to be rejected with 400. If change is nil, the body isn't JSON.
+type rejection struct {
+	name     string
+	level    Level
+	expected string
+	change   func(*Runner, object)
 }
 
-// lackingPairs returns the cases of a kind of request that lacks an id.
-func (r *Runner) lackingPairs(kind string) []lackingPair {
-	return []lackingPair{
-		{kind + "-without-service-id", "service_id", pair{"", r.target.plan}},
-		{kind + "-without-plan-id", "plan_id", pair{r.target.service, ""}},
+func lacks(member string) func(*Runner, object) {
+	return func(_ *Runner, body object) { delete(body, member) }
+}
+
+func casesOf(rejections []rejection, section string) (cases []Case) {
+	for _, test := range rejections {
+		cases = append(cases, Case{test.name, section, test.level, test.expected})
 	}
+	return cases
+}
+
+// rejects judges rejections, each of a new key.
+func (r *Runner) rejects(rejections []rejection, newKey func() key) {
+	for _, test := range rejections {
+		k, body := newKey(), object{}
+		sent := r.creation(k, func(of object) {
+			if body = of; test.change != nil {
+				test.change(r, of)
+			}
+		})
+		if test.change == nil {
+			sent.body = sent.body[:len(sent.body)-1]
+		}
+		r.wants(test.name, r.create(k, pair{textIn(body, "service_id"), textIn(body, "plan_id")}, sent), 400)
+	}
+}
+
+// ends judges the end of an asynchronous creation, and returns whether what was asked for exists.
+func (r *Runner) ends(name string, k key, first *exchange) bool {
+	if !first.is(202) {
+		return first.is(200, 201)
+	}
+	state, last := r.await(k, first.string("operation"))
+	problem := ""
+	if state != "succeeded" {
+		problem = "the operation doesn't succeed"
+	}
+	r.judge(name, last, problem)
+	return problem == ""
+}
+
+// begins judges the creation of one key that accepts no asynchronous operation, and then, if another one is created
+// asynchronously, the repetition of that. It returns the first answer about the other one. The cases begin with prefix.
+func (r *Runner) begins(prefix string, one, other key) *exchange {
+	x := r.create(one, r.target.pair, notAsync(r.creation(one, nil)))
+	r.judge(prefix+"required", x, x.wantOr("AsyncRequired", 201))
+	first := r.put(other, nil)
+	if first.is(202) {
+		x = r.put(other, nil)
+		r.judgeDuring(prefix+"repeated", other, first.string("operation"), x, repeats(first, x))
+	}
+	return first
+}
+
+// deletes judges deletions: first those of what exists without one of the ids. If one isn't rejected, again returns
+// something else that exists, or false. kind is that of the cases: deprovision or unbind.
+func (r *Runner) deletes(kind string, k, unknown key, again func() (key, bool)) {
+	for _, test := range []struct {
+		name string
+		pair pair
+	}{{"-without-service-id", pair{"", r.target.plan}}, {"-without-plan-id", pair{r.target.service, ""}}} {
+		x := r.wants(kind+test.name, r.send(deletion(k, test.pair, true)), 400) // CleanUp deletes it, whatever the answer says
+		isThere := true
+		if !x.is(400) { // it may be gone
+			k, isThere = again()
+		}
+		if !isThere {
+			return
+		}
+	}
+	x := r.wants(kind+"-existing", r.delete(k), 200, 202)
+	isGone := x.is(200)
+	if x.is(202) {
+		state, _ := r.await(k, x.string("operation"))
+		isGone = notDeleted(state) == ""
+	}
+	if isGone {
+		r.wants(kind+"-repeated", r.delete(k), 410)
+	}
+	if isGone && k.binding == "" {
+		r.wants("provision-again-after-deletion", r.put(k, nil), 201, 202)
+	}
+	r.wants(kind+"-unknown", r.delete(unknown), 410)
+}
+
+// deletesLater judges an asynchronous deletion.
+func (r *Runner) deletesLater(kind, name string, k key) {
+	x := r.deleteBy(k, deletion(k, r.target.pair, false))
+	r.judge("async-"+kind+"-required", x, x.wantOr("AsyncRequired", 200))
+	if !x.is(422) {
+		return
+	}
+	first := r.delete(k)
+	if !first.is(202) {
+		r.because = "the " + name + " isn't asynchronous"
+		return
+	}
+	operation := first.string("operation")
+	x = r.delete(k)
+	r.judgeDuring("async-"+kind+"-repeated", k, operation, x, repeats(first, x))
+	state, last := r.await(k, operation)
+	r.judge("async-"+kind+"-ends", last, notDeleted(state))
+	if notDeleted(state) != "" {
+		return
+	}
+	if k.binding == "" {
+		r.wants("async-last-operation-gone", r.send(poll(k, r.target.pair, operation)), 410)
+	}
+	r.wants("async-"+kind+"-gone", r.delete(k), 410)
+}
+
+func notDeleted(state string) string {
+	if state == "gone" || state == "succeeded" {
+		return ""
+	}
+	return "the deletion doesn't succeed within the time for operations"
 }
 
 // longestBody is how much of an answer is read, in bytes.
@@ -364,6 +475,14 @@ func (x *exchange) wantError(code string) string {
 	return ""
 }
 
+// wantOr returns a problem unless the answer has one of these statuses, or is 422 with this error code.
+func (x *exchange) wantOr(code string, statuses ...int) string {
+	if x.is(statuses...) {
+		return ""
+	}
+	return x.wantError(code)
+}
+
 // hasError returns whether the answer is 422 with this error code.
 func (x *exchange) hasError(code string) bool { return x.wantError(code) == "" }
 
@@ -491,7 +610,7 @@ func (r *Runner) Ask(ctx context.Context, method, instance, binding, path string
 func (r *Runner) Provision(ctx context.Context, instance string) Answer {
 	k := key{instance: instance}
 	r.ledger.sending(k, r.target.pair)
-	x := r.client.send(ctx, r.provision(instance, nil))
+	x := r.client.send(ctx, r.creation(k, nil))
 	r.ledger.noteCreation(k, x)
 	return Answer{x.status, x.object, x.requestLine(), x.came()}
 }
@@ -500,7 +619,7 @@ func (r *Runner) Provision(ctx context.Context, instance string) Answer {
 func (r *Runner) Bind(ctx context.Context, instance, binding string) Answer {
 	k := key{instance, binding}
 	r.ledger.sending(k, r.target.pair)
-	x := r.client.send(ctx, r.bind(k, nil))
+	x := r.client.send(ctx, r.creation(k, nil))
 	r.ledger.noteCreation(k, x)
 	return Answer{x.status, x.object, x.requestLine(), x.came()}
 }

@@ -543,6 +543,10 @@ func poll(k key, p pair, operation string) request {
 	return request{method: "GET", path: pathOf(k) + "/last_operation", query: query}
 }
 
+func fetching(k key, p pair) request {
+	return request{method: "GET", path: pathOf(k), query: namesOf(p)}
+}
+
 func namesOf(p pair) url.Values {
 	query := url.Values{}
 	if p.service != "" {
