@@ -126,7 +126,7 @@ def doubts_of(files: list[Path], folder: Path, chunk: int) -> list[Doubts]:
     """The changes that may not be committed, and what is known of all if one of them is committed, or isn't."""
     body = [it for path in files for it in stretches(log_at(str(path)), 0, chunk)]
     given = [Splitting(Room(str(folder)), number, it, 1, chunk) for number, it in enumerate(body)]
-    tails = joined(tail for it in given for tail in split(it).tails)
+    tails = joined(tail for it in given for tail in split(it).tails.values())
     known = doubts(tails, {})
     return [known, *(doubts(tails, {it: is_committed}) for it in known for is_committed in (False, True))]
 
@@ -146,7 +146,7 @@ def test_claims_in_order(tmp_path: Path) -> None:
     story = f"P claim wanted/1/provision; {claims}6 P claim wanted/1/provision !doubtful; 7 P claim wanted/1/provision"
     files = Journal().tell(story).files(tmp_path)
     body = stretches(log_at(str(files[0])), 0, 1 << 20)
-    tails = joined(split(Splitting(Room(str(tmp_path)), 0, body[0], 1, 1 << 20)).tails)
+    tails = joined(split(Splitting(Room(str(tmp_path)), 0, body[0], 1, 1 << 20)).tails.values())
     process = tails[0].process
     found = doubts(tails, {(process, 2): True, (process, 4): False})
     assert list(found.values()) == [True, True, None, False, False, False, None]

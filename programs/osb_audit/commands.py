@@ -3,10 +3,8 @@ from __future__ import annotations
 
 import argparse
 import os
-import shutil
 import subprocess
 import sys
-import tempfile
 import time
 from contextlib import ExitStack, closing
 from pathlib import Path
@@ -19,6 +17,7 @@ from osb_replay_log.faults import NO_MEMORY, UNABLE, UNREAD, UNUSABLE, UNWRITTEN
 from osb_replay_log.logs import Log
 from osb_replay_log.program import Program, built
 from osb_replay_log.progress import Progress
+from osb_replay_log.rooms import new_room
 from osb_replay_log.spool import Room
 from osb_replay_log.starting import refuse
 
@@ -69,7 +68,7 @@ def _audit(asked: argparse.Namespace) -> int:
         logs, until = _logs(asked.journals)
         program, progress = Program(built(), ("--trace",), "network"), Progress()
     with ExitStack() as stack:
-        folder = _room(stack, asked.room)
+        folder = new_room(stack, words.PROGRAM, asked.room)
         os.chdir("/")  # workers look for modules in their current folder, before Python 3.11
         size = sum(it.size for it in logs)
         engine = stack.enter_context(closing(_engine(asked.jobs, size)))
@@ -118,22 +117,6 @@ def _find_library() -> None:
     except ImportError as error:
         raise Unreplayed(UNABLE, f"the package osb can't be loaded: {error}") from error
     assert osb.__name__ == "osb"
-
-
-def _room(stack: ExitStack, folder: str | None) -> str:
-    """A new folder in this one, or in the system's for temporary files, which is removed at the end."""
-    try:
-        with signals.held():
-            room = tempfile.mkdtemp(prefix="osb-audit-", dir=folder)
-            stack.callback(_remove, room)
-    except OSError as error:
-        raise unwritten(folder or "the folder for temporary files", error) from error
-    return room
-
-
-def _remove(room: str) -> None:
-    with signals.held():
-        shutil.rmtree(room, ignore_errors=True)
 
 
 def _write(text: str) -> None:

@@ -6,6 +6,7 @@ Before that, a worker looks for what the lines of a bucket show of the last chan
 from __future__ import annotations
 
 from collections import Counter
+from dataclasses import dataclass, field
 from itertools import chain, combinations, islice
 from typing import Collection, Iterator, Mapping, NamedTuple, Sequence
 
@@ -68,18 +69,19 @@ class Difference(NamedTuple):
     """The lines of the trace up to there."""
 
 
-class Judged(NamedTuple):
+@dataclass
+class Judged:
     """What came of a bucket."""
 
-    instances: int
-    lines: int
-    events: int
-    differences: tuple[Difference, ...]
-    disagreements: tuple[tuple[str, str], ...]
+    instances: int = 0
+    lines: int = 0
+    events: int = 0
+    differences: list[Difference] = field(default_factory=list)
+    disagreements: list[tuple[str, str]] = field(default_factory=list)
     """The instance, and what both sides disagree about at the end."""
-    unjudged: tuple[tuple[str, Place, str, bool], ...]
+    unjudged: list[tuple[str, Place, str, bool]] = field(default_factory=list)
     """The instance, from where on, why, and whether nothing of it was judged."""
-    notes: Mapping[str, int]
+    notes: Counter[str] = field(default_factory=Counter)
     bad: tuple[Place, str] | None = None
 
 
@@ -161,13 +163,7 @@ class _Judge:
     """The instances of a bucket, and what has come of them."""
 
     def __init__(self, bucket: Bucket) -> None:
-        self.bucket = bucket
-        self.instances = self.lines = self.events = 0
-        self.differences: list[Difference] = []
-        self.disagreements: list[tuple[str, str]] = []
-        self.unjudged: list[tuple[str, Place, str, bool]] = []
-        self.notes: Counter[str] = Counter()
-        self.bad: tuple[Place, str] | None = None
+        self.bucket, self.found = bucket, Judged()
         self.doubtful: dict[str, list[Line]] = {}
         """The lines of the instances of which something is unshown, until they are judged."""
 
@@ -185,16 +181,7 @@ class _Judge:
                 self._take(batch)
                 batch = _Batch(self.bucket)
         self._take(batch)
-        return Judged(
-            self.instances,
-            self.lines,
-            self.events,
-            tuple(self.differences),
-            tuple(self.disagreements),
-            tuple(self.unjudged),
-            dict(self.notes),
-            self.bad,
-        )
+        return self.found
 
     def _story(self, instance: str, texts: list[bytes]) -> Story | None:
         """What the lines of an instance have come to; None if one of them can't be read."""
@@ -204,13 +191,13 @@ class _Judge:
             try:
                 lines.append(read(place, rest))
             except BadLine as error:
-                self.bad = place, str(error)
+                self.found.bad = place, str(error)
                 return None
         found = self._told(instance, lines)
         if found.unshown:
             self.doubtful[instance] = lines
-        self.instances += 1
-        self.lines += len(lines)
+        self.found.instances += 1
+        self.found.lines += len(lines)
         return found
 
     def _told(self, instance: str, lines: list[Line], without: Collection[Change] = ()) -> Story:
@@ -231,13 +218,14 @@ class _Judge:
             if found.unshown and (difference is not None or found.disagreements):
                 other = self._without(found, difference)
                 found, difference = (other, None) if other is not None else (found, difference)
-            self.events += len(found.events)
-            self.notes.update(found.notes)
+            its = self.found
+            its.events += len(found.events)
+            its.notes.update(found.notes)
             if difference is not None:
-                self.differences.append(difference)
+                its.differences.append(difference)
             elif found.stop is not None:
-                self.unjudged.append((found.instance, found.stop.place, found.stop.why, not found.events))
-            self.disagreements += [(found.instance, it) for it in found.disagreements]
+                its.unjudged.append((found.instance, found.stop.place, found.stop.why, not found.events))
+            its.disagreements += [(found.instance, it) for it in found.disagreements]
         self.doubtful.clear()
 
     def _without(self, found: Story, difference: Difference | None) -> Story | None:

@@ -97,77 +97,39 @@ _TEXT, _TRUTH = _Value(str, None, "a text"), _Value(bool, None, "true or false")
 _GUID = _Value(str, GUIDS, "a GUID in lower case")
 _NUMBER = _Value(int, range(MOST + 1), "a number from 0 to 2^64 - 1")
 _STATUS = _Value(int, range(100, 1000), "a number from 100 to 999")
-_KIND = _one_of("provision", "poll", "deprovision", "fetch")
-_BODY = _one_of(
-    "malformed", "empty", "in-progress", "succeeded", "failed", "async-required", "concurrency-error", "other-error"
-)
-_PLAN = {"service": _TEXT, "plan": _TEXT}
-_OF_LIFE = {
-    "time": _NUMBER,
-    "process": _TEXT,
-    "instance": _GUID,
-    "binding": _GUID,
-    "instance_id": _TEXT,
-    "binding_id": _TEXT,
-}
-_CHANGED = {"change": _NUMBER, "before": _TEXT, "after": _TEXT, "credentials": _TEXT}
-_ANSWERED = {"request": _TEXT, "status": _STATUS, "body": _BODY, "credentials": _TEXT}
-_WORK = {
+_TYPES = {
+    **dict.fromkeys("time visit change committed life life_before attempt".split(), _NUMBER),
+    **dict.fromkeys("instance binding".split(), _GUID),
+    **dict.fromkeys("accepts doubtful".split(), _TRUTH),
+    "status": _STATUS,
+    "kind": _one_of("provision", "poll", "deprovision", "fetch"),
+    "body": _one_of(
+        "malformed", "empty", "in-progress", "succeeded", "failed", "async-required", "concurrency-error", "other-error"
+    ),
     "call": _one_of("look", "create", "delete", "credentials"),
     "stage": _one_of("begun", "ended"),
     "result": _one_of("done", "failed", "rejected"),
     "found": _one_of("absent", "part", "whole"),
 }
-_UNDONE: Mapping[str, _Value] = {**_OF_LIFE, "change": _NUMBER, "doubtful": _TRUTH}
+"""What each member has to be. All others are texts."""
+_OF_LIFE = " time process instance binding instance_id binding_id"
+_EVENTS = {
+    ("broker", "arrived"): "visit! request! kind! service plan accepts attributes committed",
+    ("broker", "changed"): "change! before! after! credentials visit life life_before",
+    ("broker", "undone"): "change! doubtful",
+    ("broker", "work"): "call! stage! result found visit credentials",
+    ("broker", "answered"): "visit! status! body! request credentials saw saw_instance",
+    ("platform", "changed"): "change! before! after! cause! credentials service plan broker state attempt",
+    ("platform", "undone"): "change! doubtful",
+    ("platform", "sent"): "request! kind! service plan broker attempt accepts",
+    ("platform", "answered"): "request! kind! status body credentials broker lost",
+}
+"""The members of each event that an audit knows. Without those with an exclamation mark, nothing can be said of it."""
 MEMBERS: Mapping[tuple[str, str], Mapping[str, _Value]] = {
-    ("broker", "arrived"): {
-        **_OF_LIFE,
-        **_PLAN,
-        "visit": _NUMBER,
-        "request": _TEXT,
-        "kind": _KIND,
-        "accepts": _TRUTH,
-        "attributes": _TEXT,
-        "committed": _NUMBER,
-    },
-    ("broker", "changed"): {**_OF_LIFE, **_CHANGED, "visit": _NUMBER, "life": _NUMBER, "life_before": _NUMBER},
-    ("broker", "undone"): _UNDONE,
-    ("broker", "work"): {**_OF_LIFE, **_WORK, "visit": _NUMBER, "credentials": _TEXT},
-    ("broker", "answered"): {**_OF_LIFE, **_ANSWERED, "visit": _NUMBER, "saw": _TEXT, "saw_instance": _TEXT},
-    ("platform", "changed"): {
-        **_OF_LIFE,
-        **_CHANGED,
-        **_PLAN,
-        "broker": _TEXT,
-        "cause": _TEXT,
-        "state": _TEXT,
-        "attempt": _NUMBER,
-    },
-    ("platform", "undone"): _UNDONE,
-    ("platform", "sent"): {
-        **_OF_LIFE,
-        **_PLAN,
-        "request": _TEXT,
-        "broker": _TEXT,
-        "kind": _KIND,
-        "attempt": _NUMBER,
-        "accepts": _TRUTH,
-    },
-    ("platform", "answered"): {**_OF_LIFE, **_ANSWERED, "broker": _TEXT, "kind": _KIND, "lost": _TEXT},
+    event: {it: _TYPES.get(it, _TEXT) for it in (names.replace("!", "") + _OF_LIFE).split()}
+    for event, names in _EVENTS.items()
 }
-"""The members of each event that an audit knows."""
-NEEDED = {
-    ("broker", "arrived"): ("visit", "request", "kind"),
-    ("broker", "changed"): ("change", "before", "after"),
-    ("broker", "undone"): ("change",),
-    ("broker", "work"): ("call", "stage"),
-    ("broker", "answered"): ("visit", "status", "body"),
-    ("platform", "changed"): ("change", "before", "after", "cause"),
-    ("platform", "undone"): ("change",),
-    ("platform", "sent"): ("request", "kind"),
-    ("platform", "answered"): ("request", "kind"),
-}
-"""The members without which nothing can be said of an event."""
+NEEDED = {event: tuple(re.findall(r"(\w+)!", names)) for event, names in _EVENTS.items()}
 OF_LOST = {"count": _NUMBER}
 """The members of the line `lost`."""
 OF_STARTED = {"first_poll": _TRUTH, "locks_can_be_lost": _TRUTH, "plans": _Value(list, None, "a list")}

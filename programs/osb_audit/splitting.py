@@ -4,6 +4,8 @@ In a bucket, each line has the number of its stretch and its own number there be
 """
 from __future__ import annotations
 
+from dataclasses import dataclass, field
+from itertools import chain
 from typing import Iterator, NamedTuple
 from zlib import crc32
 
@@ -44,51 +46,46 @@ class Heading(NamedTuple):
     """Of `lost`: how many lines are missing."""
 
 
-class Split(NamedTuple):
+@dataclass
+class Split:
     """What came of a stretch: how many spool files there are, how many lines, and what isn't an instance's."""
 
     number: int
-    pieces: int
-    lines: int
-    events: int
-    headings: tuple[Heading, ...]
-    tails: tuple[Tail, ...]
+    pieces: int = 0
+    lines: int = 0
+    events: int = 0
+    headings: list[Heading] = field(default_factory=list)
+    tails: dict[bytes, Tail] = field(default_factory=dict)
     """What is left of each process that has written lines here."""
-    torn: tuple[int, ...]
+    torn: list[int] = field(default_factory=list)
     """The lines that were cut off: the last of a file, or one that a line `started` or `lost` follows."""
-    begins_anew: bool
-    """Whether its first line is `started` or `lost`."""
-    ends_torn: bool
+    ends_torn: bool = False
     """Whether its last line was cut off."""
-    bad: tuple[int, str] | None
+    bad: tuple[int, str] | None = None
     """The first line that is no line of a journal, and why."""
+
+    @property
+    def begins_anew(self) -> bool:
+        """Whether its first line is `started` or `lost`."""
+        return bool(self.headings) and self.headings[0].line == 0 and self.headings[0].event in ("started", "lost")
 
 
 class _Splitter:
     """Goes through the lines of a stretch."""
 
     def __init__(self, number: int, buckets: int) -> None:
-        self.number, self.many = number, buckets
+        self.found, self.many, self.time = Split(number), buckets, 0
         self.buckets: list[list[bytes]] = []
-        self.lines = self.events = self.time = 0
-        self.headings: list[Heading] = []
-        self.tails: dict[bytes, Tail] = {}
-        self.odd: list[int] = []
-        self.torn: list[int] = []
 
-    def begin(self) -> None:
-        """Begins with another spool file."""
+    def split(self, lines: Iterator[list[bytes]]) -> None:
+        """Adds each line to its bucket, in another spool file, up to the first that is no line of a journal."""
         self.buckets = [[] for _ in range(self.many)]
-
-    def split(self, lines: Iterator[list[bytes]]) -> tuple[int, str] | None:
-        """Adds each line to its bucket. Returns the first that is no line of a journal."""
-        for block in lines:
-            for text in block:
-                why = self._add(text)
-                self.lines += 1
-                if why is not None:
-                    return self.lines - 1, why
-        return None
+        for text in chain.from_iterable(lines):
+            why = self._add(text)
+            self.found.lines += 1
+            if why is not None:
+                self.found.bad = self.found.lines - 1, why
+                return
 
     def _add(self, text: bytes) -> str | None:
         head = HEAD.match(text)
@@ -99,11 +96,10 @@ class _Splitter:
                 return self._odd(text)
             text = line
         time, process, side, event = head.groups()
-        if self.odd:
+        if self.found.ends_torn:
             if event not in (b"started", b"lost"):
                 return "the line before it is no line of a journal"
-            self.torn += self.odd
-            self.odd = []
+            self.found.ends_torn = False
         if event in OF_INSTANCES[side]:
             found = INSTANCE.search(text)
             if found is None:
@@ -111,11 +107,10 @@ class _Splitter:
                 found = INSTANCE.search(text)
             if found is None:
                 return f"{event.decode()} names no instance"
-            place = b"%d:%d:" % (self.number, self.lines)
+            place = b"%d:%d:" % (self.found.number, self.found.lines)
             self.buckets[crc32(found[1]) % self.many].append(place + text)
-            self.events += 1
-            tail = self.tails.get(process) or self._tail(process, time)
-            tail.add(event, text, found[1])
+            self.found.events += 1
+            (self.found.tails.get(process) or self._tail(process, time)).add(event, text, found[1])
         elif newer(side, event):
             known = "it is of a newer version than this osb-audit"
             return f"a {side.decode()} has no event {event.decode()!r} here: {known}"
@@ -131,18 +126,19 @@ class _Splitter:
         return None
 
     def _tail(self, process: bytes, time: bytes) -> Tail:
-        tail = self.tails.get(process)
+        tail = self.found.tails.get(process)
         if tail is None:
-            tail = self.tails[process] = Tail(process.decode(), int(time))
+            tail = self.found.tails[process] = Tail(process.decode(), int(time))
         return tail
 
     def _odd(self, text: bytes) -> str | None:
         """A line that was cut off may stand at the end, or before a line `started` or `lost`."""
         if len(text.rstrip(b"\0")) > LONGEST:
             return f"it is longer than the {LONGEST:,} bytes of a line"
-        if self.odd or not is_torn(text):
+        if self.found.ends_torn or not is_torn(text):
             return "it is no line of a journal"
-        self.odd.append(self.lines)
+        self.found.ends_torn = True
+        self.found.torn.append(self.found.lines)
         return None
 
     def _head(self, text: bytes, event: str, side: str, process: str, time: int) -> str | None:
@@ -154,34 +150,22 @@ class _Splitter:
             except BadLine as error:
                 return str(error)
             missing = members.get("count", 1)
-        self.headings.append(Heading(self.lines, text, event, side, process, time, self.time or time, missing))
+        line = self.found.lines
+        self.found.headings.append(Heading(line, text, event, side, process, time, self.time or time, missing))
         return None
 
 
 def split(splitting: Splitting) -> Split:
     """Splits a stretch."""
-    splitter, count, bad = _Splitter(splitting.number, splitting.buckets), 0, None
+    splitter = _Splitter(splitting.number, splitting.buckets)
+    found = splitter.found
     try:
         for piece in pieces(splitting.stretch, splitting.chunk, LONGEST + 1):
-            splitter.begin()
-            bad = splitter.split(blocks(piece))
-            spool.write(splitting.room, splitting.room.piece(splitting.number, count), splitter.buckets)
-            count += 1
-            if bad is not None:
+            splitter.split(blocks(piece))
+            spool.write(splitting.room, splitting.room.piece(splitting.number, found.pieces), splitter.buckets)
+            found.pieces += 1
+            if found.bad is not None:
                 break
     except OSError as error:
         raise unwritten(splitting.room.folder, error) from error
-    found, torn = splitter.headings, (*splitter.torn, *splitter.odd)
-    begins_anew = bool(found) and found[0].line == 0 and found[0].event in ("started", "lost")
-    return Split(
-        splitting.number,
-        count,
-        splitter.lines,
-        splitter.events,
-        tuple(found),
-        tuple(splitter.tails.values()),
-        torn,
-        begins_anew,
-        bool(splitter.odd),
-        bad,
-    )
+    return found

@@ -4,9 +4,8 @@ from __future__ import annotations
 import argparse
 import os
 import re
-from typing import NoReturn
 
-from osb_replay_log.faults import shown
+from osb_replay_log.words import Parser, count, path
 
 PROGRAM = "osb-audit"
 
@@ -35,16 +34,9 @@ the library libosb.so.
 docs/audit.md has the details."""
 
 
-class _Parser(argparse.ArgumentParser):
-    """Its errors are on one line, whatever a file is called that was taken for an option."""
-
-    def error(self, message: str) -> NoReturn:
-        super().error(shown(message))
-
-
 def read(words: list[str]) -> argparse.Namespace:
     """Reads the arguments. `--help` ends the program with status 0, and arguments that are rejected with status 2."""
-    parser = _Parser(
+    parser = Parser(
         PROGRAM,
         description=_DESCRIPTION,
         epilog=_EPILOGUE,
@@ -54,14 +46,14 @@ def read(words: list[str]) -> argparse.Namespace:
     parser.add_argument("--json", action="store_true", help="print the report as one object of JSON")
     parser.add_argument(
         "--jobs",
-        type=_count,
+        type=count(1, 1024),
         default=len(os.sched_getaffinity(0)),
         metavar="N",
         help="audit with N processes (the number of processors: %(default)s)",
     )
     parser.add_argument(
         "--room",
-        type=_path,
+        type=path,
         metavar="DIR",
         help="keep what the processes share in a work directory in this folder. It needs about as much space as the "
         "journals, uncompressed, and is removed at the end (the system's folder for temporary files)",
@@ -82,20 +74,7 @@ def read(words: list[str]) -> argparse.Namespace:
     return parser.parse_args(words)
 
 
-def _path(text: str) -> str:
-    """Its absolute path, since workers have another current folder."""
-    if not text:
-        raise argparse.ArgumentTypeError("it is empty")
-    return os.path.abspath(text)
-
-
 def _percent(text: str) -> float:
     if not re.fullmatch(r"[0-9]{1,3}(\.[0-9]{1,6})?", text) or float(text) > 100.0:
         raise argparse.ArgumentTypeError(f"{text!r} is no number from 0 to 100")
     return float(text)
-
-
-def _count(text: str) -> int:
-    if not (text.isascii() and text.isdigit()) or not 1 <= int(text) <= 1024:
-        raise argparse.ArgumentTypeError(f"{text!r} is no number from 1 to 1024")
-    return int(text)

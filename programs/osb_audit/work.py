@@ -218,7 +218,7 @@ def _doubts(engine: Engine, splits: Sequence[Split], buckets: Sequence[Bucket]) 
     """The changes of which no line of their process shows that they were committed, and what the lines of others show
     of them. Only claims show something of each other.
     """
-    left = tails.joined(tail for it in splits for tail in it.tails)
+    left = tails.joined(tail for it in splits for tail in it.tails.values())
     unknown = tails.doubts(left, {})
     shown: dict[tails.Change, bool] = {}
     instances: dict[int, set[str]] = {}

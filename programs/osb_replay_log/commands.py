@@ -3,10 +3,7 @@ from __future__ import annotations
 
 import argparse
 import os
-import shutil
 import sys
-import tempfile
-import time
 from contextlib import ExitStack, closing
 
 from osb_replay_log import divided, reports, schedulers, signals, words, work
@@ -16,11 +13,9 @@ from osb_replay_log.faults import NO_MEMORY, UNABLE, UNREAD, UNUSABLE, UNWRITTEN
 from osb_replay_log.logs import Log, from_paths
 from osb_replay_log.program import Program, built
 from osb_replay_log.progress import Progress
+from osb_replay_log.rooms import new_room
 from osb_replay_log.spool import Room
 from osb_replay_log.starting import refuse
-
-_TRIES = 30
-"""How often a room is tried to be removed, in three seconds."""
 
 
 def run(given: list[str]) -> int:
@@ -69,33 +64,13 @@ def _merge(asked: argparse.Namespace) -> None:
         for number, report in enumerate(found, 1):
             if asked.saved and not report.has_record:
                 raise Unreplayed(UNREAD, f"{its.file(number, 'report')}: it has no saved record")
-        room = _room(stack, asked.room) if its.parts > reports.MOST_OPEN else ""
+        room = new_room(stack, words.PROGRAM, asked.room) if its.parts > reports.MOST_OPEN else ""
         _write(found, its.restarts, asked.saved, Room(room))
 
 
 def _has_output() -> None:
     if sys.stdout is None:
         raise Unreplayed(UNWRITTEN, "write failed")
-
-
-def _room(stack: ExitStack, folder: str | None) -> str:
-    """A new folder in this one, or in the system's for temporary files, which is removed at the end."""
-    try:
-        with signals.held():
-            room = tempfile.mkdtemp(prefix="osb-replay-log-", dir=folder)
-            stack.callback(_remove, room)
-    except OSError as error:
-        raise unwritten(folder or "the folder for temporary files", error) from error
-    return room
-
-
-def _remove(room: str) -> None:
-    with signals.held():
-        for _ in range(_TRIES):
-            shutil.rmtree(room, ignore_errors=True)
-            if not os.path.exists(room):
-                return
-            time.sleep(0.1)
 
 
 def _hush() -> None:
@@ -113,7 +88,7 @@ def _work(
     logs = tuple(from_paths(asked.logs))
     with signals.raised():
         program, progress = Program(built(), options), Progress()
-    folder = _room(stack, room)
+    folder = new_room(stack, words.PROGRAM, room)
     its = Room(folder, asked.room_limit)
     os.chdir("/")  # workers look for modules in their current folder, before Python 3.11
     _hush()

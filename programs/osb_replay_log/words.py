@@ -54,7 +54,7 @@ Merges the reports beside the parts of a log into the report of the whole log. I
 a fault, prints the first fault of the log instead."""
 
 
-class _Parser(argparse.ArgumentParser):
+class Parser(argparse.ArgumentParser):
     """Its errors are on one line, whatever a file is called that was taken for an option."""
 
     def error(self, message: str) -> NoReturn:
@@ -73,7 +73,7 @@ def read(words: list[str]) -> argparse.Namespace:
 
 def _parser() -> argparse.ArgumentParser:
     shape = argparse.RawDescriptionHelpFormatter
-    parser = _Parser(PROGRAM, description=_DESCRIPTION, epilog=_EPILOGUE, allow_abbrev=False, formatter_class=shape)
+    parser = Parser(PROGRAM, description=_DESCRIPTION, epilog=_EPILOGUE, allow_abbrev=False, formatter_class=shape)
     commands = parser.add_subparsers(dest="command", metavar="COMMAND", required=True)
 
     def command(name: str, help_: str, text: str) -> argparse.ArgumentParser:
@@ -88,7 +88,7 @@ def _parser() -> argparse.ArgumentParser:
     _saved(replay)
     _workers(replay, "(the system's folder for temporary files)")
     split = command("split", "split a log for another engine", _SPLIT)
-    split.add_argument("--parts", type=_path, required=True, metavar="DIR", help="a new folder, or an empty one")
+    split.add_argument("--parts", type=path, required=True, metavar="DIR", help="a new folder, or an empty one")
     _workers(split, "(the folder of --parts, whose file system it must be on)")
     merge = command("merge", "merge the reports of the parts", _MERGE)
     _saved(merge)
@@ -106,10 +106,10 @@ def _saved(parser: argparse.ArgumentParser) -> None:
 
 
 def _room(parser: argparse.ArgumentParser, help_: str) -> None:
-    parser.add_argument("--room", type=_path, metavar="DIR", help=help_)
+    parser.add_argument("--room", type=path, metavar="DIR", help=help_)
 
 
-def _path(text: str) -> str:
+def path(text: str) -> str:
     """Its absolute path, since workers may have another current folder."""
     if not text:
         raise argparse.ArgumentTypeError("it is empty")
@@ -119,7 +119,7 @@ def _path(text: str) -> str:
 def _workers(parser: argparse.ArgumentParser, room: str) -> None:
     parser.add_argument(
         "--workers",
-        type=_count(1, 1024),
+        type=count(1, 1024),
         default=len(os.sched_getaffinity(0)),
         metavar="N",
         help="start N workers on this machine (the number of its processors: %(default)s)",
@@ -141,7 +141,7 @@ def _workers(parser: argparse.ArgumentParser, room: str) -> None:
         ("--tls-cert", "for a tls:// scheduler: the certificate of this program, in PEM"),
         ("--tls-key", "for a tls:// scheduler: the key of that certificate, in PEM and without a passphrase"),
     ):
-        parser.add_argument(option, type=_path, metavar="FILE", help=help_)
+        parser.add_argument(option, type=path, metavar="FILE", help=help_)
     parser.add_argument(
         "--insecure",
         action="store_true",
@@ -162,14 +162,14 @@ def _workers(parser: argparse.ArgumentParser, room: str) -> None:
     )
     parser.add_argument(
         "--part-lines",
-        type=_count(1, 100_000),
+        type=count(1, 100_000),
         default=100_000,
         metavar="N",
         help="the most lines of a part (%(default)s)",
     )
     parser.add_argument(
         "--chunk-bytes",
-        type=_count(1, 1 << 30),
+        type=count(1, 1 << 30),
         default=16 << 20,
         metavar="N",
         help="how many bytes of a log a worker reads at once. It needs about five times as much memory (%(default)s)",
@@ -177,13 +177,15 @@ def _workers(parser: argparse.ArgumentParser, room: str) -> None:
     parser.add_argument("logs", nargs="+", metavar="LOG", help="a file of the log")
 
 
-def _count(least: int, most: int) -> Callable[[str], int]:
-    def count(text: str) -> int:
+def count(least: int, most: int) -> Callable[[str], int]:
+    """What reads a number from the least to the most."""
+
+    def counted(text: str) -> int:
         if not (text.isascii() and text.isdigit()) or not least <= int(text) <= most:
             raise argparse.ArgumentTypeError(f"{text!r} is no number from {least} to {most}")
         return int(text)
 
-    return count
+    return counted
 
 
 def _size(text: str) -> int:
