@@ -147,52 +147,11 @@ static bool is_written(const uint8_t *text, size_t length)
         && memcmp(out.text + length, before.text + length, sizeof out.text - length) == 0;
 }
 
-static bool is_same_id(struct osb_id a, struct osb_id b)
-{
-    return a.high == b.high && a.low == b.low;
-}
-
-static struct osb_answer answered(uint16_t status, uint8_t body)
-{
-    struct osb_answer answer = {0};
-    answer.status = status;
-    answer.body = body;
-    return answer;
-}
-
 /* Whether the text that was written ends so. */
 static bool ends_with(const char *text)
 {
     size_t length = strlen(text);
     return out.needed >= length && memcmp(out.text + out.needed - length, text, length) == 0;
-}
-
-/* ---- What a call has written. */
-
-static bool is_record(const struct osb_record *it)
-{
-    return is_same_id(out.record.service, it->service) && is_same_id(out.record.plan, it->plan)
-        && out.record.attempt == it->attempt && out.record.state == it->state && out.record.out == it->out;
-}
-
-static bool is_same_request(const struct osb_request *a, const struct osb_request *b)
-{
-    return a->kind == b->kind && a->accepts_incomplete == b->accepts_incomplete && is_same_id(a->id, b->id)
-        && is_same_id(a->service, b->service) && is_same_id(a->plan, b->plan);
-}
-
-static bool is_request(const struct osb_request *it)
-{
-    return is_same_request(&out.request, it);
-}
-
-static bool is_holding(const struct osb_holding *it)
-{
-    const struct osb_holding *is = &out.holding;
-    return is_same_id(is->row.service, it->row.service) && is_same_id(is->row.plan, it->row.plan)
-        && is->row.phase == it->row.phase && is_same_request(&is->work, &it->work) && is->has_row == it->has_row
-        && is->has_work == it->has_work && is->has_tombstone == it->has_tombstone
-        && memcmp(is->attributes, it->attributes, 32) == 0;
 }
 
 /* ---- Ids and the version. */
