@@ -63,6 +63,6 @@ def test_no_call_has_the_name_of_one_that_is_gone() -> None:
 
 
 def test_both_packages_call_each_export() -> None:
-    for folder, call in (("go/osb", r"\bC\.(osb_\w+)\("), ("python/src/osb", r"\blib(?:rary)?\.(osb_\w+)\(")):
+    for folder, call in (("go/osb", r"\bC\.(osb_\w+)\("), ("python/src/osb", r"\blib(?:rary)?\.(osb_\w+)[(,]")):
         sources = "".join(it.read_text(encoding="utf-8") for it in (TOP / folder).glob("*.*") if it.is_file())
         assert set(re.findall(call, sources)) == {it.name for it in CALLS}, folder

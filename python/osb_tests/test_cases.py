@@ -185,7 +185,7 @@ def refusal_status(of: Given) -> int:
 
 
 def binding_refusal_body(of: Given) -> str:
-    status, body = written(lambda *to: int(lib.osb_binding_refusal_body(of.refusal(), *to)))
+    status, body = written(lib.osb_binding_refusal_body, of.refusal())
     if status != Status.DONE:
         raise OsbError(status)
     return error(body)

@@ -2,7 +2,7 @@
 from __future__ import annotations
 
 import ctypes as c
-from typing import Any, Callable
+from typing import Callable
 
 from osb._crossing import endpoints_to, id_to, plan_from
 from osb._header import CPlan
@@ -19,18 +19,16 @@ def catalogue_plans(document: bytes) -> list[Plan]:
     service and plan; a plan is asynchronous if its member `x-osb-asynchronous` is true, or if `asynchronous` is true
     and it lacks that. Raises NOT_JSON, NO_SERVICES, BAD_SERVICE, NO_PLANS, BAD_PLAN, BAD_PLAN_MODE, PLAN_TWICE.
     """
-    return plans_of(lambda *to: int(lib.osb_catalogue_plans(document, len(document), *to)))
+    return plans_of(lib.osb_catalogue_plans, document)
 
 
-def plans_of(call: Callable[[Any, int, Any], int]) -> list[Plan]:
+def plans_of(call: Callable[..., int], document: bytes) -> list[Plan]:
     """The plans that a call reads, or else what its status stands for is raised. It is called again if there were too
     few places.
     """
     needed, buffer = c.c_size_t(0), (CPlan * 16)()
-    status = call(buffer, len(buffer), needed)
-    if status == Status.TOO_SMALL:
+    while (status := call(document, len(document), buffer, len(buffer), needed)) == Status.TOO_SMALL:
         buffer = (CPlan * needed.value)()
-        status = call(buffer, len(buffer), needed)
     check(status)
     return [plan_from(it) for it in buffer[: needed.value]]
 
@@ -50,9 +48,7 @@ def served_catalogue(document: bytes) -> bytes:
     again, which is this project's choice. Raises NOT_AN_OBJECT where the document isn't UTF-8, isn't JSON, or is no
     object.
     """
-    return text_of(
-        lambda buffer, length, needed: int(lib.osb_served_catalogue(document, len(document), buffer, length, needed))
-    )
+    return text_of(lib.osb_served_catalogue, document, len(document))
 
 
 def asks_for_catalogue(target: bytes, prefix: str = "") -> bool:
@@ -68,12 +64,7 @@ def plan_version(document: bytes, service: Id, plan: Id) -> str | None:
     Management).
     """
     sold = id_to(service), id_to(plan)
-    return found(
-        lambda buffer, length, needed: int(
-            lib.osb_plan_version(document, len(document), *sold, buffer, length, needed)
-        ),
-        Status.NO_PLAN_VERSION,
-    )
+    return found(Status.NO_PLAN_VERSION, lib.osb_plan_version, document, len(document), *sold)
 
 
 def maintenance_conflict(version: str | None, body: bytes) -> None:

@@ -30,23 +30,13 @@ def mode_to(mode: Mode | None) -> int:
 
 
 def request_to(request: Request) -> CRequest:
-    return CRequest(
-        Kind(request.kind).value,
-        bool(request.accepts_incomplete),
-        id_to(request.id),
-        id_to(request.service),
-        id_to(request.plan),
-    )
+    ids = map(id_to, (request.id, request.service, request.plan))
+    return CRequest(Kind(request.kind).value, bool(request.accepts_incomplete), *ids)
 
 
 def request_from(request: CRequest) -> Request:
-    return Request(
-        Kind(request.kind),
-        bool(request.accepts_incomplete),
-        id_from(request.id),
-        id_from(request.service),
-        id_from(request.plan),
-    )
+    ids = map(id_from, (request.id, request.service, request.plan))
+    return Request(Kind(request.kind), bool(request.accepts_incomplete), *ids)
 
 
 def status_to(status: int) -> int:
@@ -79,12 +69,7 @@ def plan_from(plan: CPlan) -> Plan:
 
 
 def endpoints_to(serves: Endpoints) -> CEndpoints:
-    return CEndpoints(
-        bool(serves.updating),
-        bool(serves.bindings),
-        bool(serves.fetching_instances),
-        bool(serves.fetching_bindings),
-    )
+    return CEndpoints(**{name: bool(is_served) for name, is_served in vars(serves).items()})
 
 
 def broker_row_to(row: BrokerRow) -> CBrokerRow:

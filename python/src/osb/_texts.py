@@ -10,13 +10,13 @@ from osb.enums import Status
 _FIRST = 1024
 
 
-def written(call: Callable[[Any, int, Any], int]) -> tuple[int, bytes]:
-    """The status of a call that writes a text, and that text. It is called again where the buffer was too short."""
+def written(call: Callable[..., int], *given: Any) -> tuple[int, bytes]:
+    """The status of a call of the library that writes a text behind what it is given, and that text. It is called again
+    where the buffer was too short.
+    """
     buffer, needed = c.create_string_buffer(_FIRST), c.c_size_t(0)
-    status = call(buffer, len(buffer), needed)
-    while status == Status.TOO_SMALL:
+    while (status := call(*given, buffer, len(buffer), needed)) == Status.TOO_SMALL:
         buffer = c.create_string_buffer(needed.value)
-        status = call(buffer, len(buffer), needed)
     return status, buffer.raw[: needed.value]
 
 

@@ -75,11 +75,8 @@ def _target(
 ) -> str:
     front, given, of, named = with_lengths(prefix), request_to(request), id_to(instance), with_lengths(operation or "")
     texts = with_lengths(names.instance, names.binding, names.service, names.plan)
-    return text_of(
-        lambda *to: int(
-            lib.osb_write_binding_target(*front, given, of, *texts, is_fetch, operation is not None, *named, *to)
-        )
-    ).decode()
+    told = *texts, is_fetch, operation is not None, *named
+    return text_of(lib.osb_write_binding_target, *front, given, of, *told).decode()
 
 
 def write_binding_body(kind: Kind, names: BindingNames, further: str = "{}") -> bytes:
@@ -89,7 +86,7 @@ def write_binding_body(kind: Kind, names: BindingNames, further: str = "{}") -> 
     NOT_JSON, NOT_AN_OBJECT.
     """
     number, texts = Kind(kind).value, with_lengths(names.service, names.plan, further)
-    return text_of(lambda *to: int(lib.osb_write_binding_body(number, *texts, *to)))
+    return text_of(lib.osb_write_binding_body, number, *texts)
 
 
 def read_binding(kind: Kind, status: int, body: bytes) -> bytes | None:
@@ -181,7 +178,7 @@ def receive_binding_request(
     texts = [*with_lengths(prefix), longest_to(longest_body), *with_lengths(method)]
     texts += [target, len(target), body, len(body)]
     asked, lengths = CBindingAsked(), CBindingReceived()
-    text = text_of(lambda *to: int(lib.osb_receive_binding_request(*texts, asked, lengths, *to)))
+    text = text_of(lib.osb_receive_binding_request, *texts, asked, lengths)
     instance, text = text[: lengths.instance], text[lengths.instance :]
     binding, text = text[: lengths.binding], text[lengths.binding :]
     service, plan, *parts = texts_of(
@@ -213,7 +210,7 @@ def binding_modes(document: bytes) -> list[Plan]:
     own `bindable` counts before that of its service (section Catalog Management). Raises NOT_JSON, NO_SERVICES,
     BAD_SERVICE, NO_PLANS, BAD_PLAN, PLAN_TWICE, NOT_A_BOOLEAN, NOT_RETRIEVABLE.
     """
-    return plans_of(lambda *to: int(lib.osb_binding_modes(document, len(document), *to)))
+    return plans_of(lib.osb_binding_modes, document)
 
 
 def _asked_from(asked: CBindingAsked) -> BindingAsked:

@@ -31,10 +31,10 @@ class Refusal(OsbError):
         super().__init__(status)
         if self.status in _OF_BINDINGS:
             self.http_status = int(lib.osb_binding_refusal_status(self.status))
-            done, self.body = written(lambda *to: int(lib.osb_binding_refusal_body(self.status, *to)))
+            done, self.body = written(lib.osb_binding_refusal_body, self.status)
         else:
             self.http_status = int(lib.osb_refusal_status(self.status))
-            done, self.body = written(lambda *to: int(lib.osb_refusal_body(self.status, *to)))
+            done, self.body = written(lib.osb_refusal_body, self.status)
         if done != Status.DONE:
             raise OsbError(done)
 
@@ -49,18 +49,18 @@ def check(status: int) -> None:
     raise OsbError(status)
 
 
-def text_of(call: Callable[[Any, int, Any], int]) -> bytes:
+def text_of(call: Callable[..., int], *given: Any) -> bytes:
     """The text that a call writes, or else what its status stands for is raised."""
-    status, text = written(call)
+    status, text = written(call, *given)
     check(status)
     return text
 
 
-def found(call: Callable[[Any, int, Any], int], nothing: Status) -> str | None:
+def found(nothing: Status, call: Callable[..., int], *given: Any) -> str | None:
     """The text that a call writes, None if its status is the one for nothing, or else what its status stands for is
     raised.
     """
-    status, text = written(call)
+    status, text = written(call, *given)
     if status == nothing:
         return None
     check(status)

@@ -161,10 +161,7 @@ class Holding:
 
     def to_text(self) -> str:
         """The text of the holding, for a column of a database."""
-        holding = _to(self)
-        return text_of(
-            lambda buffer, length, needed: int(lib.osb_holding_to_text(holding, buffer, length, needed))
-        ).decode()
+        return text_of(lib.osb_holding_to_text, _to(self)).decode()
 
     @classmethod
     def from_text(cls, text: str) -> Holding:
@@ -177,10 +174,7 @@ class Holding:
 
     def to_binding_text(self) -> str:
         """The text of a binding's holding, for a column of a database: that of `to_text`, with a version of its own."""
-        holding = _to(self)
-        return text_of(
-            lambda buffer, length, needed: int(lib.osb_binding_holding_to_text(holding, buffer, length, needed))
-        ).decode()
+        return text_of(lib.osb_binding_holding_to_text, _to(self)).decode()
 
     @classmethod
     def from_binding_text(cls, text: str) -> Holding:

@@ -135,10 +135,7 @@ class Record:
 
     def to_text(self) -> str:
         """The text of the record, for a column of a database."""
-        record = _to(self)
-        return text_of(
-            lambda buffer, length, needed: int(lib.osb_record_to_text(record, buffer, length, needed))
-        ).decode()
+        return text_of(lib.osb_record_to_text, _to(self)).decode()
 
     @classmethod
     def from_text(cls, text: str) -> Record:
@@ -151,10 +148,7 @@ class Record:
 
     def to_binding_text(self) -> str:
         """The text of a binding's record, for a column of a database: that of `to_text`, with a version of its own."""
-        record = _to(self)
-        return text_of(
-            lambda buffer, length, needed: int(lib.osb_binding_record_to_text(record, buffer, length, needed))
-        ).decode()
+        return text_of(lib.osb_binding_record_to_text, _to(self)).decode()
 
     @classmethod
     def from_binding_text(cls, text: str) -> Record:

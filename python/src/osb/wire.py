@@ -105,9 +105,7 @@ def read_details(body: bytes) -> Details:
     says nothing.
     """
     read = CDetails()
-    text = text_of(
-        lambda buffer, length, needed: int(lib.osb_read_details(body, len(body), read, buffer, length, needed))
-    )
+    text = text_of(lib.osb_read_details, body, len(body), read)
     description, error, dashboard_url, operation, metadata = texts_of(
         text, read, "description", "error", "dashboard_url", "operation", "metadata"
     )
@@ -124,9 +122,7 @@ def read_details(body: bytes) -> Details:
 
 def write_method(kind: Kind) -> str:
     """The method of a request of the kind: PUT, GET or DELETE."""
-    return text_of(
-        lambda buffer, length, needed: int(lib.osb_write_method(Kind(kind).value, buffer, length, needed))
-    ).decode()
+    return text_of(lib.osb_write_method, Kind(kind).value).decode()
 
 
 @dataclass(frozen=True)
@@ -149,15 +145,9 @@ def write_named_target(request: Request, names: Names, operation: str | None = N
     NOT_SERVICE_TEXT, NOT_PLAN_TEXT; an instance named `.` or `..` is NOT_INSTANCE_TEXT too, since HTTP clients resolve
     such a path.
     """
-    front, given, named = with_lengths(prefix), request_to(request), utf8(operation or "")
+    front, given, named = with_lengths(prefix), request_to(request), with_lengths(operation or "")
     texts = with_lengths(names.instance, names.service, names.plan)
-    return text_of(
-        lambda buffer, length, needed: int(
-            lib.osb_write_named_target(
-                *front, given, *texts, operation is not None, named, len(named), buffer, length, needed
-            )
-        )
-    ).decode()
+    return text_of(lib.osb_write_named_target, *front, given, *texts, operation is not None, *named).decode()
 
 
 def write_named_body(kind: Kind, names: Names, organization: str, space: str, further: str = "{}") -> bytes:
@@ -167,7 +157,7 @@ def write_named_body(kind: Kind, names: Names, organization: str, space: str, fu
     with a request: `write_named_target` does. Raises NOT_UTF8, NOT_JSON, NOT_AN_OBJECT.
     """
     number, texts = Kind(kind).value, with_lengths(names.service, names.plan, organization, space, further)
-    return text_of(lambda buffer, length, needed: int(lib.osb_write_named_body(number, *texts, buffer, length, needed)))
+    return text_of(lib.osb_write_named_body, number, *texts)
 
 
 def retry_after(value: str) -> int | None:
@@ -254,13 +244,7 @@ def receive_request(method: str, target: bytes, body: bytes, longest_body: int, 
     """
     texts = [*with_lengths(prefix), longest_to(longest_body), *with_lengths(method)]
     asked, lengths = CAsked(), CReceived()
-    text = text_of(
-        lambda buffer, length, needed: int(
-            lib.osb_receive_request(
-                *texts, target, len(target), body, len(body), asked, lengths, buffer, length, needed
-            )
-        )
-    )
+    text = text_of(lib.osb_receive_request, *texts, target, len(target), body, len(body), asked, lengths)
     instance, rest = text[: lengths.instance].decode(), text[lengths.instance :]
     service, plan, *parts = texts_of(
         rest, lengths, "service", "plan", "parameters", "context", "maintenance_info", "others"
@@ -273,10 +257,7 @@ def member_text(body: bytes, name: str) -> str | None:
     object of JSON, or has no such member. Of a name that stands twice the last counts. Raises NOT_UTF8 (name).
     """
     key = utf8(name)
-    return found(
-        lambda buffer, length, needed: int(lib.osb_member_text(body, len(body), key, len(key), buffer, length, needed)),
-        Status.NO_MEMBER,
-    )
+    return found(Status.NO_MEMBER, lib.osb_member_text, body, len(body), key, len(key))
 
 
 def attributes_digest(body: bytes) -> bytes:
@@ -307,9 +288,7 @@ def write_answer(answer: Answer, operation: str | None = None, description: str 
     """
     given, named = answer_to(answer), (operation is not None, *with_lengths(operation or ""))
     told = (description is not None, *with_lengths(description or ""))
-    return text_of(
-        lambda buffer, length, needed: int(lib.osb_write_told_answer(given, *named, *told, buffer, length, needed))
-    )
+    return text_of(lib.osb_write_told_answer, given, *named, *told)
 
 
 def api_version(value: str | None) -> None:
@@ -348,11 +327,7 @@ def originating_identity(value: str) -> OriginatingIdentity | None:
     object of JSON in padded base64 (section Originating Identity). None of every other value. Raises NOT_UTF8.
     """
     given, platform = utf8(value), c.c_size_t(0)
-    status, text = written(
-        lambda buffer, length, needed: int(
-            lib.osb_originating_identity(given, len(given), platform, buffer, length, needed)
-        )
-    )
+    status, text = written(lib.osb_originating_identity, given, len(given), platform)
     if status == Status.NO_IDENTITY:
         return None
     check(status)
