@@ -144,7 +144,7 @@ type Store interface {
 	// Life returns the stays of a row that have ended, in their order.
 	Life(ctx context.Context, key Key) ([]Stay, error)
 
-	// Counts counts the rows of each broker, kind and state.
+	// Counts counts the rows of each broker, kind and state. They come in any order.
 	Counts(ctx context.Context) ([]Count, error)
 
 	// InFlight returns the rows that are leased, those of the earliest Lease.Until first, with those that can't be read.

@@ -315,7 +315,7 @@ var faultyCalls = []faultyCall{
 		return saw(see)(store.ReadAll(background, []platform.Key{instance(1), binding(3, 4), instance(3)}))
 	}, false, false},
 	{"Life", lives, false, false},
-	{"Counts", func(store platform.Store, see func(any)) error { return saw(see)(store.Counts(background)) }, false, false},
+	{"Counts", counts, false, false},
 	{"InFlight", func(store platform.Store, see func(any)) error { return saw(see)(store.InFlight(background, 9)) }, false, false},
 	{"NextDue and OldestDue", dues, false, false},
 	{"Brokers", func(store platform.Store, see func(any)) error { return saw(see)(store.Brokers(background)) }, false, false},
@@ -413,6 +413,14 @@ func lists(filter platform.Filter) func(platform.Store, func(any)) error {
 
 func lives(store platform.Store, see func(any)) error {
 	return saw(see)(store.Life(background, instance(3)))
+}
+
+// counts passes the counts to see, in an order of its own. PostgreSQL returns them in another order once autovacuum has
+// analyzed the tables.
+func counts(store platform.Store, see func(any)) error {
+	found, err := store.Counts(background)
+	sort.Slice(found, func(a, b int) bool { return fmt.Sprint(found[a]) < fmt.Sprint(found[b]) })
+	return saw(see)(found, err)
 }
 
 func dues(store platform.Store, see func(any)) error {
