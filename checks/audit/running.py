@@ -8,6 +8,7 @@ from collections.abc import Iterator
 from contextlib import contextmanager
 from pathlib import Path
 
+from commands import printed, ran
 from waiting import until
 
 ENVIRONMENT = {**os.environ, "OSB_BROKER_PASSWORD": "secret", "OSB_PLATFORM_PASSWORD": "secret"}
@@ -32,32 +33,38 @@ def serving(
 class Platform:
     """A platform with one broker."""
 
-    def __init__(self, program: Path, folder: Path, at: str, name: str = "platform") -> None:
+    def __init__(
+        self, program: Path, folder: Path, at: str, name: str = "platform", journals: str = "journals"
+    ) -> None:
         self._program, self._log, self._broker = program, folder / f"{name}.log", ["--broker", f"http://{at}"]
         key = folder / f"{name}.key"
         key.touch(0o600)
-        key.write_bytes(subprocess.run([program, "key"], stdin=subprocess.DEVNULL, capture_output=True).stdout)
-        self._store = ["--store", str(folder / f"{name}.sqlite"), "--key-file", str(key)]
-        self._journal = ["--journal", f"{folder}/journals/"]
+        key.write_text(printed([program, "key"]))
+        self.store = ["--store", str(folder / f"{name}.sqlite"), "--key-file", str(key)]
+        self._journal = ["--journal", f"{folder}/{journals}/"]
 
     def once(self) -> None:
         """Sends what is due."""
-        ran = self._run("run", "--once", *self._broker)
-        assert ran.returncode == 0, ran.stderr
+        printed(self._line("run", "--once", *self._broker), environment=ENVIRONMENT)
 
     def create(self, *words: str) -> int:
         """Orders an instance. Returns the exit status."""
-        return self._run("create", "--service", "folder", "--plan", "at-once", *words).returncode
+        return self.run("create", "--service", "folder", "--plan", "at-once", *words)
 
     def remove(self, instance: str, *words: str) -> int:
         """Has an instance deleted. Returns the exit status."""
-        return self._run("remove", instance, *words).returncode
+        return self.run("remove", instance, *words)
+
+    def ids(self, *words: str) -> list[str]:
+        """The ids that `list` prints."""
+        listed = printed([self._program, "list", *self.store, *words], environment=ENVIRONMENT)
+        return [it.split("\t")[0] for it in listed.splitlines()]
 
     @contextmanager
-    def working(self) -> Iterator[None]:
+    def working(self, *more: str) -> Iterator[None]:
         """A worker runs."""
         paces = "--first-pace", "0.1", "--longest-pace", "0.3", "--look-seconds", "0.1", "--seconds", "5"
-        line = [str(self._program), "run", *self._store, *self._broker, *paces, *self._journal]
+        line = self._line("run", *self._broker, *paces, *more)
         with open(self._log, "wb") as log:
             process = subprocess.Popen(line, env=ENVIRONMENT, stdin=subprocess.DEVNULL, stdout=log, stderr=log)
         try:
@@ -66,6 +73,9 @@ class Platform:
             process.terminate()
             assert process.wait(60) == 0
 
-    def _run(self, *words: str) -> subprocess.CompletedProcess[str]:
-        line = [str(self._program), *words, *self._store, *self._journal]
-        return subprocess.run(line, env=ENVIRONMENT, stdin=subprocess.DEVNULL, capture_output=True, text=True)
+    def run(self, *words: str) -> int:
+        """Runs a command that writes to the journal. Returns the exit status."""
+        return ran(self._line(*words), environment=ENVIRONMENT).returncode
+
+    def _line(self, *words: str) -> list[str]:
+        return [str(self._program), *words, *self.store, *self._journal]

@@ -16,17 +16,19 @@ _SERVICE: dict[str, object] = {
     "bindable": False,
     "plans": [_PLAN],
 }
-_CATALOG: dict[str, object] = {"services": [_SERVICE]}
+CATALOG: dict[str, object] = {"services": [_SERVICE]}
 
 
 class SmallBroker:
     """The broker, at `url` while `running`."""
 
-    def __init__(self, delete: int = 200, seconds: float = 0.0, talks: bool = False) -> None:
+    def __init__(
+        self, delete: int = 200, seconds: float = 0.0, talks: bool = False, deletions: tuple[int, ...] = ()
+    ) -> None:
         """`delete`: the status of each deletion of what exists. `seconds`: how long each answer takes. `talks`: its
-        errors repeat the login.
+        errors repeat the login. `deletions`: the statuses of the first deletions, whatever exists.
         """
-        self.delete, self.seconds, self.talks = delete, seconds, talks
+        self.delete, self.seconds, self.talks, self.deletions = delete, seconds, talks, [*deletions]
         self.instances: set[str] = set()
         self.url = ""
 
@@ -39,7 +41,7 @@ class SmallBroker:
             wbufsize = -1  # an answer is one write: otherwise TCP may hold back its body
 
             def do_GET(self) -> None:
-                self._answer(200, _CATALOG if self.path == "/v2/catalog" else {"state": "succeeded"})
+                self._answer(200, CATALOG if self.path == "/v2/catalog" else {"state": "succeeded"})
 
             def do_PUT(self) -> None:
                 self.rfile.read(int(self.headers["Content-Length"]))
@@ -47,6 +49,9 @@ class SmallBroker:
                 self._answer(201, {})
 
             def do_DELETE(self) -> None:
+                if broker.deletions:
+                    self._answer(broker.deletions.pop(0), {})
+                    return
                 if self._instance() not in broker.instances:
                     self._answer(410, {})
                     return

@@ -2,7 +2,6 @@
 from __future__ import annotations
 
 import json
-import os
 import re
 import signal
 import subprocess
@@ -11,7 +10,9 @@ from collections.abc import Iterator
 from contextlib import contextmanager
 from pathlib import Path
 
+import commands
 import pytest
+from audit.running import Platform
 from conform.auditing import audited
 from conform.forgetful import Forgetful
 from conform.login import ENVIRONMENT, WITH_SIGNALS
@@ -27,15 +28,7 @@ TOP = Path(__file__).resolve().parents[2]
 def storming(storm: Path, *arguments: str, **environment: str) -> Iterator[tuple[subprocess.Popen[str], int]]:
     """The program, and the port at which its broker listens. It is ended in the end, if it runs then."""
     line = [*WITH_SIGNALS, str(storm), "platform", "--listen", "127.0.0.1:0", *SHORT, *arguments]
-    process = subprocess.Popen(
-        line,
-        env={**ENVIRONMENT, **environment},
-        stdin=subprocess.DEVNULL,
-        stdout=subprocess.PIPE,
-        stderr=subprocess.PIPE,
-        text=True,
-    )
-    with process:
+    with commands.begun(line, {**ENVIRONMENT, **environment}) as process:
         try:
             assert process.stdout is not None
             first = process.stdout.readline()
@@ -47,60 +40,22 @@ def storming(storm: Path, *arguments: str, **environment: str) -> Iterator[tuple
                 process.terminate()  # it deletes its folder
 
 
-class Platform:
-    """osb-platform over a store in a folder, with a broker at a port."""
-
-    def __init__(self, program: Path, folder: Path, port: int) -> None:
-        self._program, self._port, self._log = program, port, folder / "log"
-        self._journal = f"{folder / 'journals' / 'platform'}/"
-        key = folder / "key"
-        key.touch(0o600)
-        key.write_bytes(subprocess.run([program, "key"], stdin=subprocess.DEVNULL, capture_output=True).stdout)
-        self._environment = {
-            **os.environ,
-            "OSB_PLATFORM_STORE": str(folder / "store"),
-            "OSB_PLATFORM_KEY_FILE": str(key),
-            "OSB_PLATFORM_PASSWORD": "secret",
-        }
-
-    @contextmanager
-    def running(self) -> Iterator[None]:
-        line = [str(self._program), "run", "--broker", f"http://127.0.0.1:{self._port}", "--seconds", "1"]
-        line += ["--first-pace", "0.1", "--longest-pace", "0.3", "--look-seconds", "0.1", "--journal", self._journal]
-        with open(self._log, "wb") as log:
-            process = subprocess.Popen(line, env=self._environment, stdin=subprocess.DEVNULL, stderr=log)
-        try:
-            until(lambda: self.run("broker", "list").returncode == 0 and "error" not in self._log.read_text())
-            until(lambda: self.run("create", "--service", "osb-storm", "--plan", "at-once").returncode == 0)
-            yield
-        finally:
-            process.terminate()
-            assert process.wait(60) == 0
-
-    def run(self, *words: str) -> subprocess.CompletedProcess[str]:
-        """Runs a command."""
-        line = [str(self._program), *words]
-        return subprocess.run(line, env=self._environment, stdin=subprocess.DEVNULL, capture_output=True, text=True)
-
-    def ids(self, *words: str) -> list[str]:
-        """The ids that `list` prints."""
-        return [it.split("\t")[0] for it in self.run("list", *words).stdout.splitlines()]
-
-
 @pytest.mark.long(15)
 def test_platform_abandons_nothing(storm: Path, platform: Path, replay: Path, tmp_path: Path) -> None:
     """osb-platform abandons nothing, has nothing in vain, and breaks no rule. The journals of both sides are as the
     model says. The faults end two seconds after the last order, however long a busy machine takes for all of them.
     """
-    store, key, journals = tmp_path / "store", tmp_path / "key", tmp_path / "journals"
+    journals, orders = tmp_path / "journals", ("create", "--service", "osb-storm", "--plan")
+    store, key = tmp_path / "platform.sqlite", tmp_path / "platform.key"
     listed = f"{platform} --store {store} --key-file {key} list --state ready"
     words = "--list-command", f"{listed} | cut -f1", "--json", str(tmp_path / "json"), "--journal", str(journals)
     ordered = "--order-command", f"until [ -e {tmp_path}/ordered ]; do sleep 0.1; done; sleep 2", "--seconds", "150"
     with storming(storm, *words, *ordered, "--seed", "2") as (process, port):
-        it = Platform(platform, tmp_path, port)
-        with it.running():
+        it = Platform(platform, tmp_path, f"127.0.0.1:{port}", journals="journals/platform")
+        with it.working("--seconds", "1"):
+            until(lambda: it.run(*orders, "at-once") == 0)  # it has asked for the catalogue
             for plan in ("at-once", "by-worker", "bindings-by-worker") * 5:
-                assert it.run("create", "--service", "osb-storm", "--plan", plan).returncode == 0
+                assert it.run(*orders, plan) == 0
             until(lambda: len(it.ids("--state", "ready")) >= 3, 60)
             for id in it.ids("--state", "ready")[:3]:
                 it.run("bind", id)
@@ -121,9 +76,9 @@ def test_forgetful_platform(storm: Path, tmp_path: Path) -> None:
     """What a platform forgets is found, and is in all reports. The same list of faults has it found again."""
     (tmp_path / "faults").write_text("2.1 answer-lost\n4.1 request-lost\n")
     files = "--faults", str(tmp_path / "faults"), "--json", str(tmp_path / "json"), "--html", str(tmp_path / "html")
-    commands = "--list-command", f"cat {tmp_path / 'list'}", "--faults-to", str(tmp_path / "again")
+    lists = "--list-command", f"cat {tmp_path / 'list'}", "--faults-to", str(tmp_path / "again")
     for _ in range(2):
-        with storming(storm, *files, *commands, "--settle-seconds", "1", "--seconds", "1") as (process, port):
+        with storming(storm, *files, *lists, "--settle-seconds", "1", "--seconds", "1") as (process, port):
             it = Forgetful(port)
             has = [f"mine-{n}" for n in range(1, 6) if it.create(f"mine-{n}")]
             assert has == ["mine-1", "mine-3", "mine-5"]
@@ -213,8 +168,7 @@ def test_signal(storm: Path, tmp_path: Path, number: int) -> None:
 
 
 def ran(storm: Path, *arguments: str) -> subprocess.CompletedProcess[str]:
-    line = [str(storm), "platform", "--listen", "127.0.0.1:0", *SHORT, *arguments]
-    return subprocess.run(line, env=ENVIRONMENT, stdin=subprocess.DEVNULL, capture_output=True, text=True, timeout=60)
+    return commands.ran([storm, "platform", "--listen", "127.0.0.1:0", *SHORT, *arguments], environment=ENVIRONMENT)
 
 
 def test_statuses(storm: Path, tmp_path: Path) -> None:

@@ -7,6 +7,7 @@ import re
 import subprocess
 from pathlib import Path
 
+import commands
 import pytest
 from conform.login import ENVIRONMENT
 from conform.small_broker import SmallBroker
@@ -23,14 +24,7 @@ REPEATED = "".join(f"{instance}.1 repeated\n" for instance in range(1, 21))
 
 
 def ran(*line: object, seconds: float = 120) -> subprocess.CompletedProcess[str]:
-    return subprocess.run(
-        [str(it) for it in line],
-        env=ENVIRONMENT,
-        stdin=subprocess.DEVNULL,
-        capture_output=True,
-        text=True,
-        timeout=seconds,
-    )
+    return commands.ran(line, environment=ENVIRONMENT, seconds=seconds)
 
 
 @pytest.mark.parametrize("command", ["conform", "broker", "platform", "both"])

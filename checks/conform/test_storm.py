@@ -8,6 +8,7 @@ import subprocess
 import time
 from pathlib import Path
 
+import commands
 import pytest
 from conform.auditing import audited
 from conform.login import ENVIRONMENT, WITH_SIGNALS
@@ -30,13 +31,11 @@ def command(storm: Path, url: str, *arguments: str) -> list[str]:
 
 def begun(line: list[str], stderr: int | None = None) -> subprocess.Popen[str]:
     """Starts a storm whose output the test reads."""
-    return subprocess.Popen(
-        line, env=ENVIRONMENT, stdin=subprocess.DEVNULL, stdout=subprocess.PIPE, stderr=stderr, text=True
-    )
+    return commands.begun(line, ENVIRONMENT, stderr)
 
 
 def ran(line: list[str]) -> subprocess.CompletedProcess[str]:
-    return subprocess.run(line, env=ENVIRONMENT, stdin=subprocess.DEVNULL, capture_output=True, text=True, timeout=120)
+    return commands.ran(line, environment=ENVIRONMENT)
 
 
 def test_broker_loses_nothing(storm: Path, served: str, replay: Path, tmp_path: Path) -> None:

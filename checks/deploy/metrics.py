@@ -2,15 +2,12 @@
 
 from __future__ import annotations
 
-import contextlib
-import http.server
 import json
 import re
-import threading
 import urllib.request
 from pathlib import Path
-from typing import Any, ClassVar, Iterator
 
+from conform.small_broker import CATALOG
 from docs.pages import read
 
 Metrics = dict[str, set[str]]
@@ -81,58 +78,6 @@ def asked(query: str, metrics: Metrics) -> set[str]:
     return {it if it in metrics else _SUFFIX.sub("", it) for it, _ in _SELECTOR.findall(query)}
 
 
-class Foreign(http.server.BaseHTTPRequestHandler):
-    """A broker without tombstones that has created an orphan: it deletes an instance twice, and fails before once."""
-
-    protocol_version = "HTTP/1.1"
-    deletions: ClassVar[list[int]] = []
-    catalogue: ClassVar[dict[str, Any]] = {
-        "services": [
-            {
-                "id": "s",
-                "name": "s",
-                "description": "s",
-                "bindable": False,
-                "plans": [{"id": "p", "name": "p", "description": "p"}],
-            }
-        ]
-    }
-
-    def _send(self, status: int, body: object) -> None:
-        self.rfile.read(int(self.headers.get("Content-Length") or 0))
-        text = json.dumps(body).encode()
-        self.send_response(status)
-        self.send_header("Content-Length", str(len(text)))
-        self.end_headers()
-        self.wfile.write(text)
-
-    def do_GET(self) -> None:
-        self._send(200, self.catalogue)
-
-    def do_PUT(self) -> None:
-        self._send(201, {})
-
-    def do_DELETE(self) -> None:
-        self._send(self.deletions.pop(0) if self.deletions else 410, {})
-
-    def log_message(self, *_: object) -> None:
-        """Nothing."""
-
-
-@contextlib.contextmanager
-def foreign() -> Iterator[str]:
-    """The URL of such a broker, while it serves."""
-    Foreign.deletions = [500, 200, 200]
-    with http.server.ThreadingHTTPServer(("127.0.0.1", 0), Foreign) as server:
-        thread = threading.Thread(target=server.serve_forever)
-        thread.start()
-        try:
-            yield f"http://127.0.0.1:{server.server_port}"
-        finally:
-            server.shutdown()
-            thread.join()
-
-
 FAILING = """#!/bin/sh
 case $1 in
     capabilities) echo '{"bindings": false, "credentials": false}' ;;
@@ -148,7 +93,7 @@ def failing(folder: Path) -> tuple[Path, Path]:
     program, catalogue = folder / "backend", folder / "catalogue.json"
     program.write_text(FAILING, encoding="utf-8")
     program.chmod(0o755)
-    sold = json.loads(json.dumps(Foreign.catalogue))
+    sold = json.loads(json.dumps(CATALOG))
     sold["services"][0]["plans"][0]["x-osb-asynchronous"] = True
     catalogue.write_text(json.dumps(sold), encoding="utf-8")
     return program, catalogue

@@ -12,8 +12,8 @@ from typing import Iterator
 
 from waiting import until
 
-PROVISION = json.dumps({"service_id": "s", "plan_id": "p", "organization_guid": "o", "space_guid": "s"})
-"""The body of a Provision at the broker of deploy.metrics."""
+PROVISION = json.dumps({"service_id": "service", "plan_id": "plan", "organization_guid": "o", "space_guid": "s"})
+"""The body of a Provision at a broker with the catalogue of the small broker."""
 
 
 def _answers(address: str) -> bool:

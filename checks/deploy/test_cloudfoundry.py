@@ -10,9 +10,9 @@ from pathlib import Path
 from typing import Any
 
 import pytest
+from commands import needs
 from deploy.files import DEPLOY, TOP, Value, documents, faults
 from docs.pages import read
-from docs.workdir import needs
 
 from deploy import schemas
 

@@ -7,7 +7,8 @@ import re
 from pathlib import Path
 
 import pytest
-from deploy.metrics import Metrics, asked, exported, failing, foreign, is_chosen, listed, queries, unknown
+from conform.small_broker import SmallBroker
+from deploy.metrics import Metrics, asked, exported, failing, is_chosen, listed, queries, unknown
 from deploy.programs import OF_BROKER, PROVISION, ask, environment, order, running, serve
 from docs.pages import TOP, read
 from ports import free_address
@@ -38,10 +39,10 @@ def of_platform(platform: Path, tmp_path_factory: pytest.TempPathFactory) -> Met
     """What a worker exports once a broker isn't reached, another has failed once, and an orphan was found."""
     folder = tmp_path_factory.mktemp("platform")
     health = f"http://{free_address()}"
-    with foreign() as url:
+    with SmallBroker(deletions=(500, 200, 200)).running() as foreign:
         order(platform, folder, "key", "--to", str(folder / "key"))
         order(platform, folder, "broker", "add", "away", f"http://{free_address()}", "--store-password")
-        order(platform, folder, *f"broker add foreign {url} --store-password --hold 1 --first-pace 0.2".split())
+        order(platform, folder, *f"broker add foreign {foreign.url} --store-password --hold 1 --first-pace 0.2".split())
         run = [str(platform), "run", "--seconds", "1", "--health-listen", health.partition("//")[2]]
         with running(*run, health=health, environment=environment(folder)):
             order(platform, folder, "create", "--broker", "foreign", "--id", "one", "--wait=30")

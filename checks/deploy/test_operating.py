@@ -3,14 +3,13 @@
 from __future__ import annotations
 
 import re
-import subprocess
 from pathlib import Path
 
 import pytest
+from commands import needs, ran
 from deploy.metrics import exported
 from deploy.programs import OF_BROKER, environment, order, running, serve
 from docs.pages import TOP, block
-from docs.workdir import needs
 from ports import free_address
 from waiting import until
 
@@ -40,15 +39,10 @@ def test_first_look(broker: Path, platform: Path, tmp_path: Path) -> None:
     with running(*served, health=of_broker, environment=OF_BROKER, log=tmp_path / "osb-broker"):
         with running(*run, health=of_platform, environment=environment(tmp_path), log=tmp_path / "osb-platform"):
             until(lambda: "osb_platform_failures_total" in exported(of_platform))
-            ran = subprocess.run(
-                ["bash", "-c", commands(tmp_path, of_broker, of_platform)],
-                cwd=TOP,
-                env={**environment(tmp_path), "OSB_PLATFORM": str(platform)},
-                capture_output=True,
-                text=True,
-            )
-    assert ran.stderr == ""
-    lines = ran.stdout.splitlines()
+            given = {**environment(tmp_path), "OSB_PLATFORM": str(platform)}
+            ended = ran(["bash", "-c", commands(tmp_path, of_broker, of_platform)], TOP, given)
+    assert ended.stderr == ""
+    lines = ended.stdout.splitlines()
     assert lines[:2] == ["200", "200"]
     assert {"osb_broker_store_up 1", "osb_broker_pending 0", "osb_platform_store_up 1"} <= set(lines)
     assert 'osb_platform_failures_total{event="broker_unreached"} 1' in lines

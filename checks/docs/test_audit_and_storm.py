@@ -7,10 +7,11 @@ import re
 import shlex
 
 import pytest
+from commands import needs
 from docs.guides import healthy, moved
 from docs.pages import block, covers, read, uncovered
 from docs.programs import is_read_by
-from docs.workdir import Workdir, needs
+from docs.workdir import Workdir
 
 JOURNAL, AUDIT, STORM = "docs/journal.md", "docs/audit.md", "docs/storm.md"
 ONE = "00000000-0000-0000-0000-000000000001"

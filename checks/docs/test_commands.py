@@ -8,8 +8,9 @@ import subprocess
 from pathlib import Path
 
 import pytest
+from commands import needs
 from docs.pages import TOP, blocks, covers, packages, read
-from docs.workdir import Workdir, needs, wait_for
+from docs.workdir import Workdir, wait_for
 from go.toolchain import NEEDS, TESTS_NEED, TOOLS, needs_packages
 
 ONE = "00000000-0000-0000-0000-000000000001"

@@ -9,10 +9,11 @@ from typing import Callable
 
 import osb_audit.words
 import pytest
+from commands import needs
 from docs.guides import BROKER, CREATE, healthy, moved, statuses
 from docs.pages import blocks, covers, packages, pages, read
 from docs.programs import help_of, is_read_by, options_of
-from docs.workdir import Workdir, needs
+from docs.workdir import Workdir
 from osb import Id
 
 FIRST = str(Id.of_text("my-first"))

@@ -9,9 +9,10 @@ from pathlib import Path
 from typing import Any, Callable, Iterator
 
 import pytest
+from commands import needs, printed, ran
 from docs.guides import BROKER, CREATE, PLATFORM, healthy, moved, statuses
 from docs.pages import block, covers
-from docs.workdir import Workdir, needs
+from docs.workdir import Workdir
 from osb import Id
 from ports import free_port
 from waiting import until
@@ -39,29 +40,14 @@ class Machine:
 
     def run(self, statements: str) -> list[str]:
         """Run statements as a superuser, and return the lines that psql prints."""
-        ran = subprocess.run(
-            ["psql", "-XqAt", "-v", "ON_ERROR_STOP=1"],
-            input=statements,
-            env=self._environment,
-            capture_output=True,
-            text=True,
-        )
-        assert ran.returncode == 0, ran.stderr
-        return ran.stdout.splitlines()
+        line = ["psql", "-XqAt", "-v", "ON_ERROR_STOP=1"]
+        return printed(line, environment=self._environment, given=statements).splitlines()
 
     def shell(self, commands: str, folder: Path) -> str:
         """Run commands of a shell as a superuser who may connect everywhere, and return what they print."""
-        ran = subprocess.run(
-            ["bash", "-c", f"set -eu\n{commands}"],
-            cwd=folder,
-            env=self._environment,
-            stdin=subprocess.DEVNULL,
-            stdout=subprocess.PIPE,
-            stderr=subprocess.STDOUT,
-            text=True,
-        )
-        assert ran.returncode == 0, ran.stdout
-        return ran.stdout
+        it = ran(["bash", "-c", f"set -eu\n{commands}"], folder, self._environment, merged=True)
+        assert it.returncode == 0, it.stdout
+        return it.stdout
 
     def session(self, **settings: str) -> Any:
         """A session, of the superuser if no other user is given. Each statement is committed."""

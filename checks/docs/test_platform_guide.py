@@ -6,10 +6,11 @@ import re
 from pathlib import Path
 
 import pytest
+from commands import needs
 from docs.guides import PLATFORM, healthy, moved
 from docs.pages import TOP, block, covers, packages, read
 from docs.programs import commands_of, help_of, options_of
-from docs.workdir import Workdir, needs, wait_for
+from docs.workdir import Workdir, wait_for
 
 BROKER = "OSB_BROKER_PASSWORD=secret ./osb-broker serve --state build/broker\n"
 KEY = "state=${XDG_STATE_HOME:-$HOME/.local/state}/osb-platform\n"

@@ -11,7 +11,6 @@ import signal
 import subprocess
 from pathlib import Path
 
-import pytest
 from docs.pages import TOP
 
 _SECONDS = 240.0
@@ -25,9 +24,6 @@ _OWN = re.compile(
 # Where Go's cache is. scripts/go sees to it that no build takes what was built with another library.
 _CACHE = ("GOCACHE", "XDG_CACHE_HOME")
 
-# What Debian calls the package of a command, if the two names differ.
-_PACKAGES = {"go": "golang-go", "cc": "gcc"}
-
 # The copy has no crates. Instead of looking for what fits their sources, it takes what the tests were given.
 _GIVEN = """
 find_current() {{
@@ -40,14 +36,6 @@ _STAND_INS = {
     "sudo": """#!/bin/sh\n[ "$1" = apt-get ] || exec "$@"\n""",
     "ldconfig": """#!/bin/sh\n/sbin/ldconfig -v -n -N "$DESTDIR/usr/local/lib" | grep 'libosb.so.0 -> libosb.so.0'\n""",
 }
-
-
-def needs(*commands: str) -> None:
-    """Skip the test if one of the commands isn't installed."""
-    for command in commands:
-        if shutil.which(command) is None:
-            package = _PACKAGES.get(command, command)
-            pytest.skip(f"{command} isn't installed (Debian: apt-get install {package})")
 
 
 class Workdir:

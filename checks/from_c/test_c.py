@@ -12,6 +12,7 @@ import subprocess
 from pathlib import Path
 
 import pytest
+from commands import needs, ran
 from from_c import cases
 from osb import _header
 
@@ -37,18 +38,12 @@ pytestmark = pytest.mark.slow
 every_program = pytest.mark.parametrize("name", SOURCES)
 
 
-def needs(program: str) -> str:
-    if not shutil.which(program):
-        pytest.skip(f"{program} isn't installed (Debian: {program})")
-    return program
-
-
-def run(*command: str | Path, environment: dict[str, str] | None = None) -> str:
+def run(command: str | Path, *words: str | Path, environment: dict[str, str] | None = None) -> str:
     """Runs a command at the top of the repository. It must succeed and write nothing to standard error."""
-    words = [str(it) for it in command]
-    ran = subprocess.run(words, cwd=TOP, env=environment, capture_output=True, text=True, timeout=300)
-    assert (ran.returncode, ran.stderr) == (0, ""), f"{words} printed {ran.stdout}"
-    return ran.stdout
+    needs(str(command))
+    it = ran([command, *words], TOP, environment)
+    assert (it.returncode, it.stderr) == (0, ""), f"{command} {words} printed {it.stdout}"
+    return it.stdout
 
 
 def with_cases(folder: Path) -> list[str]:
@@ -61,7 +56,7 @@ def compile_c(compiler: str, to: Path, library: Path, *arguments: str | Path) ->
     """A program in C over the archive, without any warning."""
     options = ["-std=c99", "-Wall", "-Wextra", "-pedantic", "-Werror", "-Iinclude"]
     options += [*WRAPPED, *with_cases(to.parent)] if SOURCES["suite"] in arguments else []
-    run(needs(compiler), *options, *arguments, "-o", to, library / "libosb.a")
+    run(compiler, *options, *arguments, "-o", to, library / "libosb.a")
     return to
 
 
@@ -121,7 +116,7 @@ def test_a_program(name: str, compiler: str, options: list[str], library: Path, 
 def test_a_program_under_valgrind(name: str, library: Path, tmp_path: Path) -> None:
     leaks = ["--leak-check=full", "--show-leak-kinds=all", "--errors-for-leak-kinds=all"]
     program = compile_c("gcc", tmp_path / name, library, SOURCES[name])
-    check_output(name, run(needs("valgrind"), "-q", "--error-exitcode=99", *leaks, program))
+    check_output(name, run("valgrind", "-q", "--error-exitcode=99", *leaks, program))
 
 
 def test_128_kib_of_stack_are_enough(library: Path, tmp_path: Path) -> None:
@@ -151,7 +146,7 @@ def test_the_header_in_cplusplus(library: Path, tmp_path: Path) -> None:
     source = tmp_path / "plus.cc"
     source.write_text('#include "osb.h"\nint main() { return osb_record{}.state + (osb_version() != OSB_VERSION); }\n')
     options = ["-std=c++11", "-Wall", "-Wextra", "-pedantic", "-Werror", "-Iinclude"]
-    run(needs("g++"), *options, "-o", tmp_path / "plus", source, library / "libosb.a")
+    run("g++", *options, "-o", tmp_path / "plus", source, library / "libosb.a")
     run(tmp_path / "plus")
 
 
@@ -160,14 +155,12 @@ def test_the_header_in_cplusplus(library: Path, tmp_path: Path) -> None:
 
 def install(library: Path, root: Path, prefix: str) -> subprocess.CompletedProcess[str]:
     """`./libosb install` with next to nothing in its environment."""
-    environment = {"PATH": "/usr/bin:/bin", "DESTDIR": str(root)}
-    command = ["./libosb", "install", str(library), prefix]
-    return subprocess.run(command, cwd=TOP, env=environment, capture_output=True, text=True)
+    return ran(["./libosb", "install", library, prefix], TOP, {"PATH": "/usr/bin:/bin", "DESTDIR": str(root)})
 
 
 def test_a_program_links_as_pkg_config_says(library: Path, tmp_path: Path) -> None:
-    ran = install(library, tmp_path, "/usr")
-    assert (ran.returncode, ran.stderr) == (0, "")
+    ended = install(library, tmp_path, "/usr")
+    assert (ended.returncode, ended.stderr) == (0, "")
     files = {str(it.relative_to(tmp_path)) for it in (tmp_path / "usr").rglob("*") if not it.is_dir()}
     libraries = {f"usr/lib/{it}" for it in ("libosb.a", "libosb.so", "libosb.so.0", "pkgconfig/osb.pc")}
     assert files == libraries | {"usr/include/osb.h"}
@@ -178,7 +171,7 @@ def test_a_program_links_as_pkg_config_says(library: Path, tmp_path: Path) -> No
         "PKG_CONFIG_ALLOW_SYSTEM_LIBS": "1",
         "PKG_CONFIG_PATH": str(tmp_path / "usr/lib/pkgconfig"),
     }
-    flags = run(needs("pkg-config"), "--cflags", "--libs", "osb", environment=environment).split()
+    flags = run("pkg-config", "--cflags", "--libs", "osb", environment=environment).split()
     run("gcc", "-o", tmp_path / "story", SOURCES["story"], *flags)
     printed = run(tmp_path / "story", environment={**os.environ, "LD_LIBRARY_PATH": str(tmp_path / "usr/lib")})
     check_output("story", printed)
@@ -189,7 +182,7 @@ def test_install_rejects_the_folder_that_it_would_copy_into(library: Path, tmp_p
     own.mkdir(parents=True)
     for name in ("libosb.a", "libosb.so.0"):
         shutil.copy(library / name, own)
-    ran = install(own, tmp_path, "/usr")
-    assert ran.returncode == 70 and "into itself: build into another folder" in ran.stderr
+    ended = install(own, tmp_path, "/usr")
+    assert ended.returncode == 70 and "into itself: build into another folder" in ended.stderr
     assert {it.name for it in own.rglob("*")} == {"libosb.a", "libosb.so.0"}
     assert (own / "libosb.a").read_bytes() == (library / "libosb.a").read_bytes()

@@ -4,10 +4,10 @@ from __future__ import annotations
 
 import os
 import shutil
-import subprocess
 from pathlib import Path
 
 import pytest
+from commands import ran
 
 TOP = Path(__file__).resolve().parents[2]
 
@@ -59,15 +59,9 @@ class Runner:
     def run(self) -> tuple[int, str]:
         """The status, and what it and scripts/packages reported themselves."""
         environment = {**os.environ, "PATH": f"{self.top}/bin:{os.environ['PATH']}"}
-        ran = subprocess.run(
-            [self.top / ".ci" / "run"],
-            env=environment,
-            stdout=subprocess.PIPE,
-            stderr=subprocess.STDOUT,
-            text=True,
-            timeout=60,
-        )
-        return ran.returncode, "\n".join(it for it in ran.stdout.splitlines() if it.startswith(("ci: ", "packages: ")))
+        ended = ran([self.top / ".ci" / "run"], environment=environment, seconds=60, merged=True)
+        lines = [it for it in ended.stdout.splitlines() if it.startswith(("ci: ", "packages: "))]
+        return ended.returncode, "\n".join(lines)
 
 
 @pytest.fixture

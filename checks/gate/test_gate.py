@@ -13,6 +13,7 @@ from pathlib import Path
 
 import pytest
 import waiting
+from commands import ran
 
 TOP = Path(__file__).resolve().parents[2]
 LONGEST = 1000
@@ -147,17 +148,10 @@ class Repository:
         python = f'#!/bin/sh\nexec "{sys.executable}" "$@"\n'
         self.script("bin/python3", python.removeprefix("#!/bin/sh\n"))
         environment = {**os.environ, **given, "PATH": f"{self.top}/bin:{os.environ['PATH']}"}
-        ran = subprocess.run(
-            [self.top / "check", *options],
-            env=environment,
-            stdout=subprocess.PIPE,
-            stderr=subprocess.STDOUT,
-            text=True,
-            timeout=LONGEST,
-        )
-        self.output = ran.stdout
-        *self.report, last = ran.stdout.partition("== all\n")[2].splitlines()
-        return ran.returncode, last, [it for it in self.report if it.startswith(("FAILED: ", "skipped: "))]
+        ended = ran([self.top / "check", *options], environment=environment, seconds=LONGEST, merged=True)
+        self.output = ended.stdout
+        *self.report, last = ended.stdout.partition("== all\n")[2].splitlines()
+        return ended.returncode, last, [it for it in self.report if it.startswith(("FAILED: ", "skipped: "))]
 
 
 @pytest.fixture

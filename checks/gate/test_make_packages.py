@@ -8,6 +8,7 @@ import subprocess
 from pathlib import Path
 
 import pytest
+from commands import ran
 
 TOP = Path(__file__).resolve().parents[2]
 
@@ -47,9 +48,7 @@ class Machine:
         environment = {**os.environ, "PATH": f"{self.top}/bin:{os.environ['PATH']}"}
         for name in ("MAKEFLAGS", "MFLAGS"):
             environment.pop(name, None)
-        return subprocess.run(
-            ["make", *goals], cwd=self.top, env=environment, capture_output=True, text=True, timeout=100
-        )
+        return ran(["make", *goals], self.top, environment, seconds=100)
 
     def calls(self) -> list[str]:
         return self._calls.read_text().splitlines() if self._calls.exists() else []

@@ -6,12 +6,13 @@ from pathlib import Path
 
 import pytest
 from building import SHIPPED, building
-from go.toolchain import SOURCES, TOOLS, TOP, Go, Packages, needs, needs_packages, run
+from commands import needs
+from go.toolchain import SOURCES, TOOLS, TOP, Go, Packages, needs_packages, run
 
 
 @pytest.fixture(scope="session")
 def go(library: Path) -> Go:
-    needs(TOOLS)
+    needs(*TOOLS)
     return Go(library)
 
 
@@ -21,7 +22,7 @@ def staticcheck(tmp_path_factory: pytest.TempPathFactory) -> str:
     found = shutil.which("staticcheck")
     if found is not None:
         return found
-    needs(TOOLS)
+    needs(*TOOLS)
     if not (SOURCES / "src" / "honnef.co" / "go" / "tools" / "cmd" / "staticcheck").is_dir():
         pytest.skip("staticcheck isn't installed (Debian: golang-honnef-go-tools-dev)")
     built = tmp_path_factory.mktemp("staticcheck") / "staticcheck"
@@ -34,6 +35,6 @@ def staticcheck(tmp_path_factory: pytest.TempPathFactory) -> str:
 
 @pytest.fixture(scope="session")
 def packages(library: Path) -> Packages:
-    needs(TOOLS)
+    needs(*TOOLS)
     needs_packages(tests=True)
     return Packages(library)

@@ -3,12 +3,12 @@ from __future__ import annotations
 
 import importlib.util
 import os
-import subprocess
 import sys
 from pathlib import Path
 
 import pytest
-from go.toolchain import TOOLS, TOP, needs, needs_packages
+from commands import needs, ran
+from go.toolchain import TOOLS, TOP, needs_packages
 
 SCRIPT = TOP / "scripts" / "go_packages.py"
 
@@ -31,13 +31,11 @@ def package(path: str, *imports: str, tests: tuple[str, ...] = (), name: str = "
 @pytest.mark.slow
 def test_packages(library: Path) -> None:
     """No package imports what it may not, and the section is current. If it isn't, run scripts/go_packages.py."""
-    needs(TOOLS)
+    needs(*TOOLS)
     needs_packages(tests=True)
     environment = {**os.environ, "LIBOSB_FOLDER": str(library)}
-    ran = subprocess.run(
-        [SCRIPT, "--check"], env=environment, stdout=subprocess.PIPE, stderr=subprocess.STDOUT, text=True
-    )
-    assert (ran.returncode, ran.stdout) == (0, "")
+    it = ran([SCRIPT, "--check"], environment=environment, merged=True)
+    assert (it.returncode, it.stdout) == (0, "")
 
 
 @pytest.mark.parametrize(

@@ -7,7 +7,8 @@ from pathlib import Path
 
 import pytest
 from building import building
-from go.toolchain import TOOLS, TOP, needs, run
+from commands import needs
+from go.toolchain import TOOLS, TOP, run
 
 pytestmark = pytest.mark.slow
 
@@ -17,7 +18,7 @@ def test_cache(library: Path, tmp_path: Path) -> None:
     """Go's cache has the path of the library. The package is compiled again over a library elsewhere, although it has
     the same bytes: the first one may be deleted later. So it is over another library at the same place.
     """
-    needs(TOOLS)
+    needs(*TOOLS)
     checkout = tmp_path / "checkout"
     shutil.copytree(TOP / "scripts", checkout / "scripts")
     for name in ("go", "include"):

@@ -4,12 +4,11 @@ from __future__ import annotations
 import hashlib
 import os
 import re
-import shutil
-import subprocess
 from pathlib import Path
 
 import pytest
 from building import SHIPPED, building
+from commands import ran
 from whole import WHOLE
 
 TOP = Path(__file__).resolve().parents[2]
@@ -25,17 +24,9 @@ SKIPPED = re.compile(r"^\s*--- SKIP: (\S+)", re.MULTILINE)
 
 def run(line: list[str], folder: Path, **environment: str) -> str:
     """Runs a command that must succeed and report nothing on standard error, and returns what it printed."""
-    ran = subprocess.run(
-        line,
-        cwd=folder,
-        env={**os.environ, **environment},
-        stdin=subprocess.DEVNULL,
-        capture_output=True,
-        text=True,
-        timeout=1800,
-    )
-    assert (ran.returncode, ran.stderr) == (0, ""), f"status {ran.returncode}: {line}\n{ran.stdout}{ran.stderr}"
-    return ran.stdout
+    it = ran(line, folder, {**os.environ, **environment}, seconds=1800)
+    assert (it.returncode, it.stderr) == (0, ""), f"status {it.returncode}: {line}\n{it.stdout}{it.stderr}"
+    return it.stdout
 
 
 class Go:
@@ -136,17 +127,10 @@ class Packages:
             self._run("list", "-export", "-test", *these, GOFLAGS=flags)
 
     def _run(self, *line: str, **environment: str) -> str:
-        ran = subprocess.run(
-            [str(TOP / "scripts" / "go"), *line],
-            env={**os.environ, "LIBOSB_FOLDER": str(self._library), **environment},
-            stdin=subprocess.DEVNULL,
-            stdout=subprocess.PIPE,
-            stderr=subprocess.STDOUT,
-            text=True,
-            timeout=1800,
-        )
-        assert ran.returncode == 0, f"status {ran.returncode}: {line}\n{ran.stdout}"
-        return ran.stdout
+        given = {**os.environ, "LIBOSB_FOLDER": str(self._library), **environment}
+        it = ran([TOP / "scripts" / "go", *line], environment=given, seconds=1800, merged=True)
+        assert it.returncode == 0, f"status {it.returncode}: {line}\n{it.stdout}"
+        return it.stdout
 
 
 def _flags(tags: str, race: bool) -> str:
@@ -159,10 +143,3 @@ def needs_packages(tests: bool = False) -> None:
     for name, package in {**NEEDS, **(TESTS_NEED if tests else {})}.items():
         if not (SOURCES / "src" / name).is_dir():
             pytest.skip(f"{name} isn't installed (Debian: {package})")
-
-
-def needs(tools: dict[str, str]) -> None:
-    """Skips the test unless all of these tools are there."""
-    for tool, package in tools.items():
-        if shutil.which(tool) is None:
-            pytest.skip(f"{tool} isn't installed (Debian: {package})")

@@ -7,6 +7,7 @@ import shutil
 import subprocess
 from pathlib import Path
 
+from commands import begun
 from launcher.small_repository import TOP, Repository
 
 # Stands for go. It writes a line with its arguments to `go-builds`, takes as many seconds as the file `seconds` says,
@@ -52,14 +53,7 @@ class GoRepository(Repository):
 
     def start(self, *arguments: str) -> subprocess.Popen[str]:
         """The launcher as a process."""
-        return subprocess.Popen(
-            [self.top / self.name, *arguments],
-            env=self.environment(),
-            stdin=subprocess.DEVNULL,
-            stdout=subprocess.PIPE,
-            stderr=subprocess.PIPE,
-            text=True,
-        )
+        return begun([self.top / self.name, *arguments], self.environment())
 
     def go_builds(self) -> list[str]:
         """The process and the arguments of each build."""

@@ -8,6 +8,8 @@ import subprocess
 import sys
 from pathlib import Path
 
+from commands import ran
+
 TOP = Path(__file__).resolve().parents[2]
 
 ROWS = """\
@@ -105,15 +107,8 @@ class Repository:
         return {**os.environ, "PATH": ":".join(path)}
 
     def run(self, *command: str, has_rt: bool = True, **variables: str) -> subprocess.CompletedProcess[str]:
-        return subprocess.run(
-            [str(self.top / command[0]), *command[1:]],
-            cwd=self.folder,
-            env={**self.environment(has_rt), **variables},
-            input="a schedule",
-            capture_output=True,
-            text=True,
-            timeout=60,
-        )
+        line, environment = [self.top / command[0], *command[1:]], {**self.environment(has_rt), **variables}
+        return ran(line, self.folder, environment, given="a schedule", seconds=60)
 
     def builds(self) -> list[str]:
         """The crates that were built, in this order."""

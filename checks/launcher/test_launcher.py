@@ -9,6 +9,7 @@ from pathlib import Path
 from typing import Callable
 
 import pytest
+from commands import begun
 from launcher.small_repository import CASES, Repository
 from waiting import until
 
@@ -135,14 +136,7 @@ def test_source_that_cannot_be_read(repository: Repository) -> None:
 
 
 def start(repository: Repository) -> subprocess.Popen[str]:
-    return subprocess.Popen(
-        [repository.top / "osb-replay", "--from-source"],
-        env=repository.environment(),
-        stdin=subprocess.DEVNULL,
-        stdout=subprocess.PIPE,
-        stderr=subprocess.PIPE,
-        text=True,
-    )
+    return begun([repository.top / "osb-replay", "--from-source"], repository.environment())
 
 
 def test_two_starts_build_once(repository: Repository) -> None:

@@ -15,52 +15,31 @@ SERVICE = "00000000-0000-0000-0000-0000000000a0"
 PLAN = "00000000-0000-0000-0000-0000000000b1"
 # How a word of the models is spelled in the language.
 SPELLED = {"garbled": "garble", "end-unknown": "end unknown", "finish failed": "finish fail"}
-# Of these, a line has one, and how it is written doesn't depend on the line.
-FAULTS = [
-    ("NotAscii", b"# caf\xc3\xa9"),
-    ("LineTooLong", b"#" * (LONGEST_LINE + 1)),
-    ("UnknownWord", b"Create {life}"),
-    ("UnknownWord", b"deliver {life} done"),
-    ("WordCount", b"send"),
-    ("WordCount", b"create {life} 1"),
-    ("WordCount", b"arrive {life}"),
-    ("WordCount", b"take {life} 1 2"),
-    ("WordCount", b"instance {id} {id} {id} sync yes at-once"),
-    ("WordCount", b"binding {binding} sync yes at-once"),
-    ("BadId", b"send 1"),
-    ("BadId", b"send {id}/"),
-    ("BadId", b"send {binding}/{id}"),
-    ("BadId", b"send /{id}"),
-    ("BadId", b"instance {binding} {id} {id} sync yes at-once both"),
-    ("BadId", b"instance {id} x {id} both yes at-once both"),
-    ("BadId", b"binding {id} sync yes at-once fetch"),
-    ("BadId", b"issue {id} 1"),
-    ("BadId", b"fetch {id}"),
-    ("BadId", b"forget {id}"),
-    ("BadId", b"take-fetched {id} x 0"),
-    ("BadChoice", b"instance {id} {id} {id} Sync yes at-once both"),
-    ("BadChoice", b"instance {id} {id} {id} never yes at-once both"),
-    ("BadChoice", b"instance {id} {id} {id} sync yes first both"),
-    ("BadChoice", b"instance {id} {id} {id} sync yes at-once neither"),
-    ("BadChoice", b"binding {binding} sync yes at-once maybe"),
-    ("BadChoice", b"binding {binding} sync yes at-once both"),
-    ("BadChoice", b"arrive {life} x"),
-    ("BadChoice", b"arrive {life} -1"),
-    ("BadChoice", b"arrive {life} +1"),
-    ("BadChoice", b"put-off {life} 18446744073709551616"),
-    ("BadChoice", b"take {life} 0x1"),
-    ("BadChoice", b"garble {life} 99999999999999999999999999"),
-    ("BadChoice", b"gateway {life} 499"),
-    ("BadChoice", b"gateway {life} 600"),
-    ("BadChoice", b"work {life} all"),
-    ("BadChoice", b"issue {binding} -"),
-    ("BadChoice", b"end {life} refused"),
-    ("BadChoice", b"end {life} ok"),
-    ("BadChoice", b"end {life} refused-401"),
-    ("BadChoice", b"finish {life} failed"),
-    ("BadChoice", b"crash {life} both"),
-    ("BadChoice", b"take-fetched {binding} 1 y"),
-]
+# The lines that have each fault. How they are written doesn't depend on the line.
+LINES = {
+    "NotAscii": ["# caf\u00e9"],
+    "LineTooLong": ["#" * (LONGEST_LINE + 1)],
+    "UnknownWord": ("Create {life}; deliver {life} done").split("; "),
+    "WordCount": (
+        "send; create {life} 1; arrive {life}; take {life} 1 2; instance {id} {id} {id} sync yes at-once; "
+        "binding {binding} sync yes at-once"
+    ).split("; "),
+    "BadId": (
+        "send 1; send {id}/; send {binding}/{id}; send /{id}; "
+        "instance {binding} {id} {id} sync yes at-once both; instance {id} x {id} both yes at-once both; "
+        "binding {id} sync yes at-once fetch; issue {id} 1; fetch {id}; forget {id}; take-fetched {id} x 0"
+    ).split("; "),
+    "BadChoice": (
+        "instance {id} {id} {id} Sync yes at-once both; instance {id} {id} {id} never yes at-once both; "
+        "instance {id} {id} {id} sync yes first both; instance {id} {id} {id} sync yes at-once neither; "
+        "binding {binding} sync yes at-once maybe; binding {binding} sync yes at-once both; arrive {life} x; "
+        "arrive {life} -1; arrive {life} +1; put-off {life} 18446744073709551616; take {life} 0x1; "
+        "garble {life} 99999999999999999999999999; gateway {life} 499; gateway {life} 600; work {life} all; "
+        "issue {binding} -; end {life} refused; end {life} ok; end {life} refused-401; finish {life} failed; "
+        "crash {life} both; take-fetched {binding} 1 y"
+    ).split("; "),
+}
+FAULTS = [(name, line.encode()) for name, lines in LINES.items() for line in lines]
 
 
 def guid(number: int) -> str:

@@ -10,16 +10,15 @@ import subprocess
 from pathlib import Path
 from typing import Iterator, NamedTuple
 
+from commands import printed
+
 TOP = Path(__file__).resolve().parents[2]
 PROGRAM = str(TOP / "osb-platform")
 
 
 def run(store: Path, *arguments: str) -> str:
     """Runs a command over a store, and returns what it prints."""
-    line = [PROGRAM, *arguments, "--store", str(store)]
-    ran = subprocess.run(line, env=_environment(store), stdin=subprocess.DEVNULL, capture_output=True, text=True)
-    assert ran.returncode == 0, f"{line} ended with {ran.returncode}: {ran.stderr}"
-    return ran.stdout
+    return printed([PROGRAM, *arguments, "--store", store], environment=_environment(store))
 
 
 @contextlib.contextmanager

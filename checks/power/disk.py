@@ -8,12 +8,12 @@ from __future__ import annotations
 
 import contextlib
 import os
-import shutil
 import subprocess
 from pathlib import Path
 from typing import Iterator
 
 import pytest
+from commands import needs
 
 TOOLS = {"mkfs.xfs": "xfsprogs", "mkfs.ext4": "e2fsprogs", "mount": "mount"}
 _PATH = f"{os.environ.get('PATH', '')}:/usr/sbin:/sbin"
@@ -58,9 +58,7 @@ class Disk:
 @contextlib.contextmanager
 def disk(folder: Path) -> Iterator[Disk]:
     """A new disk. The test is skipped if this machine can't have one."""
-    for tool, package in TOOLS.items():
-        if shutil.which(tool, path=_PATH) is None:
-            pytest.skip(f"{tool} isn't installed (Debian: {package})")
+    needs(*TOOLS, packages=TOOLS, path=_PATH)
     if os.geteuid() != 0:
         pytest.skip("only root may mount a file system")
     host, image = folder / "host.img", folder / "host" / "disk"

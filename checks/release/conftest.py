@@ -8,7 +8,8 @@ import subprocess
 from pathlib import Path
 
 import pytest
-from go.toolchain import TOOLS, TOP, needs, needs_packages
+from commands import PACKAGES, needs
+from go.toolchain import TOOLS, TOP, needs_packages
 
 from release import sources
 from release.making import make
@@ -25,7 +26,7 @@ def pytest_itemcollected(item: pytest.Item) -> None:
 @pytest.fixture(scope="session")
 def dist(tmp_path_factory: pytest.TempPathFactory) -> Path:
     """The folder with the files of a release. The first process of pytest that needs it makes it."""
-    needs({**TOOLS, **sources.TOOLS})
+    needs(*TOOLS, *sources.TOOLS, packages={**PACKAGES, **sources.TOOLS})
     needs_packages()
     for module in MODULES:
         found = subprocess.run(["/usr/bin/python3", "-c", f"import {module}"], capture_output=True, cwd="/")

@@ -15,9 +15,9 @@ from pathlib import Path
 from typing import Iterator
 
 import pytest
+from commands import needs, printed
 
 PATH = "/usr/local/sbin:/usr/local/bin:/usr/sbin:/usr/bin:/sbin:/bin"
-TOOLS = {"debootstrap": "debootstrap", "unshare": "util-linux", "nsenter": "util-linux", "mount": "mount"}
 SUITE = "bookworm"
 
 # What prepares the folder $1 in new namespaces, and enters it.
@@ -64,17 +64,8 @@ class Fresh:
             line = [*enter, "bash", "-c", _COMMAND, "enter", str(self.top), f"set -e\n{script}"]
         else:
             line = ["nsenter", "-t", str(self._systemd), "-m", "-p", "-u", "-i", "-n", "-C", "bash", "-ec", script]
-        ran = subprocess.run(
-            line,
-            env={"PATH": PATH, "HOME": "/srv", "DEBIAN_FRONTEND": "noninteractive", "LC_ALL": "C.UTF-8", **_proxies()},
-            stdin=subprocess.DEVNULL,
-            stdout=subprocess.PIPE,
-            stderr=subprocess.PIPE,
-            text=True,
-            timeout=300,
-        )
-        assert ran.returncode == 0, f"status {ran.returncode}: {script}\n{ran.stdout}{ran.stderr}"
-        return ran.stdout
+        own = {"PATH": PATH, "HOME": "/srv", "DEBIAN_FRONTEND": "noninteractive", "LC_ALL": "C.UTF-8"}
+        return printed(line, environment={**own, **_proxies()})
 
     def put(self, file: Path, name: str) -> str:
         """Copies a file into its folder /packages, and returns its path there."""
@@ -182,9 +173,7 @@ def mirror() -> str:
 
 def fresh(folder: Path, *packages: str) -> Fresh:
     """A new Debian with these packages besides the least. Skips the test if this machine can't make one."""
-    for tool, package in TOOLS.items():
-        if shutil.which(tool, path=f"{os.environ['PATH']}:/usr/sbin:/sbin") is None:
-            pytest.skip(f"{tool} isn't installed (Debian: {package})")
+    needs("debootstrap", "unshare", "nsenter", "mount", path=f"{os.environ['PATH']}:/usr/sbin:/sbin")
     if os.geteuid() != 0:
         pytest.skip("only root may make a Debian in a folder")
     line = ["debootstrap", "--variant=minbase", f"--include={','.join(packages)}", SUITE, str(folder), mirror()]

@@ -14,6 +14,7 @@ from typing import Any
 
 import pytest
 import waiting
+from commands import needs, printed
 from ports import free_port
 
 pytestmark = pytest.mark.slow
@@ -37,11 +38,8 @@ def unpack(layout: Path, name: str, to: Path) -> dict[str, Any]:
     """Has umoci unpack a reference, and returns the configuration of its process."""
     if os.geteuid() != 0:
         pytest.skip("only root may unpack files of other users")
-    if shutil.which("umoci") is None:
-        pytest.skip("umoci isn't installed (Debian: umoci)")
-    line = ["umoci", "unpack", "--image", f"{layout}:{name}", str(to)]
-    ran = subprocess.run(line, stdout=subprocess.PIPE, stderr=subprocess.STDOUT, text=True)
-    assert ran.returncode == 0, ran.stdout
+    needs("umoci")
+    printed(["umoci", "unpack", "--image", f"{layout}:{name}", to])
     process = json.loads((to / "config.json").read_text())["process"]
     assert isinstance(process, dict)
     return process

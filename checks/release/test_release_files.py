@@ -16,6 +16,7 @@ from pathlib import Path
 from typing import Any
 
 import pytest
+from commands import needs, printed
 from docs.pages import TOP, block, read
 
 from release import pages
@@ -26,10 +27,7 @@ pytestmark = pytest.mark.slow
 
 def run(*line: str | Path, **variables: str) -> str:
     """Runs a command that must succeed, and returns what it printed."""
-    environment = {**os.environ, **variables}
-    ran = subprocess.run([str(it) for it in line], capture_output=True, text=True, env=environment, timeout=300)
-    assert ran.returncode == 0, f"status {ran.returncode}: {line}\n{ran.stdout}{ran.stderr}"
-    return ran.stdout
+    return printed(line, environment={**os.environ, **variables})
 
 
 def sums(folder: Path) -> dict[str, str]:
@@ -97,8 +95,7 @@ def test_names_and_checksums(dist: Path, version: str) -> None:
 @pytest.mark.long(15)
 def test_packages_satisfy_lintian(dist: Path) -> None:
     """Without an error or a warning, and each override in the package is one that lintian needs."""
-    if shutil.which("lintian") is None:
-        pytest.skip("lintian isn't installed (Debian: lintian)")
+    needs("lintian")
     line = ["lintian", "--allow-root", "--fail-on", "error,warning", "--display-info"]
     line += sorted(map(str, dist.glob("*.deb")))
     ran = subprocess.run(line, capture_output=True, text=True, timeout=300)
@@ -173,9 +170,7 @@ def test_completion(dist: Path, version: str, tmp_path: Path) -> None:
 
 def test_c_program_over_the_development_package(dist: Path, version: str, tmp_path: Path) -> None:
     """pkg-config finds the library, and the example is linked with both of its kinds."""
-    for tool in ("cc", "pkg-config"):
-        if shutil.which(tool) is None:
-            pytest.skip(f"{tool} isn't installed (Debian: gcc, pkg-config)")
+    needs("cc", "pkg-config")
     top = tmp_path / "root"
     for name in (f"osb_{version}_amd64.deb", f"osb-dev_{version}_amd64.deb"):
         run("dpkg-deb", "-x", dist / name, top)

@@ -2,11 +2,10 @@
 
 from __future__ import annotations
 
-import shutil
-import subprocess
 from pathlib import Path
 
 import pytest
+from commands import needs, printed
 
 from release import linked, sources
 from release.archives import Entry, compressed, tar
@@ -63,8 +62,5 @@ def test_archive_depends_on_nothing_else(monkeypatch: pytest.MonkeyPatch) -> Non
 
 
 def test_make_has_the_target() -> None:
-    if shutil.which("make") is None:
-        pytest.skip("make isn't installed (Debian: make)")
-    line = ["make", "--no-print-directory", "-n", "release"]
-    ran = subprocess.run(line, cwd=sources.TOP, capture_output=True, text=True)
-    assert ran.returncode == 0 and ran.stdout.endswith(" -m release\n")
+    needs("make")
+    assert printed(["make", "--no-print-directory", "-n", "release"], sources.TOP).endswith(" -m release\n")

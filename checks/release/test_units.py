@@ -5,7 +5,6 @@ from __future__ import annotations
 import http.client
 import os
 import re
-import shutil
 import signal
 import subprocess
 import threading
@@ -14,6 +13,7 @@ from contextlib import contextmanager
 from pathlib import Path
 
 import pytest
+from commands import needs, ran
 from docs.pages import TOP
 from ports import free_address
 from waiting import until
@@ -25,10 +25,8 @@ each = pytest.mark.parametrize("unit", UNITS, ids=[it.name for it in UNITS])
 
 
 def analyze(*line: str | Path) -> subprocess.CompletedProcess[str]:
-    if shutil.which("systemd-analyze") is None:
-        pytest.skip("systemd-analyze isn't installed (Debian: systemd)")
-    command = ["systemd-analyze", "--no-pager", *map(str, line)]
-    return subprocess.run(command, stdout=subprocess.PIPE, stderr=subprocess.STDOUT, text=True)
+    needs("systemd-analyze")
+    return ran(["systemd-analyze", "--no-pager", *line], merged=True)
 
 
 @each

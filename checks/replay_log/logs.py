@@ -79,43 +79,23 @@ def encoded(many: int, step: int) -> list[bytes]:
     return [line.encode() for line in lines(names(many, step))]
 
 
+# Lines that have a fault wherever they are behind an event, or nearly one.
+FAULTY = (
+    "Restart|restart # now|send 1|send|finish {one} maybe|gateway {one} 499|plan {service} {plan} sync|"
+    "plan {service} {one} async|plan|plan {one}|# caf\xc3\xa9|send {one} caf\xc3\xa9|create {one} {service} {plan}|"
+    "send 1 2|create {one} 1 {plan} no|create {one} {service} {plan} No|\x0crestart|\x0c# no comment|send\r{one}|"
+    "restart\r\r|send {one}\r\r|send {short}|send {short}g|update {one}|send\x0b{one}|\xff|\x00|send {one}\x00|\r\r|"
+    "plan\x0b{service} {plan} sync|answer {one} {one}"
+)
+
+
 def faulty(one: str, plan: str) -> list[bytes]:
-    """Lines that have a fault wherever they are behind an event, or nearly one."""
+    """Those of FAULTY of this instance and this plan, and long lines."""
     return [
-        b"Restart",
-        b"restart # now",
-        b"send 1",
-        b"send",
-        f"finish {one} maybe".encode(),
-        f"gateway {one} 499".encode(),
-        f"plan {SERVICE} {plan} sync".encode(),
-        f"plan {SERVICE} {one} async".encode(),
-        b"plan",
-        f"plan {one}".encode(),
+        *FAULTY.format(one=one, short=one[:-1], service=SERVICE, plan=plan).encode("latin-1").split(b"|"),
         *(b"#" * length for length in (512, 513, 514, 1000, 5000)),
         f"send {one}{' ' * 500}".encode(),
-        "# caf\u00e9".encode(),
-        f"send {one} caf\u00e9".encode(),
-        f"create {one} {SERVICE} {plan}".encode(),
-        b"send 1 2",
-        f"create {one} 1 {plan} no".encode(),
-        f"create {one} {SERVICE} {plan} No".encode(),
-        b"\x0crestart",
-        b"\x0c# no comment",
-        f"send\r{one}".encode(),
-        b"restart\r\r",
-        f"send {one}\r\r".encode(),
-        f"send {one[:-1]}".encode(),
-        f"send {one[:-1]}g".encode(),
-        f"update {one}".encode(),
-        f"send\x0b{one}".encode(),
-        b"\xff",
-        b"\x00",
-        f"send {one}\x00".encode(),
-        b"\r\r",
-        f"plan\x0b{SERVICE} {plan} sync".encode(),
         b"x" * 4000,
-        f"answer {one} {one}".encode(),
         *(b"send " + b"x" * length for length in (36, 37, 507, 508, 5000)),
         *(f"send {one} {'x' * length}".encode() for length in (470, 471, 472, 5000)),
         *(b"send " + b"x" * length + b" done" for length in (400, 502, 503, 3000)),

@@ -4,12 +4,13 @@ from __future__ import annotations
 from pathlib import Path
 
 import pytest
-from go.toolchain import TOOLS, Packages, needs, needs_packages
+from commands import needs
+from go.toolchain import TOOLS, Packages, needs_packages
 
 
 @pytest.fixture(scope="session")
 def packages(library: Path) -> Packages:
     """Commands of Go over the packages in go/. What the programs are built with has to be installed."""
-    needs(TOOLS)
+    needs(*TOOLS)
     needs_packages()
     return Packages(library)

@@ -8,6 +8,7 @@ import shutil
 import subprocess
 from pathlib import Path
 
+import commands
 import pytest
 from storm.build import TOP, build
 
@@ -28,10 +29,7 @@ def programs(packages: object, tmp_path_factory: pytest.TempPathFactory) -> list
 
 
 def run(line: list[str], **variables: str) -> subprocess.CompletedProcess[str]:
-    environment = {**os.environ, **variables}
-    return subprocess.run(
-        line, env=environment, stdin=subprocess.DEVNULL, capture_output=True, text=True, timeout=_LONGEST
-    )
+    return commands.ran(line, environment={**os.environ, **variables}, seconds=_LONGEST)
 
 
 def storming(storm: Path, replay: Path, programs: list[str], folder: Path, *arguments: str, unjudged: str = "0") -> str:
@@ -72,8 +70,7 @@ def test_over_postgresql(storm: Path, replay: Path, programs: list[str], tmp_pat
     """
     if not (shutil.which("initdb") or list(Path("/usr/lib/postgresql").glob("*/bin/initdb"))):
         pytest.skip("PostgreSQL isn't installed (Debian: apt-get install postgresql)")
-    if shutil.which("haproxy", path="/usr/sbin:/usr/local/sbin:/usr/bin") is None:
-        pytest.skip("haproxy isn't installed (Debian: apt-get install haproxy)")
+    commands.needs("haproxy", path="/usr/sbin:/usr/local/sbin:/usr/bin")
     places = "--store", "postgresql", "--backend", "postgresql", "--brokers", "3", "--haproxy", "--kill-database", "1"
     counts = "--seconds", "30", "--instances", "100", "--workers", "3", "--crash-points=some"
     assert_audited(storming(storm, replay, programs, tmp_path, *counts, *places))
