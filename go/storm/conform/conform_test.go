@@ -41,6 +41,32 @@ func runnerFor(t *testing.T, c Config) *Runner {
 	return r
 }
 
+// opened returns the target of a Runner that has read the catalogue.
+func opened(t *testing.T, r *Runner) Target {
+	t.Helper()
+	target, err := r.Open(context.Background())
+	check(t, err)
+	return target
+}
+
+// ran returns the report of a Runner.
+func ran(t *testing.T, r *Runner) *Report {
+	t.Helper()
+	report, err := r.Run(context.Background())
+	check(t, err)
+	return report
+}
+
+// cleansUp checks that a Runner deletes everything at a model, within a minute.
+func cleansUp(t *testing.T, r *Runner, m *model) {
+	t.Helper()
+	within, cancel := context.WithTimeout(context.Background(), time.Minute)
+	defer cancel()
+	if left := r.CleanUp(within); len(left) > 0 || m.left() > 0 {
+		t.Errorf("got %v left and %d that exist, want none", left, m.left())
+	}
+}
+
 // caseNames returns the names of the cases with a verdict, sorted.
 func caseNames(report *Report, verdict Verdict) string {
 	var names []string
@@ -63,22 +89,17 @@ func sortWords(names string) string {
 func TestModelPasses(t *testing.T) {
 	passed := map[string]bool{}
 	for _, async := range []bool{false, true} {
-		m := newModel(async)
-		r := runnerFor(t, configFor(serve(t, m)))
-		report, err := r.Run(context.Background())
-		check(t, err)
-		for _, result := range report.Results {
-			if result.Verdict == Fail {
-				t.Errorf("async %v: got %+v, want no failure", async, result)
+		t.Run(fmt.Sprint(async), func(t *testing.T) {
+			m := newModel(async)
+			r := runnerFor(t, configFor(serve(t, m)))
+			for _, result := range ran(t, r).Results {
+				if result.Verdict == Fail || result.Verdict == NotRun && result.Reason == "" {
+					t.Errorf("got %+v, want no failure, and a reason if it isn't run", result)
+				}
+				passed[result.Name] = passed[result.Name] || result.Verdict == Pass
 			}
-			if result.Verdict == NotRun && result.Reason == "" {
-				t.Errorf("async %v: got no reason of %s, want one", async, result.Name)
-			}
-			passed[result.Name] = passed[result.Name] || result.Verdict == Pass
-		}
-		if left := r.CleanUp(context.Background()); len(left) > 0 || m.left() > 0 {
-			t.Errorf("async %v: got %v left and %d that exist, want none", async, left, m.left())
-		}
+			cleansUp(t, r, m)
+		})
 	}
 	for _, test := range Cases() {
 		if !passed[test.Name] {
@@ -97,8 +118,7 @@ func TestMistakes(t *testing.T) {
 			c := configFor(serve(t, m))
 			c.OperationTime = time.Second
 			r := runnerFor(t, c)
-			report, err := r.Run(context.Background())
-			check(t, err)
+			report := ran(t, r)
 			if failed := caseNames(report, Fail); failed != sortWords(it.fails) {
 				t.Errorf("got the failures  %s\nwant %s", failed, sortWords(it.fails))
 			}
@@ -146,8 +166,7 @@ func TestReasonsWithoutCatalogue(t *testing.T) {
 	}
 	c := configFor(serve(t, m))
 	c.Service, c.Plan = "s", "a"
-	report, err := runnerFor(t, c).Run(context.Background())
-	check(t, err)
+	report := ran(t, runnerFor(t, c))
 	of := map[string]string{}
 	for _, result := range report.Results {
 		of[result.Name] = result.Reason

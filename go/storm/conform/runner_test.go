@@ -21,25 +21,25 @@ import (
 func TestEndedRun(t *testing.T) {
 	for _, async := range []bool{false, true} {
 		for _, after := range []int64{5, 12, 20, 30, 45} {
-			ctx, end := context.WithCancel(context.Background())
-			m, count := newModel(async), int64(0)
-			m.hold = func(*call) {
-				if atomic.AddInt64(&count, 1) == after {
-					end() // the request is in flight
+			t.Run(fmt.Sprint(async, after), func(t *testing.T) {
+				ctx, end := context.WithCancel(context.Background())
+				m, count := newModel(async), int64(0)
+				m.hold = func(*call) {
+					if atomic.AddInt64(&count, 1) == after {
+						end() // the request is in flight
+					}
 				}
-			}
-			r := runnerFor(t, configFor(serve(t, m)))
-			report, err := r.Run(ctx)
-			check(t, err)
-			if sent := atomic.LoadInt64(&count); sent != after || report.Ended == "" {
-				t.Errorf("async %v: got %d requests, want %d; the end: %q", async, sent, after, report.Ended)
-			}
-			if after > 16 && m.left() == 0 {
-				t.Errorf("async %v: got nothing that exists after %d requests, want something", async, after)
-			}
-			if left := r.CleanUp(context.Background()); len(left) > 0 || m.left() > 0 {
-				t.Errorf("async %v, after %d: got %v left and %d that exist, want none", async, after, left, m.left())
-			}
+				r := runnerFor(t, configFor(serve(t, m)))
+				report, err := r.Run(ctx)
+				check(t, err)
+				if sent := atomic.LoadInt64(&count); sent != after || report.Ended == "" {
+					t.Errorf("got %d requests, want %d; the end: %q", sent, after, report.Ended)
+				}
+				if after > 16 && m.left() == 0 {
+					t.Error("got nothing that exists, want something")
+				}
+				cleansUp(t, r, m)
+			})
 		}
 	}
 }
@@ -65,9 +65,7 @@ func TestDeletionsThatFail(t *testing.T) {
 		t.Run(name, func(t *testing.T) {
 			m := newModel(test.async)
 			r := runnerFor(t, configFor(serve(t, m)))
-			if _, err := r.Run(context.Background()); err != nil {
-				t.Fatal(err)
-			}
+			ran(t, r)
 			exist := m.left()
 			m.turn.Lock()
 			m.spoil = test.spoil
@@ -101,8 +99,7 @@ func TestHangingBroker(t *testing.T) {
 	c.RequestTime, c.Pause = 100*time.Millisecond, 5*time.Millisecond
 	r := runnerFor(t, c)
 	begun := time.Now()
-	report, err := r.Run(context.Background())
-	check(t, err)
+	report := ran(t, r)
 	if took := time.Since(begun); took > 10*time.Second || !strings.Contains(report.Ended, "3 requests in a row") {
 		t.Errorf("got after %v the end %q, want one after 3 requests in a row, within 10 s", took, report.Ended)
 	}
@@ -123,9 +120,7 @@ func owing(t *testing.T, m *model, change func(*Config), exist ...string) *Runne
 	c := configFor(serve(t, m))
 	change(&c)
 	r := runnerFor(t, c)
-	if _, err := r.Open(context.Background()); err != nil {
-		t.Fatal(err)
-	}
+	opened(t, r)
 	r.Owe(Debt{Instance: "late", Unanswered: true})
 	for _, id := range exist {
 		m.lives[key{instance: id}] = &life{state: "ready", asked: object{"plan": "a"}}
@@ -210,18 +205,14 @@ func TestBindingsFirst(t *testing.T) {
 	r := owing(t, m, func(c *Config) { c.RequestTime = 100 * time.Millisecond }, "one")
 	m.lives[key{"one", "b"}] = &life{state: "ready", asked: object{"plan": "a"}}
 	r.Owe(Debt{Instance: "one", Binding: "b"})
-	if left := r.CleanUp(context.Background()); len(left) > 0 || m.left() > 0 {
-		t.Errorf("got %v left and %d that exist, want none", left, m.left())
-	}
+	cleansUp(t, r, m)
 }
 
 // A broker that hangs during the deletions doesn't keep CleanUp beyond its time.
 func TestHangingDeletions(t *testing.T) {
 	m, hangs := newModel(false), make(chan struct{})
 	r := runnerFor(t, configFor(serve(t, m)))
-	if _, err := r.Run(context.Background()); err != nil {
-		t.Fatal(err)
-	}
+	ran(t, r)
 	m.turn.Lock()
 	m.hold = func(*call) { <-hangs }
 	exist := len(r.ledger.entries)
@@ -245,14 +236,11 @@ func TestInstances(t *testing.T) {
 	c := configFor(serve(t, m))
 	c.Instances = 3
 	r := runnerFor(t, c)
-	report, err := r.Run(context.Background())
-	check(t, err)
+	report := ran(t, r)
 	if report.Instances != 3 || !strings.Contains(report.Ended, "the limit") {
 		t.Errorf("got %d instances and %q, want 3 and the limit", report.Instances, report.Ended)
 	}
-	if left := r.CleanUp(context.Background()); len(left) > 0 || m.left() > 0 {
-		t.Errorf("got %v left and %d that exist, want none", left, m.left())
-	}
+	cleansUp(t, r, m)
 }
 
 // Errors of the settings, and of a broker that isn't there.
@@ -298,8 +286,7 @@ func TestReportHasNoSecrets(t *testing.T) {
 		}
 	}
 	c := configFor(serve(t, m))
-	report, err := runnerFor(t, c).Run(context.Background())
-	check(t, err)
+	report := ran(t, runnerFor(t, c))
 	var text, json strings.Builder
 	check(t, report.WriteText(&text))
 	check(t, report.WriteJSON(&json))
@@ -326,9 +313,7 @@ func TestInstanceThatIsNeverFree(t *testing.T) {
 	c := configFor(serve(t, m))
 	c.RequestTime, c.OperationTime = 500*time.Millisecond, 100*time.Millisecond
 	r := runnerFor(t, c)
-	if _, err := r.Run(context.Background()); err != nil {
-		t.Fatal(err)
-	}
+	ran(t, r)
 	within, cancel := context.WithTimeout(context.Background(), time.Minute)
 	defer cancel()
 	left := r.CleanUp(within)
@@ -350,9 +335,7 @@ func TestManyDeletions(t *testing.T) {
 			c := configFor(serve(t, m))
 			c.Tell = func(line string) { told = append(told, line) }
 			r := runnerFor(t, c)
-			if _, err := r.Open(context.Background()); err != nil {
-				t.Fatal(err)
-			}
+			opened(t, r)
 			for n := 0; n < 10; n++ {
 				id := fmt.Sprint(n)
 				m.lives[key{instance: id}] = &life{state: "ready", asked: object{"plan": "a"}}
@@ -386,20 +369,14 @@ func TestOwe(t *testing.T) {
 		m.lives[target] = &life{state: "ready", asked: object{"plan": "a"}}
 		r.Owe(Debt{Instance: target.instance, Binding: target.binding})
 	}
-	within, cancel := context.WithTimeout(context.Background(), time.Minute)
-	defer cancel()
-	if left := r.CleanUp(within); len(left) > 0 || m.left() > 0 {
-		t.Errorf("got %v left and %d that exist, want none", left, m.left())
-	}
+	cleansUp(t, r, m)
 }
 
 // An instance that was asked for is deleted.
 func TestProvision(t *testing.T) {
 	m := newModel(false)
 	r := runnerFor(t, configFor(serve(t, m)))
-	if _, err := r.Open(context.Background()); err != nil {
-		t.Fatal(err)
-	}
+	opened(t, r)
 	id := r.NewID(1)
 	if answer := r.Provision(context.Background(), id); answer.Status != 201 || m.left() != 1 {
 		t.Errorf("got %+v and %d that exist, want 201 and 1", answer, m.left())
@@ -408,9 +385,7 @@ func TestProvision(t *testing.T) {
 	if answer.Text("state") != "succeeded" {
 		t.Errorf("got %+v, want the state succeeded", answer)
 	}
-	if left := r.CleanUp(context.Background()); len(left) > 0 || m.left() > 0 {
-		t.Errorf("got %v left and %d that exist, want none", left, m.left())
-	}
+	cleansUp(t, r, m)
 }
 
 // retrying returns what was seen with a Retry-After.
@@ -493,8 +468,7 @@ func TestBrokerRepeatsSecrets(t *testing.T) {
 		}
 		c := configFor(serve(t, m))
 		r := runnerFor(t, c)
-		report, err := r.Run(context.Background())
-		check(t, err)
+		report := ran(t, r)
 		report.Leftovers = r.CleanUp(context.Background())
 		answer := r.Ask(context.Background(), "DELETE", "x", "", "", nil)
 		var text, json strings.Builder

@@ -22,6 +22,7 @@ import (
 	"pippinterm/storm/fault"
 	"pippinterm/storm/run/audit"
 	"pippinterm/storm/run/goods"
+	"pippinterm/storm/stormtest"
 )
 
 func pidOf(v *victim) string { return strconv.Itoa(v.running.Process.Pid) }
@@ -59,9 +60,7 @@ func TestJournal(t *testing.T) {
 			})
 		}
 		diff.NoError(t, b.Close(), "")
-		if files, err := os.ReadDir(config.Folder); err != nil || len(files) > 0 {
-			t.Errorf("got %v %v left, want none", err, files)
-		}
+		stormtest.Empty(t, config.Folder)
 	}
 }
 
@@ -179,9 +178,7 @@ func TestBothRejected(t *testing.T) {
 			if _, err := NewBoth(context.Background(), config); err == nil {
 				t.Errorf("%s: got no error, want one", name)
 			}
-			if files, err := os.ReadDir(config.Folder); err != nil || len(files) > 0 {
-				t.Errorf("%s: got %v %v left, want none", name, err, files)
-			}
+			stormtest.Empty(t, config.Folder)
 		})
 	}
 }
@@ -200,7 +197,7 @@ func TestProgramsInReport(t *testing.T) {
 			if report.IsClean() != (name == "") {
 				t.Errorf("%q: got clean %v, want %v", name, report.IsClean(), name == "")
 			}
-			for form, text := range reports(t, report) {
+			for form, text := range stormtest.Forms(t, report) {
 				if form != "JSON" && !strings.Contains(text, name) {
 					t.Errorf("%s: got no %q, want it", form, name)
 				}
@@ -494,16 +491,9 @@ func TestUnruly(t *testing.T) {
 		defer close(ended)
 		u.run(ctx)
 	}()
-	await := func(what string, is func() bool) {
-		for end := time.Now().Add(20 * time.Second); !is(); time.Sleep(5 * time.Millisecond) {
-			if time.Now().After(end) {
-				t.Fatalf("got no end in time, want it: %s", what)
-			}
-		}
-	}
-	await("nothing is bound", func() bool { return len(broker.holdings(t)) >= 24 })
+	stormtest.Await(t, 20*time.Second, "nothing is bound", func() bool { return len(broker.holdings(t)) >= 24 })
 	u.calm()
-	await("something is held", func() bool { return u.isDone(ctx) })
+	stormtest.Await(t, 20*time.Second, "something is held", func() bool { return u.isDone(ctx) })
 	bound := len(u.all())
 	cancel()
 	<-ended

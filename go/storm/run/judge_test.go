@@ -14,6 +14,7 @@ import (
 	"pippinterm/platform"
 	"pippinterm/storm/fault"
 	"pippinterm/storm/report"
+	"pippinterm/storm/stormtest"
 )
 
 // answers are exchanges about one instance, one after another: each is a method, a status, and a body.
@@ -167,7 +168,7 @@ func TestNumbers(t *testing.T) {
 	all := answers(x{"PUT", 201, `{}`}, x{"PUT", 201, `{}`}, x{"PUT", 200, `{}`}, x{"PUT", 201, `{}`}, x{"PUT", 201, `[]`})
 	whole := emptyReport()
 	whole.take(&Result{Keys: newKeys(nil), Exchanges: all, Broken: judge(all, nil, report.Hider{})})
-	written := reports(t, whole)
+	written := stormtest.Forms(t, whole)
 	var read struct {
 		Broken []struct {
 			Name    string

@@ -9,6 +9,7 @@ import (
 
 	"pippinterm/internal/diff"
 	"pippinterm/storm/fault"
+	"pippinterm/storm/stormtest"
 )
 
 // listOf returns a list of faults.
@@ -140,7 +141,7 @@ func TestShrink(t *testing.T) {
 			if test.minimal != nil {
 				diff.Equal(t, got.MinimalLost[0].What, fmt.Sprint(got.replayList(nil)), "the list of the life")
 			}
-			for form, text := range reports(t, got) {
+			for form, text := range stormtest.Forms(t, got) {
 				isCalledShortest := strings.Contains(text, "shortest list") || strings.Contains(text, "Shortest list")
 				isShortest := test.minimal != nil && test.ended == ""
 				if form != "JSON" && isCalledShortest != isShortest || !strings.Contains(text, test.ended) {

@@ -2,7 +2,6 @@ package run
 
 import (
 	"bufio"
-	"bytes"
 	"context"
 	"encoding/base64"
 	"encoding/json"
@@ -27,21 +26,8 @@ import (
 	"pippinterm/storm/conform"
 	"pippinterm/storm/fault"
 	"pippinterm/storm/report"
+	"pippinterm/storm/stormtest"
 )
-
-// reports returns the report in its three forms.
-func reports(t *testing.T, report *Report) map[string]string {
-	t.Helper()
-	all := map[string]string{}
-	for name, write := range map[string]func(io.Writer) error{
-		"text": report.WriteText, "JSON": report.WriteJSON, "HTML": report.WriteHTML,
-	} {
-		var text bytes.Buffer
-		check(t, write(&text))
-		all[name] = text.String()
-	}
-	return all
-}
 
 const hostile = `<script>alert("&'1")</script>`
 
@@ -68,7 +54,7 @@ func brokenWith(result conform.Result, number string) Violation {
 
 // A broker's text is text in the page, wherever it stands. The page has no script, and needs nothing else.
 func TestHTML(t *testing.T) {
-	page := reports(t, hostileReport())["HTML"]
+	page := stormtest.Forms(t, hostileReport())["HTML"]
 	if strings.Contains(page, "<script") || strings.Contains(page, "alert(\"") {
 		t.Error("a text of the broker: got it as markup, want it escaped")
 	}
@@ -99,11 +85,11 @@ func TestNoSecrets(t *testing.T) {
 	config := configFor(t, url)
 	config.Commands = m.commands()
 	got := runStorm(t, config)
-	if !hasBinding(got.Lost) {
+	if !stormtest.HasBinding(got.Lost) {
 		t.Fatalf("got\n%s\nwant a binding that is lost", textOf(t, got))
 	}
 	login := base64.StdEncoding.EncodeToString([]byte("platform:" + password))
-	for name, text := range reports(t, got) {
+	for name, text := range stormtest.Forms(t, got) {
 		for _, word := range []string{password, secret, login, fmt.Sprint(pin)} {
 			if strings.Contains(text, word) {
 				t.Errorf("%s: got %s in it, want it hidden", name, word)
@@ -114,7 +100,7 @@ func TestNoSecrets(t *testing.T) {
 		}
 	}
 	var read map[string]any
-	if err := json.Unmarshal([]byte(reports(t, got)["JSON"]), &read); err != nil || len(read["lost"].([]any)) == 0 {
+	if err := json.Unmarshal([]byte(stormtest.Forms(t, got)["JSON"]), &read); err != nil || len(read["lost"].([]any)) == 0 {
 		t.Errorf("got the error %v, want JSON in which something is lost", err)
 	}
 }
@@ -151,7 +137,7 @@ func TestNoSecretsInErrors(t *testing.T) {
 		t.Fatalf("got the error %v, want %v", listed, ErrList)
 	}
 	login := base64.StdEncoding.EncodeToString([]byte("platform:" + password))
-	for _, value := range append(mapOf(reports(t, got)), failed.Error(), listed.Error(), got.Leftovers[0].String()) {
+	for _, value := range append(mapOf(stormtest.Forms(t, got)), failed.Error(), listed.Error(), got.Leftovers[0].String()) {
 		if strings.Contains(value, password) || strings.Contains(value, login[:12]) || !strings.Contains(value, report.Hidden) {
 			t.Errorf("got %s, want no password and no login in it", value)
 		}
@@ -163,16 +149,6 @@ func mapOf(all map[string]string) (values []string) {
 		values = append(values, value)
 	}
 	return values
-}
-
-// hasBinding returns whether a binding was lost.
-func hasBinding(all []Finding) bool {
-	for _, finding := range all {
-		if finding.Binding != "" {
-			return true
-		}
-	}
-	return false
 }
 
 // A report is clean only if nothing was found, and everything has converged.
@@ -222,7 +198,7 @@ func TestUnasked(t *testing.T) {
 			if report.IsClean() != (test.unknown == 0) {
 				t.Errorf("%d: got clean %v, want %v", test.unknown, report.IsClean(), test.unknown == 0)
 			}
-			for form, text := range reports(t, report) {
+			for form, text := range stormtest.Forms(t, report) {
 				text = html.UnescapeString(text)
 				if form != "JSON" && !(strings.Contains(text, test.line) && strings.Contains(text, test.verdict)) {
 					t.Errorf("%s: got %s, want %q and %q", form, text, test.line, test.verdict)
@@ -241,7 +217,7 @@ func TestNoFaultIsNeeded(t *testing.T) {
 		report := emptyReport()
 		report.Minimal = minimal
 		isSaid := minimal != nil && len(minimal) == 0
-		for form, text := range reports(t, report) {
+		for form, text := range stormtest.Forms(t, report) {
 			if form != "JSON" && strings.Contains(text, "none: something is lost without any fault") != isSaid {
 				t.Errorf("%q, %s: got %s, want that no fault is needed: %v", minimal, form, text, isSaid)
 			}
@@ -256,7 +232,7 @@ func TestUnmet(t *testing.T) {
 	config := configFor(t, url)
 	config.Broker.Instances, config.Time = 2, time.Second
 	config.List = listOf(t, "99.1 answer-lost\n1.1 answer-lost\n98/1.2 hang-up")
-	for form, text := range reports(t, runStorm(t, config)) {
+	for form, text := range stormtest.Forms(t, runStorm(t, config)) {
 		wanted := "2 faults of the list met no request: 98/1.2 hang-up, 99.1 answer-lost"
 		if form == "JSON" {
 			wanted = "\"unmet_faults\": [\n    \"98/1.2 hang-up\",\n    \"99.1 answer-lost\"\n  ]"
@@ -265,7 +241,7 @@ func TestUnmet(t *testing.T) {
 			t.Errorf("%s: got %s, want %q", form, text, wanted)
 		}
 	}
-	for form, text := range reports(t, emptyReport()) {
+	for form, text := range stormtest.Forms(t, emptyReport()) {
 		if strings.Contains(text, "met no request") || form == "JSON" && !strings.Contains(text, `"unmet_faults": []`) {
 			t.Errorf("%s: got %s, want no unmet faults", form, text)
 		}
@@ -297,7 +273,7 @@ func TestUntriedFaults(t *testing.T) {
 			if report.IsClean() != (test.says == "" && test.ended == "") {
 				t.Errorf("%s: got clean %v, want %v", name, report.IsClean(), test.says == "" && test.ended == "")
 			}
-			for form, text := range reports(t, report) {
+			for form, text := range stormtest.Forms(t, report) {
 				wanted := map[string]string{
 					"JSON": "\"untried\": [\n    \"" + test.says, "text": "\nNOT TRIED: " + test.says,
 					"HTML": "<th>Wrong</th><td>NOT TRIED: " + test.says,
@@ -338,7 +314,7 @@ func TestPictureOfCleanStorm(t *testing.T) {
 	if !report.IsClean() || report.Restarts != 1 {
 		t.Fatalf("got\n%s\nwant a clean report and 1 restart", textOf(t, report))
 	}
-	page := reports(t, report)["HTML"]
+	page := stormtest.Forms(t, report)["HTML"]
 	for _, part := range []string{
 		"<h2>The storm</h2>", "<title>the broker is killed and started again</title>", "   FAULT: restart-after</title>",
 		"   FAULT: answer-lost</title>",
@@ -421,7 +397,7 @@ func TestJournals(t *testing.T) {
 			if left := m.left(t); len(left) > 0 {
 				t.Errorf("got %v left, want none", left)
 			}
-			checkEmpty(t, config.Folder)
+			stormtest.Empty(t, config.Folder)
 			lines := linesOf(t, filepath.Join(config.Journal, "platform"))
 			checkRequests(t, lines, arrivals())
 			checkDeletions(t, lines, report)

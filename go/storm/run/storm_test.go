@@ -1,7 +1,6 @@
 package run
 
 import (
-	"bytes"
 	"context"
 	"errors"
 	"fmt"
@@ -18,6 +17,7 @@ import (
 	"pippinterm/internal/diff"
 	"pippinterm/storm/conform"
 	"pippinterm/storm/fault"
+	"pippinterm/storm/stormtest"
 )
 
 // configFor is a Config of short times.
@@ -61,33 +61,10 @@ func inOneStorm(t *testing.T, look func(seed int64) string) {
 	t.Errorf("got it in none of %d storms, want it in one: %s", storms, missing)
 }
 
-// untilEnough calls run with one seed after the other, until enough has happened in all storms together: on a slow
-// machine less happens in each. It fails if it isn't enough after ten.
-func untilEnough(t *testing.T, run func(seed int64) *Report) {
-	t.Helper()
-	var instances, bindings, requests, given int
-	for seed := int64(1); seed <= 10 && !t.Failed(); seed++ {
-		report := run(seed)
-		instances += report.Instances
-		bindings += report.Bindings
-		requests += report.Requests
-		given += len(report.Given)
-		if instances >= 20 && bindings >= 5 && requests >= 100 && given >= 30 {
-			return
-		}
-	}
-	if !t.Failed() {
-		t.Errorf("got %d instances, %d bindings, %d requests and %d faults, want a failure", instances, bindings, requests,
-			given)
-	}
-}
-
 // textOf returns the report as text.
 func textOf(t *testing.T, report *Report) string {
 	t.Helper()
-	var text bytes.Buffer
-	check(t, report.WriteText(&text))
-	return text.String()
+	return stormtest.Written(t, report.WriteText)
 }
 
 // A broker without a mistake loses nothing, whether what exists is listed or asked for by the standard.
@@ -97,7 +74,7 @@ func TestNothingLost(t *testing.T) {
 			isAsync, isListed := isAsync, isListed
 			t.Run("", func(t *testing.T) {
 				t.Parallel()
-				untilEnough(t, func(seed int64) *Report {
+				stormtest.UntilEnough(t, stormtest.Tally{20, 5, 100, 30}, func(seed int64) stormtest.Tally {
 					m, url := newModel(t, isAsync, mistakes{})
 					config := configFor(t, url)
 					config.Seed, config.SettleTime, config.CleanUpTime = seed, time.Minute, time.Minute
@@ -111,7 +88,7 @@ func TestNothingLost(t *testing.T) {
 					if left := m.left(t); len(left) > 0 {
 						t.Errorf("got %v left, want none", left)
 					}
-					return report
+					return stormtest.Tally{report.Instances, report.Bindings, report.Requests, len(report.Given)}
 				})
 			})
 		}
@@ -152,11 +129,11 @@ func TestMistakes(t *testing.T) {
 				report := runStorm(t, config)
 				text := textOf(t, report)
 				switch {
-				case it.lost != "" && !strings.Contains(whats(report.Lost), it.lost):
+				case it.lost != "" && !strings.Contains(stormtest.Whats(report.Lost), it.lost):
 					return fmt.Sprintf("nothing is lost because %q:\n%s", it.lost, text)
-				case it.false != "" && !strings.Contains(whats(report.False), it.false):
+				case it.false != "" && !strings.Contains(stormtest.Whats(report.False), it.false):
 					return fmt.Sprintf("no record is false because %q:\n%s", it.false, text)
-				case it.broken != "" && !hasBroken(report, it.broken):
+				case it.broken != "" && !stormtest.HasBroken(report.Broken, it.broken):
 					return fmt.Sprintf("no answer breaks %s:\n%s", it.broken, text)
 				case report.IsClean():
 					return "the report is clean"
@@ -186,7 +163,7 @@ func TestByTheStandard(t *testing.T) {
 				if !strings.HasPrefix(report.Inventory, wanted) {
 					t.Errorf("got %s, want %s", report.Inventory, wanted)
 				}
-				if !strings.Contains(whats(report.Lost), "it exists, and its record says gone") {
+				if !strings.Contains(stormtest.Whats(report.Lost), "it exists, and its record says gone") {
 					return "nothing is lost:\n" + textOf(t, report)
 				}
 				return ""
@@ -198,23 +175,6 @@ func TestByTheStandard(t *testing.T) {
 			}
 		})
 	}
-}
-
-func whats(all []Finding) string {
-	var text []string
-	for _, finding := range all {
-		text = append(text, finding.What)
-	}
-	return strings.Join(text, "\n")
-}
-
-func hasBroken(report *Report, name string) bool {
-	for _, violation := range report.Broken {
-		if violation.Name == name {
-			return true
-		}
-	}
-	return false
 }
 
 // The list of faults is shrunk to the one fault that loses an instance, and that one loses it again.
@@ -229,10 +189,7 @@ func TestMinimize(t *testing.T) {
 		if len(report.Minimal) != 1 || len(report.MinimalLost) == 0 {
 			return fmt.Sprintf("%v is left:\n%s", report.Minimal, textOf(t, report))
 		}
-		var text bytes.Buffer
-		check(t, report.WriteFaults(&text))
-		list, err := fault.ReadList(&text)
-		check(t, err)
+		list := listOf(t, stormtest.Written(t, report.WriteFaults))
 		config.List, config.MinimizeTime = list, 0
 		if again := runStorm(t, config); len(again.Lost) != 1 || len(again.Given) != 1 {
 			return fmt.Sprintf("with %v, %s", list, textOf(t, again))
@@ -282,9 +239,7 @@ func TestCleanUpAfterSignal(t *testing.T) {
 	if time.Since(begun) > 30*time.Second {
 		t.Errorf("got %v, want at most %v", time.Since(begun), 30*time.Second)
 	}
-	if files, err := os.ReadDir(config.Folder); err != nil || len(files) > 0 {
-		t.Errorf("got %v %v left in the folder, want none", err, files)
-	}
+	stormtest.Empty(t, config.Folder)
 }
 
 // At the second signal nothing more is deleted, and what is left is listed.
@@ -371,16 +326,8 @@ func TestTrial(t *testing.T) {
 			if len(m.rows) > 0 {
 				t.Errorf("got the rows %v, want none", m.rows)
 			}
-			checkEmpty(t, config.Folder)
+			stormtest.Empty(t, config.Folder)
 		})
-	}
-}
-
-// checkEmpty checks that nothing is in a folder.
-func checkEmpty(t *testing.T, folder string) {
-	t.Helper()
-	if names, err := os.ReadDir(folder); err != nil || len(names) > 0 {
-		t.Errorf("got %v in %s (%v), want none", names, folder, err)
 	}
 }
 
@@ -575,7 +522,7 @@ func TestWrongLists(t *testing.T) {
 					if left := m.left(t); len(left)+len(report.Leftovers) > 0 || len(m.rows) > 0 {
 						t.Errorf("got %v %v left, want none", left, report.Leftovers)
 					}
-					checkEmpty(t, config.Folder)
+					stormtest.Empty(t, config.Folder)
 				})
 			}
 		}

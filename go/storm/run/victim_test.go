@@ -13,6 +13,7 @@ import (
 
 	"pippinterm/internal/diff"
 	"pippinterm/storm/fault"
+	"pippinterm/storm/stormtest"
 )
 
 // shortTimes are lifetimes of a test.
@@ -51,14 +52,9 @@ func runs(t *testing.T, v *victim, folder string, until func() bool) {
 		defer group.Done()
 		v.run(ctx)
 	}()
-	for end := time.Now().Add(20 * time.Second); !until(); time.Sleep(5 * time.Millisecond) {
-		if time.Now().After(end) {
-			t.Error("got nothing in time, want it")
-			break
-		}
-	}
-	cancel()
-	group.Wait()
+	defer group.Wait()
+	defer cancel()
+	stormtest.Await(t, 20*time.Second, "the condition", until)
 }
 
 func starts(t *testing.T, folder string) int {

@@ -15,6 +15,7 @@ import (
 	"pippinterm/osb"
 	"pippinterm/platform"
 	"pippinterm/platform/sqlite"
+	"pippinterm/storm/stormtest"
 )
 
 // Whatever is taken out: a life over a calm network goes as it does with everything in.
@@ -187,16 +188,11 @@ func TestLateAnswerIsTaken(t *testing.T) {
 		return &platform.Change{Entry: e}, err
 	}))
 	client.answers <- platform.Incoming{Answer: osb.Answer{Status: http.StatusOK, Body: osb.BodyEmpty}}
-	for until := time.Now().Add(time.Minute); ; time.Sleep(time.Millisecond) {
+	stormtest.Await(t, time.Minute, "the state is gone", func() bool {
 		read, err := store.Read(ctx, entry.Key)
 		check(t, err)
-		if read.State == platform.Gone {
-			break
-		}
-		if time.Now().After(until) {
-			t.Fatalf("got %s after the time for it, want another state", read.State)
-		}
-	}
+		return read.State == platform.Gone
+	})
 }
 
 // givenUp is a step that gives the request in flight up, and then asks for the deletion, as package platform does.

@@ -26,6 +26,7 @@ import (
 	"pippinterm/storm/report"
 	"pippinterm/storm/run"
 	"pippinterm/storm/run/goods"
+	"pippinterm/storm/stormtest"
 )
 
 // configFor is a Config of short times. A platform without a mistake settles in a second or two, and on a busy machine
@@ -64,20 +65,11 @@ func runStorm(t *testing.T, config Config, wrong mistakes, isListed bool) *run.R
 	cancel()
 	m.group.Wait()
 	diff.NoError(t, storm.Close(), "")
-	if files, err := os.ReadDir(config.Folder); err != nil || len(files) > 0 {
-		t.Errorf("got %v %v left in the folder, want none", err, files)
-	}
+	stormtest.Empty(t, config.Folder)
 	if len(report.Failed) > 0 {
 		t.Errorf("got the failures %v, want none", report.Failed)
 	}
 	return report
-}
-
-func textOf(t *testing.T, report *run.Report) string {
-	t.Helper()
-	var text bytes.Buffer
-	check(t, report.WriteText(&text))
-	return text.String()
 }
 
 // Nothing is found of a platform without a mistake, with a list and without one, with the rule of the first Poll and
@@ -87,44 +79,20 @@ func TestNothingAbandoned(t *testing.T) {
 		isListed, firstPoll := n%2 == 0, n/2 == 0
 		t.Run(fmt.Sprint(isListed, firstPoll), func(t *testing.T) {
 			t.Parallel()
-			untilEnough(t, func(seed int64) *run.Report {
+			stormtest.UntilEnough(t, stormtest.Tally{8, 1, 40, 15}, func(seed int64) stormtest.Tally {
 				config := configFor(t)
 				config.Seed, config.FirstPoll = seed, firstPoll
 				report := runStorm(t, config, mistakes{}, isListed)
 				if !report.IsClean() || len(report.Broken) > 0 || !report.Converged {
-					t.Errorf("got\n%s\nwant a clean report that has converged", textOf(t, report))
+					t.Errorf("got\n%s\nwant a clean report that has converged", stormtest.Written(t, report.WriteText))
 				}
-				var page bytes.Buffer
-				if err := report.WriteHTML(&page); err != nil || strings.Count(page.String(), "<svg") != 1 {
-					t.Errorf("got %v, or not one picture of the storm, want one", err)
-				}
+				diff.Equal(t, strings.Count(stormtest.Written(t, report.WriteHTML), "<svg"), 1, "pictures of the storm")
 				if isListed != (len(report.Exists) == 0) {
 					t.Errorf("got %d to be compared, want none exactly if they are listed", len(report.Exists))
 				}
-				return report
+				return stormtest.Tally{report.Instances, report.Bindings, report.Requests, len(report.Given)}
 			})
 		})
-	}
-}
-
-// untilEnough calls run with one seed after the other, until enough has happened in all storms together: on a slow
-// machine less happens in each. It fails if it isn't enough after ten.
-func untilEnough(t *testing.T, run func(seed int64) *run.Report) {
-	t.Helper()
-	var instances, bindings, requests, given int
-	for seed := int64(1); seed <= 10 && !t.Failed(); seed++ {
-		report := run(seed)
-		instances += report.Instances
-		bindings += report.Bindings
-		requests += report.Requests
-		given += len(report.Given)
-		if instances >= 8 && bindings >= 1 && requests >= 40 && given >= 15 {
-			return
-		}
-	}
-	if !t.Failed() {
-		t.Errorf("got %d instances, %d bindings, %d requests and %d faults, want a failure", instances, bindings, requests,
-			given)
 	}
 }
 
@@ -202,12 +170,12 @@ func TestMistakes(t *testing.T) {
 			config := configFor(t)
 			config.List, config.Time, config.RequestTime = listOf(it.kinds), time.Second, unhurried
 			if report := runStorm(t, config, mistakes{}, it.isListed); !report.IsClean() || len(report.Broken) > 0 {
-				t.Errorf("without the mistake: got\n%s\nwant a clean report", textOf(t, report))
+				t.Errorf("without the mistake: got\n%s\nwant a clean report", stormtest.Written(t, report.WriteText))
 			}
 			config.SettleTime = time.Second
 			report := runStorm(t, config, it.wrong, it.isListed)
 			if missing := lacks(report, it.abandoned, it.false, it.broken); missing != "" {
-				t.Errorf("got a report without %s, want it there:\n%s", missing, textOf(t, report))
+				t.Errorf("got a report without %s, want it there:\n%s", missing, stormtest.Written(t, report.WriteText))
 			}
 		})
 	}
@@ -216,42 +184,16 @@ func TestMistakes(t *testing.T) {
 // lacks returns what a report lacks of these, or "".
 func lacks(report *run.Report, abandoned, false, broken string) string {
 	switch {
-	case !strings.Contains(whats(report.Lost), abandoned) || abandoned != "" && len(report.Lost) == 0:
+	case !strings.Contains(stormtest.Whats(report.Lost), abandoned) || abandoned != "" && len(report.Lost) == 0:
 		return fmt.Sprintf("nothing is abandoned because %q", abandoned)
-	case !strings.Contains(whats(report.False), false) || false != "" && len(report.False) == 0:
+	case !strings.Contains(stormtest.Whats(report.False), false) || false != "" && len(report.False) == 0:
 		return fmt.Sprintf("no record is false because %q", false)
-	case broken != "" && !hasBroken(report, broken):
+	case broken != "" && !stormtest.HasBroken(report.Broken, broken):
 		return "no request breaks " + broken
 	case report.IsClean() != (abandoned+false == ""):
 		return "the verdict is wrong"
 	}
 	return ""
-}
-
-func whats(all []report.Finding) string {
-	var text []string
-	for _, finding := range all {
-		text = append(text, finding.What)
-	}
-	return strings.Join(text, "\n")
-}
-
-func hasBinding(all []report.Finding) bool {
-	for _, finding := range all {
-		if finding.Binding != "" {
-			return true
-		}
-	}
-	return false
-}
-
-func hasBroken(report *run.Report, name string) bool {
-	for _, violation := range report.Broken {
-		if violation.Name == name {
-			return true
-		}
-	}
-	return false
 }
 
 // Each rule about requests is found broken, alone if the mistake is about it alone, and with the level of the standard.
@@ -271,8 +213,8 @@ func TestRules(t *testing.T) {
 				config.SettleTime = time.Second
 			}
 			got := runStorm(t, config, wrong, true)
-			if !hasBroken(got, rule) {
-				t.Fatalf("got\n%s\nwant the rule broken", textOf(t, got))
+			if !stormtest.HasBroken(got.Broken, rule) {
+				t.Fatalf("got\n%s\nwant the rule broken", stormtest.Written(t, got.WriteText))
 			}
 			first := got.Broken[0]
 			if first.Name != rule || first.Count < 2 || first.Sent == "" || first.Came == "" {
@@ -283,7 +225,7 @@ func TestRules(t *testing.T) {
 			}
 			isMust := rule != "content-type" && rule != "accepts-incomplete"
 			if report.BreaksMust(got.Broken) != isMust || got.IsClean() == isMust {
-				t.Errorf("got\n%s\nwant the verdict of the rule's level", textOf(t, got))
+				t.Errorf("got\n%s\nwant the verdict of the rule's level", stormtest.Written(t, got.WriteText))
 			}
 		})
 	}
@@ -331,15 +273,14 @@ func TestUntried(t *testing.T) {
 			config.Share, config.List, config.Time, config.RequestTime = it.share, it.list, time.Second, unhurried
 			report := runStorm(t, config, mistakes{}, true)
 			if report.IsClean() != (it.says == "") || len(report.Lost)+len(report.False)+len(report.Stuck) > 0 {
-				t.Errorf("got\n%s\nwant the verdict of the list, and nothing lost, false or stuck", textOf(t, report))
+				t.Errorf("got\n%s\nwant the verdict of the list, and nothing lost, false or stuck", stormtest.Written(t, report.WriteText))
 			}
-			for form, write := range map[string]func(io.Writer) error{
-				"\nNOT TRIED: ": report.WriteText, "\"untried\": [\n    \"": report.WriteJSON,
-				"<th>Wrong</th><td>NOT TRIED: ": report.WriteHTML,
-			} {
-				var text bytes.Buffer
-				if err := write(&text); err != nil || strings.Contains(text.String(), form+it.says) != (it.says != "") {
-					t.Errorf("got the error %v and %s, want that it says %q", err, text.String(), it.says)
+			for form, text := range stormtest.Forms(t, report) {
+				before := map[string]string{
+					"text": "\nNOT TRIED: ", "JSON": "\"untried\": [\n    \"", "HTML": "<th>Wrong</th><td>NOT TRIED: ",
+				}[form]
+				if strings.Contains(text, before+it.says) != (it.says != "") {
+					t.Errorf("%s: got %s, want that it says %q", form, text, it.says)
 				}
 			}
 		})
@@ -354,7 +295,7 @@ func TestEnded(t *testing.T) {
 	check(t, err)
 	report := storm.Run(context.Background())
 	if report.IsClean() || !strings.HasPrefix(report.Ended, "no request about an instance came") {
-		t.Errorf("got\n%s\nwant an end because no request came", textOf(t, report))
+		t.Errorf("got\n%s\nwant an end because no request came", stormtest.Written(t, report.WriteText))
 	}
 	diff.NoError(t, storm.Close(), "")
 	config.WaitTime = time.Minute
@@ -370,12 +311,10 @@ func TestEnded(t *testing.T) {
 	report = storm.Run(ctx) // nobody waits for what the platform does next
 	if report.IsClean() || report.Ended != "the run was ended before" || sent.status != 202 || len(report.Stuck) > 0 {
 		t.Errorf("got the status %d and %d that are stuck, want 202 and none, in a run that was ended:\n%s",
-			sent.status, len(report.Stuck), textOf(t, report))
+			sent.status, len(report.Stuck), stormtest.Written(t, report.WriteText))
 	}
 	diff.NoError(t, storm.Close(), "")
-	if files, err := os.ReadDir(config.Folder); err != nil || len(files) > 0 {
-		t.Errorf("got %v %v left, want none", err, files)
-	}
+	stormtest.Empty(t, config.Folder)
 }
 
 // The faults end, and after the run no request is answered.
@@ -412,7 +351,7 @@ func TestListIsSlow(t *testing.T) {
 	storm.restTime = 200 * time.Millisecond
 	if report := storm.Run(context.Background()); len(report.Failed) > 0 || !report.Converged || !report.IsClean() {
 		t.Errorf("got the failures %q, want a clean report of a storm that has converged:\n%s",
-			report.Failed, textOf(t, report))
+			report.Failed, stormtest.Written(t, report.WriteText))
 	}
 }
 
@@ -428,7 +367,7 @@ func TestListIsCutOff(t *testing.T) {
 	report, took := runOrders(t, ctx, config)
 	if len(report.Failed) > 0 || report.Ended != run.EndedBefore || report.Inventory != knownByList || took > time.Minute {
 		t.Errorf("got an end after %v with the failures %q, want one by the signal within a minute, without any:\n%s",
-			took, report.Failed, textOf(t, report))
+			took, report.Failed, stormtest.Written(t, report.WriteText))
 	}
 }
 
@@ -469,29 +408,20 @@ func TestNoSecrets(t *testing.T) {
 		config.List = append(config.List, lost)
 	}
 	report := runStorm(t, config, mistakes{forgetsTimeout: true, noType: true}, false)
-	if !hasBinding(report.Lost) || len(report.Broken) == 0 {
-		t.Fatalf("got\n%s\nwant a binding that is lost, and a rule that is broken", textOf(t, report))
+	if !stormtest.HasBinding(report.Lost) || len(report.Broken) == 0 {
+		t.Fatalf("got\n%s\nwant a binding that is lost, and a rule that is broken", stormtest.Written(t, report.WriteText))
 	}
-	if len(report.Stuck) == 0 || hasBinding(report.Stuck) { // the instances can't be deleted before their bindings
-		t.Errorf("got\n%s\nwant instances that are stuck, and no binding", textOf(t, report))
+	if len(report.Stuck) == 0 || stormtest.HasBinding(report.Stuck) { // the instances can't be deleted before their bindings
+		t.Errorf("got\n%s\nwant instances that are stuck, and no binding", stormtest.Written(t, report.WriteText))
 	}
-	for name, write := range map[string]func(io.Writer) error{
-		"text": report.WriteText, "JSON": report.WriteJSON, "HTML": report.WriteHTML,
-	} {
-		t.Run(name, func(t *testing.T) {
-			var text bytes.Buffer
-			check(t, write(&text))
-			for _, secret := range []string{"a-secret-parameter", `"token"`, "Basic "} {
-				if strings.Contains(text.String(), secret) {
-					t.Errorf("%s: got %s in it, want no secret", name, secret)
-				}
+	for form, text := range stormtest.Forms(t, report) {
+		for part, isWanted := range map[string]bool{
+			"a-secret-parameter": false, `"token"`: false, "Basic ": false, "standard asks for a deletion": true, "(left out)": true,
+		} {
+			if strings.Contains(text, part) != isWanted {
+				t.Errorf("%s: got %s in it %v, want %v", form, part, !isWanted, isWanted)
 			}
-			for _, part := range []string{"standard asks for a deletion", "(left out)"} {
-				if !strings.Contains(text.String(), part) {
-					t.Errorf("%s: got no %s, want it", name, part)
-				}
-			}
-		})
+		}
 	}
 }
 
@@ -508,15 +438,14 @@ func TestList(t *testing.T) {
 		t.Errorf("got the faults %v, want 1.1 answer-lost", report.Given)
 	}
 	if len(report.Lost) != 1 || report.Lost[0].Number != "1" {
-		t.Errorf("got\n%s\nwant instance 1 lost", textOf(t, report))
+		t.Errorf("got\n%s\nwant instance 1 lost", stormtest.Written(t, report.WriteText))
 	}
-	for _, write := range []func(io.Writer) error{report.WriteText, report.WriteJSON, report.WriteHTML} {
-		var text bytes.Buffer
-		if err := write(&text); err != nil || !strings.Contains(text.String(), "99.1 answer-lost") {
-			t.Errorf("got the error %v and %s, want 99.1 answer-lost", err, text.String())
+	for form, text := range stormtest.Forms(t, report) {
+		if !strings.Contains(text, "99.1 answer-lost") {
+			t.Errorf("%s: got %s, want 99.1 answer-lost", form, text)
 		}
 	}
-	if text := textOf(t, report); !strings.Contains(text, "1 fault of the list met no request: 99.1 answer-lost\n") {
+	if text := stormtest.Written(t, report.WriteText); !strings.Contains(text, "1 fault of the list met no request: 99.1 answer-lost\n") {
 		t.Errorf("got %q, want %q in it", text, "1 fault of the list met no request: 99.1 answer-lost\n")
 	}
 }
@@ -537,9 +466,7 @@ func TestConfigRejected(t *testing.T) {
 			if _, err := Start(context.Background(), config); err == nil {
 				t.Errorf("%s: got no error, want one", name)
 			}
-			if files, err := os.ReadDir(config.Folder); err != nil || len(files) > 0 {
-				t.Errorf("%s: got %v %v left, want none", name, err, files)
-			}
+			stormtest.Empty(t, config.Folder)
 		})
 	}
 }
@@ -608,51 +535,104 @@ func runOrders(t *testing.T, ctx context.Context, config Config) (*run.Report, t
 	check(t, err)
 	report := storm.Run(ctx)
 	diff.NoError(t, storm.Close(), "")
-	if files, err := os.ReadDir(config.Folder); err != nil || len(files) > 0 {
-		t.Errorf("got %v %v left in the folder, want none", err, files)
-	}
+	stormtest.Empty(t, config.Folder)
 	return report, time.Since(begun)
 }
 
-// After a run that has failed, nothing is shrunk. What the order command has abandoned before stays in the report.
-func TestOrderFails(t *testing.T) {
-	t.Parallel()
-	config, _ := orderingConfig(t, 1, "1.1 answer-lost")
-	config.Commands.Order += "exit 3"
-	config.MinimizeTime = time.Minute
-	report, _ := runOrders(t, context.Background(), config)
-	if len(report.Failed) != 1 || report.Failed[0] != "the order command has failed: exit status 3" || len(report.Lost) != 1 ||
-		report.MinimizeRuns != 0 || report.Ended != "" {
-		t.Errorf("got\n%s\nwant one command that failed, and one that is lost", textOf(t, report))
-	}
+// A told is what a report and the warnings say of a storm with an order command.
+type told struct {
+	failed, notes        string
+	ended, minimizeEnded string
+	minimal              string
+	runs, lost, bindings int
+	warned               string
 }
 
-// If the order command ends before a request about an instance has arrived, the run ends, whether the command has
-// failed or not. A request about anything else doesn't count.
-func TestNothingOrdered(t *testing.T) {
-	for command, failure := range map[string]string{
-		"curl -s -o /dev/null -u platform:secret -H 'X-Broker-API-Version: 2.17' $OSB_STORM_URL/v2/catalog; echo nothing": "",
-		"echo nothing; exit 4": "exit status 4",
+// What an order command does, and fails with, is reported.
+func TestOrders(t *testing.T) {
+	const (
+		warning  = "osb-storm: the last lines that the order command has printed:\n"
+		nothing  = "no request about an instance came until the order command ended"
+		notFound = "--minimize was ended before a list was found that loses something"
+		asks     = "curl -s -o /dev/null -u platform:secret -H 'X-Broker-API-Version: 2.17' $OSB_STORM_URL/v2/catalog; echo nothing"
+		binds    = `
+curl -s -m 5 -u platform:secret -X PUT -H 'X-Broker-API-Version: 2.17' -H 'Content-Type: application/json' \
+	-d '{"service_id": "SERVICE", "plan_id": "PLAN"}' "$OSB_STORM_URL/v2/service_instances/$id/service_bindings/b"
+exit 3`
+	)
+	for name, test := range map[string]struct {
+		faults string
+		order  string // the order command, in which ORDERS are those of the usual one, and FOLDER is the folder of its files
+		change func(*Config)
+		wanted told
+	}{
+		// Nothing is shrunk after a run that has failed. What was abandoned before stays in the report.
+		"fails": {"1.1 answer-lost", "ORDERS exit 3", minimizing, told{
+			failed: "the order command has failed: exit status 3", lost: 1,
+		}},
+		// A request about anything else than an instance doesn't count.
+		"orders nothing": {"", asks, unlisted, told{ended: nothing, warned: warning + "  nothing\n"}},
+		"orders nothing, and fails": {"", "echo nothing; exit 4", unlisted, told{
+			failed: "the order command has failed: exit status 4", ended: nothing, warned: warning + "  nothing\n",
+		}},
+		// The command goes on after its time, and fails because the broker is gone at the end of the run. That is no
+		// failure. The list command takes so long that the order command ends before it is killed.
+		"outlives the broker": {
+			"1.1 answer-lost", "ORDERS while curl -s -o FOLDER/body $OSB_STORM_URL/v2/catalog; do sleep 0.05; done; " +
+				"echo gone >>FOLDER/gone; exit 7",
+			func(c *Config) {
+				minimizing(c)
+				c.Commands.List, c.Time = "sleep 0.5; "+c.Commands.List, 500*time.Millisecond
+			}, told{minimal: "1.1 answer-lost", runs: 3, lost: 1},
+		},
+		// The last lines don't have the credentials that the broker has answered.
+		"prints credentials": {"", "ORDERS " + binds, func(*Config) {}, told{
+			failed: "the order command has failed: exit status 3", bindings: 1,
+			warned: warning + `  {"credentials":{"folder":"(left out)","token":"(left out)"}}` + "\n",
+		}},
+		"fails in a further run": {
+			"1.1 answer-lost", "ORDERS [ $(wc -l <FOLDER/urls) = 1 ] || { echo broken secret; exit 3; }", minimizing, told{
+				failed: "--minimize: the order command has failed: exit status 3", minimizeEnded: notFound, lost: 1,
+				warned: warning + "  broken (left out)\n",
+			},
+		},
+		// The report doesn't say that nothing was abandoned in it.
+		"orders nothing in a further run": {
+			"1.1 answer-lost", "[ ! -e FOLDER/urls ] || exit 0; ORDERS", minimizing, told{
+				notes: "--minimize: in a further run, " + nothing, minimizeEnded: notFound, lost: 1,
+			},
+		},
 	} {
-		t.Run(command, func(t *testing.T) {
-			config, _ := orderingConfig(t, 0)
-			config.Commands, config.List = Commands{Order: command}, nil
+		name, test := name, test
+		t.Run(name, func(t *testing.T) {
+			t.Parallel()
+			config, folder := orderingConfig(t, 1, test.faults)
+			test.change(&config)
+			config.Commands.Order = strings.NewReplacer("ORDERS", config.Commands.Order, "FOLDER", folder, "SERVICE", goods.Service,
+				"PLAN", goods.AtOnce).Replace(test.order)
 			var warned bytes.Buffer
 			config.Warnings = &warned
 			report, took := runOrders(t, context.Background(), config)
-			if report.Ended != "no request about an instance came until the order command ended" || took > 50*time.Second {
-				t.Errorf("got an end after %v, want one because nothing was ordered:\n%s", took, textOf(t, report))
+			got := told{
+				strings.Join(report.Failed, "\n"), strings.Join(report.Notes, "\n"), report.Ended, report.MinimizeEnded,
+				strings.Join(report.Minimal, "\n"), report.MinimizeRuns, len(report.Lost), report.Bindings,
+				warned.String(),
 			}
-			failed := strings.Join(report.Failed, "")
-			if !strings.HasSuffix(failed, failure) || (failed == "") != (failure == "") {
-				t.Errorf("got the failure %q, want %q", failed, failure)
+			if got != test.wanted || took > 50*time.Second {
+				t.Errorf("got after %v\n%+v\nwant\n%+v", took, got, test.wanted)
 			}
-			if text := warned.String(); text != "osb-storm: the last lines that the order command has printed:\n  nothing\n" {
-				t.Errorf("got the warning %q, want the last line of the command", text)
+			if _, err := os.Stat(filepath.Join(folder, "gone")); (err == nil) != (name == "outlives the broker") {
+				t.Errorf("the order command: got %v, want it to run until it has failed", err)
 			}
 		})
 	}
 }
+
+// minimizing has a list of faults shrunk.
+func minimizing(c *Config) { c.MinimizeTime = time.Minute }
+
+// unlisted has neither a list command nor a list of faults.
+func unlisted(c *Config) { c.Commands, c.List = Commands{}, nil }
 
 // The faults end with the order command, or after their time if the command goes on then. At the end of the run, the
 // command is killed with its children, and so is what a command has left behind that has ended. Neither is a failure.
@@ -673,55 +653,14 @@ func TestOrderEnds(t *testing.T) {
 			report, took := runOrders(t, context.Background(), config)
 			if len(report.Failed) > 0 || !report.IsClean() || !report.Converged || took > 50*time.Second {
 				t.Errorf("got an end after %v, want a clean report of a storm that has converged within 50 s:\n%s",
-					took, textOf(t, report))
+					took, stormtest.Written(t, report.WriteText))
 			}
 			text, err := os.ReadFile(filepath.Join(folder, "child"))
 			check(t, err)
-			for until := time.Now().Add(5 * time.Second); isRunning(string(bytes.TrimSpace(text))); time.Sleep(10 * time.Millisecond) {
-				if time.Now().After(until) {
-					t.Fatal("the child of the order command: got it still running, want its end")
-				}
-			}
+			stormtest.Await(t, 5*time.Second, "the child of the order command ends", func() bool {
+				return !isRunning(string(bytes.TrimSpace(text)))
+			})
 		})
-	}
-}
-
-// An order command that goes on after its time, and fails because the broker is gone at the end of the run, hasn't
-// failed. The list of faults is shrunk then, too. The list command takes so long that the order command ends before it
-// is killed.
-func TestOrderOutlivesBroker(t *testing.T) {
-	t.Parallel()
-	config, folder := minimizingConfig(t, 1, "1.1 answer-lost")
-	config.Commands.Order += "while curl -s -o " + folder + "/body $OSB_STORM_URL/v2/catalog; do sleep 0.05; done; " +
-		"echo gone >>" + folder + "/gone; exit 7"
-	config.Commands.List = "sleep 0.5; " + config.Commands.List
-	config.Time = 500 * time.Millisecond
-	report, _ := runOrders(t, context.Background(), config)
-	if len(report.Failed) > 0 || !reflect.DeepEqual(report.Minimal, []string{"1.1 answer-lost"}) {
-		t.Errorf("got the failures %q, want none, and the list 1.1 answer-lost:\n%s", report.Failed, textOf(t, report))
-	}
-	if _, err := os.Stat(filepath.Join(folder, "gone")); err != nil {
-		t.Errorf("the order command: got %v, want it to run until it has failed", err)
-	}
-}
-
-// The last lines of an order command that fails don't have the credentials that the broker has answered.
-func TestOrderPrintsCredentials(t *testing.T) {
-	t.Parallel()
-	config, _ := orderingConfig(t, 1)
-	config.Commands.Order += strings.ReplaceAll(`
-curl -s -m 5 -u platform:secret -X PUT -H 'X-Broker-API-Version: 2.17' -H 'Content-Type: application/json' \
-	-d '{"service_id": "SERVICE", "plan_id": "PLAN"}' "$OSB_STORM_URL/v2/service_instances/$id/service_bindings/b"
-exit 3`, "SERVICE", goods.Service)
-	config.Commands.Order = strings.ReplaceAll(config.Commands.Order, "PLAN", goods.AtOnce)
-	var warned bytes.Buffer
-	config.Warnings = &warned
-	report, _ := runOrders(t, context.Background(), config)
-	if len(report.Failed) != 1 || report.Bindings != 1 {
-		t.Errorf("got\n%s\nwant one failure and one binding", textOf(t, report))
-	}
-	if text := warned.String(); !strings.HasSuffix(text, `{"credentials":{"folder":"(left out)","token":"(left out)"}}`+"\n") {
-		t.Errorf("got the warning %q, want it without the credentials", text)
 	}
 }
 
@@ -784,30 +723,14 @@ func TestNoJournal(t *testing.T) {
 		_ = storm.Close()
 		t.Error("a file: got no error, want that it is no folder")
 	}
-	if files, err := os.ReadDir(config.Folder); err != nil || len(files) > 0 {
-		t.Errorf("got %v %v left in the folder, want none", err, files)
-	}
+	stormtest.Empty(t, config.Folder)
 }
 
-// minimizingConfig is orderingConfig with time for further runs.
-func minimizingConfig(t *testing.T, count int, list ...string) (Config, string) {
-	t.Helper()
-	config, folder := orderingConfig(t, count, list...)
-	config.MinimizeTime = time.Minute
-	return config, folder
-}
-
-// formsOf returns the report in its three forms.
+// formsOf returns the report in its forms, and its list of faults.
 func formsOf(t *testing.T, report *run.Report) map[string]string {
 	t.Helper()
-	all := map[string]string{}
-	for name, write := range map[string]func(io.Writer) error{
-		"text": report.WriteText, "JSON": report.WriteJSON, "HTML": report.WriteHTML, "list": report.WriteFaults,
-	} {
-		var text bytes.Buffer
-		check(t, write(&text))
-		all[name] = text.String()
-	}
+	all := stormtest.Forms(t, report)
+	all["list"] = stormtest.Written(t, report.WriteFaults)
 	return all
 }
 
@@ -815,14 +738,15 @@ func formsOf(t *testing.T, report *run.Report) map[string]string {
 // empty. With this fault alone, an instance is abandoned again. Each run has a journal.
 func TestMinimize(t *testing.T) {
 	t.Parallel()
-	config, folder := minimizingConfig(t, 3, "1.1 answer-slow", "2.1 answer-lost", "3.1 request-lost")
+	config, folder := orderingConfig(t, 3, "1.1 answer-slow", "2.1 answer-lost", "3.1 request-lost")
+	minimizing(&config)
 	config.Late = 100 * time.Millisecond
 	report, _ := runOrders(t, context.Background(), config)
 	if !reflect.DeepEqual(report.Minimal, []string{"2.1 answer-lost"}) || report.MinimizeEnded+report.Ended != "" {
-		t.Fatalf("got\n%s\nwant the list 2.1 answer-lost", textOf(t, report))
+		t.Fatalf("got\n%s\nwant the list 2.1 answer-lost", stormtest.Written(t, report.WriteText))
 	}
 	if len(report.Lost) != 1 || len(report.MinimalLost) != 1 || len(report.Given) != 3 || len(report.Failed) > 0 {
-		t.Errorf("got\n%s\nwant one life lost, with and without the minimal list", textOf(t, report))
+		t.Errorf("got\n%s\nwant one life lost, with and without the minimal list", stormtest.Written(t, report.WriteText))
 	}
 	again := report.MinimalLost[0]
 	if first := report.Lost[0]; again.Number != "2" || first.Number != "2" || again.Instance == first.Instance {
@@ -876,15 +800,16 @@ func TestMinimizeNotes(t *testing.T) {
 		it, isWithout := test, name == "without any"
 		t.Run(name, func(t *testing.T) {
 			t.Parallel()
-			config, folder := minimizingConfig(t, 1, it.list...)
+			config, folder := orderingConfig(t, 1, it.list...)
+			minimizing(&config)
 			config.Late = 100 * time.Millisecond
 			config.Commands.Order += strings.ReplaceAll(it.after, "FOLDER", folder)
 			report, _ := runOrders(t, context.Background(), config)
 			if notes := strings.Join(report.Notes, ""); report.MinimizeRuns != it.runs || notes != it.note {
-				t.Errorf("got %d runs and %s, want %d and %q\n%s", report.MinimizeRuns, notes, it.runs, it.note, textOf(t, report))
+				t.Errorf("got %d runs and %s, want %d and %q\n%s", report.MinimizeRuns, notes, it.runs, it.note, stormtest.Written(t, report.WriteText))
 			}
 			if report.IsClean() != (it.note == "") || report.NeedsNoFault() != isWithout {
-				t.Errorf("got\n%s\nwant the verdict of the note", textOf(t, report))
+				t.Errorf("got\n%s\nwant the verdict of the note", stormtest.Written(t, report.WriteText))
 			}
 			for form, text := range formsOf(t, report) {
 				isNone := strings.Contains(text, "none: something is abandoned without any fault")
@@ -912,7 +837,8 @@ func TestMinimizeEnds(t *testing.T) {
 		it := test
 		t.Run(name, func(t *testing.T) {
 			t.Parallel()
-			config, folder := minimizingConfig(t, 1, "1.1 answer-lost", "1.2 answer-lost")
+			config, folder := orderingConfig(t, 1, "1.1 answer-lost", "1.2 answer-lost")
+			minimizing(&config)
 			config.Commands.Order += strings.ReplaceAll("curl -s -m 5 -u platform:secret -H 'X-Broker-API-Version: 2.17' "+
 				"$OSB_STORM_URL/v2/service_instances/$id; [ $(wc -l <FOLDER/urls) != "+it.hangs+
 				" ] || { touch FOLDER/hangs; sleep 1000; }; true", "FOLDER", folder)
@@ -926,7 +852,7 @@ func TestMinimizeEnds(t *testing.T) {
 			report, took := runOrders(t, ctx, config)
 			if !reflect.DeepEqual(report.Minimal, it.minimal) || report.MinimizeEnded != it.ended || took > time.Minute {
 				t.Errorf("got an end after %v, want the list %q and the end %q:\n%s",
-					took, it.minimal, it.ended, textOf(t, report))
+					took, it.minimal, it.ended, stormtest.Written(t, report.WriteText))
 			}
 			if (report.Ended == run.EndedBefore) != it.isSignal || len(report.Failed)+len(report.Notes) > 0 || report.IsClean() {
 				t.Errorf("got the end %q and the failures %q, want an end by the signal: %v, and no failure",
@@ -973,43 +899,6 @@ func TestStartAgain(t *testing.T) {
 	check(t, err)
 	if err := storm.Close(); storm.URL() != "http://"+config.Address || err != nil {
 		t.Errorf("got the error %v and the URL %s, want the address %s", err, storm.URL(), config.Address)
-	}
-}
-
-// An order command that fails in a further run ends the shrinking, and the report has that.
-func TestMinimizeFails(t *testing.T) {
-	t.Parallel()
-	config, folder := minimizingConfig(t, 1, "1.1 answer-lost")
-	config.Commands.Order += "[ $(wc -l <" + folder + "/urls) = 1 ] || { echo broken secret; exit 3; }"
-	var warned bytes.Buffer
-	config.Warnings = &warned
-	report, _ := runOrders(t, context.Background(), config)
-	if len(report.Failed) != 1 || report.Failed[0] != "--minimize: the order command has failed: exit status 3" {
-		t.Errorf("got the failures %q, want that the order command has failed", report.Failed)
-	}
-	const wanted = "--minimize was ended before a list was found that loses something"
-	if report.MinimizeRuns != 0 || report.MinimizeEnded != wanted || len(report.Notes) > 0 || len(report.Lost) != 1 {
-		t.Errorf("got\n%s\nwant no further run, because %s", textOf(t, report), wanted)
-	}
-	if text := warned.String(); text != "osb-storm: the last lines that the order command has printed:\n  broken (left out)\n" {
-		t.Errorf("got the warning %q, want the last line without the password", text)
-	}
-}
-
-// A further run in which nothing is ordered ends the shrinking: the report doesn't say that nothing was abandoned in
-// it.
-func TestMinimizeIdle(t *testing.T) {
-	t.Parallel()
-	config, folder := minimizingConfig(t, 1, "1.1 answer-lost")
-	config.Commands.Order = "[ ! -e " + folder + "/urls ] || exit 0; " + config.Commands.Order
-	report, _ := runOrders(t, context.Background(), config)
-	notes := []string{"--minimize: in a further run, no request about an instance came until the order command ended"}
-	const wanted = "--minimize was ended before a list was found that loses something"
-	if !reflect.DeepEqual(report.Notes, notes) || report.MinimizeEnded != wanted || report.MinimizeRuns != 0 {
-		t.Errorf("got\n%s\nwant no further run, because %s", textOf(t, report), wanted)
-	}
-	if len(report.Failed) > 0 || report.Ended != "" || len(report.Lost) != 1 {
-		t.Errorf("got\n%s\nwant one that is lost, and nothing else", textOf(t, report))
 	}
 }
 

@@ -14,6 +14,7 @@ import (
 
 	"pippinterm/internal/diff"
 	"pippinterm/internal/pg/pgtest"
+	"pippinterm/storm/stormtest"
 )
 
 // rows returns what a query prints, or the error.
@@ -69,11 +70,7 @@ func TestPostgres(t *testing.T) {
 		defer close(paused)
 		p.Pause(ctx, time.Second)
 	}()
-	for end := time.Now().Add(10 * time.Second); states(p) != "T"; time.Sleep(5 * time.Millisecond) {
-		if time.Now().After(end) {
-			t.Fatalf("got %s, want it paused", states(p))
-		}
-	}
+	stormtest.Await(t, 10*time.Second, "it is paused", func() bool { return states(p) == "T" })
 	<-paused
 	diff.Equal(t, rows(t, url, "SHOW recovery_init_sync_method"), "syncfs", "the synchronisation of files")
 	if found := rows(t, url, "SHOW fsync"); found != "on" || strings.Contains(states(p), "T") {
@@ -85,9 +82,7 @@ func TestPostgres(t *testing.T) {
 	if err := p.Close(); err != nil || !strings.HasPrefix(rows(t, url, "SELECT 1"), "error: ") {
 		t.Errorf("Close: got %v, or a server that still runs, want its end", err)
 	}
-	if left, err := os.ReadDir(folder); err != nil || len(left) > 0 {
-		t.Errorf("got %v %v left, want none", err, left)
-	}
+	stormtest.Empty(t, folder)
 }
 
 // openedTo gives the user postgres access to a folder of a test.

@@ -13,6 +13,7 @@ import (
 	"time"
 
 	"pippinterm/internal/diff"
+	"pippinterm/storm/stormtest"
 )
 
 // The words of each line are returned, except those of empty lines.
@@ -108,12 +109,12 @@ func TestKillsGroup(t *testing.T) {
 	check(t, err)
 	pid, err := strconv.Atoi(strings.TrimSpace(string(text)))
 	check(t, err)
-	for until := time.Now().Add(5 * time.Second); isRunning(pid); time.Sleep(10 * time.Millisecond) {
-		if time.Now().After(until) {
+	t.Cleanup(func() {
+		if t.Failed() {
 			_ = syscall.Kill(pid, syscall.SIGKILL)
-			t.Fatal("what the command has started: got it still running, want its end")
 		}
-	}
+	})
+	stormtest.Await(t, 5*time.Second, "what the command has started ends", func() bool { return !isRunning(pid) })
 }
 
 // isRunning returns whether a process runs. One that has ended may wait for its parent.
@@ -247,11 +248,7 @@ time.sleep(1000)'`, // the command itself has left its group
 				t.Errorf("%s: got the child ended before, want it to run", name)
 			}
 			diff.NoError(t, c.End(), "%s", name)
-			for until := time.Now().Add(5 * time.Second); isRunning(pid); time.Sleep(10 * time.Millisecond) {
-				if time.Now().After(until) {
-					t.Fatalf("%s: got what the command has started still running, want its end", name)
-				}
-			}
+			stormtest.Await(t, 5*time.Second, "what the command has started ends", func() bool { return !isRunning(pid) })
 		})
 	}
 }
