@@ -59,34 +59,30 @@ func Rows(ctx context.Context, command string, ids int) (rows [][]string, err er
 func run(ctx context.Context, command string, isRead bool) (printed, said []byte, err error) {
 	within, cancel := context.WithTimeout(ctx, limit)
 	defer cancel()
-	process := exec.Command("/bin/sh", "-c", command)
-	process.SysProcAttr = &syscall.SysProcAttr{Setpgid: true}
-	var out, errors *reader
+	process := shellOf(command)
+	var out, errors io.ReadCloser = nothing, nothing
 	if isRead {
-		if out, err = newReader(); err != nil {
-			return nil, nil, err
+		if out, err = process.StdoutPipe(); err == nil {
+			errors, err = process.StderrPipe()
 		}
-		defer out.end()
-		if errors, err = newReader(); err != nil {
-			return nil, nil, err
-		}
-		defer errors.end()
-		process.Stdout, process.Stderr = out.write, errors.write
 	}
-	if err := process.Start(); err != nil {
+	if err == nil {
+		err = process.Start()
+	}
+	if err != nil {
 		return nil, nil, err
 	}
 	kill := func() {
 		killAll(process)
-		out.end() // a process that has left the group may keep the pipe open
-		errors.end()
+		_ = out.Close() // a process that has left the group may keep the pipe open
+		_ = errors.Close()
 	}
 	ended := make(chan error, 1)
 	go func() {
 		// The shell keeps its process id, and so that of its group, until everything is read.
 		fromErrors := make(chan []byte, 1)
-		go func() { fromErrors <- errors.all(kill) }()
-		printed = out.all(kill)
+		go func() { fromErrors <- readAll(errors, kill) }()
+		printed = readAll(out, kill)
 		said = <-fromErrors
 		ended <- process.Wait()
 	}()
@@ -107,31 +103,25 @@ func run(ctx context.Context, command string, isRead bool) (printed, said []byte
 	return nil, said, fmt.Errorf("it didn't end within %v", limit)
 }
 
+// shellOf returns a command of the shell in a group of its own.
+func shellOf(command string) *exec.Cmd {
+	process := exec.Command("/bin/sh", "-c", command)
+	process.SysProcAttr = &syscall.SysProcAttr{Setpgid: true}
+	return process
+}
+
 // killAll kills a command with all processes of its group, also if the command itself has left its group.
 func killAll(command *exec.Cmd) {
 	_ = syscall.Kill(-command.Process.Pid, syscall.SIGKILL)
 	_ = command.Process.Kill()
 }
 
-// A reader reads a pipe. A nil reader reads nothing.
-type reader struct {
-	read, write *os.File
-}
+var nothing = io.NopCloser(strings.NewReader(""))
 
-func newReader() (r *reader, err error) {
-	r = &reader{}
-	r.read, r.write, err = os.Pipe()
-	return r, err
-}
-
-// all returns what is written until nobody has the pipe open, or until end is called. If it is too much, all calls
+// readAll returns what is written until nobody has the pipe open, or until it is closed. If it is too much, readAll calls
 // kill, and returns a part of it that is too much, too.
-func (r *reader) all(kill func()) []byte {
-	if r == nil {
-		return nil
-	}
-	_ = r.write.Close() // the command has it
-	all, _ := io.ReadAll(io.LimitReader(r.read, mostPrinted+1))
+func readAll(from io.Reader, kill func()) []byte {
+	all, _ := io.ReadAll(io.LimitReader(from, mostPrinted+1))
 	if isTooMuch(all) {
 		kill()
 	}
@@ -139,14 +129,6 @@ func (r *reader) all(kill func()) []byte {
 }
 
 func isTooMuch(printed []byte) bool { return int64(len(printed)) > mostPrinted }
-
-// end ends the reading, and frees the pipe.
-func (r *reader) end() {
-	if r != nil {
-		_ = r.read.Close()
-		_ = r.write.Close()
-	}
-}
 
 // lastLineOf returns the last line that a command has printed on its standard error, in brackets.
 func lastLineOf(said []byte) string {
@@ -160,7 +142,7 @@ func lastLineOf(said []byte) string {
 // A Command is a command of the shell that goes on beside its caller. Use one goroutine.
 type Command struct {
 	process *exec.Cmd
-	out     *reader // of both outputs
+	out     io.ReadCloser // of both outputs
 	ended   chan struct{}
 	isRead  chan struct{} // is closed once nothing more is read
 	last    tail
@@ -171,24 +153,19 @@ type Command struct {
 //
 // Errors: the shell can't be started.
 func Start(command string, variables ...string) (*Command, error) {
-	out, err := newReader()
-	if err != nil {
-		return nil, err
-	}
-	c := &Command{
-		process: exec.Command("/bin/sh", "-c", command), out: out, ended: make(chan struct{}), isRead: make(chan struct{}),
-	}
-	c.process.SysProcAttr = &syscall.SysProcAttr{Setpgid: true}
+	c := &Command{process: shellOf(command), ended: make(chan struct{}), isRead: make(chan struct{})}
 	c.process.Env = append(os.Environ(), variables...)
-	c.process.Stdout, c.process.Stderr = out.write, out.write
-	if err := c.process.Start(); err != nil {
-		out.end()
+	var err error
+	if c.out, err = c.process.StdoutPipe(); err != nil {
 		return nil, err
 	}
-	_ = out.write.Close() // the command has it
+	c.process.Stderr = c.process.Stdout
+	if err := c.process.Start(); err != nil {
+		return nil, err
+	}
 	go func() {
 		defer close(c.isRead)
-		_, _ = io.Copy(&c.last, out.read)
+		_, _ = io.Copy(&c.last, c.out)
 	}()
 	go func() {
 		defer close(c.ended)
@@ -205,10 +182,10 @@ func (c *Command) End() error {
 	hasEnded := isClosed(c.ended, 0)
 	killAll(c.process)
 	<-c.ended
-	err := c.process.Wait()
 	isClosed(c.isRead, time.Second) // a process that has left the group may keep the pipe open
-	c.out.end()
+	_ = c.out.Close()
 	<-c.isRead
+	err := c.process.Wait()
 	if !hasEnded {
 		return nil
 	}
