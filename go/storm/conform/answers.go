@@ -45,8 +45,8 @@ func (r *Runner) accessToInstances() {
 	k := key{instance: r.id()}
 	wrong := r.creation(k, nil)
 	wrong.headers = r.wrongPassword()
-	r.wants("auth-provision", r.create(k, r.target.pair, wrong), 401)
-	r.wants("auth-provision", r.create(k, r.target.pair, anonymous(wrong)), 401)
+	r.wants("auth-provision", r.create(k, r.target.Pair, wrong), 401)
+	r.wants("auth-provision", r.create(k, r.target.Pair, anonymous(wrong)), 401)
 	x := r.put(k, nil)
 	if !x.is(200, 201, 202) {
 		return
@@ -56,18 +56,18 @@ func (r *Runner) accessToInstances() {
 	if !r.settle(k, x) {
 		return
 	}
-	if r.target.instancesRetrievable {
-		r.askAnonymously("auth-fetch", fetching(k, r.target.pair))
+	if r.target.InstancesRetrievable {
+		r.askAnonymously("auth-fetch", fetching(k, r.target.Pair))
 	}
 	r.skip(reasonNotFetched, "auth-fetch")
 	r.accessToBindings(k)
-	r.askAnonymously("auth-deprovision", deletion(k, r.target.pair, true)) // CleanUp deletes it, whatever the answer says
+	r.askAnonymously("auth-deprovision", deletion(k, r.target.Pair, true)) // CleanUp deletes it, whatever the answer says
 }
 
 // tellsNothing compares the answers to a wrong password for an instance that exists, and for one that doesn't.
 func (r *Runner) tellsNothing(k key) {
 	ask := func(k key) *exchange {
-		sent := poll(k, r.target.pair, "")
+		sent := poll(k, r.target.Pair, "")
 		sent.headers = r.wrongPassword()
 		return r.send(sent)
 	}
@@ -80,12 +80,12 @@ func (r *Runner) tellsNothing(k key) {
 }
 
 func (r *Runner) accessToBindings(of key) {
-	if !r.target.bindable {
+	if !r.target.Bindable {
 		r.skip(reasonNotBindable, "auth-bind", "auth-binding-last-operation", "auth-fetch-binding", "auth-unbind")
 		return
 	}
 	k := key{of.instance, r.id()}
-	r.wants("auth-bind", r.create(k, r.target.pair, anonymous(r.creation(k, nil))), 401)
+	r.wants("auth-bind", r.create(k, r.target.Pair, anonymous(r.creation(k, nil))), 401)
 	x := r.put(k, nil)
 	if !x.is(200, 201, 202) {
 		return
@@ -94,17 +94,17 @@ func (r *Runner) accessToBindings(of key) {
 	if !r.settle(k, x) {
 		return
 	}
-	if r.target.bindingsRetrieved {
-		r.askAnonymously("auth-fetch-binding", fetching(k, r.target.pair))
+	if r.target.BindingsRetrievable {
+		r.askAnonymously("auth-fetch-binding", fetching(k, r.target.Pair))
 	}
 	r.skip(reasonNotRetrievable, "auth-fetch-binding")
-	r.askAnonymously("auth-unbind", deletion(k, r.target.pair, true)) // CleanUp deletes it, whatever the answer says
+	r.askAnonymously("auth-unbind", deletion(k, r.target.Pair, true)) // CleanUp deletes it, whatever the answer says
 }
 
 // accessToPolls judges the answer to a Poll without a password. A broker without asynchronous operations may not have
 // the endpoint.
 func (r *Runner) accessToPolls(name string, k key, created *exchange) {
-	sent := anonymous(poll(k, r.target.pair, created.string("operation")))
+	sent := anonymous(poll(k, r.target.Pair, created.string("operation")))
 	x := r.send(sent)
 	if !created.is(202) && x.is(404, 405, 501) {
 		r.skip("the broker has no such endpoint for a plan without asynchronous operations", name)
@@ -133,7 +133,7 @@ func wrong(password string) string { return password + "-wrong" }
 
 // hasPlan returns whether there is a plan to order. If there is none, the rest of the scenario isn't run.
 func (r *Runner) hasPlan() bool {
-	if r.target.plan == "" || r.target.service == "" {
+	if r.target.Plan == "" || r.target.Service == "" {
 		r.because = "the catalogue has no plan that can be ordered. Give --service and --plan with ids"
 		return false
 	}

@@ -67,7 +67,7 @@ var bindingCases = scenario{
 
 // canBind returns whether there is an instance that can be bound.
 func (r *Runner) canBind() bool {
-	if r.hasPlan() && !r.target.bindable {
+	if r.hasPlan() && !r.target.Bindable {
 		r.because = reasonNotBindable
 		return false
 	}
@@ -97,7 +97,7 @@ func (r *Runner) repeatedBinds(k key, first *exchange) *exchange {
 
 // fetchesBinding fetches a binding. bound is an answer to its Bind.
 func (r *Runner) fetchesBinding(k key, bound *exchange) {
-	if !r.target.bindingsRetrieved {
+	if !r.target.BindingsRetrievable {
 		r.skip(reasonNotRetrievable, "fetch-binding", "fetch-binding-credentials", "fetch-binding-unknown")
 		return
 	}
@@ -161,7 +161,7 @@ var asyncBindingCases = scenario{
 		if !first.is(202) {
 			return
 		}
-		if r.target.bindingsRetrieved {
+		if r.target.BindingsRetrievable {
 			x := r.fetch(k)
 			r.judgeDuring("async-fetch-during-bind", k, first.string("operation"), x, x.want(404))
 		}

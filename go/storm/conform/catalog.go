@@ -3,6 +3,7 @@ package conform
 import (
 	"encoding/json"
 	"fmt"
+	"net/http"
 	"strings"
 )
 
@@ -107,31 +108,25 @@ func missingText(of object) string {
 	return ""
 }
 
-func checkIDs(services []object) string {
-	ofServices, ofPlans := stringSet{}, stringSet{}
-	for _, service := range services {
-		if ofServices.again(service["id"]) {
-			return fmt.Sprintf("two services have the id %v", service["id"])
-		}
-		for _, plan := range plansOf(service) {
-			if ofPlans.again(plan["id"]) {
-				return fmt.Sprintf("two plans have the id %v", plan["id"])
-			}
-		}
-	}
-	return ""
-}
+func checkIDs(services []object) string { return checkUnique(services, "id", "two plans", false) }
 
 func checkNames(services []object) string {
-	ofServices := stringSet{}
+	return checkUnique(services, "name", "two plans of a service", true)
+}
+
+// checkUnique returns a problem if a member stands twice: in two services, or in two plans, perhaps of one service.
+func checkUnique(services []object, member, plans string, isOfService bool) string {
+	ofServices, ofPlans := stringSet{}, stringSet{}
 	for _, service := range services {
-		if ofServices.again(service["name"]) {
-			return fmt.Sprintf("two services have the name %v", service["name"])
+		if ofServices.again(service[member]) {
+			return fmt.Sprintf("two services have the %s %v", member, service[member])
 		}
-		ofPlans := stringSet{}
+		if isOfService {
+			ofPlans = stringSet{}
+		}
 		for _, plan := range plansOf(service) {
-			if ofPlans.again(plan["name"]) {
-				return fmt.Sprintf("two plans of a service have the name %v", plan["name"])
+			if ofPlans.again(plan[member]) {
+				return fmt.Sprintf("%s have the %s %v", plans, member, plan[member])
 			}
 		}
 	}
@@ -235,25 +230,30 @@ func checkForCLI(services []object) string {
 	return ""
 }
 
-// A target is the plan that is ordered.
-type target struct {
-	pair
-	serviceName, planName                   string
-	other                                   pair // another plan, or an empty pair
-	bindable                                bool
-	instancesRetrievable, bindingsRetrieved bool
+// A Target is the plan that is ordered.
+type Target struct {
+	Pair
+	ServiceName, PlanName string
+	Bindable              bool
+	InstancesRetrievable  bool
+	BindingsRetrievable   bool
+	Catalogue             []byte      // the body of the answer
+	CatalogueHeader       http.Header // its header but the request's identity, if it could be read
+	HasCatalogue          bool        // whether the catalogue could be read
+
+	other Pair // another plan, or an empty one
 }
 
 // choose chooses the plan to order. If the catalogue has no plan at all and none is given, the target stays empty.
 func (r *Runner) choose() error {
 	services, _ := listOf(r.fetched.object["services"])
-	all := []target{}
+	all := []Target{}
 	for _, service := range services {
 		all = append(all, targetsOf(service)...)
 	}
 	if len(all) == 0 {
-		r.target = target{pair: pair{r.config.Service, r.config.Plan}}
-		r.target.serviceName, r.target.planName = r.config.Service, r.config.Plan
+		r.target = Target{Pair: Pair{r.config.Service, r.config.Plan}}
+		r.target.ServiceName, r.target.PlanName = r.config.Service, r.config.Plan
 		return nil
 	}
 	at := r.find(all)
@@ -262,9 +262,9 @@ func (r *Runner) choose() error {
 	}
 	r.target = all[at]
 	for _, target := range all {
-		if target.plan != r.target.plan && (r.target.other.plan == "" || target.service == r.target.service) {
-			r.target.other = target.pair
-			if target.service == r.target.service {
+		if target.Plan != r.target.Plan && (r.target.other.Plan == "" || target.Service == r.target.Service) {
+			r.target.other = target.Pair
+			if target.Service == r.target.Service {
 				break
 			}
 		}
@@ -273,35 +273,35 @@ func (r *Runner) choose() error {
 }
 
 // find returns the place of the plan that the Config names, or -1.
-func (r *Runner) find(all []target) int {
+func (r *Runner) find(all []Target) int {
 	if r.config.Plan == "" {
 		for at, target := range all {
-			if target.bindable {
+			if target.Bindable {
 				return at
 			}
 		}
 		return 0
 	}
 	for at, target := range all {
-		ofService := r.config.Service == target.serviceName || r.config.Service == target.service
-		if ofService && (r.config.Plan == target.planName || r.config.Plan == target.plan) {
+		ofService := r.config.Service == target.ServiceName || r.config.Service == target.Service
+		if ofService && (r.config.Plan == target.PlanName || r.config.Plan == target.Plan) {
 			return at
 		}
 	}
 	return -1
 }
 
-func targetsOf(service object) (all []target) {
+func targetsOf(service object) (all []Target) {
 	flag := func(of object, member string) bool { return of[member] == true }
 	for _, plan := range plansOf(service) {
-		it := target{
-			pair:        pair{textIn(service, "id"), textIn(plan, "id")},
-			serviceName: textIn(service, "name"), planName: textIn(plan, "name"), bindable: flag(service, "bindable"),
-			instancesRetrievable: flag(service, "instances_retrievable"),
-			bindingsRetrieved:    flag(service, "bindings_retrievable"),
+		it := Target{
+			Pair:        Pair{textIn(service, "id"), textIn(plan, "id")},
+			ServiceName: textIn(service, "name"), PlanName: textIn(plan, "name"), Bindable: flag(service, "bindable"),
+			InstancesRetrievable: flag(service, "instances_retrievable"),
+			BindingsRetrievable:  flag(service, "bindings_retrievable"),
 		}
 		if of, has := plan["bindable"].(bool); has {
-			it.bindable = of
+			it.Bindable = of
 		}
 		all = append(all, it)
 	}

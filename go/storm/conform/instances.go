@@ -90,22 +90,22 @@ func (r *Runner) repeatedProvisions(k key) {
 
 // conflicts judges a Provision with another plan, if there is one.
 func (r *Runner) conflicts(name string, k key) {
-	if other := r.target.other; other.plan != "" {
+	if other := r.target.other; other.Plan != "" {
 		r.wants(name, r.create(k, other, r.creation(k, func(body object) {
-			body["service_id"], body["plan_id"] = other.service, other.plan
+			body["service_id"], body["plan_id"] = other.Service, other.Plan
 		})), 409)
 	}
 	r.skip(reasonOnePlan, name)
 }
 
 func (r *Runner) fetches(k key) {
-	if !r.target.instancesRetrievable {
+	if !r.target.InstancesRetrievable {
 		r.skip(reasonNotFetched, "fetch-instance", "fetch-instance-unknown")
 		return
 	}
 	x := r.fetch(k)
 	problem := x.want(200)
-	for member, wanted := range map[string]string{"service_id": r.target.service, "plan_id": r.target.plan} {
+	for member, wanted := range map[string]string{"service_id": r.target.Service, "plan_id": r.target.Plan} {
 		if value, has := x.object[member]; has && problem == "" && value != wanted {
 			problem = member + " is another one"
 		}
@@ -206,7 +206,7 @@ func (r *Runner) judgeAcceptance(name, id string, change func(object), headers m
 	k := key{instance: id}
 	sent := r.creation(k, change)
 	sent.headers = headers
-	return r.wants(name, r.create(k, r.target.pair, sent), 201, 202)
+	return r.wants(name, r.create(k, r.target.Pair, sent), 201, 202)
 }
 
 var asyncCases = scenario{
@@ -237,12 +237,12 @@ var asyncCases = scenario{
 
 func (r *Runner) duringProvision(k key, operation string) {
 	r.conflicts("async-conflict", k)
-	if r.target.instancesRetrievable {
+	if r.target.InstancesRetrievable {
 		x := r.fetch(k)
 		r.judgeDuring("async-fetch-during-provision", k, operation, x, x.want(404))
 	}
 	r.skip(reasonNotFetched, "async-fetch-during-provision")
-	if r.target.bindable {
+	if r.target.Bindable {
 		binding := key{k.instance, r.id()}
 		x := r.put(binding, nil)
 		r.judgeDuring("async-bind-during-provision", k, operation, x, x.wantOr("ConcurrencyError", 200, 201, 202))

@@ -26,7 +26,7 @@ type Report struct {
 func (r *Runner) report() *Report {
 	hide := r.client.hider()
 	report := &Report{
-		URL: r.client.base, Prefix: r.prefix, Service: hide.In(r.target.serviceName), Plan: hide.In(r.target.planName),
+		URL: r.client.base, Prefix: r.prefix, Service: hide.In(r.target.ServiceName), Plan: hide.In(r.target.PlanName),
 		Instances: len(r.ledger.all), Ended: r.ended, Leftovers: []Leftover{},
 	}
 	for _, test := range Cases() {

@@ -17,7 +17,7 @@ import (
 
 // creation is a valid Provision or Bind of the target that accepts an asynchronous operation. change may change its body.
 func (r *Runner) creation(k key, change func(object)) request {
-	body := object{"service_id": r.target.service, "plan_id": r.target.plan}
+	body := object{"service_id": r.target.Service, "plan_id": r.target.Plan}
 	if k.binding == "" {
 		body["organization_guid"], body["space_guid"] = "osb-storm-organization", "osb-storm-space"
 	}
@@ -46,11 +46,11 @@ func notAsync(sent request) request {
 
 // put sends a creation of the target's pair. change may change its body.
 func (r *Runner) put(k key, change func(object)) *exchange {
-	return r.create(k, r.target.pair, r.creation(k, change))
+	return r.create(k, r.target.Pair, r.creation(k, change))
 }
 
 // delete sends a deletion that accepts an asynchronous operation.
-func (r *Runner) delete(k key) *exchange { return r.deleteBy(k, deletion(k, r.target.pair, true)) }
+func (r *Runner) delete(k key) *exchange { return r.deleteBy(k, deletion(k, r.target.Pair, true)) }
 
 // deleteBy sends a deletion, and notes what its answer says.
 func (r *Runner) deleteBy(k key, sent request) *exchange {
@@ -62,7 +62,7 @@ func (r *Runner) deleteBy(k key, sent request) *exchange {
 }
 
 // fetch fetches what exists.
-func (r *Runner) fetch(k key) *exchange { return r.send(fetching(k, r.target.pair)) }
+func (r *Runner) fetch(k key) *exchange { return r.send(fetching(k, r.target.Pair)) }
 
 // wants judges a case: the answer has one of these statuses. It returns the exchange.
 func (r *Runner) wants(name string, x *exchange, statuses ...int) *exchange {
@@ -83,15 +83,15 @@ func (r *Runner) settle(k key, x *exchange) bool {
 func (r *Runner) await(k key, operation string) (string, *exchange) {
 	begun := time.Now()
 	for {
-		x := r.send(poll(k, r.target.pair, operation))
+		x := r.send(poll(k, r.target.Pair, operation))
 		state := stateOf(x)
 		if state != "gone" {
 			problem := ""
 			if state == "" {
 				problem = "the answer isn't 200 with such a state"
 			}
-			r.judge(lastOperationOf(k), x, problem)
-			r.judge(lastOperationFieldsOf(k), x, wrongLastOperation(x))
+			r.judge(ofPoll(k, "last-operation-state"), x, problem)
+			r.judge(ofPoll(k, "last-operation-fields"), x, wrongLastOperation(x))
 		}
 		if state != "in progress" || r.ctx.Err() != nil || time.Since(begun) > r.config.OperationTime {
 			return state, x
@@ -100,20 +100,12 @@ func (r *Runner) await(k key, operation string) (string, *exchange) {
 	}
 }
 
-// lastOperationOf is the case of every answer to a Poll.
-func lastOperationOf(k key) string {
+// ofPoll returns the case of an answer to a Poll, from that of an instance.
+func ofPoll(k key, name string) string {
 	if k.binding != "" {
-		return "binding-last-operation-state"
+		return "binding-" + name
 	}
-	return "last-operation-state"
-}
-
-// lastOperationFieldsOf is the case of the members of every answer to a Poll.
-func lastOperationFieldsOf(k key) string {
-	if k.binding != "" {
-		return "binding-last-operation-fields"
-	}
-	return "last-operation-fields"
+	return name
 }
 
 // stateOf returns the state in an answer to a Poll, "gone" for 410, and "" for every other answer.
@@ -132,7 +124,7 @@ func stateOf(x *exchange) string {
 // meanwhile, the problem says nothing, and the case isn't run.
 func (r *Runner) judgeDuring(name string, k key, operation string, x *exchange, problem string) {
 	if problem != "" && x.err == nil {
-		if state := stateOf(r.send(poll(k, r.target.pair, operation))); state != "in progress" && state != "" {
+		if state := stateOf(r.send(poll(k, r.target.Pair, operation))); state != "in progress" && state != "" {
 			r.skip("the operation had ended before the answer", name)
 			return
 		}
@@ -199,7 +191,7 @@ func (r *Runner) rejects(rejections []rejection, newKey func() key) {
 		if test.change == nil {
 			sent.body = sent.body[:len(sent.body)-1]
 		}
-		r.wants(test.name, r.create(k, pair{textIn(body, "service_id"), textIn(body, "plan_id")}, sent), 400)
+		r.wants(test.name, r.create(k, Pair{textIn(body, "service_id"), textIn(body, "plan_id")}, sent), 400)
 	}
 }
 
@@ -220,7 +212,7 @@ func (r *Runner) ends(name string, k key, first *exchange) bool {
 // begins judges the creation of one key that accepts no asynchronous operation, and then, if another one is created
 // asynchronously, the repetition of that. It returns the first answer about the other one. The cases begin with prefix.
 func (r *Runner) begins(prefix string, one, other key) *exchange {
-	x := r.create(one, r.target.pair, notAsync(r.creation(one, nil)))
+	x := r.create(one, r.target.Pair, notAsync(r.creation(one, nil)))
 	r.judge(prefix+"required", x, x.wantOr("AsyncRequired", 201))
 	first := r.put(other, nil)
 	if first.is(202) {
@@ -235,8 +227,8 @@ func (r *Runner) begins(prefix string, one, other key) *exchange {
 func (r *Runner) deletes(kind string, k, unknown key, again func() (key, bool)) {
 	for _, test := range []struct {
 		name string
-		pair pair
-	}{{"-without-service-id", pair{"", r.target.plan}}, {"-without-plan-id", pair{r.target.service, ""}}} {
+		pair Pair
+	}{{"-without-service-id", Pair{"", r.target.Plan}}, {"-without-plan-id", Pair{r.target.Service, ""}}} {
 		x := r.wants(kind+test.name, r.send(deletion(k, test.pair, true)), 400) // CleanUp deletes it, whatever the answer says
 		isThere := true
 		if !x.is(400) { // it may be gone
@@ -263,7 +255,7 @@ func (r *Runner) deletes(kind string, k, unknown key, again func() (key, bool)) 
 
 // deletesLater judges an asynchronous deletion.
 func (r *Runner) deletesLater(kind, name string, k key) {
-	x := r.deleteBy(k, deletion(k, r.target.pair, false))
+	x := r.deleteBy(k, deletion(k, r.target.Pair, false))
 	r.judge("async-"+kind+"-required", x, x.wantOr("AsyncRequired", 200))
 	if !x.is(422) {
 		return
@@ -282,7 +274,7 @@ func (r *Runner) deletesLater(kind, name string, k key) {
 		return
 	}
 	if k.binding == "" {
-		r.wants("async-last-operation-gone", r.send(poll(k, r.target.pair, operation)), 410)
+		r.wants("async-last-operation-gone", r.send(poll(k, r.target.Pair, operation)), 410)
 	}
 	r.wants("async-"+kind+"-gone", r.delete(k), 410)
 }
@@ -501,13 +493,13 @@ func (x *exchange) requestLine() string {
 	if x.body != "" {
 		line += " " + x.body
 	}
-	return printable(x.hide.In(line))
+	return Printable(x.hide.In(line))
 }
 
 // came returns the answer as a line for people. The values of credentials and other secrets are left out.
 func (x *exchange) came() string {
 	if x.err != nil {
-		return printable(x.hide.In(x.err.Error()))
+		return Printable(x.hide.In(x.err.Error()))
 	}
 	text := x.text
 	if _, has := x.object["credentials"]; has {
@@ -522,11 +514,11 @@ func (x *exchange) came() string {
 	} else if x.object == nil && strings.Contains(text, "credentials") {
 		text = "(left out: a body with credentials that isn't an object)"
 	}
-	return printable(fmt.Sprintf("%d %s", x.status, x.hide.In(text)))
+	return Printable(fmt.Sprintf("%d %s", x.status, x.hide.In(text)))
 }
 
-// printable returns a text as one line of limited length that a terminal can show.
-func printable(text string) string {
+// Printable returns a text as one line of limited length that a terminal can show.
+func Printable(text string) string {
 	var line strings.Builder
 	count := 0
 	for _, r := range strings.Join(strings.Fields(text), " ") {
@@ -546,18 +538,6 @@ func printable(text string) string {
 // This file has what osb-storm uses besides the cases: a storm asks a broker, judges answers that a proxy has seen, and
 // deletes what it has created, with the same code as the cases.
 
-// A Target is the plan that is ordered.
-type Target struct {
-	Service, Plan         string // the ids
-	ServiceName, PlanName string
-	Bindable              bool
-	InstancesRetrievable  bool
-	BindingsRetrievable   bool
-	Catalogue             []byte      // the body of the answer
-	CatalogueHeader       http.Header // its header but the request's identity, if it could be read
-	HasCatalogue          bool        // whether the catalogue could be read
-}
-
 // Open asks for the catalogue, and chooses the plan to order, as Run does.
 //
 // Errors: those of Run.
@@ -566,12 +546,8 @@ func (r *Runner) Open(ctx context.Context) (Target, error) {
 	if err := r.open(); err != nil {
 		return Target{}, err
 	}
-	target := Target{
-		Service: r.target.service, Plan: r.target.plan, ServiceName: r.target.serviceName, PlanName: r.target.planName,
-		Bindable: r.target.bindable, InstancesRetrievable: r.target.instancesRetrievable,
-		BindingsRetrievable: r.target.bindingsRetrieved, Catalogue: []byte(r.fetched.text),
-		HasCatalogue: r.hasCatalogue(),
-	}
+	target := r.target
+	target.Catalogue, target.HasCatalogue = []byte(r.fetched.text), r.hasCatalogue()
 	if target.HasCatalogue {
 		target.CatalogueHeader = r.fetched.header.Clone()
 		target.CatalogueHeader.Del("X-Broker-API-Request-Identity") // it is that of this request
@@ -606,19 +582,10 @@ func (r *Runner) Ask(ctx context.Context, method, instance, binding, path string
 	return Answer{x.status, x.object, x.requestLine(), x.came()}
 }
 
-// Provision asks for an instance of the target. CleanUp deletes it.
-func (r *Runner) Provision(ctx context.Context, instance string) Answer {
-	k := key{instance: instance}
-	r.ledger.sending(k, r.target.pair)
-	x := r.client.send(ctx, r.creation(k, nil))
-	r.ledger.noteCreation(k, x)
-	return Answer{x.status, x.object, x.requestLine(), x.came()}
-}
-
-// Bind asks for a binding of the target. CleanUp deletes it.
-func (r *Runner) Bind(ctx context.Context, instance, binding string) Answer {
+// Create asks for an instance of the target, or a binding of it. CleanUp deletes it.
+func (r *Runner) Create(ctx context.Context, instance, binding string) Answer {
 	k := key{instance, binding}
-	r.ledger.sending(k, r.target.pair)
+	r.ledger.sending(k, r.target.Pair)
 	x := r.client.send(ctx, r.creation(k, nil))
 	r.ledger.noteCreation(k, x)
 	return Answer{x.status, x.object, x.requestLine(), x.came()}
@@ -634,7 +601,7 @@ type Debt struct {
 // Owe has CleanUp delete an instance or a binding.
 func (r *Runner) Owe(it Debt) {
 	k := key{it.Instance, it.Binding}
-	r.ledger.sending(k, r.target.pair)
+	r.ledger.sending(k, r.target.Pair)
 	owed := r.ledger.entry(k)
 	owed.rejected, owed.unanswered = it.Rejected, it.Unanswered
 }
@@ -693,6 +660,10 @@ func (s Observation) Judge() (failed []Result) {
 	var g general
 	g.judge(x)
 	isPoll := strings.HasSuffix(x.path, "/last_operation")
+	k, fields, texts := key{}, "provision-fields", []string{"operation", "dashboard_url"}
+	if strings.Contains(s.Target, "/service_bindings/") {
+		k, fields, texts = key{binding: "binding"}, "bind-fields", textsOfBinding
+	}
 	for _, test := range []struct {
 		name, problem string
 		fails         bool
@@ -701,9 +672,9 @@ func (s Observation) Judge() (failed []Result) {
 		{"answers-content-type", "the Content-Type isn't application/json", g.noType != nil},
 		{"errors-have-strings", "error or description isn't a non-empty string", g.noStrings != nil},
 		{"retry-after", wrongRetry, g.noRetry != nil},
-		{s.fieldsCase(), wrongFields(x, s.texts(), objectsOfBinding), s.Method == http.MethodPut},
-		{s.lastOperationFieldsCase(), wrongLastOperation(x), isPoll},
-		{s.lastOperationCase(), "the answer isn't one of these states", isPoll && x.is(200) && stateOf(x) == ""},
+		{fields, wrongFields(x, texts, objectsOfBinding), s.Method == http.MethodPut},
+		{ofPoll(k, "last-operation-fields"), wrongLastOperation(x), isPoll},
+		{ofPoll(k, "last-operation-state"), "the answer isn't one of these states", isPoll && x.is(200) && stateOf(x) == ""},
 	} {
 		if test.fails && test.problem != "" {
 			failed = append(failed, s.Fail(test.name, test.problem))
@@ -711,37 +682,6 @@ func (s Observation) Judge() (failed []Result) {
 	}
 	return failed
 }
-
-func (s Observation) isBinding() bool { return strings.Contains(s.Target, "/service_bindings/") }
-
-func (s Observation) fieldsCase() string {
-	if s.isBinding() {
-		return "bind-fields"
-	}
-	return "provision-fields"
-}
-
-func (s Observation) texts() []string {
-	if s.isBinding() {
-		return textsOfBinding
-	}
-	return []string{"operation", "dashboard_url"}
-}
-
-func (s Observation) lastOperationCase() string { return lastOperationOf(s.key()) }
-
-func (s Observation) lastOperationFieldsCase() string { return lastOperationFieldsOf(s.key()) }
-
-// key is one of a binding if the request is about a binding.
-func (s Observation) key() key {
-	if s.isBinding() {
-		return key{"instance", "binding"}
-	}
-	return key{instance: "instance"}
-}
-
-// Printable returns a text as one line of limited length that a terminal can show.
-func Printable(text string) string { return printable(text) }
 
 // Describe returns the answer as a line for people. The values of credentials and other secrets are left out.
 func (s Observation) Describe() string { return s.exchange().came() }

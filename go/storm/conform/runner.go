@@ -62,7 +62,7 @@ type Runner struct {
 	silent  int       // requests in a row without an answer
 	general general   // what is judged over all answers
 	fetched *exchange // of the catalogue
-	target  target
+	target  Target
 	// What the answers have shown: whether the target is created and bound asynchronously, and an instance that exists.
 	isAsync, bindsAsync bool
 	existing            string
@@ -159,7 +159,7 @@ func (r *Runner) send(sent request) *exchange {
 }
 
 // create sends the creation of an instance or a binding, and notes it for CleanUp. The pair is that of the request.
-func (r *Runner) create(k key, p pair, sent request) *exchange {
+func (r *Runner) create(k key, p Pair, sent request) *exchange {
 	if !r.ledger.all[k.instance] && len(r.ledger.all) >= r.config.Instances {
 		err := fmt.Errorf("%d instances were ordered, which is the limit", r.config.Instances)
 		r.ended = err.Error()
@@ -168,7 +168,7 @@ func (r *Runner) create(k key, p pair, sent request) *exchange {
 	if err := r.stopReason(); err != nil {
 		return &exchange{request: sent, err: err, unsent: true}
 	}
-	r.ledger.sending(k, r.target.pair)
+	r.ledger.sending(k, r.target.Pair)
 	r.ledger.sending(k, p)
 	x := r.send(sent)
 	r.ledger.noteCreation(k, x)
@@ -527,7 +527,7 @@ func (c *cleaning) announce(ctx context.Context, isWhole, isLong bool) {
 	c.tell = nil
 }
 
-func deletion(k key, p pair, async bool) request {
+func deletion(k key, p Pair, async bool) request {
 	query := namesOf(p)
 	if async {
 		query.Set("accepts_incomplete", "true")
@@ -535,7 +535,7 @@ func deletion(k key, p pair, async bool) request {
 	return request{method: "DELETE", path: pathOf(k), query: query}
 }
 
-func poll(k key, p pair, operation string) request {
+func poll(k key, p Pair, operation string) request {
 	query := namesOf(p)
 	if operation != "" {
 		query.Set("operation", operation)
@@ -543,17 +543,17 @@ func poll(k key, p pair, operation string) request {
 	return request{method: "GET", path: pathOf(k) + "/last_operation", query: query}
 }
 
-func fetching(k key, p pair) request {
+func fetching(k key, p Pair) request {
 	return request{method: "GET", path: pathOf(k), query: namesOf(p)}
 }
 
-func namesOf(p pair) url.Values {
+func namesOf(p Pair) url.Values {
 	query := url.Values{}
-	if p.service != "" {
-		query.Set("service_id", p.service)
+	if p.Service != "" {
+		query.Set("service_id", p.Service)
 	}
-	if p.plan != "" {
-		query.Set("plan_id", p.plan)
+	if p.Plan != "" {
+		query.Set("plan_id", p.Plan)
 	}
 	return query
 }
@@ -577,13 +577,13 @@ func (l Leftover) String() string {
 // A key names an instance, or a binding of it.
 type key struct{ instance, binding string }
 
-// A pair is the service and the plan of a request.
-type pair struct{ service, plan string }
+// A Pair is the service and the plan of a request, by their ids.
+type Pair struct{ Service, Plan string }
 
 // An entry is an instance or a binding that a broker may have created.
 type entry struct {
 	key
-	pairs      []pair // under which it was asked for
+	pairs      []Pair // under which it was asked for
 	rejected   bool   // every creation was answered with 4xx, other than 408
 	unanswered bool   // a creation wasn't answered, and may still arrive
 }
@@ -595,7 +595,7 @@ type ledger struct {
 }
 
 // sending notes that a creation is about to be sent.
-func (l *ledger) sending(k key, p pair) {
+func (l *ledger) sending(k key, p Pair) {
 	if l.all == nil {
 		l.all = map[string]bool{}
 	}
@@ -606,7 +606,7 @@ func (l *ledger) sending(k key, p pair) {
 		l.entries = append(l.entries, it)
 	}
 	for _, known := range it.pairs {
-		if known == p || p.service == "" || p.plan == "" {
+		if known == p || p.Service == "" || p.Plan == "" {
 			return
 		}
 	}

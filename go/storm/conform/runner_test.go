@@ -378,7 +378,7 @@ func TestProvision(t *testing.T) {
 	r := runnerFor(t, configFor(serve(t, m)))
 	opened(t, r)
 	id := r.NewID(1)
-	if answer := r.Provision(context.Background(), id); answer.Status != 201 || m.left() != 1 {
+	if answer := r.Create(context.Background(), id, ""); answer.Status != 201 || m.left() != 1 {
 		t.Errorf("got %+v and %d that exist, want 201 and 1", answer, m.left())
 	}
 	answer := r.Ask(context.Background(), http.MethodGet, id, "", "/last_operation", nil)

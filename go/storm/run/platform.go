@@ -216,13 +216,13 @@ func (s *Storm) trial(ctx context.Context) (keys []Key, remove func() string, pr
 		return s.trialByPlatform(ctx)
 	}
 	key, remove := Key{Instance: s.broker.NewID(0)}, func() string { return "" }
-	if problem := s.ends(ctx, key, s.broker.Provision(ctx, key.Instance)); problem != "" {
+	if problem := s.ends(ctx, key, s.broker.Create(ctx, key.Instance, "")); problem != "" {
 		return nil, remove, problem
 	}
 	keys = []Key{key}
 	if s.listsBindings() {
 		binding := Key{Instance: key.Instance, Binding: s.broker.NewID(0)}
-		if s.ends(ctx, binding, s.broker.Bind(ctx, binding.Instance, binding.Binding)) == "" {
+		if s.ends(ctx, binding, s.broker.Create(ctx, binding.Instance, binding.Binding)) == "" {
 			keys = append(keys, binding)
 		}
 	}
