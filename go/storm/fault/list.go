@@ -172,6 +172,11 @@ func (p Place) String() string {
 	return fmt.Sprintf("%d/%d", p.Instance, p.Binding)
 }
 
+// Less returns whether a place comes first in a list.
+func (p Place) Less(other Place) bool {
+	return p.Instance < other.Instance || p.Instance == other.Instance && p.Binding < other.Binding
+}
+
 // A Number names a request: the first, second, .. request about a Place. It is the same in each run with the same seed,
 // in whatever order the requests about different places arrive.
 type Number struct {
@@ -206,13 +211,7 @@ func ParseNumber(text string) (Number, error) {
 
 // less returns whether a number comes first in a list.
 func (n Number) less(other Number) bool {
-	switch {
-	case n.Instance != other.Instance:
-		return n.Instance < other.Instance
-	case n.Binding != other.Binding:
-		return n.Binding < other.Binding
-	}
-	return n.Request < other.Request
+	return n.Place.Less(other.Place) || n.Place == other.Place && n.Request < other.Request
 }
 
 // A Fault is what befalls one request.

@@ -80,6 +80,9 @@ func Listen(config Config) (*Proxy, error) {
 	if err != nil {
 		return nil, err
 	}
+	if config.CatalogueHeader == nil {
+		config.CatalogueHeader = http.Header{"Content-Type": {"application/json"}}
+	}
 	p := &Proxy{Config: config, listener: listener, connections: map[net.Conn]bool{}}
 	for _, address := range append([]*url.URL{config.Broker}, config.Others...) {
 		p.upstreams = append(p.upstreams, upstream{broker: address, within: config.AnswerTime})
@@ -148,15 +151,6 @@ func (p *Proxy) accept() {
 	}
 }
 
-// catalogue is the answer to a request for the catalogue.
-func (p *Proxy) catalogue() *answer {
-	header := p.CatalogueHeader
-	if header == nil {
-		header = jsonHeader()
-	}
-	return &answer{status: http.StatusOK, header: header, body: p.Catalogue}
-}
-
 // serve carries the request of a connection.
 func (p *Proxy) serve(connection net.Conn) {
 	request, body, err := read(connection)
@@ -165,7 +159,7 @@ func (p *Proxy) serve(connection net.Conn) {
 	}
 	defer p.carrying()()
 	if strings.HasSuffix(request.URL.Path, "/v2/catalog") && !p.ForwardsOthers {
-		_, _ = connection.Write(p.catalogue().bytes())
+		_, _ = connection.Write((&answer{http.StatusOK, p.CatalogueHeader, p.Catalogue}).bytes())
 		return
 	}
 	instance, binding := idsOf(request.URL)
@@ -224,18 +218,6 @@ func (p *Proxy) restart() {
 	}
 }
 
-// wait waits for a time, and returns false at once if the Proxy is closed.
-func (p *Proxy) wait(rest time.Duration) bool {
-	timer := time.NewTimer(rest)
-	defer timer.Stop()
-	select {
-	case <-p.ctx.Done():
-		return false
-	case <-timer.C:
-		return true
-	}
-}
-
 // read reads a request.
 func read(connection net.Conn) (*http.Request, []byte, error) {
 	request, err := http.ReadRequest(bufio.NewReader(connection))
@@ -291,14 +273,14 @@ func (c *carriage) carry() Got {
 	case RequestLost:
 		return gotCut
 	case RequestSwallowed:
-		c.untilEnd()
+		c.waitForEnd(c.AnswerTime)
 		return gotNobody
 	case RequestLate:
 		c.later()
-		c.untilEnd()
+		c.waitForEnd(c.AnswerTime)
 		return gotNobody
 	case RequestCut, RequestGarbled, HangUp:
-		_, _ = c.deliver(c.context(), c.fault.Kind)
+		_, _ = c.deliver(c.fault.Kind)
 		return gotCut
 	case GatewayBefore:
 		return c.give(page(gateway(c.fault)))
@@ -314,13 +296,13 @@ func (c *carriage) answer() Got {
 	restarted := make(chan struct{})
 	go func() {
 		defer close(restarted)
-		if c.fault.Kind == RestartDuring && c.wait(time.Duration(c.fault.Share*float64(50*time.Millisecond))) {
+		if c.fault.Kind == RestartDuring && Sleep(c.ctx, time.Duration(c.fault.Share*float64(50*time.Millisecond))) {
 			c.restart()
 		}
 	}()
-	answer, err := c.deliver(c.context(), c.fault.Kind)
+	answer, err := c.deliver(c.fault.Kind)
 	if err == nil && (c.fault.Kind == Repeated || c.fault.Kind == RepeatedUnread) {
-		if second, again := c.deliver(c.context(), None); again == nil {
+		if second, again := c.deliver(None); again == nil {
 			answer = second
 		}
 	}
@@ -349,8 +331,8 @@ func (c *carriage) come(answer *answer) Got {
 		return c.giveSlowly(whole)
 	case AnswerGarbled:
 		if len(answer.body) > 0 {
-			garbled := append([]byte{0}, answer.body[1:]...)
-			whole = answer.with(garbled).bytes()
+			answer.body = append([]byte{0}, answer.body[1:]...)
+			whole = answer.bytes()
 		}
 	case AnswerBodyCut:
 		return c.give(whole[:len(whole)-(len(answer.body)+1)/2])
@@ -371,8 +353,8 @@ func (c *carriage) later() {
 	go func() {
 		defer c.group.Done()
 		defer done()
-		if c.wait(c.delay()) {
-			_, _ = c.deliver(c.context(), None)
+		if Sleep(c.ctx, c.delay()) {
+			_, _ = c.deliver(None)
 		}
 	}()
 }
@@ -386,13 +368,11 @@ func (c *carriage) delay() time.Duration {
 	return least + time.Duration(c.fault.Share*float64(c.Late-least))
 }
 
-// context is the context of a delivery. The broker's answer counts whatever happens to the Proxy.
-func (c *carriage) context() context.Context { return context.Background() }
-
-// deliver sends the request to the broker, as far as the kind says, and notes the answer.
-func (c *carriage) deliver(ctx context.Context, kind Kind) (*answer, error) {
+// deliver sends the request to the broker, as far as the kind says, and notes the answer. That counts whatever happens to
+// the Proxy.
+func (c *carriage) deliver(kind Kind) (*answer, error) {
 	at := c.Journal.deliver(c.exchange)
-	answer, err := c.upstream(at).send(ctx, c.request, c.body, kind, c.fault.Share)
+	answer, err := c.upstream(at).send(context.Background(), c.request, c.body, kind, c.fault.Share)
 	c.Journal.noteDelivery(c.exchange, at, answer, err)
 	return answer, err
 }
@@ -436,7 +416,7 @@ func (c *carriage) giveSlowly(text []byte) Got {
 	pause := time.Duration(c.fault.Share * float64(c.Late) / pieces)
 	for at := 0; at < pieces; at++ {
 		from, to := bounds(len(text), pieces, at)
-		if _, err := c.connection.Write(text[from:to]); err != nil || !c.wait(pause) {
+		if _, err := c.connection.Write(text[from:to]); err != nil || !Sleep(c.ctx, pause) {
 			got := gotOf(text[:from])
 			got.Words = "a part of the answer"
 			return got
@@ -446,9 +426,6 @@ func (c *carriage) giveSlowly(text []byte) Got {
 	got.Words += ", slowly"
 	return got
 }
-
-// untilEnd waits until the platform has given up.
-func (c *carriage) untilEnd() { c.waitForEnd(c.AnswerTime) }
 
 // waitForEnd waits for a time, and returns false at once if the platform has given up, or the Proxy is closed.
 func (c *carriage) waitForEnd(rest time.Duration) bool {
@@ -472,9 +449,12 @@ func (u upstream) send(
 ) (*answer, error) {
 	ctx, cancel := context.WithTimeout(ctx, u.within)
 	defer cancel()
-	connection, err := u.dial(ctx)
+	connection, err := Dial(ctx, u.broker)
 	if err != nil {
 		return nil, err
+	}
+	if u.broker.Scheme == "https" {
+		connection = tls.Client(connection, &tls.Config{ServerName: u.broker.Hostname()})
 	}
 	defer connection.Close()
 	_ = connection.SetDeadline(time.Now().Add(u.within))
@@ -499,18 +479,13 @@ func (u upstream) send(
 	return readAnswer(connection, request)
 }
 
-func (u upstream) dial(ctx context.Context) (net.Conn, error) {
-	host, port := u.broker.Hostname(), u.broker.Port()
-	if u.broker.Scheme == "https" {
-		if port == "" {
-			port = "443"
-		}
-		return (&tls.Dialer{}).DialContext(ctx, "tcp", net.JoinHostPort(host, port))
-	}
+// Dial returns a connection to the host of a URL, over which nothing was sent.
+func Dial(ctx context.Context, to *url.URL) (net.Conn, error) {
+	port := to.Port()
 	if port == "" {
-		port = "80"
+		port = map[string]string{"http": "80", "https": "443"}[to.Scheme]
 	}
-	return (&net.Dialer{}).DialContext(ctx, "tcp", net.JoinHostPort(host, port))
+	return (&net.Dialer{}).DialContext(ctx, "tcp", net.JoinHostPort(to.Hostname(), port))
 }
 
 // bytes are a request as the broker gets it.
@@ -572,9 +547,6 @@ type answer struct {
 	body   []byte
 }
 
-// with returns the answer with another body.
-func (a *answer) with(body []byte) *answer { return &answer{a.status, a.header, body} }
-
 // bytes are the answer as the platform gets it. Its connection carries nothing else.
 func (a *answer) bytes() []byte {
 	header := a.header.Clone()
@@ -590,8 +562,6 @@ func (a *answer) bytes() []byte {
 	text.Write(a.body)
 	return text.Bytes()
 }
-
-func jsonHeader() http.Header { return http.Header{"Content-Type": {"application/json"}} }
 
 // page is the answer of a gateway.
 func page(status int) []byte {

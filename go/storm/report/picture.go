@@ -197,10 +197,7 @@ func (r Run) Course() []Finding {
 	if len(all) > mostLanes {
 		all = all[:mostLanes]
 	}
-	sort.SliceStable(all, func(one, other int) bool {
-		a, b := all[one].place, all[other].place
-		return a.Instance < b.Instance || a.Instance == b.Instance && a.Binding < b.Binding
-	})
+	sort.SliceStable(all, func(one, other int) bool { return all[one].place.Less(all[other].place) })
 	course := make([]Finding, 0, len(all))
 	for _, faulty := range all {
 		life := LifeOf(faulty.key, r.Exchanges, r.Events, r.Hide)

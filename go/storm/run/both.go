@@ -109,7 +109,7 @@ type Both struct {
 	password         string
 	journal          *fault.Journal
 	source           *fault.Source
-	keys             *keys
+	keys             *Keys
 	events           *events
 	proxy            *fault.Proxy
 	places           *places
@@ -203,7 +203,7 @@ func (b *Both) openProxy(ctx context.Context) (err error) {
 		others = nil
 	}
 	b.proxy, err = fault.Listen(fault.Config{
-		Broker: first, Others: others, Source: b.source, Journal: b.journal, Place: b.keys.placeOrNew, ForwardsOthers: true,
+		Broker: first, Others: others, Source: b.source, Journal: b.journal, Place: b.keys.PlaceOrNew, ForwardsOthers: true,
 		RequestTime: b.config.RequestTime, Late: b.config.Late, AnswerTime: 30 * time.Second,
 	})
 	return err

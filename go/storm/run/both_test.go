@@ -134,7 +134,7 @@ func TestPlaceOrNew(t *testing.T) {
 	own := k.instance(3)
 	var found []string
 	for _, ids := range [][2]string{{own.Instance}, {"x"}, {"y", "b"}, {"x", "b"}, {"y", "b"}, {own.Instance, "c"}, {}} {
-		place, is := k.placeOrNew(ids[0], ids[1])
+		place, is := k.PlaceOrNew(ids[0], ids[1])
 		found = append(found, fmt.Sprintf("%s %v", place, is))
 	}
 	wanted := "3 true 1000001 true 1000002/1 true 1000001/1 true 1000002/1 true 3/1 true 0 false"

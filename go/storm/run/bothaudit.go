@@ -243,11 +243,11 @@ func (b *Both) add(report *Report, found *Result) {
 		kills, pauses *int
 	}{{b.brokers, &p.BrokerKills, &p.BrokerPauses}, {b.workers, &p.PlatformKills, &p.PlatformPauses}} {
 		for _, v := range test.of {
-			kills, pauses, visited, odd := v.counts()
-			*test.kills, *test.pauses = *test.kills+kills, *test.pauses+pauses
-			p.Ends += v.endsByItself()
-			p.Visited = append(p.Visited, visited...)
-			for _, line := range append(odd, cries(v.log)...) {
+			its := v.counts()
+			*test.kills, *test.pauses = *test.kills+its.kills, *test.pauses+its.pauses
+			p.Ends += its.ends
+			p.Visited = append(p.Visited, its.visited...)
+			for _, line := range append(append([]string{}, its.odd...), cries(v.log)...) {
 				p.Odd = append(p.Odd, hide.In(fmt.Sprintf("%s: %.1000s", v, line)))
 			}
 		}

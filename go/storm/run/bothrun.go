@@ -81,15 +81,10 @@ func (b *Both) begin(ctx context.Context) error {
 			return fmt.Errorf("%w. Its log: %.1000s", err, lastOf(b.brokers[at].log))
 		}
 	}
-	for {
-		brokers, err := b.store.Brokers(within)
-		if err == nil && len(brokers) == 1 && brokers[0].Catalogue != nil {
-			return nil
-		}
-		if !fault.Sleep(within, readEach) {
-			return fmt.Errorf("the platform doesn't get the catalogue. Its log: %.1000s", lastOf(b.workers[0].log))
-		}
+	if _, isThere := awaitCatalogue(within, b.store); !isThere {
+		return fmt.Errorf("the platform doesn't get the catalogue. Its log: %.1000s", lastOf(b.workers[0].log))
 	}
+	return nil
 }
 
 // lives are those of a round, with numbers of their own. If only some instances are lived, all begin at once.
@@ -125,7 +120,7 @@ func (b *Both) livesOf(round int, only map[int]bool) []life {
 // remainingPoints returns the crash points that are still to be visited.
 func (b *Both) remainingPoints() (points []string) {
 	for _, program := range b.programs() {
-		points = append(points, program.remainingPoints()...)
+		points = append(points, program.counts().remainingPoints()...)
 	}
 	if b.config.CrashPoints != "" {
 		_, _, ofCommands := b.commands.points()
@@ -393,7 +388,7 @@ func (b *Both) meddleWith(ctx context.Context, chance *rand.Rand, key Key, recor
 		operator := &operator{events: b.events}
 		operator.do(ctx, key, what, call)
 	}
-	place, _ := b.keys.placeOrNew(key.Instance, key.Binding)
+	place, _ := b.keys.PlaceOrNew(key.Instance, key.Binding)
 	removed, retried, abandoned := chance.Float64(), chance.Float64(), chance.Float64()
 	switch {
 	case removed < isRemoved[record.State] && (place.Instance+place.Binding)%8 != 0:
@@ -425,8 +420,8 @@ func (b *Both) omissions() (all []string) {
 		all = append(all, "the client that keeps no rules has created no binding")
 	}
 	for _, program := range b.programs() {
-		if kills, pauses, _, _ := program.counts(); b.isKilled(program) && (kills < 2 || pauses < 1) {
-			all = append(all, fmt.Sprintf("the %s was killed %s and paused %s", program, times(kills), times(pauses)))
+		if its := program.counts(); b.isKilled(program) && (its.kills < 2 || its.pauses < 1) {
+			all = append(all, fmt.Sprintf("the %s was killed %s and paused %s", program, times(its.kills), times(its.pauses)))
 		}
 	}
 	if b.places.server != nil {

@@ -382,7 +382,7 @@ type Orders interface {
 // An operator creates, binds, unbinds and removes, as the lives say.
 type operator struct {
 	orders Orders
-	keys   *keys
+	keys   *Keys
 	events *events
 	look   time.Duration // how often a record is read while the operator waits for it
 }

@@ -64,17 +64,9 @@ func (l Lists) Check() error {
 	return nil
 }
 
-// Keys are the ids of a run.
-type Keys interface {
-	// All returns all keys in their order.
-	All() []Key
-	// Place returns the place of ids, if they have one.
-	Place(instance, binding string) (fault.Place, bool)
-}
-
 // A Result is the result of one run.
 type Result struct {
-	Keys        Keys
+	Keys        *Keys
 	Exchanges   []fault.Exchange
 	Events      []Event
 	Differences report.Differences

@@ -52,7 +52,7 @@ func TestCandidates(t *testing.T) {
 	diff.Equal(t, len(got), mostCandidates+1, "candidates of seven")
 
 	other := Difference{Key: Key{Instance: "another"}}
-	if place, _ := k.placeOrNew(other.Key.Instance, ""); place.Instance != firstOther {
+	if place, _ := k.PlaceOrNew(other.Key.Instance, ""); place.Instance != firstOther {
 		t.Fatalf("another instance: got the number %s, want the first of the others", place)
 	}
 	stuck, isFalse := of(3), of(2)

@@ -56,8 +56,10 @@ func startPlatform(
 		return nil, either(err, rig.closeFiles())
 	}
 	rig.resume()
-	if err := rig.awaitCatalogue(ctx); err != nil {
-		return nil, either(err, rig.close())
+	within, cancel := context.WithTimeout(ctx, 30*time.Second)
+	defer cancel()
+	if reason, isThere := awaitCatalogue(within, rig.store); !isThere {
+		return nil, either(fmt.Errorf("the platform can't read the catalogue: %s", reason), rig.close())
 	}
 	return rig, nil
 }
@@ -111,21 +113,15 @@ func newVault() (*vault.Vault, error) {
 	return vault.New(key)
 }
 
-// awaitCatalogue waits until the engine has the catalogue.
-func (p *platformRig) awaitCatalogue(ctx context.Context) error {
-	ctx, cancel := context.WithTimeout(ctx, 30*time.Second)
-	defer cancel()
+// awaitCatalogue waits until the store of a platform has the catalogue of its broker. It returns why that isn't so.
+func awaitCatalogue(ctx context.Context, store platform.Store) (reason string, isThere bool) {
 	for {
-		brokers, err := p.store.Brokers(ctx)
-		if err == nil && len(brokers) == 1 && brokers[0].Catalogue != nil {
-			return nil
+		brokers, err := store.Brokers(ctx)
+		if len(brokers) == 1 {
+			reason, isThere = brokers[0].Reason.Lost, err == nil && brokers[0].Catalogue != nil
 		}
-		if !fault.Sleep(ctx, 10*time.Millisecond) {
-			reason := ""
-			if len(brokers) == 1 {
-				reason = brokers[0].Reason.Lost
-			}
-			return fmt.Errorf("the platform can't read the catalogue: %s", reason)
+		if isThere || !fault.Sleep(ctx, readEach) {
+			return reason, isThere
 		}
 	}
 }
@@ -431,84 +427,101 @@ func keyOf(key platform.Key) Key {
 	return Key{Instance: key.Instance.String()}
 }
 
-// keys are the ids of a run with their places. Any number of goroutines use them.
-type keys struct {
+// Keys are the ids of a run with their places. Any number of goroutines use them.
+type Keys struct {
 	newID func(number int) string
+	first int           // the number of the first instance that isn't one of the lives'
+	Began chan struct{} // is closed once there is a key
 	mutex sync.Mutex
 	ofKey map[Key]fault.Place
-	next  map[string]int // the number of the next binding of an instance
+	next  map[string]int // the number of the last binding of an instance
+	order []Key          // in which they were named
 	// others is how many instances have got a place although they aren't the lives'.
 	others int
-}
-
-var _ Keys = (*keys)(nil)
-
-func newKeys(newID func(int) string) *keys {
-	return &keys{newID: newID, ofKey: map[Key]fault.Place{}, next: map[string]int{}}
-}
-
-// instance makes up the id of an instance.
-func (k *keys) instance(number int) Key {
-	k.mutex.Lock()
-	defer k.mutex.Unlock()
-	key := Key{Instance: k.newID(number)}
-	k.ofKey[key] = fault.Place{Instance: number}
-	return key
-}
-
-// binding makes up the id of a binding.
-func (k *keys) binding(of Key) Key {
-	k.mutex.Lock()
-	defer k.mutex.Unlock()
-	k.next[of.Instance]++
-	number := k.next[of.Instance]
-	key := Key{Instance: of.Instance, Binding: k.newID(number)}
-	k.ofKey[key] = fault.Place{Instance: k.ofKey[of].Instance, Binding: number}
-	return key
-}
-
-// Place returns the place of ids, if they are of the run.
-func (k *keys) Place(instance, binding string) (fault.Place, bool) {
-	k.mutex.Lock()
-	defer k.mutex.Unlock()
-	place, is := k.ofKey[Key{Instance: instance, Binding: binding}]
-	return place, is
 }
 
 // firstOther is the number of the first instance that isn't one of the lives', such as a further try of one.
 const firstOther = 1000001
 
-// placeOrNew returns the place of ids. The first request about others gives them one.
-func (k *keys) placeOrNew(instance, binding string) (fault.Place, bool) {
-	if place, is := k.Place(instance, binding); is || instance == "" {
-		return place, is
+// NewKeys returns Keys of a run in which somebody else names all instances.
+func NewKeys() *Keys {
+	return &Keys{first: 1, Began: make(chan struct{}), ofKey: map[Key]fault.Place{}, next: map[string]int{}}
+}
+
+func newKeys(newID func(int) string) *Keys {
+	k := NewKeys()
+	k.newID, k.first = newID, firstOther
+	return k
+}
+
+// add adds a key. The mutex is locked.
+func (k *Keys) add(key Key, place fault.Place) Key {
+	if len(k.order) == 0 {
+		close(k.Began)
 	}
+	k.ofKey[key], k.order = place, append(k.order, key)
+	return key
+}
+
+// instance makes up the id of an instance.
+func (k *Keys) instance(number int) Key {
 	k.mutex.Lock()
 	defer k.mutex.Unlock()
-	of := Key{Instance: instance}
-	if _, is := k.ofKey[of]; !is {
-		k.ofKey[of] = fault.Place{Instance: firstOther + k.others}
-		k.others++
-	}
-	if binding != "" {
-		k.next[instance]++
-		k.ofKey[Key{Instance: instance, Binding: binding}] = fault.Place{Instance: k.ofKey[of].Instance, Binding: k.next[instance]}
-	}
+	return k.add(Key{Instance: k.newID(number)}, fault.Place{Instance: number})
+}
+
+// binding makes up the id of a binding.
+func (k *Keys) binding(of Key) Key {
+	k.mutex.Lock()
+	defer k.mutex.Unlock()
+	k.next[of.Instance]++
+	number := k.next[of.Instance]
+	key := Key{Instance: of.Instance, Binding: k.newID(number)}
+	return k.add(key, fault.Place{Instance: k.ofKey[of].Instance, Binding: number})
+}
+
+// Place returns the place of ids, if they are of the run.
+func (k *Keys) Place(instance, binding string) (fault.Place, bool) {
+	k.mutex.Lock()
+	defer k.mutex.Unlock()
 	place, is := k.ofKey[Key{Instance: instance, Binding: binding}]
 	return place, is
 }
 
-// All returns all keys, in the order of their places.
-func (k *keys) All() []Key {
+// PlaceOrNew returns the place of ids. The first request about others gives them one. It is false if a path names no
+// instance.
+func (k *Keys) PlaceOrNew(instance, binding string) (fault.Place, bool) {
 	k.mutex.Lock()
 	defer k.mutex.Unlock()
-	all := make([]Key, 0, len(k.ofKey))
-	for key := range k.ofKey {
-		all = append(all, key)
+	key, of := Key{Instance: instance, Binding: binding}, Key{Instance: instance}
+	if instance == "" {
+		return fault.Place{}, false
 	}
+	if _, is := k.ofKey[of]; !is {
+		k.add(of, fault.Place{Instance: k.first + k.others})
+		k.others++
+	}
+	if _, is := k.ofKey[key]; !is {
+		k.next[instance]++
+		k.add(key, fault.Place{Instance: k.ofKey[of].Instance, Binding: k.next[instance]})
+	}
+	return k.ofKey[key], true
+}
+
+// All returns all keys, in the order in which they were named.
+func (k *Keys) All() []Key {
+	k.mutex.Lock()
+	defer k.mutex.Unlock()
+	return append([]Key(nil), k.order...)
+}
+
+// byPlace returns all keys, in the order of their places.
+func (k *Keys) byPlace() []Key {
+	all := k.All()
 	sort.Slice(all, func(one, other int) bool {
-		a, b := k.ofKey[all[one]], k.ofKey[all[other]]
-		return a.Instance < b.Instance || a.Instance == b.Instance && a.Binding < b.Binding
+		a, _ := k.Place(all[one].Instance, all[one].Binding)
+		b, _ := k.Place(all[other].Instance, all[other].Binding)
+		return a.Less(b)
 	})
 	return all
 }

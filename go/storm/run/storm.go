@@ -301,7 +301,7 @@ type running struct {
 	*Storm
 	journal  *fault.Journal
 	source   *fault.Source
-	keys     *keys
+	keys     *Keys
 	events   *events
 	proxy    *fault.Proxy
 	platform *platformRig
@@ -421,7 +421,7 @@ func (r *running) isQuiet() bool { return r.proxy.Pending() == 0 }
 // A course is how a run goes: the lives, the end of the faults, and the time until everything has converged.
 type course struct {
 	orders           Orders
-	keys             *keys
+	keys             *Keys
 	events           *events
 	look             func(context.Context) // compares the records with what exists
 	lookEach         time.Duration         // between two looks
@@ -521,7 +521,7 @@ func lives(seed int64, count int, within time.Duration, isBindable bool, only ma
 // deleteAll deletes everything that a run may have created, and returns what couldn't be deleted, except what an
 // earlier run has returned.
 func (s *Storm) deleteAll(running, deleting context.Context, found *Result) []conform.Leftover {
-	for _, key := range found.Keys.All() {
+	for _, key := range found.Keys.byPlace() {
 		if it, isOwed := debtOf(key, found, s.config.Broker.RequestTime); isOwed {
 			s.broker.Owe(it)
 		}

@@ -609,9 +609,9 @@ func TestCalm(t *testing.T) {
 	troubles := b.trouble(ctx)
 	troubles.group.Wait()
 	for _, program := range b.programs() {
-		if kills, pauses, _, _ := program.counts(); program.running == nil || kills+pauses > 0 {
+		if its := program.counts(); program.running == nil || its.kills+its.pauses > 0 {
 			t.Errorf("%s: got it to run %v, %d kills and %d pauses, want it to run without either", program,
-				program.running != nil, kills, pauses)
+				program.running != nil, its.kills, its.pauses)
 		}
 	}
 	for name, change := range map[string]func(*BothConfig){

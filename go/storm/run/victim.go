@@ -4,7 +4,6 @@ import (
 	"context"
 	"fmt"
 	"math/rand"
-	"net"
 	"net/url"
 	"os"
 	"os/exec"
@@ -50,14 +49,18 @@ type victim struct {
 	// wasKilled is whether the process that has ended last was killed.
 	wasKilled bool
 
-	mutex   sync.Mutex
-	open    []string // the crash points that are still to be visited, besides trying
-	trying  string   // the crash point that the process is to reach now, or empty
-	visited []string
-	kills   int
-	pauses  int
-	ends    int      // how often it has ended by itself, with a status that is accepted
-	odd     []string // ends that nobody had a hand in, and errors that the program didn't expect
+	mutex sync.Mutex
+	tally
+}
+
+// A tally is what has become of a victim, and of its crash points.
+type tally struct {
+	kills, pauses int
+	ends          int      // how often it has ended by itself, with a status that is accepted
+	open          []string // the crash points that are still to be visited, besides trying
+	trying        string   // the crash point that the process is to reach now, or empty
+	visited       []string
+	odd           []string // ends that nobody had a hand in, and errors that the program didn't expect
 }
 
 // lifetimes are between which times something lasts.
@@ -110,7 +113,7 @@ func (v *victim) live(ctx context.Context, point string, isPaused bool) {
 	if isDead && v.wasKilled && point != "" {
 		v.visit(point)
 	} else if point != "" {
-		v.reopen(point)
+		v.locked(func() { v.open, v.trying = append(v.open, point), "" })
 	}
 	if isPaused && !isDead {
 		v.pause(ctx)
@@ -130,15 +133,7 @@ func (v *victim) nextPoint() string {
 
 func (v *victim) visit(point string) {
 	v.tell("is killed at " + point)
-	v.mutex.Lock()
-	defer v.mutex.Unlock()
-	v.visited, v.trying, v.kills = append(v.visited, point), "", v.kills+1
-}
-
-func (v *victim) reopen(point string) {
-	v.mutex.Lock()
-	defer v.mutex.Unlock()
-	v.open, v.trying = append(v.open, point), ""
+	v.locked(func() { v.visited, v.trying, v.kills = append(v.visited, point), "", v.kills+1 })
 }
 
 // start starts a process, which is to kill itself at a crash point. It returns false if that fails.
@@ -175,15 +170,15 @@ func (v *victim) dies(ctx context.Context, within time.Duration) bool {
 	timer := time.NewTimer(within)
 	defer timer.Stop()
 	select {
-	case err, isFirst := <-v.ended:
-		v.judge(err, isFirst)
+	case _, isFirst := <-v.ended:
+		v.judge(isFirst)
 		return true
 	case <-ctx.Done():
 	case <-timer.C:
 	}
 	select { // both may be the case
-	case err, isFirst := <-v.ended:
-		v.judge(err, isFirst)
+	case _, isFirst := <-v.ended:
+		v.judge(isFirst)
 		return true
 	default:
 		return false
@@ -191,11 +186,12 @@ func (v *victim) dies(ctx context.Context, within time.Duration) bool {
 }
 
 // judge notes an end of the process that isn't a kill, and isn't because its store is away.
-func (v *victim) judge(err error, isFirst bool) {
+func (v *victim) judge(isFirst bool) {
 	if !isFirst {
 		return
 	}
-	v.wasKilled = isKilled(err)
+	how, _ := v.running.ProcessState.Sys().(syscall.WaitStatus)
+	v.wasKilled = how.Signaled() && how.Signal() == syscall.SIGKILL
 	if v.wasKilled {
 		return
 	}
@@ -203,30 +199,11 @@ func (v *victim) judge(err error, isFirst bool) {
 	for _, accepted := range v.accepted {
 		if status == accepted {
 			v.tell(fmt.Sprintf("ends with status %d", status))
-			v.mutex.Lock()
-			v.ends++
-			v.mutex.Unlock()
+			v.locked(func() { v.ends++ })
 			return
 		}
 	}
-	v.note(fmt.Sprintf("%s has ended by itself: %v", v.line[0], statusOf(err)))
-}
-
-// isKilled returns whether a process has ended because of SIGKILL.
-func isKilled(err error) bool {
-	failed, is := err.(*exec.ExitError)
-	if !is {
-		return false
-	}
-	status, is := failed.Sys().(syscall.WaitStatus)
-	return is && status.Signaled() && status.Signal() == syscall.SIGKILL
-}
-
-func statusOf(err error) string {
-	if err == nil {
-		return "exit status 0"
-	}
-	return err.Error()
+	v.note(fmt.Sprintf("%s has ended by itself: %v", v.line[0], v.running.ProcessState))
 }
 
 // pause stops the process for a while, and then lets it live a little longer.
@@ -238,9 +215,7 @@ func (v *victim) pause(ctx context.Context) {
 	v.tell(fmt.Sprintf("is paused for %.1f s", rest.Seconds()))
 	fault.Sleep(ctx, rest)
 	_ = v.running.Process.Signal(syscall.SIGCONT)
-	v.mutex.Lock()
-	v.pauses++
-	v.mutex.Unlock()
+	v.locked(func() { v.pauses++ })
 	v.dies(ctx, v.between(v.times.life)/2)
 }
 
@@ -252,9 +227,7 @@ func (v *victim) kill() {
 	_ = v.running.Process.Kill()
 	<-v.ended
 	v.tell("is killed")
-	v.mutex.Lock()
-	defer v.mutex.Unlock()
-	v.kills++
+	v.locked(func() { v.kills++ })
 }
 
 // end ends the process as an operator does. What is odd about that is noted.
@@ -285,10 +258,17 @@ func (v *victim) tell(what string) {
 	v.events.add(Key{}, v.name, what)
 }
 
-func (v *victim) note(what string) {
+func (v *victim) note(what string) { v.locked(func() { v.odd = append(v.odd, what) }) }
+
+func (v *victim) locked(call func()) {
 	v.mutex.Lock()
 	defer v.mutex.Unlock()
-	v.odd = append(v.odd, what)
+	call()
+}
+
+func (v *victim) counts() (now tally) {
+	v.locked(func() { now = v.tally })
+	return now
 }
 
 func (v *victim) between(times [2]time.Duration) time.Duration {
@@ -296,29 +276,13 @@ func (v *victim) between(times [2]time.Duration) time.Duration {
 }
 
 // remainingPoints returns the crash points that are still to be visited.
-func (v *victim) remainingPoints() []string {
-	v.mutex.Lock()
-	defer v.mutex.Unlock()
-	points := append([]string{}, v.open...)
-	if v.trying != "" {
-		points = append(points, v.trying)
+func (t tally) remainingPoints() []string {
+	points := append([]string{}, t.open...)
+	if t.trying != "" {
+		points = append(points, t.trying)
 	}
 	sort.Strings(points)
 	return points
-}
-
-// counts returns how often the program was killed and paused, and what was odd.
-func (v *victim) counts() (kills, pauses int, visited, odd []string) {
-	v.mutex.Lock()
-	defer v.mutex.Unlock()
-	return v.kills, v.pauses, append([]string{}, v.visited...), append([]string{}, v.odd...)
-}
-
-// endsByItself returns how often the program has ended by itself because its store was away.
-func (v *victim) endsByItself() int {
-	v.mutex.Lock()
-	defer v.mutex.Unlock()
-	return v.ends
 }
 
 // cry is what a program logs of an error that nothing has caught. A panic may be the error in a line of JSON.
@@ -379,12 +343,8 @@ func (c Commands) restart(broker *url.URL) func(context.Context) error {
 
 // awaitBroker waits until a broker takes connections.
 func awaitBroker(ctx context.Context, broker *url.URL) error {
-	port := broker.Port()
-	if port == "" {
-		port = map[string]string{"http": "80", "https": "443"}[broker.Scheme]
-	}
 	for {
-		connection, err := (&net.Dialer{}).DialContext(ctx, "tcp", net.JoinHostPort(broker.Hostname(), port))
+		connection, err := fault.Dial(ctx, broker)
 		if err == nil {
 			return connection.Close()
 		}

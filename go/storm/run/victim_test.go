@@ -33,7 +33,7 @@ func victimOf(t *testing.T, script string, points ...string) (v *victim, folder 
 			name: whoBroker, line: []string{"/bin/sh", "-c", "echo x >>starts; " + script},
 			environment: append(os.Environ(), "PWD="+folder), log: filepath.Join(folder, "log"),
 		},
-		chance: fault.Chance(1, "test"), times: shortTimes(), open: points,
+		chance: fault.Chance(1, "test"), times: shortTimes(), tally: tally{open: points},
 		events: silentEvents(),
 	}, folder
 }
@@ -70,12 +70,12 @@ func starts(t *testing.T, folder string) int {
 func TestVictimIsKilled(t *testing.T) {
 	t.Parallel()
 	v, folder := victimOf(t, "exec sleep 60")
-	runs(t, v, folder, func() bool { kills, pauses, _, _ := v.counts(); return kills >= 8 && pauses >= 1 })
-	kills, _, visited, odd := v.counts()
+	runs(t, v, folder, func() bool { its := v.counts(); return its.kills >= 8 && its.pauses >= 1 })
+	its := v.counts()
 	// The last process may have been killed before it has counted itself.
-	if started := starts(t, folder); kills < 8 || kills-started > 1 || started > kills || len(visited)+len(odd) > 0 {
-		t.Errorf("got %d starts, %d kills, %v visited and odd %v, want at least 8 kills, each of one start", started, kills,
-			visited, odd)
+	if started := starts(t, folder); its.kills < 8 || its.kills-started > 1 || started > its.kills || len(its.visited)+len(its.odd) > 0 {
+		t.Errorf("got %d starts, %d kills, %v visited and odd %v, want at least 8 kills, each of one start", started, its.kills,
+			its.visited, its.odd)
 	}
 	if process := v.running.Process; process.Signal(syscall.Signal(0)) == nil {
 		t.Error("got a process left, want none")
@@ -120,15 +120,15 @@ func TestVictimVisitsPoints(t *testing.T) {
 	exec sleep 60`, "one", "two")
 	v.times.point = 200 * time.Millisecond
 	runs(t, v, folder, func() bool { // a point that is tried is still to be visited
-		left := len(v.remainingPoints())
-		_, _, visited, _ := v.counts()
-		if left+len(visited) < 2 {
-			t.Errorf("got %d left and %v visited, want 2 or more", left, visited)
+		its := v.counts()
+		left := len(its.remainingPoints())
+		if left+len(its.visited) < 2 {
+			t.Errorf("got %d left and %v visited, want 2 or more", left, its.visited)
 		}
 		return left == 0
 	})
-	if _, _, visited, odd := v.counts(); len(visited) != 2 || len(odd) > 0 {
-		t.Errorf("got %v visited and odd %v, want 2 and none", visited, odd)
+	if its := v.counts(); len(its.visited) != 2 || len(its.odd) > 0 {
+		t.Errorf("got %v visited and odd %v, want 2 and none", its.visited, its.odd)
 	}
 }
 
@@ -136,8 +136,8 @@ func TestVictimVisitsPoints(t *testing.T) {
 func TestVictimIsOdd(t *testing.T) {
 	t.Parallel()
 	v, folder := victimOf(t, "exit 3")
-	runs(t, v, folder, func() bool { _, _, _, odd := v.counts(); return len(odd) >= 2 })
-	if _, _, _, odd := v.counts(); !strings.Contains(odd[0], "has ended by itself: exit status 3") {
+	runs(t, v, folder, func() bool { return len(v.counts().odd) >= 2 })
+	if odd := v.counts().odd; !strings.Contains(odd[0], "has ended by itself: exit status 3") {
 		t.Errorf("got %v, want that it has ended by itself with status 3", odd)
 	}
 	for script, wanted := range map[string]string{
@@ -154,8 +154,7 @@ func TestVictimIsOdd(t *testing.T) {
 			}
 			time.Sleep(100 * time.Millisecond)
 			v.end()
-			_, _, _, odd := v.counts()
-			if got := strings.Join(odd, "\n"); (wanted == "") != (got == "") || !strings.Contains(got, wanted) {
+			if got := strings.Join(v.counts().odd, "\n"); (wanted == "") != (got == "") || !strings.Contains(got, wanted) {
 				t.Errorf("%s: got %q, want %q", script, got, wanted)
 			}
 			_ = syscall.Kill(-v.running.Process.Pid, syscall.SIGKILL) // its sleep, if it has left one
@@ -169,17 +168,17 @@ func TestVictimWhoseStoreIsAway(t *testing.T) {
 	t.Parallel()
 	v, folder := victimOf(t, "exit 75", "one")
 	v.accepted = []int{75}
-	runs(t, v, folder, func() bool { return v.endsByItself() >= 3 })
-	kills, _, visited, odd := v.counts() // on a busy machine some are killed before they end
-	if uncounted := starts(t, folder) - kills - v.endsByItself(); uncounted > 0 || len(visited)+len(odd) > 0 {
-		t.Errorf("got %d ends that aren't counted, %v visited and odd %v, want none", uncounted, visited, odd)
+	runs(t, v, folder, func() bool { return v.counts().ends >= 3 })
+	its := v.counts() // on a busy machine some are killed before they end
+	if uncounted := starts(t, folder) - its.kills - its.ends; uncounted > 0 || len(its.visited)+len(its.odd) > 0 {
+		t.Errorf("got %d ends that aren't counted, %v visited and odd %v, want none", uncounted, its.visited, its.odd)
 	}
 	v, folder = victimOf(t, "[ $(wc -l <starts) -ge 3 ] || exit 75; exec sleep 60")
 	v.accepted = []int{75}
 	v.line[2] = "cd " + folder + "; " + v.line[2]
 	v.startCalmly()
 	defer v.kill()
-	if started, ends := starts(t, folder), v.endsByItself(); started != 3 || ends != 2 {
+	if started, ends := starts(t, folder), v.counts().ends; started != 3 || ends != 2 {
 		t.Errorf("got %d starts and %d ends, want 3 and 2", started, ends)
 	}
 }

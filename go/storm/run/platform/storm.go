@@ -10,7 +10,6 @@ import (
 	"io"
 	"os"
 	"strings"
-	"sync"
 	"syscall"
 	"time"
 
@@ -29,7 +28,7 @@ type Storm struct {
 	proxy   *fault.Proxy
 	journal *fault.Journal
 	source  *fault.Source
-	places  *places
+	places  *run.Keys
 	events  []report.Event
 	// restTime is how long the operations of the broker may take once no request arrives, and how long the last look
 	// may take after a signal. Tests lower it.
@@ -45,7 +44,7 @@ func Start(ctx context.Context, config Config) (s *Storm, err error) {
 		return nil, err
 	}
 	s = &Storm{
-		config: config, journal: fault.NewJournal(), places: newPlaces(), source: config.Source(fault.StandardWeights(false)),
+		config: config, journal: fault.NewJournal(), places: run.NewKeys(), source: config.Source(fault.StandardWeights(false)),
 		restTime: 2*config.OperationTime + 10*time.Second,
 	}
 	if s.folder, err = os.MkdirTemp(config.Folder, "osb-storm-"); err != nil {
@@ -55,7 +54,7 @@ func Start(ctx context.Context, config Config) (s *Storm, err error) {
 		return nil, either(err, os.RemoveAll(s.folder))
 	}
 	s.proxy, err = fault.Listen(fault.Config{
-		Address: config.Address, Broker: s.shop.address, Source: s.source, Journal: s.journal, Place: s.places.Place,
+		Address: config.Address, Broker: s.shop.address, Source: s.source, Journal: s.journal, Place: s.places.PlaceOrNew,
 		ForwardsOthers: true, RequestTime: config.RequestTime, Late: config.Late,
 		AnswerTime: config.RequestTime + config.RequestTime/10 + config.OperationTime + time.Second,
 	})
@@ -180,9 +179,9 @@ func (s *Storm) storm(ctx context.Context, ordered <-chan struct{}) string {
 	waiting, cancel := context.WithTimeout(ctx, s.config.WaitTime)
 	defer cancel()
 	select {
-	case <-s.places.began:
+	case <-s.places.Began:
 	case <-ordered:
-		if !s.places.hasBegun() {
+		if len(s.places.All()) == 0 {
 			return nothingOrdered
 		}
 	case <-waiting.Done():
@@ -391,83 +390,6 @@ func (s *Storm) warn(lines []string, exchanges []fault.Exchange) {
 	for _, line := range lines {
 		fmt.Fprintf(s.config.Warnings, "  %s\n", conform.Printable(hide.In(line)))
 	}
-}
-
-// places are the ids that the platform has named, with their Places in the order in which it has named them. Any number
-// of goroutines use them.
-type places struct {
-	mutex    sync.Mutex
-	of       map[report.Key]fault.Place
-	bindings map[string]int // of each instance
-	order    []report.Key
-	began    chan struct{} // is closed at the first request about an instance
-}
-
-var _ run.Keys = (*places)(nil)
-
-func newPlaces() *places {
-	return &places{
-		of: map[report.Key]fault.Place{}, bindings: map[string]int{}, began: make(chan struct{}),
-	}
-}
-
-// Place returns the Place of ids, which are new or known. It is false if a path names no instance.
-func (p *places) Place(instance, binding string) (fault.Place, bool) {
-	if instance == "" {
-		return fault.Place{}, false
-	}
-	p.mutex.Lock()
-	defer p.mutex.Unlock()
-	whole := p.instance(report.Key{Instance: instance})
-	if binding == "" {
-		return whole, true
-	}
-	key := report.Key{Instance: instance, Binding: binding}
-	if _, isKnown := p.of[key]; !isKnown {
-		p.bindings[instance]++
-		p.of[key] = fault.Place{Instance: whole.Instance, Binding: p.bindings[instance]}
-		p.order = append(p.order, key)
-	}
-	return p.of[key], true
-}
-
-// instance returns the Place of an instance. The mutex is locked.
-func (p *places) instance(key report.Key) fault.Place {
-	if _, isKnown := p.of[key]; !isKnown {
-		if len(p.of) == 0 {
-			close(p.began)
-		}
-		p.of[key] = fault.Place{Instance: p.instances() + 1}
-		p.order = append(p.order, key)
-	}
-	return p.of[key]
-}
-
-// instances returns how many instances are known. The mutex is locked.
-func (p *places) instances() (count int) {
-	for _, key := range p.order {
-		if key.Binding == "" {
-			count++
-		}
-	}
-	return count
-}
-
-// hasBegun returns whether a request about an instance has arrived.
-func (p *places) hasBegun() bool {
-	select {
-	case <-p.began:
-		return true
-	default:
-		return false
-	}
-}
-
-// All returns all keys, in the order in which the platform has named them.
-func (p *places) All() []report.Key {
-	p.mutex.Lock()
-	defer p.mutex.Unlock()
-	return append([]report.Key(nil), p.order...)
 }
 
 // errIdle is the error of a further run in which no request about an instance arrived: nothing could be abandoned in
