@@ -16,7 +16,7 @@ APP = "This Service supports generation of credentials through binding an applic
 
 def request(prefix: str, longest: int, method: str, target: bytes, body: bytes) -> list[str | None]:
     it = model.received(method, prefix.encode(), target, body, longest)
-    return [it.asked(), *it[1:5], *(member(it.body, name) for name in model.PARTS)]
+    return [it.asked(), *it.ids, it.service, it.plan, *(member(it.body, name) for name in model.PARTS)]
 
 
 def received(prefix: str, longest: int, method: str, target: bytes, body: bytes) -> list[str | None]:

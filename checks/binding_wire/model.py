@@ -5,24 +5,19 @@ The rules are those of `wire.model`, and of the bindings what the crate osb_bind
 
 from __future__ import annotations
 
-from typing import Any, NamedTuple
+from typing import Any
 
 from wire import model
 from wire.model import Refused
 
-METHODS = {
-    ("GET", True): "poll",
-    ("GET", False): "fetch",
-    ("PUT", False): "provision",
-    ("DELETE", False): "deprovision",
-}
+KINDS = {**model.KINDS, ("GET", False): "fetch"}
 PARTS = ("bind_resource", "parameters", "context", "predecessor_binding_id")
 
 
 # ---- requests
 
 
-def place_at(path: bytes) -> tuple[bytes, bytes, bool] | None:
+def place_at(path: bytes) -> tuple[list[bytes], bool] | None:
     """The segments of the two ids, and whether the last operation is asked for."""
     front = b"/v2/service_instances/"
     instance, slash, more = path[len(front) :].partition(b"/")
@@ -32,51 +27,12 @@ def place_at(path: bytes) -> tuple[bytes, bytes, bool] | None:
     binding, slash, end = rest.partition(b"/")
     if slash and end != b"last_operation":
         return None
-    return instance, binding, bool(slash)
+    return [instance, binding], bool(slash)
 
 
-def body_ids(body: bytes) -> tuple[str | None, str | None]:
-    found = model.members(body)
-    if found is None:
-        raise Refused("400 The body must be a JSON object.")
-    service = model.named(model.text_at(found, "service_id"), "service_id", True)
-    return service, model.named(model.text_at(found, "plan_id"), "plan_id", True)
-
-
-class Received(NamedTuple):
-    """What a broker takes of a request: the texts of the ids, and the body of a Bind."""
-
-    kind: str
-    instance: str
-    binding: str
-    service: str | None
-    plan: str | None
-    accepts: str
-    body: bytes
-
-    def asked(self) -> str:
-        """What is asked, with each id's number."""
-        ids = " ".join(model.guid(text) for text in (self.instance, self.binding, self.service, self.plan))
-        return f"{self.kind} {ids} {self.accepts}"
-
-
-def received(method: str, prefix: bytes, target: bytes, body: bytes, longest: int) -> Received:
+def received(method: str, prefix: bytes, target: bytes, body: bytes, longest: int) -> model.Received:
     """What is taken of a request, or `Refused` with the status and the description."""
-    path, _, query = target.partition(b"?")
-    places = [place for it in model.behind(prefix, path) for place in [place_at(it)] if place is not None]
-    if not places:
-        raise Refused("404 There is no such target.")
-    kind = METHODS.get((method, places[0][2]))
-    if kind is None:
-        raise Refused("405 The target has no such method.")
-    instance, binding = model.id_text(places[0][0], "instance"), model.id_text(places[0][1], "binding")
-    if len(body) > longest:
-        raise Refused("413 The body is too long.")
-    service, plan, accepts = model.of_query(kind, query)
-    if kind == "provision":
-        service, plan = body_ids(body)
-    said = "-" if kind == "fetch" else accepts or "false"
-    return Received(kind, instance, binding, service, plan, said, body if kind == "provision" else b"")
+    return model.received(method, prefix, target, body, longest, place_at, KINDS, ())
 
 
 # ---- bodies

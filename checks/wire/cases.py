@@ -122,7 +122,7 @@ def body_of(word: str) -> Body:
 def request(prefix: str, longest: int, method: str, target: bytes, body: bytes) -> list[str | None]:
     it = model.received(method, prefix.encode(), target, body, longest)
     parts = [model.member(it.body, name) for name in ("parameters", "context", "maintenance_info")]
-    return [it.asked(), it.instance, it.service, it.plan, *parts, model.others(it.body)]
+    return [it.asked(), *it.ids, it.service, it.plan, *parts, model.others(it.body)]
 
 
 def received(prefix: str, longest: int, method: str, target: bytes, body: bytes) -> list[str | None]:

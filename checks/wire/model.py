@@ -13,7 +13,7 @@ import math
 import re
 import urllib.parse
 import uuid
-from collections.abc import Callable
+from collections.abc import Callable, Mapping, Sequence
 from contextlib import suppress
 from typing import Any, NamedTuple
 
@@ -160,7 +160,7 @@ def plain(path: bytes) -> bytes:
     return path[:-1] if path.endswith(b"/") else path
 
 
-def place_at(path: bytes) -> tuple[bytes, bool] | None:
+def place_at(path: bytes) -> tuple[list[bytes], bool] | None:
     """The segment of the instance's id, and whether the last operation is asked for."""
     front = b"/v2/service_instances/"
     if not path.startswith(front):
@@ -168,7 +168,7 @@ def place_at(path: bytes) -> tuple[bytes, bool] | None:
     segment, slash, more = path[len(front) :].partition(b"/")
     if slash and more != b"last_operation":
         return None
-    return segment, bool(slash)
+    return [segment], bool(slash)
 
 
 def behind(prefix: bytes, path: bytes) -> list[bytes]:
@@ -176,19 +176,8 @@ def behind(prefix: bytes, path: bytes) -> list[bytes]:
     return [it[len(prefix) :] for it in (path, plain(path)) if it.startswith(prefix)]
 
 
-def kind_at(method: str, prefix: bytes, path: bytes) -> tuple[str, bytes]:
-    places = [place for it in behind(prefix, path) for place in [place_at(it)] if place is not None]
-    if not places:
-        raise Refused("404 There is no such target.")
-    segment, of_last_operation = places[0]
-    kind = {
-        ("GET", True): "poll",
-        ("PUT", False): "provision",
-        ("DELETE", False): "deprovision",
-    }.get((method, of_last_operation))
-    if kind is None:
-        raise Refused("405 The target has no such method.")
-    return kind, segment
+# By the method, and whether the last operation is asked for.
+KINDS = {("GET", True): "poll", ("PUT", False): "provision", ("DELETE", False): "deprovision"}
 
 
 def id_text(segment: bytes, what: str) -> str:
@@ -202,13 +191,13 @@ def id_text(segment: bytes, what: str) -> str:
     return text
 
 
-def body_ids(body: bytes) -> tuple[str | None, str | None]:
+def body_ids(body: bytes, of_space: Sequence[str]) -> tuple[str | None, str | None]:
     found = members(body)
     if found is None:
         raise Refused("400 The body must be a JSON object.")
     service = named(text_at(found, "service_id"), "service_id", True)
     plan = named(text_at(found, "plan_id"), "plan_id", True)
-    for name in ("organization_guid", "space_guid"):
+    for name in of_space:
         if not text_at(found, name):
             raise Refused(f"400 {name} must be a string that is not empty.")
     return service, plan
@@ -237,19 +226,20 @@ def of_query(kind: str, query: bytes) -> tuple[str | None, str | None, str | Non
 
 
 class Received(NamedTuple):
-    """What a broker takes of a request: the texts of the ids, and the body of a Provision."""
+    """What a broker takes of a request: the texts of the ids, and the body of a Provision or a Bind."""
 
     kind: str
-    instance: str
+    ids: list[str]
+    """Of the instance, and of the binding."""
     service: str | None
     plan: str | None
-    accepts: bool
+    accepts: str
     body: bytes
 
     def asked(self) -> str:
         """What is asked, with each id's number."""
-        ids = " ".join(guid(text) for text in (self.instance, self.service, self.plan))
-        return f"{self.kind} {ids} {str(self.accepts).lower()}"
+        ids = " ".join(guid(text) for text in (*self.ids, self.service, self.plan))
+        return f"{self.kind} {ids} {self.accepts}"
 
 
 def asked(method: str, target: bytes, body: bytes, longest: int) -> str:
@@ -260,17 +250,33 @@ def asked(method: str, target: bytes, body: bytes, longest: int) -> str:
         return str(refused)
 
 
-def received(method: str, prefix: bytes, target: bytes, body: bytes, longest: int) -> Received:
+def received(
+    method: str,
+    prefix: bytes,
+    target: bytes,
+    body: bytes,
+    longest: int,
+    place_of: Callable[[bytes], tuple[list[bytes], bool] | None] = place_at,
+    kinds: Mapping[tuple[str, bool], str] = KINDS,
+    of_space: Sequence[str] = ("organization_guid", "space_guid"),
+) -> Received:
     """What is taken of a request, or `Refused` with the status and the description."""
     path, _, query = target.partition(b"?")
-    kind, segment = kind_at(method, prefix, path)
-    instance = id_text(segment, "instance")
+    places = [place for place in map(place_of, behind(prefix, path)) if place is not None]
+    if not places:
+        raise Refused("404 There is no such target.")
+    segments, of_last_operation = places[0]
+    kind = kinds.get((method, of_last_operation))
+    if kind is None:
+        raise Refused("405 The target has no such method.")
+    ids = [id_text(segment, what) for segment, what in zip(segments, ("instance", "binding"))]
     if len(body) > longest:
         raise Refused("413 The body is too long.")
     service, plan, accepts = of_query(kind, query)
     if kind == "provision":
-        service, plan = body_ids(body)
-    return Received(kind, instance, service, plan, accepts == "true", body if kind == "provision" else b"")
+        service, plan = body_ids(body, of_space)
+    said = "-" if kind == "fetch" else accepts or "false"
+    return Received(kind, ids, service, plan, said, body if kind == "provision" else b"")
 
 
 # ---- the parts of a body, with numbers as they are written
