@@ -70,6 +70,30 @@ func NoError(t testing.TB, err error, format string, arguments ...any) {
 	}
 }
 
+// Error fails the test unless there is an error, and says what was called as Equal does.
+func Error(t testing.TB, err error, format string, arguments ...any) {
+	t.Helper()
+	if err == nil {
+		t.Errorf("%sgot no error, want one", said(format, arguments))
+	}
+}
+
+// Contains fails the test unless a text has a part, and says what was searched as Equal does.
+func Contains(t testing.TB, text, part, format string, arguments ...any) {
+	t.Helper()
+	if !strings.Contains(text, part) {
+		t.Errorf("%sgot %q, want %q in it", said(format, arguments), text, part)
+	}
+}
+
+// Lacks fails the test if a text has a part, and says what was searched as Equal does.
+func Lacks(t testing.TB, text, part, format string, arguments ...any) {
+	t.Helper()
+	if strings.Contains(text, part) {
+		t.Errorf("%sgot %q, want no %q in it", said(format, arguments), text, part)
+	}
+}
+
 // Must ends the test at an error.
 func Must(t testing.TB, err error) {
 	t.Helper()

@@ -96,6 +96,9 @@ func TestValuesAndErrors(t *testing.T) {
 		"got the error <nil>, want wrong":       func(t testing.TB) { ErrorIs(t, nil, wrong, "") },
 		"Read: got the error wrong, want none":  func(t testing.TB) { NoError(t, wrong, "Read") },
 		"ended: got the error wrong, want none": func(t testing.TB) { Must(t, wrong) },
+		"Read 2: got no error, want one":        func(t testing.TB) { Error(t, nil, "Read %d", 2) },
+		`a log: got "a", want "b" in it`:        func(t testing.TB) { Contains(t, "a", "b", "a log") },
+		`got "abc", want no "b" in it`:          func(t testing.TB) { Lacks(t, "abc", "b", "") },
 	} {
 		t.Run(want, func(t *testing.T) {
 			f := &fake{TB: t}
@@ -108,6 +111,9 @@ func TestValuesAndErrors(t *testing.T) {
 	f := &fake{TB: t}
 	Must(f, nil)
 	NoError(f, nil, "x")
+	Error(f, wrong, "x")
+	Contains(f, "abc", "bc", "x")
+	Lacks(f, "abc", "ac", "x")
 	if ErrorIs(f, fmt.Errorf("of x: %w", wrong), wrong, "x"); f.failed != "" {
 		t.Errorf("got %q, want nothing", f.failed)
 	}
