@@ -10,7 +10,6 @@ import (
 	"os"
 	"os/exec"
 	"path/filepath"
-	"reflect"
 	"regexp"
 	"strings"
 	"testing"
@@ -77,9 +76,7 @@ func replaceAll(t *testing.T, config string, all map[string]string) string {
 func (h haproxy) status(from, login string, header http.Header) int {
 	h.t.Helper()
 	request, err := http.NewRequest("GET", h.url+"/v2/catalog", nil)
-	if err != nil {
-		h.t.Fatal(err)
-	}
+	check(h.t, err)
 	for name, values := range header {
 		request.Header[name] = values
 	}
@@ -130,9 +127,7 @@ func TestBehindHAProxy(t *testing.T) {
 				diff.Equal(t, h.status(from, "wrong", forged), 401, "")
 				want = append(want, from)
 			}
-			if got := s.failedLogins(2); !reflect.DeepEqual(got, want) {
-				t.Errorf("got the addresses %v, want %v", got, want)
-			}
+			diff.Check(t, s.failedLogins(2), want, "")
 			diff.Equal(t, h.status("127.0.0.2", password, forged), 200, "")
 			s.stop()
 		})
@@ -144,9 +139,7 @@ func TestBehindAProxyThatIsNotTrusted(t *testing.T) {
 	s := start(t, []string{password}, "--state", t.TempDir(), "--trusted-proxy", "192.0.2.0/24")
 	h := behind(t, s, func(config string) string { return strings.ReplaceAll(config, "send-proxy-v2", "") })
 	diff.Equal(t, h.status("127.0.0.2", "wrong", http.Header{"X-Forwarded-For": {"127.0.0.2"}}), 401, "")
-	if got := s.failedLogins(1); got[0] != "127.0.0.1" {
-		t.Errorf("got the address %s, want that of the proxy", got[0])
-	}
+	diff.Equal(t, s.failedLogins(1)[0], "127.0.0.1", "")
 	connection, err := net.Dial("tcp", strings.TrimPrefix(s.url, "http://"))
 	check(t, err)
 	defer connection.Close()
@@ -186,9 +179,8 @@ func TestHAProxyCountsNetworks(t *testing.T) {
 		answered += count
 	}
 	other, _ := all[101].Read(make([]byte, 1))
-	if answered != 100 || other != 1 {
-		t.Errorf("got %d answers for one network and %d for another, want 100 and 1", answered, other)
-	}
+	diff.Equal(t, answered, 100, "")
+	diff.Equal(t, other, 1, "")
 	s.stop()
 }
 
@@ -203,9 +195,7 @@ func TestHAProxyCutsSlowHeads(t *testing.T) {
 	for late := time.Now().Add(20 * time.Second); err == nil && time.Now().Before(late); time.Sleep(50 * time.Millisecond) {
 		_, err = io.WriteString(connection, "A: b\r\n")
 	}
-	if err == nil {
-		t.Error("HAProxy: got a head after 20 seconds, want it refused")
-	}
+	diff.Error(t, err, "HAProxy")
 	s.stop()
 }
 
@@ -241,8 +231,6 @@ func TestConnectionsOfOneAddress(t *testing.T) {
 		t.Errorf("another address got %d, want 200", got)
 	}
 	event, _ := json.Marshal(s.event("address_at_limit"))
-	if !strings.Contains(string(event), "127.0.0.1/32 has 2 connections") {
-		t.Errorf("the log: got %s, want \"127.0.0.1/32 has 2 connections\" in it", event)
-	}
+	diff.Contains(t, string(event), "127.0.0.1/32 has 2 connections", "the log")
 	s.stop()
 }

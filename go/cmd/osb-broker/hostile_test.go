@@ -17,7 +17,6 @@ import (
 	"os"
 	"os/exec"
 	"path/filepath"
-	"reflect"
 	"regexp"
 	"strconv"
 	"strings"
@@ -41,9 +40,7 @@ func (s *servedBroker) dial() *net.TCPConn {
 	if err == nil {
 		err = conn.SetDeadline(time.Now().Add(20 * time.Second))
 	}
-	if err != nil {
-		s.t.Fatal(err)
-	}
+	check(s.t, err)
 	s.t.Cleanup(func() { _ = conn.Close() })
 	return conn.(*net.TCPConn)
 }
@@ -56,9 +53,7 @@ func (s *servedBroker) raw(bytes string) string {
 	if _, err := conn.Write([]byte(bytes)); err != nil {
 		s.t.Fatal(err)
 	}
-	if err := conn.CloseWrite(); err != nil {
-		s.t.Fatal(err)
-	}
+	check(s.t, conn.CloseWrite())
 	given, err := io.ReadAll(conn)
 	if err != nil {
 		s.t.Fatalf("after %q: got %v, want no error", bytes, err)
@@ -107,14 +102,10 @@ func TestLogHasNoPassword(t *testing.T) {
 			secrets = append(secrets, strings.TrimPrefix(login, "Basic "))
 		}
 		for _, secret := range secrets {
-			if strings.Contains(line, secret) {
-				t.Errorf("the log: got %[2]s, want no %[1]q in it", secret, line)
-			}
+			diff.Lacks(t, line, secret, "the log")
 		}
 	}
-	if logged != requests {
-		t.Errorf("got %[2]d requests in the log, want %[1]d", requests, logged)
-	}
+	diff.Equal(t, logged, requests, "")
 }
 
 // Requests that are cut at every length, and hostile ones: nothing is held, and the broker lives.
@@ -146,13 +137,10 @@ func TestCutRequests(t *testing.T) {
 		}
 	}
 	s.expect(410, "GET", poll, "")
-	if found := soldInstances(t, state); len(found) > 0 {
-		t.Errorf("got %v created, want nothing", found)
-	}
-	if _, metrics := s.plain("/metrics"); !strings.Contains(metrics, "\nosb_broker_tombstones 0\n") ||
-		!strings.Contains(metrics, "\nosb_broker_pending 0\n") {
-		t.Errorf("the metrics: got %s, want nothing held", metrics)
-	}
+	diff.Equal(t, len(soldInstances(t, state)), 0, "")
+	_, metrics := s.plain("/metrics")
+	diff.Contains(t, metrics, "\nosb_broker_tombstones 0\n", "the metrics")
+	diff.Contains(t, metrics, "\nosb_broker_pending 0\n", "the metrics")
 	s.expect(201, "PUT", one, order)
 	s.stop()
 }
@@ -164,9 +152,8 @@ func TestHealthWhileAllWork(t *testing.T) {
 	s.send("PUT", one, order)
 	g.waits()
 	for _, path := range []string{"/healthz", "/readyz", "/metrics"} {
-		if status, body := s.plain(path); status != 200 {
-			t.Errorf("%s: got %d %s, want 200", path, status, body)
-		}
+		status, body := s.plain(path)
+		diff.Equal(t, status, 200, "%s, %s", path, body)
 	}
 	g.open()
 	s.until(200, "succeeded", "GET", poll, "")
@@ -209,9 +196,7 @@ func (s *servedBroker) flush(of *bufio.ReadWriter, text string) {
 	if err == nil {
 		err = of.Flush()
 	}
-	if err != nil {
-		s.t.Fatal(err)
-	}
+	check(s.t, err)
 }
 
 // The greatest length of a body, whether its length is sent before or not.
@@ -241,9 +226,8 @@ func TestLongestBody(t *testing.T) {
 			t.Errorf("%d bytes, chunked %v: got %d %s, want %d", test.bytes, test.isChunked, status, body, test.status)
 		}
 		status, _ := s.ask("GET", path+"/last_operation", "")
-		if want := map[int]int{201: 200, 413: 410}[test.status]; status != want {
-			t.Errorf("a Poll after %d bytes, chunked %v: got %d, want %d", test.bytes, test.isChunked, status, want)
-		}
+		diff.Equal(t, status, map[int]int{201: 200, 413: 410}[test.status],
+			"a Poll after %d bytes, chunked %v", test.bytes, test.isChunked)
 	}
 	s.stop()
 }
@@ -747,9 +731,7 @@ func TestHostileRequests(t *testing.T) {
 			t.Errorf("got only %d answers with %d, want at least 100", found[status], status)
 		}
 	}
-	if after := stateOf(t, i.state); after != before {
-		t.Errorf("the state: got\n%s\nwant\n%s", after, before)
-	}
+	diff.Equal(t, stateOf(t, i.state), before, "the state")
 	checkValid(t, send)
 	if len(unread) < 100 {
 		t.Errorf("got only %d that can't be read, want at least 100", len(unread))
@@ -771,9 +753,7 @@ func rejectAll(t *testing.T, texts []string) {
 			t.Errorf("%.500q: got %v %.300s, want one 4xx", text, statuses, given)
 		}
 	}
-	if after := stateOf(t, state); after != before {
-		t.Errorf("the state: got\n%s\nwant\n%s", after, before)
-	}
+	diff.Equal(t, stateOf(t, state), before, "the state")
 	checkValid(t, s.status)
 	s.stop()
 }
@@ -801,9 +781,7 @@ func TestNobodyGetsIn(t *testing.T) {
 	if asked < 2_000 {
 		t.Errorf("got only %d questions, want at least 2000", asked)
 	}
-	if after := stateOf(t, i.state); after != before {
-		t.Errorf("the state: got\n%s\nwant\n%s", after, before)
-	}
+	diff.Equal(t, stateOf(t, i.state), before, "the state")
 }
 
 // Headers on which no answer depends: a message with them is carried out as it is without them.
@@ -821,9 +799,7 @@ func TestNoise(t *testing.T) {
 			}
 		}
 	}
-	if after := stateOf(t, i.state); after != before {
-		t.Errorf("the state: got\n%s\nwant\n%s", after, before)
-	}
+	diff.Equal(t, stateOf(t, i.state), before, "the state")
 }
 
 // statusLine is where an answer begins. No header and no body has such a text.
@@ -1058,17 +1034,14 @@ func TestHostileConnections(t *testing.T) {
 		slots <- struct{}{}
 		go func() {
 			defer func() { <-slots }()
-			if statuses, given := s.exchange(it.text); !reflect.DeepEqual(statuses, it.statuses) {
-				t.Errorf("%.500q: got %v %.300s, want %v", it.text, statuses, given, it.statuses)
-			}
+			statuses, given := s.exchange(it.text)
+			diff.Check(t, statuses, it.statuses, "%.500q, %.300s", it.text, given)
 		}()
 	}
 	for n := 0; n < cap(slots); n++ {
 		slots <- struct{}{}
 	}
-	if after := stateOf(t, state); after != before {
-		t.Errorf("the state: got\n%s\nwant\n%s", after, before)
-	}
+	diff.Equal(t, stateOf(t, state), before, "the state")
 	checkValid(t, s.status)
 	s.stop()
 }
@@ -1086,9 +1059,7 @@ func TestHostileMessages(t *testing.T) {
 			t.Fatalf("number %d: got %d, want one of %v, of %q", n, status, statuses, m.text())
 		}
 	}
-	if after := stateOf(t, state); after != before {
-		t.Errorf("the state: got\n%s\nwant\n%s", after, before)
-	}
+	diff.Equal(t, stateOf(t, state), before, "the state")
 	checkValid(t, s.status)
 	s.stop()
 }

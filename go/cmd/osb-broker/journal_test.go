@@ -67,13 +67,9 @@ func TestJournal(t *testing.T) {
 		}
 		s.stop()
 		files := eventsIn(t, folder)
-		if want := "started, " + test.want + ", stopped"; files[len(files)-1] != want {
-			t.Errorf("got %s, want %s", files[len(files)-1], want)
-		}
+		diff.Equal(t, files[len(files)-1], "started, "+test.want+", stopped", "")
 	}
-	if files := eventsIn(t, folder); len(files) != 2 {
-		t.Errorf("got the files %q, want two", files)
-	}
+	diff.Equal(t, len(eventsIn(t, folder)), 2, "")
 }
 
 // A broker that is killed has written what it has done, and the next one goes on in the same file.

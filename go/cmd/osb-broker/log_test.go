@@ -52,9 +52,7 @@ func TestObserverLogsARequest(t *testing.T) {
 		t.Run(name, func(t *testing.T) {
 			var got bytes.Buffer
 			logObserver{logs.New(&got)}.OnExchange(test.exchange)
-			if line := withoutTimes(got.String()); line != test.want+"\n" {
-				t.Errorf("got\n%swant\n%s", line, test.want)
-			}
+			diff.Equal(t, withoutTimes(got.String()), test.want+"\n", "%s", test.want)
 		})
 	}
 }
@@ -72,9 +70,7 @@ func TestEachFieldOfAnExchangeIsLogged(t *testing.T) {
 	}
 	logObserver{logs.New(&got)}.OnExchange(exchange)
 	for _, text := range texts {
-		if !strings.Contains(got.String(), `"`+text+`"`) {
-			t.Errorf("got no %s in the log, want it", text)
-		}
+		diff.Contains(t, got.String(), `"`+text+`"`, "%s", text)
 	}
 }
 
@@ -97,9 +93,7 @@ func TestObserverLogsOtherEvents(t *testing.T) {
 {"time":"T","level":"info","event":"operation_ended","instance":"ONE","succeeded":true}
 {"time":"T","level":"info","event":"operation_ended","instance":"ONE","succeeded":false}
 `, "ONE", loggedInstance)
-	if lines := "\n" + withoutTimes(got.String()); lines != want {
-		t.Errorf("got\n%s\nwant\n%s", lines, want)
-	}
+	diff.Equal(t, "\n"+withoutTimes(got.String()), want, "")
 }
 
 type recorder struct{ events []any }
@@ -132,7 +126,5 @@ func TestNotReadyIsLogged(t *testing.T) {
 	r := &running{observer: logObserver{logs.New(&got)}}
 	r.notReady(errors.New("away"))
 	want := `{"time":"T","level":"error","event":"not_ready","error":"away"}` + "\n"
-	if line := withoutTimes(got.String()); line != want {
-		t.Errorf("got %swant %s", line, want)
-	}
+	diff.Equal(t, withoutTimes(got.String()), want, "")
 }

@@ -14,7 +14,6 @@ import (
 	"os/exec"
 	"os/signal"
 	"path/filepath"
-	"reflect"
 	"regexp"
 	"strings"
 	"syscall"
@@ -109,9 +108,7 @@ func (s *servedBroker) event(name string) map[string]any {
 func (s *servedBroker) ask(method, path, body string) (int, string) {
 	s.t.Helper()
 	request, err := http.NewRequest(method, s.url+path, strings.NewReader(body))
-	if err != nil {
-		s.t.Fatal(err)
-	}
+	check(s.t, err)
 	request.SetBasicAuth("platform", "secret")
 	request.Header.Set("X-Broker-API-Version", "2.17")
 	return s.do(request)
@@ -120,23 +117,17 @@ func (s *servedBroker) ask(method, path, body string) (int, string) {
 func (s *servedBroker) do(request *http.Request) (int, string) {
 	s.t.Helper()
 	given, err := s.client.Do(request)
-	if err != nil {
-		s.t.Fatal(err)
-	}
+	check(s.t, err)
 	defer given.Body.Close()
 	text, err := io.ReadAll(given.Body)
-	if err != nil {
-		s.t.Fatal(err)
-	}
+	check(s.t, err)
 	return given.StatusCode, string(text)
 }
 
 // stop sends SIGTERM, and waits for status 0.
 func (s *servedBroker) stop() {
 	s.t.Helper()
-	if err := s.command.Process.Signal(syscall.SIGTERM); err != nil {
-		s.t.Fatal(err)
-	}
+	check(s.t, s.command.Process.Signal(syscall.SIGTERM))
 	if ended := s.event("stopped"); ended["all_work_ended"] != true {
 		s.t.Errorf("got %v, want that all work has ended", ended)
 	}
@@ -171,9 +162,8 @@ func TestServe(t *testing.T) {
 		t.Errorf("got %d %s, want 200 %s", status, body, bound)
 	}
 	for _, path := range []string{one + "/service_bindings/b", one} {
-		if status, body := s.ask("DELETE", path+names, ""); status != 200 {
-			t.Errorf("got %d %s, want 200", status, body)
-		}
+		status, body := s.ask("DELETE", path+names, "")
+		diff.Equal(t, status, 200, "%s", body)
 	}
 	s.stop()
 	for _, pattern := range []string{"instances/*-*", "instances/.bindings/*", "instances/.part-*"} {
@@ -232,9 +222,8 @@ func TestUnusable(t *testing.T) {
 		if got := command.ProcessState.ExitCode(); got != test.status || !isLine || !strings.Contains(text, test.says) {
 			t.Errorf("%v: got the status %d, %q, want %d and %q", test.arguments, got, text, test.status, test.says)
 		}
-		if strings.Contains(text, "secret") || strings.Contains(text, ":pw@") {
-			t.Errorf("%v: got a secret in %q, want none", test.arguments, text)
-		}
+		diff.Lacks(t, text, "secret", "%v", test.arguments)
+		diff.Lacks(t, text, ":pw@", "%v", test.arguments)
 	}
 }
 
@@ -242,9 +231,7 @@ func TestUnusable(t *testing.T) {
 func TestUnavailable(t *testing.T) {
 	command := osbBroker([]string{password}, "serve", "--state", t.TempDir(), "--store", "postgresql://u@127.0.0.1:1/d")
 	out, _ := command.CombinedOutput()
-	if command.ProcessState.ExitCode() != 75 {
-		t.Errorf("got the status %d and %s, want 75", command.ProcessState.ExitCode(), out)
-	}
+	diff.Equal(t, command.ProcessState.ExitCode(), 75, "%s", out)
 }
 
 // The present key of rekey may be short, as in version 0.2. The new one may not.
@@ -255,10 +242,8 @@ func TestRekeyTakesAShortKey(t *testing.T) {
 			check(t, os.WriteFile(file, []byte(key), 0o600))
 			command := osbBroker([]string{"OSB_BACKEND_KEY=hunter2"}, "rekey", "--backend", "postgresql://u@127.0.0.1:1/d",
 				"--new-key-file", file)
-			if out, _ := command.CombinedOutput(); command.ProcessState.ExitCode() != status {
-				t.Errorf("a new key of %d bytes: got the status %d and %s, want %d", len(key), command.ProcessState.ExitCode(), out,
-					status)
-			}
+			out, _ := command.CombinedOutput()
+			diff.Equal(t, command.ProcessState.ExitCode(), status, "a new key of %d bytes, %s", len(key), out)
 		})
 	}
 }
@@ -370,10 +355,8 @@ func unusable(t *testing.T, says string, arguments ...string) {
 	command := osbBroker([]string{password}, arguments...)
 	command.Stderr = &stderr
 	_ = command.Run()
-	if command.ProcessState.ExitCode() != 78 || !strings.Contains(stderr.String(), says) {
-		t.Errorf("%v: got the status %d, %q, want 78 and %q", arguments, command.ProcessState.ExitCode(), stderr.String(),
-			says)
-	}
+	diff.Equal(t, command.ProcessState.ExitCode(), 78, "%v", arguments)
+	diff.Contains(t, stderr.String(), says, "%v", arguments)
 }
 
 // An address that another process uses ends it, whichever of the two addresses that is.
@@ -412,9 +395,8 @@ func TestExistingBeginsNothing(t *testing.T) {
 		unusable(t, "--existing", "serve", "--state", state, "--existing")
 	}
 	for _, name := range []string{"holdings.sqlite", "instances/.owner"} {
-		if _, err := os.Lstat(filepath.Join(state, name)); err == nil {
-			t.Errorf("got %s, want no such file", name)
-		}
+		_, err := os.Lstat(filepath.Join(state, name))
+		diff.Error(t, err, "%s", name)
 	}
 }
 
@@ -460,9 +442,7 @@ func TestPassword(t *testing.T) {
 		"the key of a file": of("", lower, "--backend-key-file", file),
 		"once more":         of(key, lower),
 	} {
-		if again != first {
-			t.Errorf("%s: got the password %q, want %q", name, again, first)
-		}
+		diff.Equal(t, again, first, "%s", name)
 	}
 	others := map[string]string{first: lower}
 	for id, given := range map[string]string{
@@ -603,12 +583,9 @@ func TestWarningOfShortPasswords(t *testing.T) {
 			users = append(users, read.Level+" "+read.User)
 		}
 	}
-	if want := []string{"warning one", "warning three"}; !reflect.DeepEqual(users, want) {
-		t.Errorf("got %q, want %q: %s", users, want, out)
-	}
-	if strings.Contains(string(out), "short-") || strings.Contains(string(out), "0123456789") {
-		t.Errorf("the log: got %s, want no password in it", out)
-	}
+	diff.Check(t, users, []string{"warning one", "warning three"}, "%s", out)
+	diff.Lacks(t, string(out), "short-", "the log")
+	diff.Lacks(t, string(out), "0123456789", "the log")
 }
 
 // hasEvent is whether a log has a line with this event.
@@ -626,9 +603,7 @@ func hasEvent(log []byte, name string) bool {
 func (s *servedBroker) plain(path string) (int, string) {
 	s.t.Helper()
 	request, err := http.NewRequest("GET", s.url+path, nil)
-	if err != nil {
-		s.t.Fatal(err)
-	}
+	check(s.t, err)
 	return s.do(request)
 }
 
@@ -656,28 +631,19 @@ func TestPlanByWorker(t *testing.T) {
 	s := start(t, []string{password}, "--state", state, "--sweep-seconds", "0.01")
 	s.expect(422, "PUT", one, asyncOrder)
 	s.expect(202, "PUT", one+async, asyncOrder)
-	if _, metrics := s.plain("/metrics"); !strings.Contains(metrics, "\nosb_broker_waiting 1\n") {
-		t.Errorf("the metrics: got %s, want one that waits for the first Poll", metrics)
-	}
-	if found := soldInstances(t, state); len(found) > 0 {
-		t.Errorf("before the first poll: got %v, want none", found)
-	}
+	_, metrics := s.plain("/metrics")
+	diff.Contains(t, metrics, "\nosb_broker_waiting 1\n", "the metrics")
+	diff.Equal(t, len(soldInstances(t, state)), 0, "before the first poll")
 	s.until(200, "succeeded", "GET", poll, "")
-	if found := soldInstances(t, state); len(found) != 1 {
-		t.Errorf("got %v, want one instance", found)
-	}
+	diff.Equal(t, len(soldInstances(t, state)), 1, "")
 	s.expect(200, "PUT", one+async, asyncOrder)
 	bound := s.expect(201, "PUT", one+"/service_bindings/b"+async, `{"service_id":"`+service+`","plan_id":"`+byWorker+`"}`)
-	if !strings.Contains(bound, "token") {
-		t.Errorf("got %q, want \"token\" in it", bound)
-	}
+	diff.Contains(t, bound, "token", "")
 	s.expect(200, "DELETE", one+"/service_bindings/b"+asyncNames+"&accepts_incomplete=true", "")
 	s.expect(422, "DELETE", one+asyncNames, "")
 	s.expect(202, "DELETE", one+asyncNames+"&accepts_incomplete=true", "")
 	s.until(410, "", "GET", poll, "")
-	if found := soldInstances(t, state); len(found) > 0 {
-		t.Errorf("got %v left, want none", found)
-	}
+	diff.Equal(t, len(soldInstances(t, state)), 0, "")
 	s.stop()
 }
 
@@ -704,15 +670,12 @@ func TestOwnCatalogue(t *testing.T) {
 		check(t, json.Unmarshal([]byte(s.expect(200, "GET", "/v2/catalog", "")), &got))
 		want["x-osb-tombstones"], want["x-osb-store"] = true, got["x-osb-store"]
 		diff.Check(t, got, want, "the catalogue that is served")
-		if id, _ := got["x-osb-store"].(string); len(id) != 36 {
-			t.Errorf("the store: got %v, want a GUID", got["x-osb-store"])
-		}
+		id, _ := got["x-osb-store"].(string)
+		diff.Equal(t, len(id), 36, "the store, %v", got["x-osb-store"])
 		stores[got["x-osb-store"]] = true
 		s.stop()
 	}
-	if len(stores) != 2 {
-		t.Errorf("the ids of two stores: got %v, want 2", stores)
-	}
+	diff.Equal(t, len(stores), 2, "the ids of two stores, %v", stores)
 }
 
 // GUIDs in upper case are other ids than the same ones in lower case. The log warns of them.
@@ -739,9 +702,8 @@ func TestGUIDInUpperCase(t *testing.T) {
 					ids = read.IDs
 				}
 			}
-			if !strings.Contains(string(out), "osb-broker: --listen") || !reflect.DeepEqual(ids, test.ids) {
-				t.Errorf("%v: got %s, want %v", test.arguments, out, test.ids)
-			}
+			diff.Contains(t, string(out), "osb-broker: --listen", "%v", test.arguments)
+			diff.Check(t, ids, test.ids, "%v, %s", test.arguments, out)
 		})
 	}
 }
@@ -773,9 +735,8 @@ func TestExampleDatabases(t *testing.T) {
 			t.Errorf("the binding: got %s, %v, want a token", text, err)
 		}
 		path := filepath.Join(state, "command", bound.Credentials.Database)
-		if _, err := os.Stat(path); err != nil {
-			t.Error(err)
-		}
+		_, err := os.Stat(path)
+		diff.NoError(t, err, "")
 		diff.Equal(t, s.expect(200, "PUT", binding+async, ids+"}"), text, "the binding")
 		s.expect(deleted, "DELETE", binding+query, "")
 		s.until(410, "", "GET", binding+"/last_operation", "")

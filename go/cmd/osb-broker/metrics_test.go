@@ -107,9 +107,7 @@ func TestTheNumberOfEventsIsBounded(t *testing.T) {
 func TestTwoMetricsShareNothing(t *testing.T) {
 	first, second := newMetrics(metricsOptions{}), newMetrics(metricsOptions{})
 	first.OnExchange(broker.Exchange{Route: "poll", Status: 200})
-	if got := lines(t, second)[`osb_broker_requests_total{route="poll",status="200"}`]; got != "" {
-		t.Errorf("the second: got %s, want no count", got)
-	}
+	diff.Equal(t, lines(t, second)[`osb_broker_requests_total{route="poll",status="200"}`], "", "the second")
 }
 
 func TestTheProcessIsMeasured(t *testing.T) {
@@ -256,9 +254,7 @@ func TestTombstonesAreCountedOnceAMinute(t *testing.T) {
 		expect(t, metrics, map[string]string{
 			"osb_broker_pending": fmt.Sprint(step.pending), "osb_broker_tombstones": step.shown,
 		})
-		if slow.asked != step.asked {
-			t.Errorf("%v later: got all rows read %d times, want %d", step.after, slow.asked, step.asked)
-		}
+		diff.Equal(t, slow.asked, step.asked, "%v later", step.after)
 	}
 }
 

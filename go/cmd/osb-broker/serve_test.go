@@ -53,9 +53,8 @@ func TestStatusOfFiles(t *testing.T) {
 		{errors.New("another"), 78},
 	} {
 		t.Run(fmt.Sprint(test.err), func(t *testing.T) {
-			if status := statusOf(ofFiles("the store can't be used", test.err)); status != test.status {
-				t.Errorf("%v: got the status %d, want %d", test.err, status, test.status)
-			}
+			status := statusOf(ofFiles("the store can't be used", test.err))
+			diff.Equal(t, status, test.status, "%v", test.err)
 		})
 	}
 }
@@ -115,14 +114,10 @@ func TestIDsReturnAfter(t *testing.T) {
 	later(t, state, 300)
 	s = start(t, []string{password}, "--state", state)
 	s.expect(409, "PUT", one, order)
-	if body := s.expect(200, "GET", "/v2/catalog", ""); !strings.Contains(body, `"x-osb-tombstones":true`) {
-		t.Errorf("got %q, want %q in it", body, `"x-osb-tombstones":true`)
-	}
+	diff.Contains(t, s.expect(200, "GET", "/v2/catalog", ""), `"x-osb-tombstones":true`, "")
 	s.stop()
 	s = start(t, []string{password}, after...)
-	if body := s.expect(200, "GET", "/v2/catalog", ""); !strings.Contains(body, `"x-osb-tombstones":false`) {
-		t.Errorf("got %q, want %q in it", body, `"x-osb-tombstones":false`)
-	}
+	diff.Contains(t, s.expect(200, "GET", "/v2/catalog", ""), `"x-osb-tombstones":false`, "")
 	s.expect(201, "PUT", one, order)
 	found := s.event("id_returned")
 	if ago, _ := found["ended_seconds_ago"].(float64); ago < 300 || ago > 400 || found["request"] == "" ||
@@ -167,17 +162,13 @@ type rotation struct {
 // reload writes the file, sends SIGHUP, and waits for the event.
 func (r rotation) reload(event, text string) map[string]any {
 	r.t.Helper()
-	if err := os.WriteFile(r.file, []byte(text), 0o600); err != nil {
-		r.t.Fatal(err)
-	}
+	check(r.t, os.WriteFile(r.file, []byte(text), 0o600))
 	return r.hangUp(event)
 }
 
 func (r rotation) hangUp(event string) map[string]any {
 	r.t.Helper()
-	if err := r.command.Process.Signal(syscall.SIGHUP); err != nil {
-		r.t.Fatal(err)
-	}
+	check(r.t, r.command.Process.Signal(syscall.SIGHUP))
 	return r.event(event)
 }
 
@@ -186,15 +177,12 @@ func (r rotation) logins(want map[string]int) {
 	r.t.Helper()
 	for login, status := range want {
 		request, err := http.NewRequest("GET", r.url+"/v2/catalog", nil)
-		if err != nil {
-			r.t.Fatal(err)
-		}
+		check(r.t, err)
 		user, password, _ := strings.Cut(login, ":")
 		request.SetBasicAuth(user, password)
 		request.Header.Set("X-Broker-API-Version", "2.17")
-		if given, body := r.do(request); given != status {
-			r.t.Errorf("%s: got %d %s, want %d", login, given, body, status)
-		}
+		given, body := r.do(request)
+		diff.Equal(r.t, given, status, "%s, %s", login, body)
 	}
 }
 
@@ -255,9 +243,7 @@ func TestPipesInPlaceOfFiles(t *testing.T) {
 		check(t, syscall.Mkfifo(name, 0o600))
 	}
 	r := rotation{s, file}
-	if failed := r.hangUp("users_not_reloaded"); !strings.Contains(failed["error"].(string), "isn't a regular file") {
-		t.Errorf("the log: got %v, want an error that says that it isn't a regular file", failed)
-	}
+	diff.Contains(t, r.hangUp("users_not_reloaded")["error"].(string), "isn't a regular file", "the log")
 	late := time.AfterFunc(time.Minute, func() { _ = s.command.Process.Kill() })
 	defer late.Stop()
 	s.stop()
@@ -302,9 +288,8 @@ func TestFailedLoginsOfAnAddressAreDelayed(t *testing.T) {
 		check(t, err)
 		request.SetBasicAuth("platform", secret)
 		request.Header.Set("X-Broker-API-Version", "2.17")
-		if status, body := s.do(request); status != want {
-			t.Errorf("password %s: got %d %s, want %d", secret, status, body, want)
-		}
+		status, body := s.do(request)
+		diff.Equal(t, status, want, "password %s, %s", secret, body)
 	}
 	for count := 0; count < 22; count++ { // one more is free each 3 seconds
 		ask("wrong", 401)
@@ -345,17 +330,15 @@ func TestHealthWhileAllConnectionsAreTaken(t *testing.T) {
 		"--connections-per-address", fmt.Sprint(connections), "--health-listen", address)
 	for count := 0; count < connections; count++ { // each has sent a request, so it isn't closed as a silent one
 		conn := s.dial()
-		if _, err := fmt.Fprintf(conn, "GET /v2/catalog HTTP/1.1%s\r\n", headers()); err != nil {
-			t.Fatal(err)
-		}
+		_, err := fmt.Fprintf(conn, "GET /v2/catalog HTTP/1.1%s\r\n", headers())
+		check(t, err)
 		if line, err := bufio.NewReader(conn).ReadString('\n'); err != nil || line != "HTTP/1.1 200 OK\r\n" {
 			t.Fatalf("got %q, %v, want 200", line, err)
 		}
 	}
 	full := &http.Client{Timeout: 300 * time.Millisecond}
-	if given, err := full.Get(s.url + "/v2/catalog"); err == nil {
-		t.Errorf("the main address: got %s, want it full", given.Status)
-	}
+	_, err := full.Get(s.url + "/v2/catalog")
+	diff.Error(t, err, "the main address, which is full")
 	for _, path := range []string{"/healthz", "/readyz", "/metrics"} {
 		given, err := s.client.Get("http://" + address + path)
 		check(t, err)
@@ -450,9 +433,7 @@ func TestLogHasNoPasswordOfATarget(t *testing.T) {
 	seen := false
 	for line := range s.lines {
 		seen = seen || strings.Contains(line, `"target":"http://host/v2/catalog"`)
-		if strings.Contains(line, "hidden") {
-			t.Errorf("the log: got %s, want no \"hidden\" in it", line)
-		}
+		diff.Lacks(t, line, "hidden", "the log")
 	}
 	if !seen {
 		t.Error("the target: got none in the log, want one without it")

@@ -51,9 +51,7 @@ esac
 
 func (g *gate) check(err error) {
 	g.t.Helper()
-	if err != nil {
-		g.t.Fatal(err)
-	}
+	check(g.t, err)
 }
 
 // start starts a broker over the backend. It sweeps often.
@@ -229,9 +227,7 @@ func (g *gate) killCreate() {
 func (s *servedBroker) send(method, path, body string) {
 	s.t.Helper()
 	request, err := http.NewRequest(method, s.url+path, strings.NewReader(body))
-	if err != nil {
-		s.t.Fatal(err)
-	}
+	check(s.t, err)
 	request.SetBasicAuth("platform", "secret")
 	request.Header.Set("X-Broker-API-Version", "2.17")
 	go func() {
@@ -303,9 +299,8 @@ func TestWaitForPoll(t *testing.T) {
 				t.Errorf("a Poll: got %d %s, want 200, failed and No Poll", status, body)
 			}
 			status, body = s.ask("PUT", one+"?accepts_incomplete=true", orderLater)
-			if status != 500 || !strings.Contains(body, "No Poll") {
-				t.Errorf("the Provision: got %d %s, want 500 and No Poll", status, body)
-			}
+			diff.Equal(t, status, 500, "the Provision")
+			diff.Contains(t, body, "No Poll", "the Provision")
 			s.expect(202, "DELETE", one+"?service_id="+service+"&plan_id="+asynchronous+"&accepts_incomplete=true", "")
 			s.stop()
 		})
@@ -353,10 +348,8 @@ func TestHungCommandsDontHoldUpOthers(t *testing.T) {
 		time.Sleep(20 * time.Millisecond)
 	}
 	for n := 0; n < 4; n++ {
-		if _, body := s.ask("GET", fmt.Sprintf("/v2/service_instances/bad%d/last_operation", n), ""); !strings.Contains(body,
-			"in progress") {
-			t.Errorf("a creation that hangs: got %s, want it in progress", body)
-		}
+		_, body := s.ask("GET", fmt.Sprintf("/v2/service_instances/bad%d/last_operation", n), "")
+		diff.Contains(t, body, "in progress", "a creation that hangs")
 	}
 }
 
@@ -388,8 +381,7 @@ func TestServesWithoutTheServiceManager(t *testing.T) {
 	s.expect(200, "GET", "/v2/catalog", "")
 	check(t, s.command.Process.Signal(syscall.SIGTERM))
 	reason, _ := s.event("stopping")["notify_error"].(string)
-	if !strings.Contains(reason, "STOPPING=1") || !strings.Contains(reason, name) {
-		t.Errorf("the log: got %q, want STOPPING=1 and %s", reason, name)
-	}
+	diff.Contains(t, reason, "STOPPING=1", "the log")
+	diff.Contains(t, reason, name, "the log")
 	s.stop()
 }

@@ -15,6 +15,7 @@ import (
 
 	"golang.org/x/sys/unix"
 
+	"pippinterm/internal/diff"
 	"pippinterm/internal/pg/pgtest"
 	"pippinterm/internal/storefaults"
 )
@@ -139,9 +140,7 @@ func TestStoreGoesAway(t *testing.T) {
 		{"PUT", one, order}, {"PUT", "/v2/service_instances/two", order}, {"GET", one + "/last_operation", ""},
 		{"PUT", one + "/service_bindings/b", bind}, {"DELETE", one + names, ""},
 	} {
-		if body := s.expect(503, test[0], test[1], test[2]); !strings.Contains(body, "Send it again later.") {
-			t.Errorf("%s %s: got %s, want that it may be sent again", test[0], test[1], body)
-		}
+		diff.Contains(t, s.expect(503, test[0], test[1], test[2]), "Send it again later.", "%s %s", test[0], test[1])
 		if failed := s.event("request_failed"); failed["error"] == "" {
 			t.Errorf("the log: got %v, want an error", failed)
 		}
@@ -168,10 +167,9 @@ func TestMetricsWhileTheStoreHangs(t *testing.T) {
 		t.Helper()
 		begun := time.Now()
 		status, text := s.ask("GET", "/metrics", "")
-		if status != 200 || !strings.Contains(text, "\nosb_broker_store_up "+up+"\n") ||
-			!strings.Contains(text, "\nosb_broker_requests_total{route=\"catalog\",status=\"200\"} 1\n") {
-			t.Errorf("got %[2]d %.3000s, want store_up %[1]s", up, status, text)
-		}
+		diff.Equal(t, status, 200, "%s", up)
+		diff.Contains(t, text, "\nosb_broker_store_up "+up+"\n", "%s", up)
+		diff.Contains(t, text, "\nosb_broker_requests_total{route=\"catalog\",status=\"200\"} 1\n", "%s", up)
 		return time.Since(begun)
 	}
 	metrics("1")
@@ -252,9 +250,8 @@ func (s *servedBroker) isReady(state string, it old) {
 	s.t.Helper()
 	s.until(200, "succeeded", "GET", it.path()+"/last_operation", "")
 	s.expect(200, "PUT", it.path()+async, it.order())
-	if _, err := os.Stat(filepath.Join(state, "instances", it.id())); err != nil {
-		s.t.Error(err)
-	}
+	_, err := os.Stat(filepath.Join(state, "instances", it.id()))
+	diff.NoError(s.t, err, "")
 }
 
 // isGone checks that an instance doesn't exist, and that no Provision creates it.
@@ -297,18 +294,14 @@ func TestStateOfVersion02(t *testing.T) {
 		s.isGone(state, instance)
 	}
 	s.stop()
-	if found := soldInstances(t, state); len(found) > 0 {
-		t.Errorf("got %v left, want none", found)
-	}
+	diff.Equal(t, len(soldInstances(t, state)), 0, "")
 }
 
 // longest sets how long the files of the broker may become. With 0, every write to a file fails, as on a full disk.
 func (s *servedBroker) longest(bytes uint64) {
 	s.t.Helper()
 	limit := unix.Rlimit{Cur: bytes, Max: unix.RLIM_INFINITY}
-	if err := unix.Prlimit(s.command.Process.Pid, unix.RLIMIT_FSIZE, &limit, nil); err != nil {
-		s.t.Fatal(err)
-	}
+	check(s.t, unix.Prlimit(s.command.Process.Pid, unix.RLIMIT_FSIZE, &limit, nil))
 }
 
 // untilReady asks for /readyz until the status is this one. An answer may be a second old.
@@ -336,13 +329,10 @@ func TestFullDisk(t *testing.T) {
 	s.untilReady(200)
 	s.longest(0)
 	s.untilReady(503)
-	if status, body := s.plain("/healthz"); status != 200 {
-		t.Errorf("/healthz: got %d %s, want 200", status, body)
-	}
+	status, body := s.plain("/healthz")
+	diff.Equal(t, status, 200, "/healthz, %s", body)
 	s.expect(500, "PUT", one, order)
-	if found := soldInstances(t, state); len(found) > 0 {
-		t.Errorf("got %v created, want nothing", found)
-	}
+	diff.Equal(t, len(soldInstances(t, state)), 0, "")
 	s.longest(unix.RLIM_INFINITY)
 	s.untilReady(200)
 	s.expect(201, "PUT", one, order)

@@ -96,18 +96,14 @@ func TestTryExample(t *testing.T) {
 		"create-binding 1: " + credentials, "credentials of binding 2: those of create-binding",
 		"delete-binding 1 again", "delete instance 2",
 	} {
-		if !strings.Contains(run.stdout, "\nok      "+line+"\n") {
-			t.Errorf("got no line %q, want one", line)
-		}
+		diff.Contains(t, run.stdout, "\nok      "+line+"\n", "%q", line)
 	}
 	if run.status != 0 || run.last() != "52 ok, 0 failed" || run.stderr != "" || len(run.temporary) > 0 ||
 		!strings.HasPrefix(run.stdout, "try     plan now of service database\n") {
 		t.Errorf("got the status %d, %s%s and %v left, want 0, 52 ok and nothing", run.status, run.stdout, run.stderr,
 			run.temporary)
 	}
-	if token := regexp.MustCompile(`[0-9a-f]{8}-`).FindString(run.stdout); token != "" {
-		t.Errorf("the output: got %s, want no id and no token", run.stdout)
-	}
+	diff.Equal(t, regexp.MustCompile(`[0-9a-f]{8}-`).FindString(run.stdout), "", "the output, %s", run.stdout)
 }
 
 // Folders are tried by the same calls, and in the folders that serve would use.
@@ -148,9 +144,7 @@ func TestTryPlans(t *testing.T) {
 		}
 		plans = append(plans, read.Plan[len(read.Plan)-2:])
 	}
-	if got := strings.Join(plans, " "); got != "b2 b2 b2 b2 b1 b1 b1 b1" {
-		t.Errorf("the plans of the creations: got %s, want those of b2, and then of b1", got)
-	}
+	diff.Equal(t, strings.Join(plans, " "), "b2 b2 b2 b2 b1 b1 b1 b1", "the plans of the creations")
 }
 
 // A mistake of a program ends with status 1. Its line has the reason, and the state folder is kept.
@@ -179,16 +173,12 @@ func TestTryMistakes(t *testing.T) {
 			if run.status != 1 || len(failed) == 0 || run.stderr != "" || it.last != "" && run.last() != it.last {
 				t.Fatalf("got the status %d and %s%s, want 1 and what failed", run.status, run.stdout, run.stderr)
 			}
-			if !strings.Contains(strings.Join(failed, "\n")+"\n", it.line+"\n") {
-				t.Errorf("got %[2]q, want %[1]q among it", it.line, failed)
-			}
+			diff.Contains(t, strings.Join(failed, "\n")+"\n", it.line+"\n", "%q", it.line)
 			kept := run.lines("kept")
 			if len(run.temporary) != 1 || len(kept) != 1 || kept[0] != "the state folder "+run.temporary[0] {
 				t.Errorf("got %v kept, and %q reported, want one folder that is reported", run.temporary, kept)
 			}
-			if ids := run.lines("id"); len(ids) != 2 {
-				t.Errorf("the ids: got %q, want 2", ids)
-			}
+			diff.Equal(t, len(run.lines("id")), 2, "the ids")
 		})
 	}
 }
@@ -202,9 +192,8 @@ func TestTryLeft(t *testing.T) {
 		t.Fatalf("got the status %d, %s%s, %v and %v, want 1, and two named", run.status, run.stdout, run.stderr, found, err)
 	}
 	for _, path := range found {
-		if !strings.Contains(strings.Join(left, "\n"), " "+filepath.Base(path)+" couldn't be deleted") {
-			t.Errorf("%s: got it not in %q, want it named", path, left)
-		}
+		diff.Contains(t, strings.Join(left, "\n"), " "+filepath.Base(path)+" couldn't be deleted",
+			"%s, %q", path, left)
 		if file, err := os.Stat(path); err != nil || file.Mode().Perm() != 0o600 {
 			t.Errorf("got %v and the error %v, want mode 0600", file, err)
 		}
@@ -267,9 +256,8 @@ func TestTryStopsLate(t *testing.T) {
 		signalAt(t, state+"/begun", syscall.SIGTERM)(command)
 		signalAt(t, state+"/deleting", syscall.SIGTERM)(command)
 	}, "--state", state, "--backend", slow(t, neverDeletes), "--catalog", unbindable(t))
-	if run.status != -1 || run.last() != "ok      look instance 1: none" {
-		t.Errorf("got the status %d and %s%s, want a kill after the first look", run.status, run.stdout, run.stderr)
-	}
+	diff.Equal(t, run.status, -1, "%s, %s", run.stdout, run.stderr)
+	diff.Equal(t, run.last(), "ok      look instance 1: none", "%s, %s", run.stdout, run.stderr)
 }
 
 // A signal also ends the test while the program reports its capabilities. That is no mistake of an argument.

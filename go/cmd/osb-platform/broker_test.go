@@ -84,23 +84,17 @@ func TestStoredPassword(t *testing.T) {
 	if got := callWith(t, "hunter2\n", add...); got.status != 78 || !strings.Contains(got.failed, "--key-file FILE") {
 		t.Errorf("without a key: got %+v, want 78 and the option", got)
 	}
-	if got := callWith(t, "hunter2\n", append(add, "--key-file", key)...); got.status != 0 {
-		t.Errorf("with a key: got %+v, want 0", got)
-	}
+	diff.Equal(t, callWith(t, "hunter2\n", append(add, "--key-file", key)...).status, 0, "with a key")
 	got := call(t, "--store", store, "broker", "show", "two")
-	if !strings.Contains(got.out, "password\tin the store, encrypted\n") || strings.Contains(got.out, "hunter2") {
-		t.Errorf("got %+v, want a password in the store that isn't shown", got)
-	}
+	diff.Contains(t, got.out, "password\tin the store, encrypted\n", "%+v", got)
+	diff.Lacks(t, got.out, "hunter2", "%+v", got)
 	other := newKey(t)
 	got = callWith(t, "hunter3\n", "--store", store, "broker", "set", "two", "--store-password", "--key-file", other)
-	if got.status != 78 || !strings.Contains(got.failed, "another key") {
-		t.Errorf("with another key: got %+v, want 78 and that it is another", got)
-	}
+	diff.Equal(t, got.status, 78, "with another key, %+v", got)
+	diff.Contains(t, got.failed, "another key", "with another key, %+v", got)
 	got = callWith(t, "hunter3\n", "--store", store, "broker", "set", "two", "--store-password", "--key-file", other,
 		"--key-file", key)
-	if got.status != 0 {
-		t.Errorf("with both keys: got %+v, want 0", got)
-	}
+	diff.Equal(t, got.status, 0, "with both keys, %+v", got)
 }
 
 // A broker that is rejected leaves no store behind, and no folder for one.
@@ -222,9 +216,8 @@ func TestReplacedPassword(t *testing.T) {
 		},
 		"in the store": func(t *testing.T, store, _, key string) {
 			got := callWith(t, "another\n", "--store", store, "--key-file", key, "broker", "set", "local", "--store-password")
-			if got.status != 0 || got.failed != "" {
-				t.Errorf("got %+v, want the status 0 and no message", got)
-			}
+			diff.Equal(t, got.status, 0, "%+v", got)
+			diff.Equal(t, got.failed, "", "%+v", got)
 		},
 	} {
 		t.Run(name, func(t *testing.T) {
@@ -373,9 +366,7 @@ func TestBrokerOfAnotherStore(t *testing.T) {
 	}
 	diff.Equal(t, f.deletion.Load(), 1, "deletions sent to the other broker")
 	for _, text := range []string{"before", "beside"} {
-		if got := call(t, "--store", store, "show", text); strings.Contains(got.out, "state\tgone") {
-			t.Errorf("the answer of the other broker: got %s, want it not believed", got.out)
-		}
+		diff.Lacks(t, call(t, "--store", store, "show", text).out, "state\tgone", "the answer of the other broker")
 	}
 	wantLines(t, store, []line{
 		{"broker set local --accept-store x;y", 78, ``, `osb-platform: .*the id of a store has 1 to 200 letters.*`},

@@ -156,9 +156,7 @@ func TestAttention(t *testing.T) {
 		"2 unsettled (oldest: 2023-11-14T22:13:20Z). ",
 		"1 being deleted for more than an hour (oldest: " + moment(long),
 	} {
-		if !strings.Contains(text, want) {
-			t.Errorf("got %[2]q, want %[1]q in it", want, text)
-		}
+		diff.Contains(t, text, want, "")
 	}
 	diff.Equal(t, new(listing).attention(), "", "")
 }
@@ -169,9 +167,7 @@ func TestHostileTexts(t *testing.T) {
 	store := newStore(t)
 	const id = "a\x1b[2Jb"
 	got := call(t, "--store", store, "create", "--plan", "small", "--id", id)
-	if got.out != id+"\n" {
-		t.Errorf("got %q, want the id as it is", got.out)
-	}
+	diff.Equal(t, got.out, id+"\n", "")
 	for _, command := range [][]string{{"list"}, {"show", id}, {"list", "--json"}, {"show", id, "--json"}} {
 		got := call(t, append([]string{"--store", store}, command...)...)
 		if got.status != 0 || strings.Contains(got.out, "\x1b") || !strings.Contains(got.out, "[2Jb") {
@@ -350,9 +346,7 @@ func TestProgressOnTerminal(t *testing.T) {
 	check(t, written.Close())
 	shown, err := io.ReadAll(screen) // it ends with EIO once nobody has the terminal open
 	const want = `ordered one\r\n(\rone: ordered, [0-9] s){2,}\r\nosb-platform: one is still ordered [^\r\n]*\r`
-	if !isAll(want, string(shown)) {
-		t.Errorf("got %q, %v, want %s", shown, err, want)
-	}
+	diff.Equal(t, isAll(want, string(shown)), true, "%q, %v, %s", shown, err, want)
 }
 
 // A line that is shorter than the one before leaves nothing of it.
@@ -364,9 +358,7 @@ func TestProgressOverwrites(t *testing.T) {
 	p.show("one: gone")
 	p.end()
 	p.end()
-	if got := to.String(); got != "\rone: ordered\rone: gone   \n" {
-		t.Errorf("got %q, want each state once, over the one before", got)
-	}
+	diff.Equal(t, to.String(), "\rone: ordered\rone: gone   \n", "")
 }
 
 // A loggedRequest is a line of a log, as far as it counts here.
@@ -429,9 +421,7 @@ func TestIdentityInBothLogs(t *testing.T) {
 	kinds := map[string]bool{}
 	for identity, kind := range sent {
 		kinds[kind] = true
-		if received[identity] != kind {
-			t.Errorf("%s %s: got %q in the broker's log, want it there", kind, identity, received[identity])
-		}
+		diff.Equal(t, received[identity], kind, "%s %s", kind, identity)
 	}
 	if len(sent) != len(received) || !kinds["provision"] || !kinds["deprovision"] {
 		t.Errorf("the platform: got %v, want what the broker has: %v", sent, received)

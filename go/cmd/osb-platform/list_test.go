@@ -105,9 +105,7 @@ func TestListWhileRowsMove(t *testing.T) {
 			listed[id]++
 		}
 		for _, row := range rows {
-			if got := listed[row.Names.Instance]; got != 1 {
-				t.Errorf("the instance %s: got it %d times, want 1", row.Names.Instance, got)
-			}
+			diff.Equal(t, listed[row.Names.Instance], 1, "the instance %s", row.Names.Instance)
 		}
 		if len(listed) != count || moved == 0 {
 			t.Errorf("got %d instances, %d moved, want %d and at least one moved", len(listed), moved, count)
@@ -188,15 +186,13 @@ func TestColumns(t *testing.T) {
 			t.Errorf("got the names %q and the cells %q, want one for each", names, cells)
 		}
 		for at, cell := range cells { // on a terminal, each cell is below its name
-			if strings.Index(head.String(), names[at]) != strings.Index(row.String(), cell) {
-				t.Errorf("%s: got the heads %q over %q, want them at the same places", names[at], head.String(), row.String())
-			}
+			diff.Equal(t, strings.Index(head.String(), names[at]), strings.Index(row.String(), cell),
+				"%s, %q, %q", names[at], head.String(), row.String())
 		}
 	}
-	if help := call(t, "list", "--help").out; !strings.Contains(help, "The columns are "+namesOfColumns()+".\n") ||
-		namesOfColumns() != "id, state, since, service, plan, broker, and with --reasons reason" {
-		t.Errorf("got %q and %s, want the columns in the help", namesOfColumns(), help)
-	}
+	help := call(t, "list", "--help").out
+	diff.Contains(t, help, "The columns are "+namesOfColumns()+".\n", "")
+	diff.Equal(t, namesOfColumns(), "id, state, since, service, plan, broker, and with --reasons reason", "")
 }
 
 func TestPrintable(t *testing.T) {
@@ -367,14 +363,11 @@ func TestUnreadableRow(t *testing.T) {
 		ctx, cancel := context.WithTimeout(ctx, time.Minute)
 		defer cancel()
 		_, err = (&waiting{}).wait(ctx, command, session{store: in}, of, false, goesOn)
-		if err == nil || !strings.Contains(err.Error(), "two: its record can't be read: ") {
-			t.Errorf("the wait: got %v, want an error of the record", err)
-		}
+		diff.Error(t, err, "the wait")
+		diff.Contains(t, err.Error(), "two: its record can't be read: ", "the wait")
 		return nil
 	})
-	if got := call(t, "--store", store, "show", "one", "--json"); strings.Contains(got.out, "unreadable") {
-		t.Errorf("the first: got %s, want no \"unreadable\" in it", got.out)
-	}
+	diff.Lacks(t, call(t, "--store", store, "show", "one", "--json").out, "unreadable", "the first")
 }
 
 // spoil executes a statement in the file of a store.

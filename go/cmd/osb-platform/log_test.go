@@ -103,16 +103,13 @@ func TestMetrics(t *testing.T) {
 		`records{broker="shop",kind="binding",state="ready"} 3`, "unsettled 2", "oldest_unsettled_seconds 60",
 		"store_up 1",
 	} {
-		if !strings.Contains(text, "\n"+prefix+want+"\n") {
-			t.Errorf("got %[2]s, want %[1]s in it", want, text)
-		}
+		diff.Contains(t, text, "\n"+prefix+want+"\n", "%s", want)
 	}
 	if !strings.Contains(text, "\n"+prefix+"oldest_due_seconds 7") { // and some microseconds
 		t.Errorf("got %s, want 7 s and some microseconds of oldest_due_seconds", text)
 	}
-	if strings.Contains(text, `status="201",error=`) || strings.Contains(text, "its own") {
-		t.Errorf("got %s, want neither an error beside the status 201 nor one's own text", text)
-	}
+	diff.Lacks(t, text, `status="201",error=`, "")
+	diff.Lacks(t, text, "its own", "")
 }
 
 // If the store fails, only that is reported of it.
@@ -120,10 +117,9 @@ func TestMetricsWithoutStore(t *testing.T) {
 	m := newMetrics(func() uint64 { return 0 }, func() uint64 { return 0 })
 	m.addStore(context.Background(), &countStore{err: platform.ErrAway})
 	text := textOfMetrics(t, m)
-	if !strings.Contains(text, "\n"+prefix+"store_up 0\n") || strings.Contains(text, prefix+"records") ||
-		strings.Contains(text, prefix+"oldest_due_seconds") {
-		t.Errorf("got %s, want store_up 0, without records and oldest_due_seconds", text)
-	}
+	diff.Contains(t, text, "\n"+prefix+"store_up 0\n", "")
+	diff.Lacks(t, text, prefix+"records", "")
+	diff.Lacks(t, text, prefix+"oldest_due_seconds", "")
 }
 
 // A scrape is answered though the store hangs, whatever its context says.
@@ -138,15 +134,13 @@ func TestMetricsOfAStoreThatHangs(t *testing.T) {
 			m.registry.MustRegister(collector)
 			text := textOfMetrics(t, m)
 			up := map[bool]string{true: "store_up 1", false: "store_up 0"}[test.counts]
-			if !strings.Contains(text, "\n"+prefix+up+"\n") || strings.Contains(text, prefix+"records") ||
-				!strings.Contains(text, "log_lines_dropped_total 5") {
-				t.Errorf("got %[2]s, want %[1]s and no records in it", up, text)
-			}
+			diff.Contains(t, text, "\n"+prefix+up+"\n", "%s", up)
+			diff.Lacks(t, text, prefix+"records", "%s", up)
+			diff.Contains(t, text, "log_lines_dropped_total 5", "%s", up)
 			close(hung)
 			collector.mostWait = time.Minute
-			if text := textOfMetrics(t, m); !strings.Contains(text, `records{broker="shop",kind="binding",state="ready"} 3`) {
-				t.Errorf("once it goes on: got %s, want %q in it", text, `records{broker="shop",kind="binding",state="ready"} 3`)
-			}
+			diff.Contains(t, textOfMetrics(t, m), `records{broker="shop",kind="binding",state="ready"} 3`,
+				"once it goes on")
 		})
 	}
 }
@@ -180,9 +174,8 @@ func TestOldestDue(t *testing.T) {
 	m.registry.MustRegister(collector)
 	want := func(what, seconds string) {
 		t.Helper()
-		if text := textOfMetrics(t, m); !strings.Contains(text, "\n"+prefix+"oldest_due_seconds "+seconds+"\n") {
-			t.Errorf("%s: got %s, want oldest_due_seconds %s", what, text, seconds)
-		}
+		diff.Contains(t, textOfMetrics(t, m), "\n"+prefix+"oldest_due_seconds "+seconds+"\n",
+			"%s, %s", what, seconds)
 	}
 	want("before it is due", "0")
 	clock = clock.Add(4 * time.Second)

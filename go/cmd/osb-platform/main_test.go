@@ -243,14 +243,11 @@ func TestValues(t *testing.T) {
 		})
 	}
 	for _, text := range []string{"", "-1", "31622401", "NaN", "1s", "inf"} {
-		if got, err := secondsOf(text, 0); err == nil {
-			t.Errorf("%q: got %v, want an error", text, got)
-		}
+		got, err := secondsOf(text, 0)
+		diff.Error(t, err, "%q, %v", text, got)
 	}
 	for _, text := range []string{"0", "-1", "soon"} {
-		if err := new(waiting).Set(text); err == nil {
-			t.Errorf("--wait=%s: got no error, want one", text)
-		}
+		diff.Error(t, new(waiting).Set(text), "--wait=%s", text)
 	}
 }
 
@@ -356,9 +353,8 @@ func checkWait(t *testing.T, store, next, until string) {
 		if err == nil || !isAll(next+" is still ordered: waits "+until, err.Error()) {
 			t.Errorf("--wait: got %v, want that the next is still ordered", err)
 		}
-		if !isAll("one has failed: tried again as "+next+` \(waits `+until+`\)`, failed.String()) {
-			t.Errorf("got %q, want that one is tried again as %s", failed.String(), next)
-		}
+		diff.Equal(t, isAll("one has failed: tried again as "+next+` \(waits `+until+`\)`, failed.String()), true,
+			"%q, %s", failed.String(), next)
 		return nil
 	})
 }
@@ -368,12 +364,9 @@ func TestIDsForScripts(t *testing.T) {
 	store := newStore(t)
 	for _, id := range []string{"t\tq", "größe", "\x1b[2J"} {
 		one := call(t, "--store", store, "create", "--plan", "small", "--id", id)
-		if one.status != 0 || one.out != id+"\n" {
-			t.Errorf("%q: got %+v, want the id as it is", id, one)
-		}
-		if shown := call(t, "--store", store, "show", strings.TrimSuffix(one.out, "\n")); shown.status != 0 {
-			t.Errorf("%q: got %+v, want the status 0", id, shown)
-		}
+		diff.Equal(t, one.status, 0, "%q, %+v", id, one)
+		diff.Equal(t, one.out, id+"\n", "%q, %+v", id, one)
+		diff.Equal(t, call(t, "--store", store, "show", strings.TrimSuffix(one.out, "\n")).status, 0, "%q", id)
 	}
 	_, written := terminal(t)
 	diff.Equal(t, printableOn(written, "t\tq"), `"t\tq"`, "on a terminal")

@@ -7,7 +7,6 @@ import (
 	"fmt"
 	"net/http"
 	"path/filepath"
-	"reflect"
 	"regexp"
 	"strings"
 	"testing"
@@ -178,9 +177,8 @@ func TestAdvice(t *testing.T) {
 						t.Errorf("tombstones %v, own id %v, failure %+v, last operation %+v, Fetch %+v: got %q, want %c",
 							test.hasTombstones, test.isOwnID, test.failure, last, fetched, got, letter)
 					}
-					if deletes := strings.Contains(got, "remove one"); deletes != strings.ContainsRune("YONW", rune(letter)) {
-						t.Errorf("last operation %+v, Fetch %+v: got %q, want %c", last, fetched, got, letter)
-					}
+					diff.Equal(t, strings.Contains(got, "remove one"), strings.ContainsRune("YONW", rune(letter)),
+						"last operation %+v, Fetch %+v, %q, %c", last, fetched, got, letter)
 				}
 			}
 		})
@@ -389,9 +387,7 @@ func TestAskRetrievable(t *testing.T) {
 	}
 	const one = "GET /v2/service_instances/one"
 	const app = one + "/service_bindings/app"
-	if want := []string{one + "/last_operation", one, app + "/last_operation", app}; !reflect.DeepEqual(targets, want) {
-		t.Errorf("got %q, want %q", targets, want)
-	}
+	diff.Check(t, targets, []string{one + "/last_operation", one, app + "/last_operation", app}, "")
 }
 
 // For what is unsettled, 'retry' and 'list' name the command that leads on.

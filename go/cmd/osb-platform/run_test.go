@@ -146,9 +146,8 @@ func TestWholeWay(t *testing.T) {
 		{"credentials one/two --key-file " + key, 1, ``, `osb-platform: the binding one/two is gone.*`},
 	})
 	text, err := os.ReadFile(secret)
-	if err != nil || !strings.Contains(string(text), `"token"`) {
-		t.Errorf("got %q, %v, want a token", text, err)
-	}
+	diff.NoError(t, err, "%q", text)
+	diff.Contains(t, string(text), `"token"`, "")
 	if about, err := os.Stat(secret); err != nil || about.Mode().Perm() != 0o600 {
 		t.Errorf("got %v, %v, want the mode 600", about, err)
 	}
@@ -158,21 +157,16 @@ func TestWholeWay(t *testing.T) {
 		t.Fatal(err)
 	}
 	for name, output := range map[string]string{"the log": log, "standard output": p.out.String()} {
-		if strings.Contains(output, read.Credentials.Token) || strings.Contains(output, "secret") {
-			t.Errorf("%s: got %s, want no secret in it", name, output)
-		}
+		diff.Lacks(t, output, read.Credentials.Token, "%s", name)
+		diff.Lacks(t, output, "secret", "%s", name)
 	}
 	for _, row := range []string{"\tone\tready\n", "\tone\tgone\n", "\tone/two\tready\n", "\tone/two\tgone\n"} {
-		if strings.Count(p.out.String(), row) != 1 {
-			t.Errorf("got %[2]q, want %[1]q in it once", row, p.out.String())
-		}
+		diff.Equal(t, strings.Count(p.out.String(), row), 1, "%q, %q", p.out.String(), row)
 	}
 	for _, event := range []string{
 		`"instance":"one","binding":"two","kind":"bind"`, `"event":"state_changed","instance":"one",`,
 	} {
-		if !strings.Contains(log, event) {
-			t.Errorf("the log: got %[2]s, want %[1]s in it", event, log)
-		}
+		diff.Contains(t, log, event, "the log")
 	}
 }
 
@@ -220,9 +214,7 @@ func TestHealth(t *testing.T) {
 		"osb_platform_in_flight 0", "osb_platform_oldest_due_seconds 0", "osb_platform_unsettled 0",
 		"osb_platform_leases_lost_total 0", `osb_platform_request_seconds_count{kind="provision"} 1`,
 	} {
-		if !strings.Contains(body, want+"\n") {
-			t.Errorf("got %[2]s, want %[1]s in it", want, body)
-		}
+		diff.Contains(t, body, want+"\n", "%s", want)
 	}
 	p.stop()
 }
@@ -327,10 +319,8 @@ func TestWorkers(t *testing.T) {
 		command := osbPlatform([]string{"OSB_PLATFORM_PASSWORD=secret"}, append([]string{"run", "--store", store},
 			test.arguments...)...)
 		out, _ := command.CombinedOutput()
-		if command.ProcessState.ExitCode() != test.status || !strings.Contains(string(out), test.says) {
-			t.Errorf("%v: got the status %d and %s, want %d and %s", test.arguments, command.ProcessState.ExitCode(), out,
-				test.status, test.says)
-		}
+		diff.Equal(t, command.ProcessState.ExitCode(), test.status, "%v, %s", test.arguments, out)
+		diff.Contains(t, string(out), test.says, "%v", test.arguments)
 	}
 	wantLines(t, store, []line{{"broker show default", 0, ".*password\tnone.*\nhold\t0\nfirst pace\t0.5\n.*", ``}})
 }
@@ -366,9 +356,8 @@ func TestStopTakesAnAnswer(t *testing.T) {
 	release := s.hold()
 	defer release()
 	p, store := newOne(t, s, "--stop-seconds", "60", "--health-listen", "127.0.0.1:0")
-	if status, _ := get(t, p.health+"/readyz"); status != 200 {
-		t.Errorf("got %d, want 200", status)
-	}
+	status, _ := get(t, p.health+"/readyz")
+	diff.Equal(t, status, 200, "")
 	p.terminate()
 	p.event("stopping")
 	for late := time.Now().Add(deadline); ; time.Sleep(5 * time.Millisecond) {
@@ -380,9 +369,7 @@ func TestStopTakesAnAnswer(t *testing.T) {
 		}
 	}
 	release()
-	if rest := p.wait(); !strings.Contains(rest, `"all_work_ended":true`) {
-		t.Errorf("the log: got %s, want %q in it", rest, `"all_work_ended":true`)
-	}
+	diff.Contains(t, p.wait(), `"all_work_ended":true`, "the log")
 	wantLines(t, store, []line{{"list", 0, "one\tready\t.*", ``}})
 }
 
@@ -392,9 +379,7 @@ func TestStopDoesNotWaitForEver(t *testing.T) {
 	release := s.hold()
 	defer release()
 	p, store := newOne(t, s, "--stop-seconds", "0.1")
-	if rest := p.stop(); !strings.Contains(rest, `"all_work_ended":false,"store_closed":true`) {
-		t.Errorf("the log: got %s, want %q in it", rest, `"all_work_ended":false,"store_closed":true`)
-	}
+	diff.Contains(t, p.stop(), `"all_work_ended":false,"store_closed":true`, "the log")
 	wantLines(t, store, []line{{"show one", 0, ".*\nworker\tone\nleased until\t.*", ``}})
 	release()
 	endsWell(t, s, store)
@@ -514,13 +499,10 @@ func TestFullDisk(t *testing.T) {
 	}
 	log := p.stop()
 	printed := p.out.String()
-	if strings.Count(printed, "\n") != orders || strings.Count(printed, "\tready\n") != orders {
-		t.Errorf("the output: got\n%s\nwant all orders ready", printed)
-	}
+	diff.Equal(t, strings.Count(printed, "\n"), orders, "the output, %s", printed)
+	diff.Equal(t, strings.Count(printed, "\tready\n"), orders, "the output, %s", printed)
 	for event, want := range map[string]int{"store_failed": 1, "state_changed": orders, "request": orders} {
-		if got := strings.Count(log, `"event":"`+event+`"`); got != want {
-			t.Errorf("the log: got %s %d times, want %d:\n%.3000s", event, got, want, log)
-		}
+		diff.Equal(t, strings.Count(log, `"event":"`+event+`"`), want, "the log, %s, %.3000s", event, log)
 	}
 }
 
@@ -574,13 +556,9 @@ func TestJournal(t *testing.T) {
 		wantLines(t, store, []line{{"create --plan at-once --wait=60 --id " + id, 0, id, `.*`}})
 		p.stop()
 		files := eventsIn(t, folder)
-		if want := "started, " + creating + ", stopped"; files[len(files)-1] != want {
-			t.Errorf("got %q, want %q", files[len(files)-1], want)
-		}
+		diff.Equal(t, files[len(files)-1], "started, "+creating+", stopped", "")
 	}
-	if files := eventsIn(t, folder); len(files) != 2 {
-		t.Errorf("got %q, want two files", files)
-	}
+	diff.Equal(t, len(eventsIn(t, folder)), 2, "")
 }
 
 // What operators order by the API is in the journal of the process that serves it.
@@ -621,9 +599,8 @@ func TestJournalTaken(t *testing.T) {
 	start(t, store, ownPassword, "--broker", s.url, "--worker", "one", "--journal", file)
 	command := osbPlatform(ownPassword, "run", "--store", store, "--worker", "two", "--journal", file)
 	out, _ := command.CombinedOutput()
-	if command.ProcessState.ExitCode() != 78 || !strings.Contains(string(out), "--journal: "+file+": another process writes") {
-		t.Errorf("got the status %d and %s, want 78 and that another process writes", command.ProcessState.ExitCode(), out)
-	}
+	diff.Equal(t, command.ProcessState.ExitCode(), 78, "%s", out)
+	diff.Contains(t, string(out), "--journal: "+file+": another process writes", "")
 }
 
 // Without --journal nothing is wrapped.

@@ -151,9 +151,7 @@ func TestWholeWayOverAPI(t *testing.T) {
 		`"level":"warning","event":"api_request","client":"127.0.0.1","method":"GET","target":"/v1/counts",` +
 			`"route":"/v1/counts","status":401,"code":"unauthorized",`,
 	} {
-		if !strings.Contains(log, text) {
-			t.Errorf("the log: got %[2]s, want %[1]s in it", text, log)
-		}
+		diff.Contains(t, log, text, "the log")
 	}
 	if strings.Contains(log, token) || secret != "" && strings.Contains(log, secret) {
 		t.Errorf("the log: got %s, want no secret in it", log)
@@ -171,9 +169,8 @@ func pageShows(t *testing.T, p *process) {
 		check(t, err)
 		text, err := io.ReadAll(given.Body)
 		_ = given.Body.Close()
-		if err != nil || given.StatusCode != want {
-			t.Errorf("%q: got %d %v %s, want %d", host, given.StatusCode, err, text, want)
-		}
+		diff.NoError(t, err, "%q, %s", host, text)
+		diff.Equal(t, given.StatusCode, want, "%q, %s", host, text)
 		if isShown := strings.Contains(string(text), "Instance <code>one</code>"); isShown != (want == 200) {
 			t.Errorf("%q: got %s, want the instance: %t", host, text, want == 200)
 		}
@@ -193,9 +190,8 @@ func TestServe(t *testing.T) {
 		newTokens(t), "--page", "127.0.0.1:0", "--page-users", users, "--health-listen", "127.0.0.1:0"))
 	c := caller{t: t, client: http.DefaultClient, url: p.api, token: token}
 	c.call(201, "POST", "/v1/instances", `{"plan": "at-once", "id": "one"}`)
-	if status, _ := get(t, p.page+"/"); status != 401 {
-		t.Errorf("without a password: got %d, want 401", status)
-	}
+	status, _ := get(t, p.page+"/")
+	diff.Equal(t, status, 401, "without a password")
 	if status, text := get(t, strings.Replace(p.page, "//", "//operator:hidden@", 1)+"/instance/one"); status != 200 ||
 		!strings.Contains(text, "ordered") {
 		t.Errorf("the page: got %d %s, want 200 and the order", status, text)
@@ -298,9 +294,8 @@ func TestConnectionsOfAClient(t *testing.T) {
 				{"127.0.0.2", one, site.answer}, {"127.0.0.2", one, site.answer}, {"127.0.0.2", one, ""},
 				{"127.0.0.2", other, site.answer}, {"127.0.0.3", one, "HTTP/1.1 400 Bad Request"},
 			} {
-				if got := answerFrom(t, test.from, site.url, test.before); got != test.want {
-					t.Errorf("connection %d from %s %s: got %q, want %q", number, test.from, test.before, got, test.want)
-				}
+				diff.Equal(t, answerFrom(t, test.from, site.url, test.before), test.want,
+					"connection %d from %s %s", number, test.from, test.before)
 			}
 		})
 	}
@@ -315,13 +310,10 @@ func TestServeWarns(t *testing.T) {
 	p := launch(t, "no_tls", osbPlatform(nil, "serve", "--store", filepath.Join(t.TempDir(), "store"),
 		"--page", "0.0.0.0:0", "--api", "127.0.0.1:0", "--api-tokens", tokens))
 	p.event("no_page_users")
-	if secret, _ := p.event("secret")["warning"].(string); !strings.Contains(secret, "chmod 600") {
-		t.Errorf("the warning: got %q, want \"chmod 600\" in it", secret)
-	}
+	secret, _ := p.event("secret")["warning"].(string)
+	diff.Contains(t, secret, "chmod 600", "the warning")
 	p.event("serving")
-	if rest := p.stop(); strings.Contains(rest, "no_tls") {
-		t.Errorf("the log: got %s, want no \"no_tls\" in it", rest)
-	}
+	diff.Lacks(t, p.stop(), "no_tls", "the log")
 }
 
 // A user of the page whose password can be guessed is named in a warning, without the password.
@@ -349,9 +341,8 @@ func TestOrderedIDs(t *testing.T) {
 		t.Errorf("got %q and %q, want \"last\" and none", instance, binding)
 	}
 	var none *orderedIDs
-	if instance, _ := none.find(last); instance != last.String() {
-		t.Errorf("got %q, want %q", instance, last.String())
-	}
+	instance, _ := none.find(last)
+	diff.Equal(t, instance, last.String(), "")
 }
 
 // learnID has ids learn of an instance, and returns its key.
@@ -409,9 +400,8 @@ func TestServedStoreFails(t *testing.T) {
 			handler, err := test.make()
 			check(t, err)
 			recorder := answerOf(handler, target)
-			if recorder.Code != 503 || strings.Contains(recorder.Body.String(), "is away") {
-				t.Errorf("got %d %s, want 503 without the store's error", recorder.Code, recorder.Body)
-			}
+			diff.Equal(t, recorder.Code, 503, "%s", recorder.Body)
+			diff.Lacks(t, recorder.Body.String(), "is away", "")
 			if !regexp.MustCompile(test.log).MatchString(written.String()) {
 				t.Errorf("got the log %s, want %s", written.String(), test.log)
 			}
@@ -479,9 +469,8 @@ func TestPageBesideBusyAPI(t *testing.T) {
 		all.Add(1)
 		go func() {
 			defer all.Done()
-			if got := answerOf(api, "/v1/bindings"); got.Code != 200 {
-				t.Errorf("the API: got %d %s, want 200", got.Code, got.Body)
-			}
+			got := answerOf(api, "/v1/bindings")
+			diff.Equal(t, got.Code, 200, "the API, %s", got.Body)
 		}()
 		<-store.listing
 	}
@@ -514,9 +503,8 @@ func TestUsersAndTokensAreReadAgain(t *testing.T) {
 				t.Errorf("the token %s: got %d, want %d", secret, got, status)
 			}
 			if strings.HasPrefix(secret, "operator") {
-				if got, _ := get(t, strings.Replace(p.page, "//", "//"+secret+"@", 1)+"/"); got != status {
-					t.Errorf("%s: got %d, want %d", secret, got, status)
-				}
+				got, _ := get(t, strings.Replace(p.page, "//", "//"+secret+"@", 1)+"/")
+				diff.Equal(t, got, status, "%s", secret)
 			}
 		}
 	}
@@ -595,9 +583,7 @@ func checkUnwritten(t *testing.T, store string, environment []string, execute fu
 		t.Errorf("the output: got %q, want the order ready", printed)
 	}
 	for event, want := range map[string]int{"store_failed": 1, "not_ready": 1, "state_changed": 1, "lease_lost": 0} {
-		if got := strings.Count(log, `"event":"`+event+`"`); got != want {
-			t.Errorf("the log: got %s %d times, want %d:\n%s", event, got, want, log)
-		}
+		diff.Equal(t, strings.Count(log, `"event":"`+event+`"`), want, "the log, %s, %s", event, log)
 	}
 	if strings.Count(log, "no space") < 2 {
 		t.Errorf("the log: got\n%s\nwant no space in it twice", log)

@@ -46,9 +46,7 @@ func TestVariables(t *testing.T) {
 		t.Errorf("with --store: got %+v, want 0 and no output", got)
 	}
 	add := []string{"broker", "add", "two", "http://127.0.0.1:1", "--store-password"}
-	if got := call(t, add...); got.status != 0 {
-		t.Errorf("got %+v, want the status 0", got)
-	}
+	diff.Equal(t, call(t, add...).status, 0, "")
 	t.Setenv(passwordVariable, "hunter2")
 	set := []string{"broker", "set", "two", "--store-password"}
 	if got := call(t, append(set, "--key-file", newKey(t))...); got.status != 78 || !strings.Contains(got.failed, "another key") {
@@ -88,9 +86,7 @@ func TestStatusOfFiles(t *testing.T) {
 			root := &cobra.Command{Use: "test", RunE: func(*cobra.Command, []string) error { return err }}
 			root.SetArgs([]string{})
 			root.SetErr(new(nothing))
-			if status := cli.Run(context.Background(), root); status != want {
-				t.Errorf("%v: got the status %d, want %d", err, status, want)
-			}
+			diff.Equal(t, cli.Run(context.Background(), root), want, "%v", err)
 		}
 	}
 }
@@ -144,9 +140,7 @@ func TestStopWhileTheDatabaseHangs(t *testing.T) {
 			p.event("broker_reached")
 			proxy.Hang(true)
 			begun := time.Now()
-			if rest := p.stop(); !strings.Contains(rest, `"event":"stopped"`) {
-				t.Errorf("the log: got %s, want %q in it", rest, `"event":"stopped"`)
-			}
+			diff.Contains(t, p.stop(), `"event":"stopped"`, "the log")
 			if took := time.Since(begun); took > 20*time.Second { // 10, and what a busy machine adds
 				t.Errorf("got an end after %v, want one within 20 s", took)
 			}
@@ -243,9 +237,8 @@ func TestStatusOfPostgreSQL(t *testing.T) {
 		t.Run(address, func(t *testing.T) {
 			for _, command := range []string{"list", "run"} {
 				got := call(t, "--store", address, command)
-				if got.status != want || strings.Contains(got.failed, "hunter2") {
-					t.Errorf("%s %s: got %+v, want the status %d and no password", address, command, got, want)
-				}
+				diff.Equal(t, got.status, want, "%s %s, %+v", address, command, got)
+				diff.Lacks(t, got.failed, "hunter2", "%s %s, %+v", address, command, got)
 			}
 		})
 	}
@@ -376,9 +369,7 @@ func TestKeyReplacedBesideServe(t *testing.T) {
 			return err
 		}
 		password, err := keys.Open(of.Password, platform.PasswordContext(of))
-		if string(password) != "secret" {
-			t.Errorf("the password: got %q, want \"secret\"", password)
-		}
+		diff.Equal(t, string(password), "secret", "the password")
 		return err
 	})
 }

@@ -24,32 +24,23 @@ func countTakes(b *Budget, user string, amount int) (count int) {
 func TestAUserLeavesAsMuchFree(t *testing.T) {
 	b := New(120)
 	for number, want := range []int{60, 30, 15, 7, 4} {
-		if got := countTakes(b, fmt.Sprint(number), 1); got != want {
-			t.Errorf("got %d for user %d, want %d", got, number, want)
-		}
+		diff.Equal(t, countTakes(b, fmt.Sprint(number), 1), want, "%d", number)
 	}
 	b.Give("0", 60)
-	if got := countTakes(b, "0", 1); got != 32 {
-		t.Errorf("got %d after all was given back, want half of what is free, 32", got)
-	}
+	diff.Equal(t, countTakes(b, "0", 1), 32, "")
 }
 
 // Of large parts, a user gets one whenever it is free.
 func TestTheFirstPartOfAUser(t *testing.T) {
 	b := New(100)
 	for user, want := range []int{1, 0} {
-		if got := countTakes(b, fmt.Sprint(user), 70); got != want {
-			t.Errorf("got %d for user %d, want %d", got, user, want)
-		}
+		diff.Equal(t, countTakes(b, fmt.Sprint(user), 70), want, "%d", user)
 	}
 	b.Give("0", 70)
-	if got := countTakes(b, "1", 1000); got != 1 {
-		t.Errorf("got %d parts above the total, want 1, as the total", got)
-	}
+	diff.Equal(t, countTakes(b, "1", 1000), 1, "")
 	b.Give("1", 1000)
-	if b.taken != 0 || len(b.of) != 0 {
-		t.Errorf("got %d taken by %v, want nothing", b.taken, b.of)
-	}
+	diff.Equal(t, b.taken, 0, "%v", b.of)
+	diff.Equal(t, len(b.of), 0, "%v", b.of)
 }
 
 // Who waits gets its part once it is free. Nobody waits for another user, and those of one user get it in their order.
@@ -68,18 +59,14 @@ func TestWaiting(t *testing.T) {
 		}()
 		waitFor(t, b, number+1)
 	}
-	if !b.Take("two", 1, 0) {
-		t.Error("another user: got it to wait, want its part")
-	}
+	diff.Equal(t, b.Take("two", 1, 0), true, "another user")
 	b.Give("two", 1)
 	b.Give("one", 1)
 	b.Give("one", 1)
 	for want := 0; want < 2; want++ {
 		select {
 		case got := <-order:
-			if got != want {
-				t.Errorf("got number %d, want %d", got, want)
-			}
+			diff.Equal(t, got, want, "")
 			b.Give("one", 2-got)
 		case <-time.After(long):
 			t.Fatal("got no part in time, want one")
@@ -91,17 +78,11 @@ func TestWaiting(t *testing.T) {
 func TestWhoLeaves(t *testing.T) {
 	b := New(4)
 	countTakes(b, "one", 1)
-	if b.Take("one", 2, time.Millisecond) {
-		t.Error("got a part that isn't free, want none")
-	}
-	if !b.Take("one", 0, 0) {
-		t.Error("got no part of 0, want one")
-	}
+	diff.Equal(t, b.Take("one", 2, time.Millisecond), false, "b.Take")
+	diff.Equal(t, b.Take("one", 0, 0), true, "b.Take")
 	diff.Equal(t, len(b.waiting), 0, "that wait")
 	b.Give("one", 1)
-	if !b.Take("one", 1, 0) {
-		t.Error("got nothing, want the part that is free")
-	}
+	diff.Equal(t, b.Take("one", 1, 0), true, "b.Take")
 }
 
 // Many goroutines never have more than the total.

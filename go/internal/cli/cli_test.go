@@ -57,10 +57,9 @@ func TestRunStatusOfErrors(t *testing.T) {
 	} {
 		t.Run(name, func(t *testing.T) {
 			status, stdout, stderr := runWith(func(*cobra.Command, []string) error { return test.err }, "serve")
-			if status != test.status || stdout != "" || stderr != test.stderr {
-				t.Errorf("got the status %d, output %q, errors %q, want %d, none, %q", status, stdout, stderr, test.status,
-					test.stderr)
-			}
+			diff.Equal(t, status, test.status, "")
+			diff.Equal(t, stdout, "", "")
+			diff.Equal(t, stderr, test.stderr, "")
 		})
 	}
 }
@@ -92,10 +91,9 @@ func TestRunHelp(t *testing.T) {
 	for _, arguments := range [][]string{{"--help"}, {"serve", "--help"}} {
 		ran := func(*cobra.Command, []string) error { return errors.New("it ran") }
 		status, stdout, stderr := runWith(ran, arguments...)
-		if status != StatusDone || !strings.Contains(stdout, "serve") || stderr != "" {
-			t.Errorf("%v: got the status %d, the output %q and the errors %q, want 0 and the commands", arguments, status,
-				stdout, stderr)
-		}
+		diff.Equal(t, status, StatusDone, "%v", arguments)
+		diff.Contains(t, stdout, "serve", "%v", arguments)
+		diff.Equal(t, stderr, "", "%v", arguments)
 	}
 }
 
@@ -163,9 +161,8 @@ func TestStatusOfAUnit(t *testing.T) {
 	for set, want := range map[string]int{"$$": StatusUnusable, "1": StatusUsage, "": StatusUsage} {
 		child := exec.Command("sh", "-c", `SYSTEMD_EXEC_PID=`+set+` exec "$0"`, os.Args[0])
 		child.Env = append(os.Environ(), wrongUsage+"=1")
-		if err := child.Run(); child.ProcessState.ExitCode() != want {
-			t.Errorf("the process with SYSTEMD_EXEC_PID=%s: got %v, want the status %d", set, err, want)
-		}
+		_ = child.Run()
+		diff.Equal(t, child.ProcessState.ExitCode(), want, "the process with SYSTEMD_EXEC_PID=%s", set)
 	}
 }
 
@@ -187,25 +184,21 @@ func TestRunDoesntWaitForAStalledStandardError(t *testing.T) {
 	go func() { status <- Run(context.Background(), root) }()
 	select {
 	case got := <-status:
-		if got != StatusFailed {
-			t.Errorf("got the status %d, want %d", got, StatusFailed)
-		}
+		diff.Equal(t, got, StatusFailed, "")
 	case <-time.After(10 * time.Second):
 		t.Fatal("Run: got no end in 10 seconds, want one")
 	}
 }
 
 func TestNoErrorStaysNoError(t *testing.T) {
-	if Unusable(nil) != nil || Unavailable(nil) != nil {
-		t.Error("got an error of nil, want nil")
-	}
+	diff.NoError(t, Unusable(nil), "")
+	diff.NoError(t, Unavailable(nil), "")
 }
 
 func TestMarkedErrorsKeepTheirCause(t *testing.T) {
 	cause := errors.New("cause")
-	if !errors.Is(Unusable(cause), cause) || !errors.Is(Unavailable(cause), cause) {
-		t.Error("got an error without its cause, want it")
-	}
+	diff.ErrorIs(t, Unusable(cause), cause, "")
+	diff.ErrorIs(t, Unavailable(cause), cause, "")
 }
 
 func TestDotted(t *testing.T) {
@@ -217,18 +210,16 @@ func TestDotted(t *testing.T) {
 // A command runs in a process that leaves no core dump.
 func TestNoCoreDump(t *testing.T) {
 	defer func() {
-		if _, _, failed := syscall.RawSyscall(syscall.SYS_PRCTL, syscall.PR_SET_DUMPABLE, 1, 0); failed != 0 {
-			t.Errorf("got %v, want 0", failed)
-		}
+		_, _, failed := syscall.RawSyscall(syscall.SYS_PRCTL, syscall.PR_SET_DUMPABLE, 1, 0)
+		diff.Equal(t, failed, 0, "")
 	}()
 	dumpable := uintptr(1)
 	status, _, _ := runWith(func(*cobra.Command, []string) error {
 		dumpable, _, _ = syscall.RawSyscall(syscall.SYS_PRCTL, syscall.PR_GET_DUMPABLE, 0, 0)
 		return nil
 	}, "serve")
-	if status != 0 || dumpable != 0 {
-		t.Errorf("got the status %d and dumpable %d, want 0 and 0", status, dumpable)
-	}
+	diff.Equal(t, status, 0, "")
+	diff.Equal(t, dumpable, 0, "")
 }
 
 var check = diff.Must

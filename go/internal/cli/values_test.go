@@ -3,7 +3,6 @@ package cli
 import (
 	"bytes"
 	"context"
-	"errors"
 	"net/netip"
 	"os"
 	"os/signal"
@@ -104,9 +103,7 @@ func TestNetworks(t *testing.T) {
 	for _, network := range []string{"10.1.2.3/16", "192.0.2.1"} {
 		check(t, value.Set(network))
 	}
-	if want := "10.1.0.0/16,192.0.2.1/32"; value.String() != want {
-		t.Errorf("got %s, want %s", value, want)
-	}
+	diff.Equal(t, value.String(), "10.1.0.0/16,192.0.2.1/32", "")
 }
 
 func TestPlace(t *testing.T) {
@@ -139,9 +136,7 @@ func TestValuesInUse(t *testing.T) {
 	want := "      --listen host:port          where it listens (default 127.0.0.1:8080)\n" +
 		"      --request-seconds seconds   how long a request may take to arrive (default 30)\n" +
 		"      --threads number            requests at once (default 16)\n"
-	if usage := flags.FlagUsages(); usage != want {
-		t.Errorf("the help: got\n%swant\n%s", usage, want)
-	}
+	diff.Equal(t, flags.FlagUsages(), want, "the help")
 	check(t, flags.Parse([]string{"--listen=x:1", "--threads", "2"}))
 	if limit != 30*time.Second || most != 2 || at != "x:1" {
 		t.Errorf("got %v, %d and %q, want 30s, 2 and x:1", limit, most, at)
@@ -173,22 +168,14 @@ func TestKeyIsPrinted(t *testing.T) {
 // A secret that the disk doesn't take isn't reported as written, and leaves no file.
 func TestASecretThatIsNotWritten(t *testing.T) {
 	var limit syscall.Rlimit
-	if err := syscall.Getrlimit(syscall.RLIMIT_FSIZE, &limit); err != nil {
-		t.Fatal(err)
-	}
+	check(t, syscall.Getrlimit(syscall.RLIMIT_FSIZE, &limit))
 	signal.Ignore(syscall.SIGXFSZ)
 	defer signal.Reset(syscall.SIGXFSZ)
 	file := filepath.Join(t.TempDir(), "key")
-	if err := syscall.Setrlimit(syscall.RLIMIT_FSIZE, &syscall.Rlimit{Cur: 0, Max: limit.Max}); err != nil {
-		t.Fatal(err)
-	}
+	check(t, syscall.Setrlimit(syscall.RLIMIT_FSIZE, &syscall.Rlimit{Cur: 0, Max: limit.Max}))
 	err := WriteSecret(file, []byte("secret"))
-	if err := syscall.Setrlimit(syscall.RLIMIT_FSIZE, &limit); err != nil {
-		t.Fatal(err)
-	}
-	if !errors.Is(err, syscall.EFBIG) {
-		t.Errorf("got %v, want %v", err, syscall.EFBIG)
-	}
+	check(t, syscall.Setrlimit(syscall.RLIMIT_FSIZE, &limit))
+	diff.ErrorIs(t, err, syscall.EFBIG, "")
 	if _, err := os.Stat(file); !os.IsNotExist(err) {
 		t.Errorf("the file: got %v, want none", err)
 	}

@@ -10,6 +10,8 @@ import (
 	"strconv"
 	"strings"
 	"testing"
+
+	"pippinterm/internal/diff"
 )
 
 // textOf returns the text of a literal, and whether the expression is one.
@@ -112,9 +114,7 @@ func TestPoints(t *testing.T) {
 		}
 		return nil
 	})
-	if err != nil {
-		t.Fatal(err)
-	}
+	diff.Must(t, err)
 	var got []string
 	for point := range isCalled {
 		got = append(got, point)
@@ -122,7 +122,5 @@ func TestPoints(t *testing.T) {
 	sort.Strings(got)
 	want := append([]string(nil), points...)
 	sort.Strings(want)
-	if strings.Join(got, " ") != strings.Join(want, " ") {
-		t.Errorf("the sources: got the calls %v, want those of the list: %v", got, want)
-	}
+	diff.Equal(t, strings.Join(got, " "), strings.Join(want, " "), "the sources")
 }

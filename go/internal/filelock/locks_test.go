@@ -74,9 +74,7 @@ func TestGoroutinesExcludeEachOther(t *testing.T) {
 					t.Error(err)
 					return
 				}
-				if atomic.AddInt32(&inside, 1) != 1 {
-					t.Error("got two goroutines in the lock at once, want one")
-				}
+				diff.Equal(t, atomic.AddInt32(&inside, 1), 1, "")
 				atomic.AddInt32(&entered, 1)
 				atomic.AddInt32(&inside, -1)
 				lock.Unlock()
@@ -90,16 +88,12 @@ func TestGoroutinesExcludeEachOther(t *testing.T) {
 func TestKeysHaveLocksOfTheirOwn(t *testing.T) {
 	locks := newLocks(t, filepath.Join(t.TempDir(), "locks"))
 	lock := mustLock(t, locks, one)
-	if isFree(t, locks, one) {
-		t.Error("the lock that was taken: got it free, want it taken")
-	}
+	diff.Equal(t, isFree(t, locks, one), false, "the lock that was taken")
 	if !isFree(t, locks, two) || !isFree(t, locks, bound) {
 		t.Error("the lock of another instance, or of a binding: got it taken, want it free")
 	}
 	lock.Unlock()
-	if !isFree(t, locks, one) {
-		t.Error("the lock that was unlocked: got it taken, want it free")
-	}
+	diff.Equal(t, isFree(t, locks, one), true, "the lock that was unlocked")
 }
 
 // One lock after the other uses the same open file, and never two at once, even after a second Unlock.
@@ -112,9 +106,7 @@ func TestOpenFileIsUsedAgain(t *testing.T) {
 	lock = mustLock(t, locks, one)
 	defer lock.Unlock()
 	diff.Equal(t, openFiles(t), before, "files open")
-	if isFree(t, locks, one) {
-		t.Error("a lock that was taken: got it free, want it taken")
-	}
+	diff.Equal(t, isFree(t, locks, one), false, "a lock that was taken")
 }
 
 // Of the open files of locks that have ended, mostSpare are kept, and the others are closed: no Unlock waits.
@@ -136,9 +128,7 @@ func TestMostOpenFilesAreKept(t *testing.T) {
 	case <-time.After(10 * time.Second):
 		t.Fatal("got an Unlock that waits, want none")
 	}
-	if kept := openFiles(t) - before; kept != mostSpare {
-		t.Errorf("got %d open files kept, want %d", kept, mostSpare)
-	}
+	diff.Equal(t, openFiles(t)-before, mostSpare, "")
 }
 
 // A turns context calls with the number of each look at its end, which Lock takes before each of its tries.
@@ -165,9 +155,7 @@ func TestLockIsTakenSoonAfterALongWait(t *testing.T) {
 			held.Unlock()
 		}
 	}}, one)
-	if err != nil {
-		t.Fatalf("got %v, want the lock", err)
-	}
+	check(t, err)
 	lock.Unlock()
 }
 
@@ -178,9 +166,8 @@ func TestLockWaitsUntilItsContextIsDone(t *testing.T) {
 	before := openFiles(t)
 	ctx, cancel := context.WithTimeout(context.Background(), 30*time.Millisecond)
 	defer cancel()
-	if _, err := locks.Lock(ctx, one); !errors.Is(err, context.DeadlineExceeded) {
-		t.Errorf("Lock: got %v, want %v", err, context.DeadlineExceeded)
-	}
+	_, err := locks.Lock(ctx, one)
+	diff.ErrorIs(t, err, context.DeadlineExceeded, "Lock")
 	if lock, err := locks.TryLock(one); lock != nil || err != nil {
 		t.Errorf("TryLock: got %v, %v, want nil, nil", lock, err)
 	}
@@ -207,9 +194,8 @@ func TestLockRestsBetweenItsTries(t *testing.T) {
 	ctx, cancel := context.WithTimeout(context.Background(), 100*time.Millisecond)
 	defer cancel()
 	waiting := &counted{Context: ctx}
-	if _, err := locks.Lock(waiting, one); !errors.Is(err, context.DeadlineExceeded) {
-		t.Errorf("got %v, want %v", err, context.DeadlineExceeded)
-	}
+	_, err := locks.Lock(waiting, one)
+	diff.ErrorIs(t, err, context.DeadlineExceeded, "")
 	if most := 8 + int(time.Since(begun)/longestPause); waiting.looks < 2 || waiting.looks > most {
 		t.Errorf("got %d tries, want from 2 to %d", waiting.looks, most)
 	}
@@ -278,9 +264,8 @@ func TestFilesThatNewRejects(t *testing.T) {
 		"a symbolic link": link, "a fifo": fifo, "a folder": folder, "no folder": filepath.Join(folder, "none", "locks"),
 	} {
 		t.Run(name, func(t *testing.T) {
-			if _, err := New(path); err == nil {
-				t.Errorf("New with %s: got no error, want one", name)
-			}
+			_, err := New(path)
+			diff.Error(t, err, "New with %s", name)
 		})
 	}
 	if _, err := os.Lstat(target); !os.IsNotExist(err) {
@@ -406,12 +391,8 @@ func TestProcessesExcludeEachOther(t *testing.T) {
 	path := filepath.Join(t.TempDir(), "locks")
 	locks := newLocks(t, path)
 	other := start(t, "holder", path)
-	if isFree(t, locks, one) {
-		t.Error("the lock of another process: got it free, want it taken")
-	}
-	if !isFree(t, locks, two) {
-		t.Error("the lock of another key: got it taken, want it free")
-	}
+	diff.Equal(t, isFree(t, locks, one), false, "the lock of another process")
+	diff.Equal(t, isFree(t, locks, two), true, "the lock of another key")
 	_ = other.input.Close() // the other process exits
 	mustLock(t, locks, one).Unlock()
 }
@@ -421,9 +402,7 @@ func TestLockEndsWithItsProcess(t *testing.T) {
 	locks := newLocks(t, path)
 	other := start(t, "holder", path)
 	kill(t, other.cmd)
-	if !isFree(t, locks, one) {
-		t.Error("the lock of a process that was killed: got it taken, want it free")
-	}
+	diff.Equal(t, isFree(t, locks, one), true, "the lock of a process that was killed")
 }
 
 func TestChildKeepsTheLockOfAKilledProcess(t *testing.T) {
@@ -431,9 +410,7 @@ func TestChildKeepsTheLockOfAKilledProcess(t *testing.T) {
 	locks := newLocks(t, path)
 	parent := start(t, "parent", path)
 	kill(t, parent.cmd)
-	if isFree(t, locks, one) {
-		t.Error("the lock that a child has: got it free, want it taken")
-	}
+	diff.Equal(t, isFree(t, locks, one), false, "the lock that a child has")
 	_ = parent.input.Close() // the child exits
 	mustLock(t, locks, one).Unlock()
 }
@@ -450,14 +427,10 @@ func TestChildKeepsTheLockAfterUnlock(t *testing.T) {
 	lock := mustLock(t, locks, one)
 	child, end := catWith(t, lock)
 	lock.Unlock()
-	if isFree(t, locks, one) {
-		t.Error("the lock that a child has: got it free, want it taken")
-	}
+	diff.Equal(t, isFree(t, locks, one), false, "the lock that a child has")
 	_ = end.Close()
 	_ = child.Wait()
-	if !isFree(t, locks, one) {
-		t.Error("the lock after the child has ended: got it taken, want it free")
-	}
+	diff.Equal(t, isFree(t, locks, one), true, "the lock after the child has ended")
 }
 
 func TestOtherChildrenDoNotInherit(t *testing.T) {
@@ -465,9 +438,7 @@ func TestOtherChildrenDoNotInherit(t *testing.T) {
 	lock := mustLock(t, locks, one)
 	child, end := catWith(t, nil)
 	lock.Unlock()
-	if !isFree(t, locks, one) {
-		t.Error("a lock that wasn't lent to the child: got it taken, want it free")
-	}
+	diff.Equal(t, isFree(t, locks, one), true, "a lock that wasn't lent to the child")
 	_ = end.Close()
 	_ = child.Wait()
 }
@@ -539,9 +510,7 @@ func TestLendToOneChildAtATime(t *testing.T) {
 	if lent, err := Lend(lock.Context(stopped), time.Minute); lent != nil || !errors.Is(err, context.Canceled) {
 		t.Errorf("Lend with a context that is done: got %v, %v, want %v", lent, err, context.Canceled)
 	}
-	if isFree(t, locks, one) {
-		t.Error("the lock after Lend has failed: got it free, want it taken")
-	}
+	diff.Equal(t, isFree(t, locks, one), false, "the lock after Lend has failed")
 	_ = end.Close()
 	_ = child.Wait()
 	_ = lend(t, lock).Close()

@@ -10,7 +10,6 @@ import (
 	"net/http"
 	"net/netip"
 	"os"
-	"reflect"
 	"strings"
 	"testing"
 	"time"
@@ -60,9 +59,8 @@ func TestWhatIsReadAheadIsntAnsweredWith408(t *testing.T) {
 			check(t, accepted.SetReadDeadline(time.Now().Add(time.Minute)))
 		}
 		wait()
-		if _, err := accepted.Read(make([]byte, 1000)); err != nil {
-			t.Fatal(err)
-		}
+		_, err := accepted.Read(make([]byte, 1000))
+		check(t, err)
 		for _, request := range []string{"first", "second"} {
 			read("before the handler gets the "+request, "")
 			accepted.begin()
@@ -156,9 +154,7 @@ func TestABodyThatTakesTooLongCantBeRead(t *testing.T) {
 	} {
 		client := dial(t, listener)
 		client.send(request)
-		if got := statusesIn(client.rest()); !reflect.DeepEqual(got, []string{"408"}) {
-			t.Errorf("%q: got %q, want 408", request, got)
-		}
+		diff.Check(t, statusesIn(client.rest()), []string{"408"}, "%q", request)
 	}
 }
 
@@ -294,9 +290,7 @@ func TestAddressesAreForgotten(t *testing.T) {
 	}
 	all.give(one)
 	all.give(one)
-	if len(all.of) != 0 {
-		t.Errorf("got %v, want nothing", all.of)
-	}
+	diff.Equal(t, len(all.of), 0, "%v", all.of)
 }
 
 // whoAsks answers with the client of a request.
@@ -402,9 +396,7 @@ func TestBadPROXYHeaders(t *testing.T) {
 			listener := start(t, Options{TrustedProxies: trusting(t, test.trusted), Observer: observer}, Server{}, echo)
 			client := dial(t, listener)
 			client.send(test.sent)
-			if got := statusesIn(client.rest()); !reflect.DeepEqual(got, []string{"400"}) {
-				t.Errorf("got the answers %v, want 400", got)
-			}
+			diff.Check(t, statusesIn(client.rest()), []string{"400"}, "")
 			if got := observer.waitForRejections(t, 1); len(got) != 1 || got[0].Status != 400 {
 				t.Errorf("the observer got %v, want 400", got)
 			}
@@ -528,9 +520,7 @@ func TestNothingStaysCounted(t *testing.T) {
 	for count := 0; count < 10; count++ {
 		c := dial(t, listener)
 		c.send([]string{"PRO", "\r\n\r\n", "PROXY TCP4 198.51.100.7 192.0.2.1 8080 80\r\n", ""}[count%4])
-		if !c.isClosed() {
-			t.Errorf("%d: got it open, want it closed", count)
-		}
+		diff.Equal(t, c.isClosed(), true, "%d", count)
 		other := from(t, fmt.Sprintf("127.0.0.%d", count+2), listener)
 		other.Close()
 	}

@@ -90,10 +90,9 @@ func TestHeads(t *testing.T) {
 			}
 			for _, size := range []int{1, 2, 3, 7, 4096} {
 				followed, got := readIn(test.stream, size)
-				if followed.ended != test.ended || followed.bad.Load() != test.bad || followed.state != test.state {
-					t.Errorf("in pieces of %d: got %d heads, bad %d and the state %d, want %d, %d and %d", size, followed.ended,
-						followed.bad.Load(), followed.state, test.ended, test.bad, test.state)
-				}
+				diff.Equal(t, followed.ended, test.ended, "in pieces of %d", size)
+				diff.Equal(t, followed.bad.Load(), test.bad, "in pieces of %d", size)
+				diff.Equal(t, followed.state, test.state, "in pieces of %d", size)
 				diff.Equal(t, got, strings.Trim(want, "-"), "in pieces of %d net/http", size)
 			}
 		})
@@ -206,12 +205,9 @@ func TestBadHeadsAreRejected(t *testing.T) {
 			if statuses := statusesIn(got); !reflect.DeepEqual(statuses, []string{"200", "400"}) {
 				t.Fatalf("the answers: got %q, want 200 and 400", got)
 			}
-			if strings.Contains(got, "PUT") || strings.Contains(got, "json") {
-				t.Errorf("a handler: got its answer %q, want none", got)
-			}
-			if got := observer.waitForStatuses(t, 1); !reflect.DeepEqual(got, []int{400}) {
-				t.Errorf("the observer: got %v, want 400", got)
-			}
+			diff.Lacks(t, got, "PUT", "a handler")
+			diff.Lacks(t, got, "json", "a handler")
+			diff.Check(t, observer.waitForStatuses(t, 1), []int{400}, "the observer")
 			if it := observer.rejections[0]; it.Method != "PUT" || it.Target != "/" {
 				t.Errorf("the observer: got %+v, want PUT of /", it)
 			}
@@ -283,9 +279,7 @@ func TestWhatNetHTTPRejects(t *testing.T) {
 			if got := client.rest(); !strings.HasPrefix(got, fmt.Sprintf("HTTP/1.1 %d ", test.status)) {
 				t.Errorf("got %q, want %d", got, test.status)
 			}
-			if got := observer.waitForStatuses(t, 1); !reflect.DeepEqual(got, []int{test.status}) {
-				t.Errorf("the observer: got %v, want %d", got, test.status)
-			}
+			diff.Check(t, observer.waitForStatuses(t, 1), []int{test.status}, "the observer, %d", test.status)
 		})
 	}
 }

@@ -87,9 +87,7 @@ func TestURL(t *testing.T) {
 		t.Skip("this machine has no IPv6: ", err)
 	}
 	defer listener.Close()
-	if want := fmt.Sprintf("http://[::1]:%d", listener.Addr().(*net.TCPAddr).Port); listener.URL() != want {
-		t.Errorf("got %s, want %s", listener.URL(), want)
-	}
+	diff.Equal(t, listener.URL(), fmt.Sprintf("http://[::1]:%d", listener.Addr().(*net.TCPAddr).Port), "")
 }
 
 func TestAClientThatReadsNothingIsCut(t *testing.T) {
@@ -141,9 +139,8 @@ func TestStopAnswersWhatRuns(t *testing.T) {
 		t.Fatal(err)
 	}
 	diff.Equal(t, silent.rest()+idle.rest(), "", "the silent and the idle one")
-	if _, err := net.DialTimeout("tcp", listener.Addr().String(), limit); err == nil {
-		t.Error("a new connection: got no error, want one")
-	}
+	_, err := net.DialTimeout("tcp", listener.Addr().String(), limit)
+	diff.Error(t, err, "a new connection")
 	select {
 	case err := <-served:
 		t.Fatalf("Serve while a request runs: got %v, want it to wait", err)
@@ -306,13 +303,9 @@ func TestWhileWorkRunsRequestsAreAnswered(t *testing.T) {
 	default:
 	}
 	handler.pass <- struct{}{}
-	if got := statusesIn(running.rest()); !reflect.DeepEqual(got, []string{"200"}) {
-		t.Errorf("the running request: got %v, want 200", got)
-	}
+	diff.Check(t, statusesIn(running.rest()), []string{"200"}, "the running request")
 	<-begun
-	if got := statusAt(t, listener); !reflect.DeepEqual(got, []string{"503"}) {
-		t.Errorf("a request while the work runs: got %v, want 503", got)
-	}
+	diff.Check(t, statusAt(t, listener), []string{"503"}, "a request while the work runs")
 	close(goOn)
 	diff.NoError(t, <-served, "Serve")
 	if connection, err := net.DialTimeout("tcp", listener.Addr().String(), limit); err == nil {
@@ -332,9 +325,7 @@ func TestASharedListenerIsClosedAtOnce(t *testing.T) {
 		return err != nil
 	})
 	handler.pass <- struct{}{}
-	if got := statusesIn(running.rest()); !reflect.DeepEqual(got, []string{"200"}) {
-		t.Errorf("the running request: got %v, want 200", got)
-	}
+	diff.Check(t, statusesIn(running.rest()), []string{"200"}, "the running request")
 	diff.NoError(t, <-served, "Serve")
 }
 
@@ -434,9 +425,7 @@ func TestTheAnswerToAnUnreadBodyArrives(t *testing.T) {
 			if len(test.next) > 1 {
 				client.send(strings.Replace(whole, "\r\n\r\n", "\r\nConnection: close\r\n\r\n", 1))
 			}
-			if got := statusesIn(client.rest()); !reflect.DeepEqual(got, test.next) {
-				t.Errorf("the answers: got %v, want %v", got, test.next)
-			}
+			diff.Check(t, statusesIn(client.rest()), test.next, "the answers")
 		})
 	}
 }
@@ -477,9 +466,7 @@ func TestABodyThatWasReadKeepsTheConnection(t *testing.T) {
 	client := dial(t, start(t, Options{}, Server{}, echo))
 	for count := 0; count < 2; count++ {
 		client.send("PUT /a HTTP/1.1\r\nHost: x\r\nContent-Length: 3\r\n\r\nabc")
-		if got := client.until("PUT /a abc;"); strings.Contains(got, "Connection: close") {
-			t.Errorf("got %q, want no \"Connection: close\" in it", got)
-		}
+		diff.Lacks(t, client.until("PUT /a abc;"), "Connection: close", "")
 	}
 }
 
@@ -513,9 +500,7 @@ func TestIPv4HasNoIPv6(t *testing.T) {
 	check(t, err)
 	defer listener.Close()
 	at := listener.Addr().(*net.TCPAddr)
-	if at.IP.String() != "0.0.0.0" {
-		t.Errorf("got the address %v, want 0.0.0.0", at.IP)
-	}
+	diff.Equal(t, at.IP.String(), "0.0.0.0", "")
 	port := strconv.Itoa(at.Port)
 	if conn, err := net.DialTimeout("tcp", "127.0.0.1:"+port, limit); err != nil {
 		t.Error(err)
@@ -545,9 +530,7 @@ func TestLoggedTarget(t *testing.T) {
 		"":                                              "",
 	} {
 		t.Run(fmt.Sprintf("%.50q", target), func(t *testing.T) {
-			if got := LoggedTarget(target); got != want {
-				t.Errorf("%.50q: got %.50q, want %.50q", target, got, want)
-			}
+			diff.Equal(t, LoggedTarget(target), want, "%.50q", target)
 		})
 	}
 }
@@ -592,9 +575,7 @@ func (r *recorder) waitForStatuses(t *testing.T, count int) []int {
 	t.Helper()
 	var statuses []int
 	for _, rejection := range r.waitForRejections(t, count) {
-		if rejection.Address != "127.0.0.1" {
-			t.Errorf("got a rejection of the address %q, want 127.0.0.1", rejection.Address)
-		}
+		diff.Equal(t, rejection.Address, "127.0.0.1", "")
 		statuses = append(statuses, rejection.Status)
 	}
 	return statuses
@@ -675,17 +656,14 @@ func clientOf(t *testing.T, connection net.Conn) client {
 
 func (c client) send(text string) {
 	c.t.Helper()
-	if _, err := io.WriteString(c, text); err != nil {
-		c.t.Fatal(err)
-	}
+	_, err := io.WriteString(c, text)
+	check(c.t, err)
 }
 
 // closeWrite reports to the server that nothing follows.
 func (c client) closeWrite() {
 	c.t.Helper()
-	if err := c.Conn.(interface{ CloseWrite() error }).CloseWrite(); err != nil {
-		c.t.Fatal(err)
-	}
+	check(c.t, c.Conn.(interface{ CloseWrite() error }).CloseWrite())
 }
 
 // rest returns what arrives until the server closes the connection.

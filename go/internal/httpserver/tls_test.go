@@ -14,7 +14,6 @@ import (
 	"net/http"
 	"os"
 	"path/filepath"
-	"reflect"
 	"strings"
 	"testing"
 	"time"
@@ -59,9 +58,7 @@ func TestTLS(t *testing.T) {
 		config := authority.client(CertificateFiles{})
 		config.MinVersion, config.MaxVersion = version, version
 		client, state := dialTLS(t, listener, config)
-		if state.Version != version {
-			t.Errorf("got version %x, want %x", state.Version, version)
-		}
+		diff.Equal(t, state.Version, version, "")
 		client.send(whole)
 		client.until("GET /a ;")
 		client.send("PUT /b HTTP/1.1\r\nHost: x\r\nContent-Length: 3\r\n\r\nabc")
@@ -87,9 +84,7 @@ func TestTLSIsBoundedAsHTTPIs(t *testing.T) {
 			t.Errorf("%q: got %q, want %q", test.sent, got, test.want)
 		}
 	}
-	if got := observer.waitForStatuses(t, 3); !reflect.DeepEqual(got, []int{408, 400, 400}) {
-		t.Errorf("the observer: got %v, want 408 and 400 twice", got)
-	}
+	diff.Check(t, observer.waitForStatuses(t, 3), []int{408, 400, 400}, "the observer")
 }
 
 func TestClientsThatCantShakeHands(t *testing.T) {
@@ -144,9 +139,7 @@ func TestAnotherProtocolAtAPortOfTLS(t *testing.T) {
 	for n, sent := range []string{"SSH-2.0-OpenSSH_9.2\r\n", "get /a HTTP/1.1\r\n\r\n", "\x00\x00\x00\x08\x04\xd2\x16\x2f"} {
 		client := dial(t, listener)
 		client.send(sent)
-		if got := client.rest(); got != "" {
-			t.Errorf("%q: got the answer %q, want none", sent, got)
-		}
+		diff.Equal(t, client.rest(), "", "%q", sent)
 		waitUntil(t, "an event", func() bool { return len(observer.events()) > n })
 		if got := observer.events()[n]; !strings.HasSuffix(got, "does not look like a TLS handshake") {
 			t.Errorf("%q: got %q for the observer, want that it is no TLS", sent, got)
@@ -172,17 +165,13 @@ func TestClientCertificates(t *testing.T) {
 	listener, _ := startTLS(t, files, Options{}, Server{})
 	client, _ := dialTLS(t, listener, authority.client(authority.issue("cloudfoundry")))
 	client.send(whole)
-	if got := client.until("GET /a ;"); !strings.Contains(got, "\r\nClient: cloudfoundry\r\n") {
-		t.Errorf("the answer: got %q, want %q in it", got, "\r\nClient: cloudfoundry\r\n")
-	}
+	diff.Contains(t, client.until("GET /a ;"), "\r\nClient: cloudfoundry\r\n", "the answer")
 	others := map[string]CertificateFiles{"none": {}, "of another authority": newAuthority(t).issue("other")}
 	for name, own := range others {
 		t.Run(name, func(t *testing.T) {
 			config := authority.client(own)
 			config.MaxVersion = tls.VersionTLS12 // in which the client hears of it during the handshake
-			if err := tls.Client(dial(t, listener).Conn, config).Handshake(); err == nil {
-				t.Error("the handshake: got no error, want one")
-			}
+			diff.Error(t, tls.Client(dial(t, listener).Conn, config).Handshake(), "the handshake")
 		})
 	}
 }
@@ -198,9 +187,7 @@ func TestReload(t *testing.T) {
 	}
 	first := shown()
 	authority.issue("server") // in the same files
-	if got := shown(); got != first {
-		t.Error("got another certificate before it is read, want the first")
-	}
+	diff.Equal(t, shown(), first, "")
 	check(t, certificates.Reload())
 	second := shown()
 	if second == first {
@@ -210,9 +197,7 @@ func TestReload(t *testing.T) {
 	if err := certificates.Reload(); err == nil || !strings.Contains(err.Error(), files.Key) {
 		t.Errorf("a key that is none: got %v, want an error that names the file", err)
 	}
-	if got := shown(); got != second {
-		t.Error("got another certificate after the broken key, want the second")
-	}
+	diff.Equal(t, shown(), second, "")
 }
 
 func TestCertificatesThatCantBeUsed(t *testing.T) {
@@ -265,32 +250,24 @@ func newAuthority(t *testing.T) *authority {
 func (a *authority) newKey() *ecdsa.PrivateKey {
 	a.t.Helper()
 	key, err := ecdsa.GenerateKey(elliptic.P256(), rand.Reader)
-	if err != nil {
-		a.t.Fatal(err)
-	}
+	check(a.t, err)
 	return key
 }
 
 func (a *authority) sign(file string, template, parent *x509.Certificate, of *ecdsa.PrivateKey) *x509.Certificate {
 	a.t.Helper()
 	der, err := x509.CreateCertificate(rand.Reader, template, parent, &of.PublicKey, a.key)
-	if err != nil {
-		a.t.Fatal(err)
-	}
+	check(a.t, err)
 	a.write(file, "CERTIFICATE", der)
 	certificate, err := x509.ParseCertificate(der)
-	if err != nil {
-		a.t.Fatal(err)
-	}
+	check(a.t, err)
 	return certificate
 }
 
 func (a *authority) write(file, kind string, der []byte) {
 	a.t.Helper()
 	text := pem.EncodeToMemory(&pem.Block{Type: kind, Bytes: der})
-	if err := os.WriteFile(a.path(file), text, 0o600); err != nil {
-		a.t.Fatal(err)
-	}
+	check(a.t, os.WriteFile(a.path(file), text, 0o600))
 }
 
 func (a *authority) path(file string) string { return filepath.Join(a.folder, file) }
@@ -305,9 +282,7 @@ func (a *authority) issue(name string) CertificateFiles {
 		ExtKeyUsage: []x509.ExtKeyUsage{x509.ExtKeyUsageServerAuth, x509.ExtKeyUsageClientAuth},
 	}, a.certificate, key)
 	der, err := x509.MarshalECPrivateKey(key)
-	if err != nil {
-		a.t.Fatal(err)
-	}
+	check(a.t, err)
 	a.write(name+".key", "EC PRIVATE KEY", der)
 	return CertificateFiles{Certificate: a.path(name + ".pem"), Key: a.path(name + ".key")}
 }
@@ -322,9 +297,7 @@ func (a *authority) client(files CertificateFiles) *tls.Config {
 		return config
 	}
 	pair, err := tls.LoadX509KeyPair(files.Certificate, files.Key)
-	if err != nil {
-		a.t.Fatal(err)
-	}
+	check(a.t, err)
 	config.Certificates = []tls.Certificate{pair}
 	return config
 }

@@ -8,7 +8,6 @@ import (
 	"os"
 	"os/signal"
 	"path/filepath"
-	"reflect"
 	"sort"
 	"strconv"
 	"strings"
@@ -131,9 +130,7 @@ func TestLines(t *testing.T) {
 			t.Errorf("got %+v, want the time and the text that were written", line)
 		}
 	}
-	if lines[0].Version != "one" {
-		t.Errorf("got %+v, want the version one", lines[0])
-	}
+	diff.Equal(t, lines[0].Version, "one", "%+v", lines[0])
 	if about, err := os.Stat(path); err != nil || about.Mode() != 0o600 {
 		t.Errorf("got the mode %v and the error %v, want 0600", about.Mode(), err)
 	}
@@ -200,9 +197,7 @@ func TestFolder(t *testing.T) {
 			}
 		}
 	}
-	if len(files) != 2 {
-		t.Errorf("got %v, want two files", files)
-	}
+	diff.Equal(t, len(files), 2, "%v", files)
 	for name, got := range numbers {
 		if len(got) != 30 || !sort.IntsAreSorted(got) {
 			t.Errorf("%s: got %v, want 30 numbers in order", name, got)
@@ -278,9 +273,8 @@ func TestTaken(t *testing.T) {
 		first.Write("made", member{n, ""})
 	}
 	_, err := Open(Options{Path: path, Side: "broker", Most: 200})
-	if !errors.Is(err, ErrTaken) || !strings.Contains(err.Error(), path) {
-		t.Errorf("got the error %v, want ErrTaken with the path", err)
-	}
+	diff.ErrorIs(t, err, ErrTaken, "")
+	diff.Contains(t, fmt.Sprint(err), path, "")
 	first.Close()
 	openJournal(t, path, 200).Close()
 }
@@ -297,9 +291,7 @@ func TestWrongPlaces(t *testing.T) {
 			t.Errorf("%q: got a journal, want an error", path)
 		}
 	}
-	if found := filesIn(t, folder); !reflect.DeepEqual(found, []string{file, pipe}) {
-		t.Errorf("got the files %v, want the file and the pipe alone", found)
-	}
+	diff.Check(t, filesIn(t, folder), []string{file, pipe}, "")
 }
 
 // A line that a power cut has torn stays a line of its own.
@@ -354,9 +346,8 @@ func TestFull(t *testing.T) {
 	w.Write("made", member{7, ""})
 	w.Close()
 	wantEvents(t, path, "started, 1, lost 3, 5, lost 1, 7, stopped")
-	if len(told) != 2 || w.LostLines() != 4 {
-		t.Errorf("got %v and %d lost, want 2 and 4", told, w.LostLines())
-	}
+	diff.Equal(t, len(told), 2, "%v", told)
+	diff.Equal(t, w.LostLines(), 4, "%v", told)
 }
 
 // A full disk at the start: the line started is written later, before all others.
@@ -402,9 +393,8 @@ func TestNoJSON(t *testing.T) {
 	w.Lose(errors.New("no text"))
 	w.Close()
 	wantEvents(t, path, "started, lost 2, stopped")
-	if told != 1 || w.LostLines() != 2 {
-		t.Errorf("got %d reports and %d lost, want 1 and 2", told, w.LostLines())
-	}
+	diff.Equal(t, told, 1, "")
+	diff.Equal(t, w.LostLines(), 2, "")
 }
 
 func TestDigest(t *testing.T) {
@@ -475,9 +465,7 @@ func TestLinesAtOnceWhileTheDiskHangs(t *testing.T) {
 			t.Fatalf("got %d lines that still wait, want none", count-n)
 		}
 	}
-	if w.LostLines() != count {
-		t.Errorf("got %d lines lost, want %d", w.LostLines(), count)
-	}
+	diff.Equal(t, w.LostLines(), count, "")
 	go read()
 	w.Close()
 }

@@ -40,16 +40,12 @@ func TestEventsOfALogger(t *testing.T) {
 {"time":"T","level":"warning","event":"guid_in_upper_case","ids":["A"]}
 {"time":"T","level":"error","event":"store_failed","error":"no space"}
 `
-	if lines := withoutTimes(got.String()); lines != want {
-		t.Errorf("got\n%s\nwant\n%s", lines, want)
-	}
+	diff.Equal(t, withoutTimes(got.String()), want, "")
 }
 
 func TestTimesAreInUTC(t *testing.T) {
 	at := time.Date(2024, 7, 1, 1, 2, 3, 4_999_999, time.FixedZone("", 7200))
-	if got, want := timeOf(at), "2024-06-30T23:02:03.004Z"; got != want {
-		t.Errorf("got %s, want %s", got, want)
-	}
+	diff.Equal(t, timeOf(at), "2024-06-30T23:02:03.004Z", "")
 }
 
 func TestLinesAreASCIIAndHaveNoControlCharacters(t *testing.T) {
@@ -85,9 +81,7 @@ func contextOf(t *testing.T) context.Context {
 
 func closeQueue(t *testing.T, queue *Queue) {
 	t.Helper()
-	if err := queue.Close(contextOf(t)); err != nil {
-		t.Fatal(err)
-	}
+	diff.Must(t, queue.Close(contextOf(t)))
 }
 
 func write(t *testing.T, to io.Writer, line string) {
@@ -132,10 +126,8 @@ func TestLinesAreWrittenInOrder(t *testing.T) {
 		write(t, queue, line)
 	}
 	closeQueue(t, queue)
-	if got.String() != want.String() || queue.DroppedLines() != 0 {
-		t.Errorf("got %d bytes written and %[3]d lines dropped, want %[2]d and none", got.Len(), want.Len(),
-			queue.DroppedLines())
-	}
+	diff.Equal(t, got.String(), want.String(), "")
+	diff.Equal(t, queue.DroppedLines(), 0, "%d, %d", got.Len(), want.Len())
 }
 
 func TestASlowReaderHoldsNobodyUp(t *testing.T) {
@@ -266,18 +258,14 @@ func TestCloseWaitsForTheRest(t *testing.T) {
 	<-to.entered
 	ctx, cancel := context.WithCancel(context.Background())
 	cancel()
-	if err := queue.Close(ctx); !errors.Is(err, context.Canceled) {
-		t.Errorf("Close: got %v while a line is being written, want it cancelled", err)
-	}
+	diff.ErrorIs(t, queue.Close(ctx), context.Canceled, "Close")
 	write(t, queue, "after Close\n")
 	to.let(nil, nil)
 	closeQueue(t, queue)
 	if got := to.got.String(); !strings.HasPrefix(got, "a line\n") || strings.Contains(got, "after Close") {
 		t.Errorf("written: got %q, want the first line only", got)
 	}
-	if queue.DroppedLines() != 1 {
-		t.Errorf("got %d lines dropped, want that after Close", queue.DroppedLines())
-	}
+	diff.Equal(t, queue.DroppedLines(), 1, "")
 }
 
 func TestManyWriters(t *testing.T) {
@@ -295,7 +283,5 @@ func TestManyWriters(t *testing.T) {
 	}
 	all.Wait()
 	closeQueue(t, queue)
-	if got.String() != strings.Repeat("a line\n", 1600) {
-		t.Errorf("got %d bytes written of 1600 lines, want all", got.Len())
-	}
+	diff.Equal(t, got.String(), strings.Repeat("a line\n", 1600), "")
 }

@@ -136,9 +136,7 @@ func TestMutantsThatDoNotCompile(t *testing.T) {
 		t.Errorf("got %v, %v, want one of %d that doesn't compile", bad, err, len(mutants))
 	}
 	for id := range bad {
-		if got := changeLine(p, mutants[id-1]); got != "" {
-			t.Errorf("got %q, want the one without its last return", got)
-		}
+		diff.Equal(t, changeLine(p, mutants[id-1]), "", "")
 	}
 }
 
@@ -148,23 +146,17 @@ func TestDrawing(t *testing.T) {
 	var out bytes.Buffer
 	words := []string{"draw", "-folder", folder, "-count", "1000", "-workers", "4", toy}
 	diff.Must(t, command(context.Background(), words, &out))
-	if want := "\nleft out: " + toy + " TestSkips: it skipped without a mutant\n"; !strings.Contains(out.String(), want) {
-		t.Errorf("got %s, want %q", out.String(), want)
-	}
+	diff.Contains(t, out.String(), "\nleft out: "+toy+" TestSkips: it skipped without a mutant\n", "")
 	_, survivors, _ := strings.Cut(out.String(), "\n\n")
 	for _, want := range []string{
 		"survived: go/internal/mutants/testdata/toy/toy.go:21: Wait: duration times 1000\n    - \twait := time.Second\n" +
 			"    + \twait := (1000 * (time.Second))\n",
 		"unreached: go/internal/mutants/testdata/toy/toy.go:53: IsSmall: result negated\n",
 	} {
-		if !strings.Contains(survivors, want) {
-			t.Errorf("got %s, want %q", survivors, want)
-		}
+		diff.Contains(t, survivors, want, "")
 	}
 	for _, other := range []string{"Name: constant", "Odd: condition", "Sum: statements swapped"} {
-		if strings.Contains(survivors, other) {
-			t.Errorf("got %s, want no %q: its tests fail", survivors, other)
-		}
+		diff.Lacks(t, survivors, other, "")
 	}
 	var again bytes.Buffer
 	diff.Must(t, command(context.Background(), words, &again))
@@ -188,9 +180,8 @@ func TestHang(t *testing.T) {
 	diff.Must(t, err)
 	w := &worker{}
 	o, err := w.do(context.Background(), run{binary: binaries[p.path], test: "TestHangs", mutant: 1, most: 1})
-	if err != nil || o.ending != hung {
-		t.Errorf("got %v, %v, want it to hang", o.ending, err)
-	}
+	diff.NoError(t, err, "")
+	diff.Equal(t, o.ending, hung, "")
 }
 
 // TestTraceOfAnotherUser: what a test reaches is noted, also while it is another user.
@@ -239,9 +230,8 @@ func TestFailsWithoutTheMutant(t *testing.T) {
 			t.Setenv("TOY_FAILS", fails)
 			h := &hunt{out: io.Discard, binaries: binaries}
 			v, err := h.judge(context.Background(), &worker{}, drawn[0], []tracedTest{{Package: p.path, Test: "TestFails"}})
-			if err != nil || v.Ending != want {
-				t.Errorf("%q: got %q, %v, want %q", fails, v.Ending, err, want)
-			}
+			diff.NoError(t, err, "%q", fails)
+			diff.Equal(t, v.Ending, want, "%q", fails)
 		})
 	}
 }

@@ -34,9 +34,7 @@ func TestTLSByDefault(t *testing.T) {
 			check(t, err)
 			parsed, err := url.Parse(full)
 			check(t, err)
-			if got := parsed.Query().Get("sslmode"); got != test.want {
-				t.Errorf("%s, PGSSLMODE=%q: got sslmode %q, want %q", test.address, test.environment, got, test.want)
-			}
+			diff.Equal(t, parsed.Query().Get("sslmode"), test.want, "%s, PGSSLMODE=%q", test.address, test.environment)
 		})
 	}
 }
@@ -59,18 +57,16 @@ func silence(t *testing.T, limit time.Duration) net.Conn {
 
 func TestAServerThatIsSilent(t *testing.T) {
 	conn := silence(t, 20*time.Millisecond)
-	if _, err := conn.Read(make([]byte, 1)); !errors.Is(err, os.ErrDeadlineExceeded) {
-		t.Errorf("Read: got %v, want %v", err, os.ErrDeadlineExceeded)
-	}
+	_, err := conn.Read(make([]byte, 1))
+	diff.ErrorIs(t, err, os.ErrDeadlineExceeded, "Read")
 }
 
 // While somebody else has set a deadline, as for connecting, that one counts, and the limit again afterwards.
 func TestADeadline(t *testing.T) {
 	conn := silence(t, time.Hour)
 	check(t, conn.SetDeadline(time.Now()))
-	if _, err := conn.Read(make([]byte, 1)); !errors.Is(err, os.ErrDeadlineExceeded) {
-		t.Errorf("Read: got %v, want %v", err, os.ErrDeadlineExceeded)
-	}
+	_, err := conn.Read(make([]byte, 1))
+	diff.ErrorIs(t, err, os.ErrDeadlineExceeded, "Read")
 	short := silence(t, time.Millisecond)
 	check(t, short.SetDeadline(time.Now().Add(time.Hour)))
 	check(t, short.SetDeadline(time.Time{}))
@@ -114,9 +110,7 @@ func TestMostConnections(t *testing.T) {
 	db, err := Open("postgresql://127.0.0.1/none", Options{Most: 3, Lock: time.Second, Statement: time.Second, Idle: time.Second})
 	check(t, err)
 	defer db.Close()
-	if most := db.Stats().MaxOpenConnections; most != 3 {
-		t.Errorf("got at most %d connections, want 3", most)
-	}
+	diff.Equal(t, db.Stats().MaxOpenConnections, 3, "")
 }
 
 var check = diff.Must

@@ -27,9 +27,8 @@ func TestSynchronousCommit(t *testing.T) {
 		}
 	}
 	err := pgtest.DB(t, pgtest.With(t, url, "synchronous_commit", "off")).Ping()
-	if !errors.Is(err, pg.ErrNotDurable) || !strings.Contains(err.Error(), "SET synchronous_commit = on") {
-		t.Errorf("off: got %v, want %v and what to set", err, pg.ErrNotDurable)
-	}
+	diff.ErrorIs(t, err, pg.ErrNotDurable, "off")
+	diff.Contains(t, fmt.Sprint(err), "SET synchronous_commit = on", "off")
 }
 
 // A connection of which nobody can see whether its commits are durable isn't used.
@@ -44,9 +43,7 @@ func TestDurabilityThatCannotBeSeen(t *testing.T) {
 	})
 	check(t, err)
 	defer db.Close()
-	if err := db.Ping(); !pg.IsCode(err, "P0001") {
-		t.Errorf("got %v, want the error of the function", err)
-	}
+	diff.Equal(t, pg.IsCode(db.Ping(), "P0001"), true, "pg.IsCode")
 }
 
 func TestSettings(t *testing.T) {
@@ -132,9 +129,8 @@ func TestCloseAfterTheSessionHasEnded(t *testing.T) {
 		var number int
 		check(t, db.QueryRow("SELECT pg_backend_pid()").Scan(&number))
 		for n := 0; n < statements; n++ {
-			if _, err := db.Prepare(fmt.Sprint("SELECT ", n)); err != nil {
-				t.Fatal(err)
-			}
+			_, err := db.Prepare(fmt.Sprint("SELECT ", n))
+			check(t, err)
 		}
 		pgtest.Exec(t, pgtest.DB(t, url), fmt.Sprintf("SELECT pg_terminate_backend(%d, 10000)", number))
 		diff.NoError(t, pg.Close(db), "with %d prepared statements", statements)
@@ -180,9 +176,7 @@ func TestLost(t *testing.T) {
 		t.Fatal(err)
 	}
 	_, err = conn.ExecContext(context.Background(), "SELECT 1")
-	if !pg.IsLost(err) {
-		t.Errorf("a session that has ended: got %v, want a lost one", err)
-	}
+	diff.Equal(t, pg.IsLost(err), true, "a session that has ended, %v", err)
 	_, err = db.Exec("SELECT 1 / 0")
 	if pg.IsLost(err) || !pg.IsCode(err, "01000", "22012") || pg.IsCode(err, "01000") {
 		t.Errorf("a division by zero: got %v, want 22012 and no lost session", err)
@@ -244,9 +238,8 @@ func TestAddresses(t *testing.T) {
 	} {
 		t.Run(test.address, func(t *testing.T) {
 			hasPassword, err := pg.HasPassword(test.address)
-			if err != nil || hasPassword != test.hasPassword {
-				t.Errorf("HasPassword(%s): got %t, %v, want %t", test.address, hasPassword, err, test.hasPassword)
-			}
+			diff.NoError(t, err, "HasPassword(%s)", test.address)
+			diff.Equal(t, hasPassword, test.hasPassword, "HasPassword(%s)", test.address)
 			host, port, err := pg.HostAndPort(test.address)
 			if err != nil || host != test.host || port != test.port {
 				t.Errorf("HostAndPort(%s): got %s, %s, %v, want %s, %s", test.address, host, port, err, test.host, test.port)
@@ -278,9 +271,8 @@ func TestBadAddresses(t *testing.T) {
 		"", "/srv/store.sqlite", "postgresql://u:secret@db:port/x", "postgresql://u:sec%ret@db",
 	} {
 		_, err := pg.Open(address, pg.Options{Most: 1})
-		if !errors.Is(err, pg.ErrBadAddress) || err.Error() != pg.ErrBadAddress.Error() {
-			t.Errorf("Open(%s): got %v, want %v alone", address, err, pg.ErrBadAddress)
-		}
+		diff.ErrorIs(t, err, pg.ErrBadAddress, "Open(%s)", address)
+		diff.Equal(t, fmt.Sprint(err), pg.ErrBadAddress.Error(), "Open(%s)", address)
 		if _, err := pg.HasPassword(address); !errors.Is(err, pg.ErrBadAddress) {
 			t.Errorf("HasPassword(%s): got %v, want %v", address, err, pg.ErrBadAddress)
 		}
@@ -289,9 +281,8 @@ func TestBadAddresses(t *testing.T) {
 
 func TestAnEnvironmentThatIsNotSupported(t *testing.T) {
 	t.Setenv("PGSERVICE", "x")
-	if _, err := pg.Open("postgresql://db/x", pg.Options{Most: 1}); err == nil {
-		t.Error("PGSERVICE: got no error, want one")
-	}
+	_, err := pg.Open("postgresql://db/x", pg.Options{Most: 1})
+	diff.Error(t, err, "PGSERVICE")
 }
 
 var check = diff.Must

@@ -104,9 +104,8 @@ func (e ending) run(t *testing.T, url string) {
 	if !isRight {
 		t.Errorf("got %v, want another error", err)
 	}
-	if isWritten := count(t, url) > before; isWritten != e.isWritten {
-		t.Errorf("written: got %t, want %t", isWritten, e.isWritten)
-	}
+	isWritten := count(t, url) > before
+	diff.Equal(t, isWritten, e.isWritten, "written")
 }
 
 // What the server says to the COMMIT counts: that it has rolled back, or a warning, as that a standby hasn't confirmed.
@@ -126,9 +125,8 @@ func TestCommits(t *testing.T) {
 				"CREATE CONSTRAINT TRIGGER late AFTER INSERT ON t DEFERRABLE INITIALLY DEFERRED "+
 					"FOR EACH ROW EXECUTE FUNCTION f()")
 			err := transaction(t, context.Background(), url, insert(context.Background()))
-			if err == nil || errors.Is(err, pg.ErrUnknownCommit) != test.isUnknown {
-				t.Errorf("got %v, want %v exactly if that is unknown", err, pg.ErrUnknownCommit)
-			}
+			diff.Error(t, err, "%v", pg.ErrUnknownCommit)
+			diff.Equal(t, errors.Is(err, pg.ErrUnknownCommit), test.isUnknown, "%v", pg.ErrUnknownCommit)
 			diff.Equal(t, count(t, url), test.isWritten, "rows")
 		})
 	}
@@ -323,9 +321,7 @@ func TestRemedy(t *testing.T) {
 			}
 		})
 	}
-	if pg.Lasting(nil) != nil {
-		t.Error("got an error of nil, want nil")
-	}
+	diff.NoError(t, pg.Lasting(nil), "")
 }
 
 func TestIsAway(t *testing.T) {

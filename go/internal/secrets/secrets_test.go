@@ -20,9 +20,7 @@ func fileWith(t *testing.T, text string, mode os.FileMode) string {
 	t.Helper()
 	name := filepath.Join(t.TempDir(), "file")
 	diff.Must(t, os.WriteFile(name, []byte(text), 0o600))
-	if err := os.Chmod(name, mode); err != nil {
-		t.Fatal(err)
-	}
+	diff.Must(t, os.Chmod(name, mode))
 	return name
 }
 
@@ -68,9 +66,8 @@ func TestPasswordsOfTheEnvironment(t *testing.T) {
 func TestTheEnvironmentKeepsNoPassword(t *testing.T) {
 	for _, file := range []string{"", fileWith(t, "of the file\n", 0o600)} {
 		t.Setenv(variable, "sesame")
-		if _, _, err := Passwords(variable, file); err != nil {
-			t.Fatal(err)
-		}
+		_, _, err := Passwords(variable, file)
+		diff.Must(t, err)
 		if _, isSet := os.LookupEnv(variable); isSet {
 			t.Errorf("file %q: got the variable still set, want it unset", file)
 		}
@@ -82,18 +79,16 @@ func TestPasswordsOfNoFile(t *testing.T) {
 	if _, _, err := Passwords(variable, name); !os.IsNotExist(err) || !strings.Contains(err.Error(), name) {
 		t.Errorf("got %v, want an error that names the file", err)
 	}
-	if _, _, err := Passwords(variable, t.TempDir()); err == nil {
-		t.Error("a folder: got no error, want one")
-	}
+	_, _, err := Passwords(variable, t.TempDir())
+	diff.Error(t, err, "a folder")
 }
 
 func TestSecretIsOneLine(t *testing.T) {
 	if got, _, err := Secret(variable, fileWith(t, "a key\n", 0o600)); got != "a key" || err != nil {
 		t.Errorf("got %q and the error %v, want a key", got, err)
 	}
-	if got, _, err := Secret(variable, fileWith(t, "a key\nanother\n", 0o600)); err == nil {
-		t.Errorf("two lines: got %q, want an error", got)
-	}
+	got, _, err := Secret(variable, fileWith(t, "a key\nanother\n", 0o600))
+	diff.Error(t, err, "two lines, %q", got)
 }
 
 func TestWarningOfTheMode(t *testing.T) {
@@ -109,9 +104,7 @@ func TestWarningOfTheMode(t *testing.T) {
 			if (warning != "") != isWarned || isWarned && !strings.Contains(warning, name) {
 				t.Errorf("mode %o: got the warning %q, want one %v", mode, warning, isWarned)
 			}
-			if strings.Contains(warning, "sesame") {
-				t.Errorf("mode %o: got the secret in the warning, want none", mode)
-			}
+			diff.Lacks(t, warning, "sesame", "mode %o", mode)
 		}
 	}
 }
@@ -150,9 +143,7 @@ func TestShort(t *testing.T) {
 	got := Short(map[string][]string{
 		"long": {"0123456789abcdef"}, "one": {"0123456789abcde"}, "both": {"a", "b"}, "an old one": {"0123456789abcdef", "c"},
 	})
-	if want := []string{"an old one", "both", "one"}; !reflect.DeepEqual(got, want) {
-		t.Errorf("got %q, want %q", got, want)
-	}
+	diff.Check(t, got, []string{"an old one", "both", "one"}, "")
 }
 
 // What isn't a regular file is rejected at once, also a pipe that nobody writes to.

@@ -87,9 +87,8 @@ func wantNotes(t *testing.T, file *File[*notes], want ...string) {
 			return nil
 		})
 	})
-	if err != nil || strings.Join(got, ",") != strings.Join(want, ",") {
-		t.Errorf("got %q, %v, want %q", got, err, want)
-	}
+	diff.NoError(t, err, "%q, %q", got, want)
+	diff.Equal(t, strings.Join(got, ","), strings.Join(want, ","), "")
 }
 
 // holdWriter adds a job that keeps the writer until release is closed.
@@ -144,9 +143,8 @@ func TestOneJobFails(t *testing.T) {
 		"":       note("d1", "d2"),
 	})
 	wantNotes(t, file, "d1", "d2")
-	if commits.Load() != 2 || jobs.Load() != 5 {
-		t.Errorf("got %d commits of %d jobs, want 2 of 5", commits.Load(), jobs.Load())
-	}
+	diff.Equal(t, commits.Load(), 2, "")
+	diff.Equal(t, jobs.Load(), 5, "")
 }
 
 // writeTogether writes jobs in one transaction. Each is named by a part of its error, and "" must succeed.
@@ -252,9 +250,7 @@ func TestRolledBack(t *testing.T) {
 				t.Errorf("got %v, want %v alone", err, ErrBroken)
 			}
 			wantNotes(t, file)
-			if err := file.Write(background, note("next")); err != nil {
-				t.Errorf("the next write: got %v, want nil", err)
-			}
+			diff.NoError(t, file.Write(background, note("next")), "the next write")
 			wantNotes(t, file, "next")
 		})
 	}
@@ -276,9 +272,7 @@ func TestTransactionThatFails(t *testing.T) {
 				}
 				return err
 			})
-			if err == nil {
-				t.Error("got nil, want an error")
-			}
+			diff.Error(t, err, "")
 		})
 	}
 	wantNotes(t, file)
@@ -321,9 +315,7 @@ func breakOff(t *testing.T, file *File[*notes], by string) {
 	close(release)
 	all.Wait()
 	for n, err := range errs {
-		if err == nil {
-			t.Errorf("job %d: got no error, want one", n)
-		}
+		diff.Error(t, err, "job %d", n)
 	}
 }
 
@@ -487,9 +479,7 @@ func TestSymbolicLink(t *testing.T) {
 	first := open(t, file, options())
 	check(t, os.Symlink(file, link))
 	second := open(t, link, options())
-	if first.Path() != second.Path() {
-		t.Errorf("the paths: got %s and %s, want one", first.Path(), second.Path())
-	}
+	diff.Equal(t, first.Path(), second.Path(), "the paths")
 	diff.NoError(t, second.Write(background, note("x")), "")
 	wantNotes(t, first, "x")
 }
@@ -559,9 +549,8 @@ func TestOne(t *testing.T) {
 		t.Helper()
 		err := file.Read(background, func(n *notes) error {
 			row, err := n.get.One()
-			if err != nil || fmt.Sprint(row) != fmt.Sprint(want) {
-				t.Errorf("got %v, %v, want %v", row, err, want)
-			}
+			diff.NoError(t, err, "%v, %v", row, want)
+			diff.Equal(t, fmt.Sprint(row), fmt.Sprint(want), "")
 			return nil
 		})
 		check(t, err)
@@ -760,9 +749,7 @@ func TestJobsThatAreNotUndone(t *testing.T) {
 		err := file.Write(background, func(n *notes) error { return first(note("a")(n), errWrong) })
 		failed := by.FailedStatement()
 		by.Fail(0, storefaults.Refused)
-		if err == nil {
-			t.Errorf("%q has failed: got nil, want an error", failed)
-		}
+		diff.Error(t, err, "%q has failed", failed)
 		wantNotes(t, file)
 		if failed == "" {
 			return
@@ -796,21 +783,16 @@ func TestOpeningThatFails(t *testing.T) {
 // Look reads a file that exists, and changes nothing.
 func TestLook(t *testing.T) {
 	path := filepath.Join(t.TempDir(), "file")
-	if err := Look(background, path, func(*Conn) error { return nil }); err == nil {
-		t.Error("a file that doesn't exist: got nil, want an error")
-	}
+	diff.Error(t, Look(background, path, func(*Conn) error { return nil }), "a file that doesn't exist")
 	file := open(t, path, options())
 	check(t, file.Write(background, note("a")))
 	count := 0
 	err := Look(background, path, func(conn *Conn) error {
-		if err := conn.Exec("DELETE FROM notes"); err == nil {
-			t.Error("a DELETE: got nil, want an error")
-		}
+		diff.Error(t, conn.Exec("DELETE FROM notes"), "a DELETE")
 		return conn.Each("SELECT text FROM notes", nil, func([]driver.Value) error { count++; return nil })
 	})
-	if err != nil || count != 1 {
-		t.Errorf("got %d texts, %v, want 1", count, err)
-	}
+	diff.NoError(t, err, "")
+	diff.Equal(t, count, 1, "")
 }
 
 var check = diff.Must

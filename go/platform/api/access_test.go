@@ -92,9 +92,8 @@ func TestHosts(t *testing.T) {
 	for _, text := range []string{
 		"", "*", "*.", ".", ".x", "*x.example", "a b", "http://x", "x:", "x:port", "10.0.0.0/33", "x/8", "a,b", "x:123456",
 	} {
-		if _, err := ParseHosts([]string{"ok.example", text}); err == nil {
-			t.Errorf("the host %q: got no error, want one", text)
-		}
+		_, err := ParseHosts([]string{"ok.example", text})
+		diff.Error(t, err, "the host %q", text)
 	}
 }
 
@@ -107,15 +106,11 @@ func TestBrokerHosts(t *testing.T) {
 	const inside = `{"url": "https://127.0.0.1:22", "user": "me", "password": "p"}`
 	const outside = `{"url": "https://new.example", "user": "me", "password": "p"}`
 	got := r.call("PUT", "/v1/brokers/scan", inside).want(400, "invalid")
-	if !strings.Contains(got.at("detail"), "--broker-hosts") {
-		r.Errorf("the detail: got %s, want the option in it", got.text)
-	}
+	diff.Contains(r, got.at("detail"), "--broker-hosts", "the detail, %s", got.text)
 	r.call("GET", "/v1/brokers/scan", "").want(404, "not_found")
 	r.call("PUT", "/v1/brokers/new", outside).want(201, "")
 	r.call("PUT", "/v1/brokers/new", inside).want(400, "invalid")
-	if of := r.brokerNamed("new"); of.URL != "https://new.example" {
-		r.Errorf("the URL: got %s, want \"https://new.example\"", of.URL)
-	}
+	diff.Equal(r, r.brokerNamed("new").URL, "https://new.example", "the URL")
 	const was = "https://10.0.0.1" // an operator has given it
 	check(r.T, r.store.ChangeBroker(background, "new", func(b platform.Broker) (*platform.Broker, error) {
 		b.URL = was
@@ -126,9 +121,8 @@ func TestBrokerHosts(t *testing.T) {
 	r.call("PUT", "/v1/brokers/new", `{"url": "`+was+`", "user": "me", "password": "p"}`).want(200, "")
 	for _, path := range []string{"/v1/brokers", "/v1/brokers/new"} {
 		got := r.call("GET", path, "").want(200, "")
-		if strings.Contains(got.text, "dial") || strings.Contains(got.text, "refused") ||
-			!strings.Contains(got.text, "osb-platform broker list") {
-			r.Errorf("%s: the reason: got %s, want the command and nothing of the network", path, got.text)
-		}
+		diff.Lacks(r, got.text, "dial", "%s: the reason", path)
+		diff.Lacks(r, got.text, "refused", "%s: the reason", path)
+		diff.Contains(r, got.text, "osb-platform broker list", "%s: the reason", path)
 	}
 }

@@ -29,9 +29,7 @@ func TestInstances(t *testing.T) {
 	r := newRig(t)
 	first := r.call("POST", "/v1/instances",
 		`{"id": "my id/no", "service": "shelf", "plan": "small"}`).want(400, "invalid")
-	if !strings.Contains(first.at("detail"), "slash") {
-		t.Errorf("the detail: got %s, want \"slash\" in it", first.at("detail"))
-	}
+	diff.Contains(t, first.at("detail"), "slash", "the detail")
 	made := r.call("POST", "/v1/instances", `{"id": "my id", "broker": "shelf", "service": "shelf", "plan": "small",
 		"parameters": {"a": 1}, "context": {"b": []},
 		"organization_guid": "o", "space_guid": "s", "tries": 2}`).want(201, "")
@@ -41,13 +39,11 @@ func TestInstances(t *testing.T) {
 		t.Errorf("got %v %s, want the order", made.header, made.text)
 	}
 	shown := r.call("GET", made.header.Get("Location"), "").want(200, "")
-	if shown.at("number") != made.at("number") || shown.at("life", "0", "state") != "ordered" {
-		t.Errorf("got %s, want the number of the order and its life", shown.text)
-	}
+	diff.Equal(t, shown.at("number"), made.at("number"), "%s", shown.text)
+	diff.Equal(t, shown.at("life", "0", "state"), "ordered", "%s", shown.text)
 	r.call("GET", "/v1/instances/"+made.at("number"), "").want(200, "")
-	if strings.Contains(shown.text, `"a"`) || strings.Contains(shown.text, "parameters") {
-		t.Errorf("got %s, want nothing of what was sent", shown.text)
-	}
+	diff.Lacks(t, shown.text, `"a"`, "")
+	diff.Lacks(t, shown.text, "parameters", "")
 	r.call("POST", "/v1/instances", `{"id": "my id", "service": "shelf", "plan": "small"}`).want(409, "conflict")
 	r.call("POST", "/v1/instances", `{"broker": "none", "service": "shelf"}`).want(404, "not_found")
 	r.call("POST", "/v1/instances", `{"service": "shelf", "plan": "none"}`).want(400, "invalid")
@@ -64,10 +60,9 @@ func TestLife(t *testing.T) {
 	for n, want := range []string{"ordered", "wanted", "ready"} {
 		diff.Equal(t, shown.at("life", fmt.Sprint(n), "state"), want, "state %d", n)
 	}
-	if shown.at("dashboard_url") != "https://shelf.example/dash" || shown.at("metadata", "labels", "a") != "b" ||
-		shown.at("last", "status") != "201" {
-		t.Errorf("got %s, want what the broker answered", shown.text)
-	}
+	diff.Equal(t, shown.at("dashboard_url"), "https://shelf.example/dash", "%s", shown.text)
+	diff.Equal(t, shown.at("metadata", "labels", "a"), "b", "%s", shown.text)
+	diff.Equal(t, shown.at("last", "status"), "201", "%s", shown.text)
 }
 
 func TestInFlight(t *testing.T) {
@@ -75,9 +70,8 @@ func TestInFlight(t *testing.T) {
 	id := r.order()
 	r.send(keyOfIDs(t, id))
 	shown := r.call("GET", "/v1/instances/"+id, "").want(200, "")
-	if shown.at("in_flight", "kind") != "provision" || shown.at("in_flight", "worker") != "one" {
-		t.Errorf("got %s, want the Provision in flight", shown.text)
-	}
+	diff.Equal(t, shown.at("in_flight", "kind"), "provision", "%s", shown.text)
+	diff.Equal(t, shown.at("in_flight", "worker"), "one", "%s", shown.text)
 	r.call("POST", "/v1/instances/"+id+"/retry", "").want(409, "conflict")
 }
 
@@ -88,15 +82,11 @@ func TestUnreadable(t *testing.T) {
 	id, other := r.order(), r.order()
 	store.rows[keyOfIDs(t, id)] = isUnreadable
 	shown := r.call("GET", "/v1/instances/"+id, "").want(200, "")
-	if shown.at("unreadable") != whyUnreadable || shown.at("state") != "ordered" {
-		t.Errorf("got %s, want why it can't be read", shown.text)
-	}
-	if all := r.call("GET", "/v1/instances", "").want(200, ""); len(all.items()) != 2 {
-		t.Errorf("the list: got %s, want 2", all.text)
-	}
-	if shown := r.call("GET", "/v1/instances/"+other, "").want(200, ""); strings.Contains(shown.text, "unreadable") {
-		t.Errorf("got %s, want no \"unreadable\" in it", shown.text)
-	}
+	diff.Equal(t, shown.at("unreadable"), whyUnreadable, "%s", shown.text)
+	diff.Equal(t, shown.at("state"), "ordered", "%s", shown.text)
+	all := r.call("GET", "/v1/instances", "").want(200, "")
+	diff.Equal(t, len(all.items()), 2, "the list, %s", all.text)
+	diff.Lacks(t, r.call("GET", "/v1/instances/"+other, "").want(200, "").text, "unreadable", "")
 }
 
 const whyUnreadable = "the record: it is wrong"
@@ -114,16 +104,14 @@ func TestRemoveRetryAbandon(t *testing.T) {
 	r.call("DELETE", path, "").want(202, "")
 	r.call("POST", path+"/retry", "").want(409, "conflict")
 	ready := "/v1/instances/" + r.ready()
-	if got := r.call("DELETE", ready+"?bindings=false", "").want(202, ""); got.at("removal") != "removed" {
-		t.Errorf("got %s, want it removed", got.text)
-	}
+	got := r.call("DELETE", ready+"?bindings=false", "").want(202, "")
+	diff.Equal(t, got.at("removal"), "removed", "%s", got.text)
 	r.call("DELETE", ready+"?bindings=maybe", "").want(400, "malformed")
 	r.call("DELETE", ready, `{}`).want(400, "malformed")
 	r.call("POST", ready+"/abandon", `{}`).want(400, "invalid")
 	left := r.call("POST", ready+"/abandon", `{"because": "the broker is no more"}`).want(200, "")
-	if left.at("state") != "abandoned" || left.at("because") != "the broker is no more" {
-		t.Errorf("got %s, want it abandoned with the reason", left.text)
-	}
+	diff.Equal(t, left.at("state"), "abandoned", "%s", left.text)
+	diff.Equal(t, left.at("because"), "the broker is no more", "%s", left.text)
 	for _, route := range []string{"DELETE /v1/instances/none", "POST /v1/instances/none/retry"} {
 		method, target, _ := strings.Cut(route, " ")
 		r.call(method, target, "").want(404, "not_found")
@@ -144,21 +132,17 @@ func TestBindings(t *testing.T) {
 		`{"id": "app", "context": {"x": 1}, "bind_resource": {}}`).want(201, "")
 	diff.Equal(t, made.header.Get("Location"), path+"/bindings/app", "Location")
 	listed := r.call("GET", path+"/bindings", "").want(200, "")
-	if len(listed.items()) != 2 || strings.Contains(listed.text, "hush") {
-		t.Errorf("the list: got %s, want 2 without the credentials", listed.text)
-	}
-	if got := r.call("GET", path+"/bindings?state=ready", "").want(200, ""); len(got.items()) != 1 {
-		t.Errorf("the list: got %s, want 1", got.text)
-	}
+	diff.Equal(t, len(listed.items()), 2, "the list")
+	diff.Lacks(t, listed.text, "hush", "the list")
+	got := r.call("GET", path+"/bindings?state=ready", "").want(200, "")
+	diff.Equal(t, len(got.items()), 1, "the list, %s", got.text)
 	r.call("POST", path+"/bindings/app/retry", "").want(202, "")
 	r.call("POST", path+"/bindings/"+bid+"/retry", "").want(409, "conflict")
 	r.call("DELETE", path, "").want(409, "conflict")
 	r.call("POST", path+"/abandon", `{"because": "x"}`).want(409, "conflict")
 	diff.Equal(t, r.call("DELETE", path+"/bindings/app", "").want(202, "").at("state"), "withdrawn", "")
 	whole := r.call("DELETE", path+"?bindings=true", "").want(202, "")
-	if whole.at("removal") != "removed_with_bindings" {
-		t.Errorf("got %s, want it removed with its bindings", whole.text)
-	}
+	diff.Equal(t, whole.at("removal"), "removed_with_bindings", "%s", whole.text)
 	r.call("POST", path+"/bindings", `{}`).want(409, "conflict")
 	r.call("POST", path+"/bindings/"+bid+"/abandon", `{"because": "x"}`).want(200, "")
 	r.call("GET", path+"/bindings/none", "").want(404, "not_found")
@@ -181,16 +165,13 @@ func TestCredentials(t *testing.T) {
 	r.callAs(reading, "GET", path, "").want(403, "forbidden")
 	r.callAs(writing, "GET", path, "").want(403, "forbidden")
 	got := r.callAs(opening, "GET", path, "").want(200, "")
-	if got.at("credentials", "password") != "hush" || got.header.Get("Cache-Control") != "no-store" {
-		t.Errorf("got %v %s, want the credentials, not to be stored", got.header, got.text)
-	}
+	diff.Equal(t, got.at("credentials", "password"), "hush", "%v, %s", got.header, got.text)
+	diff.Equal(t, got.header.Get("Cache-Control"), "no-store", "%v, %s", got.header, got.text)
 	waiting := r.call("POST", "/v1/instances/"+id+"/bindings", `{}`).want(201, "").at("id")
 	r.callAs(opening, "GET", "/v1/instances/"+id+"/bindings/"+waiting+"/credentials", "").want(409, "conflict")
 	r.callAs(opening, "GET", "/v1/instances/"+id+"/bindings/none/credentials", "").want(404, "not_found")
 	for _, exchange := range r.exchanges {
-		if strings.Contains(fmt.Sprint(exchange), "hush") {
-			t.Errorf("the observer: got %v, want no credentials in it", exchange)
-		}
+		diff.Lacks(t, fmt.Sprint(exchange), "hush", "the observer")
 	}
 }
 
@@ -212,9 +193,8 @@ func TestPages(t *testing.T) {
 			target = "/v1/instances?limit=3&after=" + next
 		}
 	}
-	if len(seen) != 8 || sizes != "3 3 2 " {
-		t.Errorf("got %d instances on pages of %s, want 8 on pages of 3, 3 and 2", len(seen), sizes)
-	}
+	diff.Equal(t, len(seen), 8, "")
+	diff.Equal(t, sizes, "3 3 2 ", "")
 	if got := r.call("GET", "/v1/instances?limit=8", "").want(200, ""); got.body["next"] != nil {
 		t.Errorf("the last page: got the next %s, want none", got.at("next"))
 	}
@@ -231,9 +211,8 @@ func TestFilters(t *testing.T) {
 		"first=" + id: 1,
 		"first=other": 1,
 	} {
-		if got := r.call("GET", "/v1/instances?"+query, "").want(200, ""); len(got.items()) != want {
-			t.Errorf("%s: got %s, want %d", query, got.text, want)
-		}
+		got := r.call("GET", "/v1/instances?"+query, "").want(200, "")
+		diff.Equal(t, len(got.items()), want, "%s, %s", query, got.text)
 	}
 	for _, query := range []string{
 		"state=lost", "limit=0", "limit=1001", "limit=x", "prefix=xyz", "prefix=-", "after=x", "after=e30",
@@ -255,9 +234,8 @@ func TestBrokers(t *testing.T) {
 		t.Errorf("got %s, want the broker as it was set", made.text)
 	}
 	changed := r.call("PUT", path, `{"url": "https://other.example", "user": "you"}`).want(200, "")
-	if changed.at("user") != "you" || changed.at("settings") != "map[]" {
-		t.Errorf("got %s, want the new user and no settings", changed.text)
-	}
+	diff.Equal(t, changed.at("user"), "you", "%s", changed.text)
+	diff.Equal(t, changed.at("settings"), "map[]", "%s", changed.text)
 	before := r.brokerNamed("other")
 	if got, err := r.vault.Open(before.Password, platform.PasswordContext(before)); string(got) != "sesame" {
 		t.Errorf("the password: got %q, %v, want the one before", got, err)
@@ -266,9 +244,8 @@ func TestBrokers(t *testing.T) {
 	r.call("PUT", path, `{"url": "https://elsewhere.example", "user": "you", "password": "new"}`).want(200, "")
 	other := r.brokerNamed("other")
 	password, err := r.vault.Open(other.Password, platform.PasswordContext(other))
-	if string(password) != "new" || err != nil {
-		t.Errorf("the password: got %q and %v, want \"new\" and no error", password, err)
-	}
+	diff.Equal(t, string(password), "new", "the password")
+	diff.NoError(t, err, "the password, %q", password)
 	r.call("PUT", "/v1/brokers/third", `{"url": "https://x", "user": "me"}`).want(400, "invalid")
 	r.call("PUT", "/v1/brokers/NO", put).want(400, "invalid")
 	r.call("PUT", path, `{"url": "https://x", "user": "m\u0000e", "password": "p"}`).want(400, "invalid")
@@ -279,17 +256,13 @@ func TestBrokers(t *testing.T) {
 		r.call("PUT", path, body).want(400, "invalid")
 	}
 	listed := r.call("GET", "/v1/brokers", "").want(200, "")
-	if len(listed.items()) != 2 || listed.at("items", "1", "catalogue_at") != "2026-01-01T00:00:00Z" {
-		t.Errorf("got %s, want 2 and the time of the catalogue", listed.text)
-	}
+	diff.Equal(t, len(listed.items()), 2, "%s", listed.text)
+	diff.Equal(t, listed.at("items", "1", "catalogue_at"), "2026-01-01T00:00:00Z", "%s", listed.text)
 	shown := r.call("GET", "/v1/brokers/shelf", "").want(200, "")
-	if shown.at("catalogue", "services", "0", "name") != "shelf" {
-		t.Errorf("got %s, want the catalogue", shown.text)
-	}
+	diff.Equal(t, shown.at("catalogue", "services", "0", "name"), "shelf", "%s", shown.text)
 	for _, response := range []got{made, changed, listed, shown} {
-		if strings.Contains(response.text, "sesame") || strings.Contains(response.text, string(before.Password)) {
-			t.Errorf("got %s, want no password in it", response.text)
-		}
+		diff.Lacks(t, response.text, "sesame", "")
+		diff.Lacks(t, response.text, string(before.Password), "")
 	}
 	r.order()
 	r.call("DELETE", "/v1/brokers/shelf", "").want(409, "conflict")
@@ -318,9 +291,8 @@ func TestPasswordFile(t *testing.T) {
 		Name: "filed", URL: "https://filed.example", User: "me", PasswordFile: "/run/secret/filed",
 	}, nil))
 	shown := r.call("GET", "/v1/brokers/filed", "").want(200, "")
-	if shown.at("password") != "file" || strings.Contains(shown.text, "/run") {
-		t.Errorf("got %s, want that the password is in a file, and no path", shown.text)
-	}
+	diff.Equal(t, shown.at("password"), "file", "")
+	diff.Lacks(t, shown.text, "/run", "")
 	r.call("PUT", "/v1/brokers/filed", `{"url": "https://x.example", "user": "me"}`).want(400, "password_needed")
 	r.call("PUT", "/v1/brokers/filed", `{"url": "https://filed.example", "user": "you"}`).want(200, "")
 	if got := r.brokerNamed("filed"); got.PasswordFile != "/run/secret/filed" || got.User != "you" {
@@ -342,9 +314,7 @@ func TestCounts(t *testing.T) {
 	r.bound(r.ready())
 	got := r.call("GET", "/v1/counts", "").want(200, "")
 	for _, part := range []string{`"instance","state":"ready","count":1`, `"binding","state":"ready","count":1`} {
-		if !strings.Contains(got.text, part) {
-			t.Errorf("got %[2]s, want %[1]s in it", part, got.text)
-		}
+		diff.Contains(t, got.text, part, "")
 	}
 }
 
@@ -388,9 +358,7 @@ func TestARejectedTokenKeepsNoConnection(t *testing.T) {
 	r := newRig(t)
 	for token, want := range map[string]string{"": "close", "wrong": "close", writing: "close", reading: ""} {
 		got := r.callAs(token, "GET", "/v1/counts", "")
-		if connection := got.header.Get("Connection"); connection != want {
-			t.Errorf("%d: got Connection %q, want %q", got.status, connection, want)
-		}
+		diff.Equal(t, got.header.Get("Connection"), want, "%d", got.status)
 	}
 }
 
@@ -400,9 +368,8 @@ func TestRoutes(t *testing.T) {
 		"/", "/v1", "/v1/", "/v2/catalog", "/v1/instances/", "/v1//instances", "/v1/instances/a/b",
 		"/v1/instances/a/bindings/", "/v1/counts/x", "/v1/brokers/", "/v1/instances/a%2Fbindings",
 	} {
-		if got := r.call("GET", target, ""); got.status != 404 {
-			t.Errorf("%s: got %d %s, want 404", target, got.status, got.text)
-		}
+		got := r.call("GET", target, "")
+		diff.Equal(t, got.status, 404, "%s, %s", target, got.text)
 	}
 	r.call("GET", "/v1/nothing", "").want(404, "no_route")
 	got := r.call("PATCH", "/v1/instances", "").want(405, "method_not_allowed")
@@ -432,9 +399,8 @@ func TestStrictBodies(t *testing.T) {
 	} {
 		r.call("PUT", "/v1/brokers/x", text).want(400, "malformed")
 	}
-	if found, _ := r.store.List(background, platform.Filter{}); len(found) != 0 {
-		t.Errorf("got %v, want none", found)
-	}
+	found, _ := r.store.List(background, platform.Filter{})
+	diff.Equal(t, len(found), 0, "%v", found)
 	long := `{"service": "` + strings.Repeat("x", 4096) + `"}`
 	r.call("POST", "/v1/instances", long).want(413, "body_too_large")
 	request := httptest.NewRequest("POST", "/v1/instances", strings.NewReader(`{}`))
@@ -462,9 +428,7 @@ func TestStoreThatFails(t *testing.T) {
 			"/v1/counts", "/v1/records", "/v1/records?order=newest", "/v1/in-flight",
 		} {
 			got := r.call("GET", target, "").want(want.status, want.code)
-			if strings.Contains(got.text, "10.0.0.1") {
-				t.Errorf("got %s, want nothing of the network in it", got.text)
-			}
+			diff.Lacks(t, got.text, "10.0.0.1", "")
 			if last := r.exchanges[len(r.exchanges)-1]; !errors.Is(last.Err, failed) || last.Code != want.code {
 				t.Errorf("the observer: got %+v, want the error and its code", last)
 			}
@@ -534,9 +498,7 @@ func TestParsedAtOnce(t *testing.T) {
 			!strings.Contains(got.Body.String(), `"busy"`) {
 			t.Errorf("got %d %s, want 503, busy", got.Code, got.Body)
 		}
-		if got := ask(writing, "GET", "/v1/counts", ""); got.Code != 200 {
-			t.Errorf("without a body: got %d, want 200", got.Code)
-		}
+		diff.Equal(t, ask(writing, "GET", "/v1/counts", "").Code, 200, "without a body")
 		if got := ask(all, "POST", "/v1/instances", body); got.Code != 400 && got.Code != 404 {
 			t.Errorf("another token: got %d %s, want 400 or 404", got.Code, got.Body)
 		}
@@ -593,14 +555,11 @@ func TestNewHandler(t *testing.T) {
 		},
 	} {
 		t.Run(name, func(t *testing.T) {
-			if make() == nil {
-				t.Error("got no error, want one")
-			}
+			diff.Error(t, make(), "")
 		})
 	}
-	if _, err := NewHandler(orders, store, Options{Tokens: []Token{token}}); err != nil {
-		t.Error(err)
-	}
+	_, err := NewHandler(orders, store, Options{Tokens: []Token{token}})
+	diff.NoError(t, err, "")
 }
 
 // described is the document, and errDescribed why it can't be read.
@@ -670,9 +629,7 @@ func checkOperation(t *testing.T, it route, found *openapi3.Operation) {
 			path = append(path, "{"+parameter.Value.Name+"}")
 		}
 	}
-	if !reflect.DeepEqual(query, it.query) {
-		t.Errorf("%s: the query: got %v, want %v", at, query, it.query)
-	}
+	diff.Check(t, query, it.query, "%s: the query", at)
 	for _, segment := range strings.Split(it.pattern, "/") {
 		if strings.HasPrefix(segment, "{") && !strings.Contains(strings.Join(path, ""), segment) {
 			t.Errorf("%s: got the parameters %v, want those of the path", at, path)
@@ -696,17 +653,11 @@ func checkOperation(t *testing.T, it route, found *openapi3.Operation) {
 func TestDocumentIsWhole(t *testing.T) {
 	check(t, errDescribed)
 	check(t, described.Validate(background))
-	if unknown := unknownMembers(reflect.ValueOf(described)); len(unknown) > 0 {
-		t.Errorf("got the members %q, want only those of OpenAPI", unknown)
-	}
+	diff.Equal(t, len(unknownMembers(reflect.ValueOf(described))), 0, "")
 	text := string(document)
-	if strings.Count(text, `"type": "object"`) != strings.Count(text, `"additionalProperties": `) {
-		t.Error("got an object that doesn't say whether it may have other members, want none")
-	}
+	diff.Equal(t, strings.Count(text, `"type": "object"`), strings.Count(text, `"additionalProperties": `), "")
 	for name, schema := range described.Components.Schemas {
-		if !strings.Contains(text, `"#/components/schemas/`+name+`"`) {
-			t.Errorf("the schema %s: got no use, want one", name)
-		}
+		diff.Contains(t, text, `"#/components/schemas/`+name+`"`, "the schema %s", name)
 		for _, needed := range schema.Value.Required {
 			if schema.Value.Properties[needed] == nil {
 				t.Errorf("the schema %s: got no %s, which it needs, want one", name, needed)
@@ -719,9 +670,7 @@ func TestDocumentIsWhole(t *testing.T) {
 		}
 	}
 	for name := range described.Components.Parameters {
-		if !strings.Contains(text, `"#/components/parameters/`+name+`"`) {
-			t.Errorf("the parameter %s: got no use, want one", name)
-		}
+		diff.Contains(t, text, `"#/components/parameters/`+name+`"`, "the parameter %s", name)
 	}
 }
 
@@ -785,9 +734,7 @@ func TestSchemasHaveTheMembers(t *testing.T) {
 				}
 				delete(members, member)
 			}
-			if len(members) > 0 {
-				t.Errorf("the schema %s: got no %v, want it", name, members)
-			}
+			diff.Equal(t, len(members), 0, "the schema %s", name)
 		})
 	}
 	states := map[any]bool{}
@@ -817,17 +764,14 @@ func TestValidator(t *testing.T) {
 		{`"status": 404`, `"status": "404"`}, {`"status": 404`, `"status": 1.5`}, {`"status": 404`, `"status": -1`},
 		{"not_found", "other"}, {`, "code": "not_found"`, ""}, {`"title"`, `"more": 1, "title"`}, {`"t"`, `null`},
 	} {
-		if checkText(of, []byte(strings.Replace(good, pair[0], pair[1], 1))) == nil {
-			t.Errorf("%s: got no error, want one", pair[1])
-		}
+		diff.Error(t, checkText(of, []byte(strings.Replace(good, pair[0], pair[1], 1))), "%s", pair[1])
 	}
 	for text, of := range map[string]*openapi3.Schema{
 		`"0001-01-01T00:00:00Z"`: openapi3.NewDateTimeSchema(), `"x"`: openapi3.NewUUIDSchema(),
 		`"true"`: openapi3.NewBoolSchema(), `[1]`: openapi3.NewArraySchema().WithItems(openapi3.NewObjectSchema()),
 	} {
-		if checkText(of.NewRef(), []byte(text)) == nil {
-			t.Errorf("%s of the type %s and the format %q: got no error, want one", text, of.Type, of.Format)
-		}
+		diff.Error(t, checkText(of.NewRef(), []byte(text)),
+			"%s of the type %s and the format %q", text, of.Type, of.Format)
 	}
 }
 
@@ -861,14 +805,11 @@ func TestNoControlsInAnswers(t *testing.T) {
 				t.Errorf("%s: got the character %U raw, want it escaped", path, character)
 			}
 		}
-		if !strings.Contains(got.text, `\u007f \u009b31m \u202e\u2066 \u2028 \udb40\udc41 \u200b | `) {
-			t.Errorf("%s: got %[2]s, want the text escaped", path, got.text)
-		}
+		diff.Contains(t, got.text, `\u007f \u009b31m \u202e\u2066 \u2028 \udb40\udc41 \u200b | `, "%s", path)
 	}
 	shown := r.call("GET", "/v1/instances/"+id, "").want(200, "")
-	if shown.at("last", "description") != hostile || shown.at("metadata", "labels", "a") != hostile {
-		t.Errorf("got %s, want the same text", shown.text)
-	}
+	diff.Equal(t, shown.at("last", "description"), hostile, "%s", shown.text)
+	diff.Equal(t, shown.at("metadata", "labels", "a"), hostile, "%s", shown.text)
 	wrong := r.call("GET", "/v1/instances/"+strings.Repeat("%C2%9B", 3), "").want(404, "not_found")
 	if strings.ContainsRune(wrong.text, 0x9b) {
 		t.Errorf("a problem: got %q, want no control in it", wrong.text)
@@ -887,9 +828,7 @@ func TestPrintable(t *testing.T) {
 		}
 	}
 	diff.Equal(t, string(printable([]byte("\"\x9b\xff\""))), `"\ufffd\ufffd"`, "bytes that aren't UTF-8")
-	if got := string(printable([]byte("{\n \"\u00e4\": 1\t}\n"))); got != "{\n \"\u00e4\": 1\t}\n" {
-		t.Errorf("what is printable: got %q, want it unchanged", got)
-	}
+	diff.Equal(t, string(printable([]byte("{\n \"\u00e4\": 1\t}\n"))), "{\n \"\u00e4\": 1\t}\n", "what is printable")
 }
 
 var background = context.Background()
@@ -1020,9 +959,7 @@ func (r *rig) checkDocumented(request *http.Request, asked []byte, answered got)
 	at := method + " " + request.URL.Path + " " + strconv.Itoa(answered.status)
 	found, _, _ := routeOf(method, request.URL.EscapedPath())
 	if found == nil {
-		if err := checkText(described.Components.Schemas["Problem"], []byte(answered.text)); err != nil {
-			r.Errorf("%s: got %v, want a Problem", at, err)
-		}
+		diff.NoError(r, checkText(described.Components.Schemas["Problem"], []byte(answered.text)), "%s", at)
 		return
 	}
 	item := described.Paths[found.pattern]
@@ -1032,9 +969,7 @@ func (r *rig) checkDocumented(request *http.Request, asked []byte, answered got)
 	operation := item.GetOperation(method)
 	if answered.status < 300 && operation.RequestBody != nil {
 		body := operation.RequestBody.Value.Content["application/json"]
-		if err := checkText(body.Schema, asked); err != nil {
-			r.Errorf("%s: got %v, want only bodies accepted that fit the schema\n%s", at, err, asked)
-		}
+		diff.NoError(r, checkText(body.Schema, asked), "%s, %s", at, asked)
 	}
 	wanted := operation.Responses.Get(answered.status)
 	if wanted == nil {
@@ -1048,9 +983,7 @@ func (r *rig) checkDocumented(request *http.Request, asked []byte, answered got)
 		if request.Method == http.MethodHead {
 			continue
 		}
-		if err := checkText(media.Schema, []byte(answered.text)); err != nil {
-			r.Errorf("%s: got %v, want an answer that fits its schema\n%s", at, err, answered.text)
-		}
+		diff.NoError(r, checkText(media.Schema, []byte(answered.text)), "%s, %s", at, answered.text)
 	}
 }
 

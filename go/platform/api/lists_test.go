@@ -12,6 +12,7 @@ import (
 	"testing"
 	"time"
 
+	"pippinterm/internal/diff"
 	"pippinterm/platform"
 	"pippinterm/platform/sqlite"
 )
@@ -38,15 +39,12 @@ func TestAllBindings(t *testing.T) {
 			target = "/v1/bindings?limit=2&after=" + next
 		}
 	}
-	if len(seen) != 3 {
-		t.Errorf("the list: got %v, want 3", seen)
-	}
+	diff.Equal(t, len(seen), 3, "the list, %v", seen)
 	for query, want := range map[string]int{
 		"state=ready": 2, "state=ordered": 1, "broker=shelf": 3, "broker=none": 0,
 	} {
-		if got := r.call("GET", "/v1/bindings?"+query, "").want(200, ""); len(got.items()) != want {
-			t.Errorf("%s: got %s, want %d", query, got.text, want)
-		}
+		got := r.call("GET", "/v1/bindings?"+query, "").want(200, "")
+		diff.Equal(t, len(got.items()), want, "%s, %s", query, got.text)
 	}
 	r.call("GET", "/v1/bindings?first="+one, "").want(400, "malformed")
 	r.callAs(writing, "GET", "/v1/bindings", "").want(403, "forbidden")
@@ -147,9 +145,8 @@ func TestRecordedAnswersAreDocumented(t *testing.T) {
 				}
 			}
 		}
-		if err := checkText(operation.Responses.Get(200).Value.Content["application/json"].Schema, body); err != nil {
-			t.Errorf("%s: got %v, want an answer that fits its schema", target, err)
-		}
+		diff.NoError(t, checkText(operation.Responses.Get(200).Value.Content["application/json"].Schema, body),
+			"%s", target)
 	}
 }
 

@@ -85,9 +85,7 @@ func TestOrderOfTime(t *testing.T) {
 		r.bothWays(path+"?order=newest&limit=4", reverse(want))
 	}
 	both := r.call("GET", "/v1/records?order=oldest&state=ready&state=ordered&state=ready", "").want(200, "")
-	if len(both.items()) != 3+3+3+3 {
-		t.Errorf("the list: got %s, want 12", both.text)
-	}
+	diff.Equal(t, len(both.items()), 3+3+3+3, "the list, %s", both.text)
 }
 
 func reverse(all []mark) (found []mark) {
@@ -141,18 +139,14 @@ func TestPrefixOfRecords(t *testing.T) {
 	of := map[string]string{"instances": id, "bindings": bid, "records": bid}
 	for kind, target := range of {
 		got := r.call("GET", "/v1/"+kind+"?prefix="+target[:13], "").want(200, "")
-		if len(got.items()) != 1 || got.at("items", "0", "id") != target {
-			t.Errorf("%s: got %s, want only %s", kind, got.text, target)
-		}
+		diff.Equal(t, len(got.items()), 1, "%s, %s", kind, got.text)
+		diff.Equal(t, got.at("items", "0", "id"), target, "%s, %s", kind, got.text)
 	}
 	bound := r.call("GET", "/v1/records?prefix="+bid, "").want(200, "")
-	if bound.at("items", "0", "instance_id") != id || bound.at("items", "0", "instance_number") != id {
-		t.Errorf("got %s, want the instance's id and number", bound.text)
-	}
+	diff.Equal(t, bound.at("items", "0", "instance_id"), id, "%s", bound.text)
+	diff.Equal(t, bound.at("items", "0", "instance_number"), id, "%s", bound.text)
 	instance := r.call("GET", "/v1/records?prefix="+id, "").want(200, "")
-	if strings.Contains(instance.text, "instance_") {
-		t.Errorf("got %s, want no \"instance_\" in it", instance.text)
-	}
+	diff.Lacks(t, instance.text, "instance_", "")
 }
 
 // A list has so many states of each life as are asked for, the last ones.
@@ -162,17 +156,13 @@ func TestLifeInLists(t *testing.T) {
 	r.bound(id)
 	for _, path := range []string{"/v1/instances", "/v1/bindings", "/v1/records", "/v1/instances/" + id + "/bindings"} {
 		two := r.call("GET", path+"?life=2", "").want(200, "")
-		if two.at("items", "0", "life", "0", "state") != "wanted" || two.at("items", "0", "life_omitted") != "1" ||
-			two.at("items", "0", "life", "1", "state") != "ready" {
-			t.Errorf("%s: got %s, want the states wanted and ready, and life_omitted 1", path, two.text)
-		}
-		if whole := r.call("GET", path+"?life=3", "").want(200, ""); strings.Contains(whole.text, "life_omitted") ||
-			whole.at("items", "0", "life", "0", "state") != "ordered" {
-			t.Errorf("%s: got %s, want ordered as the first state, and no life_omitted", path, whole.text)
-		}
-		if none := r.call("GET", path, "").want(200, ""); strings.Contains(none.text, "life") {
-			t.Errorf("%s: got %s, want no life", path, none.text)
-		}
+		diff.Equal(t, two.at("items", "0", "life", "0", "state"), "wanted", "%s, %s", path, two.text)
+		diff.Equal(t, two.at("items", "0", "life_omitted"), "1", "%s, %s", path, two.text)
+		diff.Equal(t, two.at("items", "0", "life", "1", "state"), "ready", "%s, %s", path, two.text)
+		whole := r.call("GET", path+"?life=3", "").want(200, "")
+		diff.Lacks(t, whole.text, "life_omitted", "%s", path)
+		diff.Equal(t, whole.at("items", "0", "life", "0", "state"), "ordered", "%s", path)
+		diff.Lacks(t, r.call("GET", path, "").want(200, "").text, "life", "%s", path)
 	}
 }
 
@@ -230,9 +220,8 @@ func TestUnreadableAlone(t *testing.T) {
 	if len(rows) != 2 || len(pages) != 3 || len(pages[1].items()) != 0 {
 		t.Errorf("got %d rows on %d pages: %v, want 2 on 3", len(rows), len(pages), rows)
 	}
-	if whole := r.call("GET", "/v1/records?unreadable=false", "").want(200, ""); len(whole.items()) != 5 {
-		t.Errorf("the list: got %s, want 5", whole.text)
-	}
+	whole := r.call("GET", "/v1/records?unreadable=false", "").want(200, "")
+	diff.Equal(t, len(whole.items()), 5, "the list, %s", whole.text)
 }
 
 // Who shows how long something lasts asks for the store's time, and not for his own.
@@ -243,9 +232,7 @@ func TestTimeOfTheStore(t *testing.T) {
 	store.now = time.Date(2026, 1, 2, 3, 4, 5, 0, time.UTC)
 	want := store.now.Format(time.RFC3339Nano)
 	for _, target := range []string{"/v1/counts", "/v1/instances/" + id} {
-		if got := r.call("GET", target, "").want(200, ""); got.at("now") != want {
-			t.Errorf("%s: got %s, want %s", target, got.at("now"), want)
-		}
+		diff.Equal(t, r.call("GET", target, "").want(200, "").at("now"), want, "%s", target)
 	}
 }
 
@@ -254,9 +241,8 @@ func TestAttemptAndFailure(t *testing.T) {
 	r := newRig(t)
 	id := r.order()
 	shown := r.call("GET", "/v1/instances/"+id, "").want(200, "")
-	if strings.Contains(shown.text, "attempt") || strings.Contains(shown.text, "failure") {
-		t.Errorf("before it is sent: got %s, want no attempt and no failure", shown.text)
-	}
+	diff.Lacks(t, shown.text, "attempt", "before it is sent")
+	diff.Lacks(t, shown.text, "failure", "before it is sent")
 	r.send(keyOfIDs(t, id))
 	r.answer(keyOfIDs(t, id), 201, func(e *platform.Entry) {
 		e.Failure, e.Passing = platform.Reason{At: e.Since, Kind: "provision", Status: 503}, true
@@ -294,9 +280,8 @@ func TestDamagedRow(t *testing.T) {
 	request, recorded := httptest.NewRequest("GET", "/v1/instances", nil), httptest.NewRecorder()
 	request.Header.Set("Authorization", "Bearer "+all)
 	r.handler.ServeHTTP(recorded, request)
-	if recorded.Code != 200 || !strings.Contains(recorded.Body.String(), good) {
-		t.Errorf("got %d %s, want 200 and what can be read", recorded.Code, recorded.Body)
-	}
+	diff.Equal(t, recorded.Code, 200, "%s", recorded.Body)
+	diff.Contains(t, recorded.Body.String(), good, "")
 }
 
 // A query that asks for two things at once, or for what there isn't, is rejected.
@@ -305,9 +290,7 @@ func TestBadLists(t *testing.T) {
 	r.order()
 	r.order()
 	cursor := r.call("GET", "/v1/records?limit=1", "").want(200, "").at("next")
-	if url.QueryEscape(cursor) != cursor {
-		t.Errorf("the cursor: got %q, want one that stands in a URL as it is", cursor)
-	}
+	diff.Equal(t, url.QueryEscape(cursor), cursor, "the cursor")
 	byState := r.call("GET", "/v1/records?limit=1&order=state", "").want(200, "").at("next")
 	for _, query := range []string{
 		"order=x", "order=", "order=newest&latest=true", "order=oldest&latest=false", "life=0", "life=101", "life=x",
@@ -319,9 +302,7 @@ func TestBadLists(t *testing.T) {
 	}
 	for _, query := range []string{"after=a&before=a", "last=true&after=a", "last=true&before=a"} {
 		got := r.call("GET", "/v1/records?"+query, "").want(400, "malformed")
-		if got.at("detail") != "give one of after, before and last" {
-			t.Errorf("%s: got %s, want a detail that names after, before and last", query, got.text)
-		}
+		diff.Equal(t, got.at("detail"), "give one of after, before and last", "%s, %s", query, got.text)
 	}
 	r.call("GET", "/v1/bindings?prefix=x", "").want(400, "malformed")
 	r.callAs(writing, "GET", "/v1/records", "").want(403, "forbidden")
@@ -400,12 +381,10 @@ func TestRemoveLastTry(t *testing.T) {
 	last := r.triedAgain(first)
 	r.send(keyOfIDs(t, last))
 	removed := r.call("DELETE", "/v1/instances/"+first, "").want(202, "")
-	if removed.at("id") != last || removed.at("removal") != "removed" {
-		t.Errorf("got %s, want the last one removed", removed.text)
-	}
-	if shown := r.call("GET", "/v1/instances/"+last, "").want(200, ""); shown.at("removal") != "removed" {
-		t.Errorf("the last try: got %s, want it removed", shown.text)
-	}
+	diff.Equal(t, removed.at("id"), last, "%s", removed.text)
+	diff.Equal(t, removed.at("removal"), "removed", "%s", removed.text)
+	shown := r.call("GET", "/v1/instances/"+last, "").want(200, "")
+	diff.Equal(t, shown.at("removal"), "removed", "the last try, %s", shown.text)
 	if shown := r.call("GET", "/v1/instances/"+first, "").want(200, ""); shown.at("removal") != "none" {
 		t.Errorf("the first try: got %s, want it not removed", shown.text)
 	}
@@ -419,9 +398,8 @@ func TestRemoveLastTryOfBinding(t *testing.T) {
 	path := "/v1/instances/" + id + "/bindings"
 	for _, one := range []string{id, other} {
 		made := r.call("POST", "/v1/instances/"+one+"/bindings", `{"id": "app", "tries": 2}`).want(201, "")
-		if made.at("tries") != "2" || made.at("try") != "1" {
-			t.Errorf("got %s, want the first of two tries", made.text)
-		}
+		diff.Equal(t, made.at("tries"), "2", "%s", made.text)
+		diff.Equal(t, made.at("try"), "1", "%s", made.text)
 		r.send(keyOfIDs(t, one, "app"))
 	}
 	last := r.triedAgain(id, "app")
@@ -429,17 +407,13 @@ func TestRemoveLastTryOfBinding(t *testing.T) {
 	if len(tries.items()) != 2 || tries.at("items", "1", "id") != last || tries.at("items", "1", "try") != "2" {
 		t.Errorf("the tries: got %s, want both", tries.text)
 	}
-	if alone := r.call("GET", "/v1/instances/"+other+"/bindings?first=app", "").want(200, ""); len(alone.items()) != 1 {
-		t.Errorf("the tries of the other: got %s, want 1", alone.text)
-	}
+	alone := r.call("GET", "/v1/instances/"+other+"/bindings?first=app", "").want(200, "")
+	diff.Equal(t, len(alone.items()), 1, "the tries of the other, %s", alone.text)
 	removed := r.call("DELETE", path+"/app", "").want(202, "")
-	if removed.at("id") != last || removed.at("state") != "withdrawn" {
-		t.Errorf("got %s, want the last one withdrawn", removed.text)
-	}
+	diff.Equal(t, removed.at("id"), last, "%s", removed.text)
+	diff.Equal(t, removed.at("state"), "withdrawn", "%s", removed.text)
 	shown := r.call("GET", "/v1/instances/"+other+"/bindings/app", "").want(200, "")
-	if shown.at("removal") != "none" {
-		t.Errorf("the binding of the other: got %s, want it not removed", shown.text)
-	}
+	diff.Equal(t, shown.at("removal"), "none", "the binding of the other, %s", shown.text)
 	if removed := r.call("DELETE", "/v1/instances/"+other+"/bindings/app", "").want(202, ""); removed.at("id") != "app" ||
 		removed.at("instance_id") != other || removed.at("removal") != "removed" {
 		t.Errorf("got %s, want the binding of the other removed", removed.text)
@@ -453,9 +427,7 @@ func TestTriesOfBinding(t *testing.T) {
 	for body, want := range map[string]string{
 		`{}`: "3", `{"id": "a"}`: "1", `{"id": "b", "tries": 5}`: "5", `{"tries": 0}`: "3",
 	} {
-		if made := r.call("POST", path, body).want(201, ""); made.at("tries") != want {
-			t.Errorf("%s: got %s tries, want %s", body, made.at("tries"), want)
-		}
+		diff.Equal(t, r.call("POST", path, body).want(201, "").at("tries"), want, "%s", body)
 	}
 	r.call("POST", path, `{"tries": 101}`).want(400, "invalid")
 	r.call("POST", path, `{"tries": "1"}`).want(400, "malformed")
@@ -469,10 +441,9 @@ func TestRemoveWhileTriedAgain(t *testing.T) {
 	r.send(keyOfIDs(t, first))
 	last := ""
 	r.store.(*retrying).before = func() { last = r.triedAgain(first) }
-	if removed := r.call("DELETE", "/v1/instances/"+first, "").want(202, ""); removed.at("id") != last ||
-		removed.at("state") != "withdrawn" {
-		t.Errorf("got %s, want the last one withdrawn", removed.text)
-	}
+	removed := r.call("DELETE", "/v1/instances/"+first, "").want(202, "")
+	diff.Equal(t, removed.at("id"), last, "%s", removed.text)
+	diff.Equal(t, removed.at("state"), "withdrawn", "%s", removed.text)
 }
 
 // A retrying is a Store in which something happens before the next change.
@@ -504,12 +475,9 @@ func TestKeyThatWasReplaced(t *testing.T) {
 		}
 		return &platform.Fault{Kind: platform.Conflict, Text: "the key was replaced"}
 	}
-	if got := r.call("PUT", path, body).want(409, "conflict"); got.at("detail") != "the key was replaced" {
-		t.Errorf("got %s, want that the key was replaced", got.text)
-	}
-	if after := r.brokerNamed("shelf").Password; string(after) != string(before) {
-		t.Error("the password: got another one, want it unchanged")
-	}
+	got := r.call("PUT", path, body).want(409, "conflict")
+	diff.Equal(t, got.at("detail"), "the key was replaced", "%s", got.text)
+	diff.Equal(t, string(r.brokerNamed("shelf").Password), string(before), "the password")
 	r.call("GET", credentials, "").want(409, "conflict")
 	url, user := r.brokerNamed("shelf").URL, r.brokerNamed("shelf").User
 	r.call("PUT", path, `{"url": "`+url+`", "user": "`+user+`"}`).want(200, "")        // nothing is encrypted

@@ -40,9 +40,7 @@ func TestFind(t *testing.T) {
 	} {
 		t.Run(find, func(t *testing.T) {
 			text := got(t, h, "/?find="+find)
-			if ids := rowsIn(text); len(ids) != want {
-				t.Errorf("got %v, want %d", ids, want)
-			}
+			diff.Equal(t, len(rowsIn(text)), want, "")
 		})
 	}
 	has(t, got(t, h, "/?find=00000051"), "of "+idOf(5).String())
@@ -121,9 +119,7 @@ func TestPages(t *testing.T) {
 				begin: {"page-first", "page-previous"}, end: {"page-next", "page-last"},
 			} {
 				for _, name := range names {
-					if to := linkOf(text, name); to != "" {
-						t.Errorf("%s: got a link to %s, want none", name, to)
-					}
+					diff.Equal(t, linkOf(text, name), "", "%s", name)
 				}
 			}
 		})
@@ -191,12 +187,9 @@ func TestStill(t *testing.T) {
 		text := got(t, h, target)
 		has(t, text, `data-refresh="5"`, `http-equiv="refresh" content="15"`)
 		still := got(t, h, linkOf(text, "refresh"))
-		if strings.Contains(still, "data-refresh") || strings.Contains(still, "http-equiv") {
-			t.Errorf("%s: got a page that is refreshed, want one that stays", target)
-		}
-		if back := linkOf(still, "refresh"); back != target {
-			t.Errorf("got the way back to %s, want %s", back, target)
-		}
+		diff.Lacks(t, still, "data-refresh", "%s", target)
+		diff.Lacks(t, still, "http-equiv", "%s", target)
+		diff.Equal(t, linkOf(still, "refresh"), target, "")
 	}
 	text := got(t, h, "/?still=1")
 	has(t, text, `<input type="hidden" name="still" value="1">`)
@@ -219,9 +212,7 @@ func TestNoSuchPage(t *testing.T) {
 		"/?find=" + strings.Repeat("a", 256),
 		"/?after=" + strings.Repeat("9", 5000) + "_a",
 	} {
-		if answered := answerTo(h, request("GET", target)); answered.Code != 404 {
-			t.Errorf("%.80s: got %d, want 404", target, answered.Code)
-		}
+		diff.Equal(t, answerTo(h, request("GET", target)).Code, 404, "%.80s", target)
 	}
 }
 
@@ -251,9 +242,7 @@ func TestOverSQLite(t *testing.T) {
 		"/", "/?state=ready", "/?kind=bindings", "/?find=0000000", "/?state=in-flight", "/?state=gone",
 	} {
 		a, b := rowsIn(got(t, one, target)), rowsIn(got(t, other, target))
-		if strings.Join(a, " ") != strings.Join(b, " ") {
-			t.Errorf("%s: got the list %v of the fake, and %v of the file, want the same", target, a, b)
-		}
+		diff.Equal(t, strings.Join(a, " "), strings.Join(b, " "), "%s", target)
 	}
 	text := got(t, other, "/")
 	for _, state := range states {
@@ -359,9 +348,7 @@ func checkEveryPage(t *testing.T, h http.Handler) {
 		}
 	}
 	for id, times := range seen {
-		if times != 2 {
-			t.Errorf("%s: got it %d times, want twice", id, times)
-		}
+		diff.Equal(t, times, 2, "%s", id)
 	}
 	diff.Equal(t, len(seen), 1000, "rows on ten pages from each end")
 }

@@ -43,16 +43,12 @@ func TestFirstPage(t *testing.T) {
 		`id="waits-`+idOf(6).String()+`"`, `id="waits-`+idOf(7).String()+`"`,
 		"2026-01-02 03:04:05</time> <span class=\"ago\">(1 day ago)",
 		"The broker shut rejects the user or the password")
-	if strings.Contains(waiting, "The broker shelf") {
-		t.Error("the broker shelf: got it to reject its password, want it not to")
-	}
+	diff.Lacks(t, waiting, "The broker shelf", "the broker shelf")
 	has(t, part(t, text, "flights"), `id="flies-`+idOf(3).String()+`"`, "Provision",
 		"worker-1, lease ran out 1 min ago")
 	has(t, part(t, text, "brokers"), "https://shelf.example", "2026-01-02 03:04:05", "none yet",
 		"catalogue, status 401, who are you")
-	if got := rowsIn(text); len(got) != 10 {
-		t.Errorf("the list: got %v, want 10", got)
-	}
+	diff.Equal(t, len(rowsIn(text)), 10, "the list")
 }
 
 func TestLifeInALine(t *testing.T) {
@@ -77,13 +73,10 @@ func TestUnreadableRow(t *testing.T) {
 	h := pageOf(t, store, Options{})
 	const why = "its record can't be read: the record: <b>"
 	for _, target := range []string{"/", "/?state=ready", pageOn(store.rows[4].Key)} {
-		if text := html.UnescapeString(got(t, h, target)); strings.Count(text, why) != 1 {
-			t.Errorf("%s: got %s, want %q once", target, mainOf(text), why)
-		}
+		text := html.UnescapeString(got(t, h, target))
+		diff.Equal(t, strings.Count(text, why), 1, "%s, %s, %q", target, mainOf(text), why)
 	}
-	if all := rowsIn(got(t, h, "/")); len(all) != len(states) {
-		t.Errorf("the list: got %v, want %d", all, len(states))
-	}
+	diff.Equal(t, len(rowsIn(got(t, h, "/"))), len(states), "the list")
 }
 
 // A row that can't be read needs attention if something is to be done for it.
@@ -112,18 +105,14 @@ func TestEmptyStore(t *testing.T) {
 	for _, state := range states {
 		has(t, text, `<strong>0</strong> <span class="state `+string(state)+`">`+string(state)+`</span>`)
 	}
-	if strings.Contains(text, "go-binding-") {
-		t.Error("got links to bindings, want none")
-	}
+	diff.Lacks(t, text, "go-binding-", "")
 }
 
 // What is cleaned for a short time doesn't wait for a person.
 func TestShortCleaning(t *testing.T) {
 	store := shelf()
 	text := part(t, got(t, pageOf(t, store, Options{LongCleaning: 25 * time.Hour}), "/"), "waiting")
-	if strings.Contains(text, "cleaning") {
-		t.Errorf("the table of what waits: got %s, want nothing that is cleaned for a day", text)
-	}
+	diff.Lacks(t, text, "cleaning", "the table of what waits")
 	has(t, text, "1 unsettled")
 }
 
@@ -140,9 +129,7 @@ func TestMuchWaits(t *testing.T) {
 	has(t, part(t, text, "flights"), "The first 5 of 8, by the end of their lease")
 	diff.Equal(t, linkOf(text, "more-unsettled"), "/?order=oldest&state=unsettled", "the link")
 	flights := got(t, pageOf(t, store, Options{}), linkOf(text, "more-in-flight"))
-	if got := rowsIn(flights); len(got) != 8 {
-		t.Errorf("the list: got %v, want 8", got)
-	}
+	diff.Equal(t, len(rowsIn(flights)), 8, "the list")
 }
 
 func TestInstancePage(t *testing.T) {
@@ -160,9 +147,7 @@ func TestInstancePage(t *testing.T) {
 		"poll, status 200, Code, it goes well, cut", "provision, status 500, no room", "nobody wants it",
 		"the last 3 requests", "that of its bindings first", "(in 1 min)", e.Key.String(), "1 of 3",
 		"4 states", "1 h</div>", "until now")
-	if strings.Contains(text, `href="https://dash`) {
-		t.Error("got a link of the broker that can be followed, want text")
-	}
+	diff.Lacks(t, text, `href="https://dash`, "")
 	has(t, part(t, text, "bindings"), `id="b-`+e.Key.String()+"/"+idOf(0x51).String()+`"`, "1 binding")
 	bound := got(t, pageOf(t, store, Options{}), linkOf(text, "b-"+e.Key.String()+"/"+idOf(0x51).String()))
 	has(t, bound, "<h1>Binding <code>"+idOf(0x51).String(), `<a href="`+pageOn(e.Key)+`" id="instance">`)
@@ -190,9 +175,7 @@ func TestChainOfTries(t *testing.T) {
 			"try 3")
 	}
 	alone := got(t, pageOf(t, shelf(), Options{}), pageOn(shelf().rows[4].Key))
-	if strings.Contains(alone, `id="tries"`) {
-		t.Error("an order without a further try: got a chain, want none")
-	}
+	diff.Lacks(t, alone, `id="tries"`, "an order without a further try")
 }
 
 // The tries of a binding are those of its instance, though another instance may have a binding of the same id.
@@ -218,9 +201,8 @@ func TestChainOfBindings(t *testing.T) {
 		has(t, text, "<h1>Binding <code>"+e.Key.Binding.String(), fmt.Sprint(e.Try, " of 3"))
 	}
 	for _, e := range []platform.Entry{alone, of} {
-		if text := got(t, h, pageOn(e.Key)); strings.Contains(text, `id="tries"`) {
-			t.Errorf("%v: got a chain, want none: %s", e.Key, mainOf(text))
-		}
+		text := got(t, h, pageOn(e.Key))
+		diff.Lacks(t, text, `id="tries"`, "%v", e.Key)
 	}
 }
 
@@ -261,9 +243,8 @@ func TestWaitingTry(t *testing.T) {
 			for target, part := range map[string]string{
 				"/": until, "/?state=ordered": until, "/?find=00000002": until, pageOn(e.Key): why, pageOn(before.Key): until,
 			} {
-				if text := got(t, h, target); strings.Count(text, part) != test.want {
-					t.Errorf("%s: got another number, want %d times %q: %s", target, test.want, part, mainOf(text))
-				}
+				text := got(t, h, target)
+				diff.Equal(t, strings.Count(text, part), test.want, "%s, %q, %s", target, part, mainOf(text))
 			}
 		})
 	}
@@ -332,9 +313,7 @@ func TestLongLife(t *testing.T) {
 	text := got(t, pageOf(t, store, Options{}), pageOn(key))
 	has(t, text, "<caption>1,011 states, of which the first 10 aren&#39;t shown</caption>",
 		`<th scope="row" role="rowheader">11</th>`, `<th scope="row" role="rowheader">1,011</th>`)
-	if strings.Contains(text, `<th scope="row" role="rowheader">10</th>`) {
-		t.Error("got the tenth state, want nine")
-	}
+	diff.Lacks(t, text, `<th scope="row" role="rowheader">10</th>`, "")
 }
 
 var background = context.Background()
@@ -446,9 +425,7 @@ func has(t *testing.T, text string, parts ...string) {
 	t.Helper()
 	text = strings.Join(strings.Fields(text), " ")
 	for _, part := range parts {
-		if !strings.Contains(text, part) {
-			t.Errorf("got %[2]s, want %[1]q in it", part, mainOf(text))
-		}
+		diff.Contains(t, text, part, "")
 	}
 }
 
@@ -695,13 +672,9 @@ func TestOverRecordedAnswers(t *testing.T) {
 		t.Errorf("the search: got %v, want %s", found, web)
 	}
 	for target := range answering.answers {
-		if !strings.Contains(strings.Join(answering.asked, "\n")+"\n", target+"\n") {
-			t.Errorf("got no question for %s, want one", target)
-		}
+		diff.Contains(t, strings.Join(answering.asked, "\n")+"\n", target+"\n", "%s", target)
 	}
-	if len(answering.asked) != 8+2+3 {
-		t.Errorf("for three pages: got %d questions, want 13: %v", len(answering.asked), answering.asked)
-	}
+	diff.Equal(t, len(answering.asked), 8+2+3, "for three pages, %v", answering.asked)
 }
 
 // A counter is a Reader that counts its calls.
@@ -744,13 +717,11 @@ func TestReadsOfAPage(t *testing.T) {
 		// The counts, what is in flight, what can't be read of those that are ordered and of those that are wanted, the
 		// brokers, and the list.
 		const ofFirst = 6
-		if got(t, h, "/"); reader.calls != ofFirst {
-			t.Errorf("got %d reads for the first page of %d rows, want %d", reader.calls, number, ofFirst)
-		}
+		got(t, h, "/")
+		diff.Equal(t, reader.calls, ofFirst, "%d", number)
 		// The counts, what is in flight, and the list.
-		if got(t, h, "/?state=ordered"); reader.calls != ofFirst+3 {
-			t.Errorf("got %d reads for a list of %d rows, want 3", reader.calls-ofFirst, number)
-		}
+		got(t, h, "/?state=ordered")
+		diff.Equal(t, reader.calls, ofFirst+3, "%d, %d", reader.calls-ofFirst, number)
 	}
 }
 
@@ -769,9 +740,7 @@ func TestWithoutTime(t *testing.T) {
 	h, err := NewHandler(timeless{}, Options{Failed: func(error) { failures++ }})
 	check(t, err)
 	for _, target := range []string{"/", "/instance/a"} {
-		if response := answerTo(h, request("GET", target)); response.Code != 503 {
-			t.Errorf("%s: got the status %d, want 503", target, response.Code)
-		}
+		diff.Equal(t, answerTo(h, request("GET", target)).Code, 503, "%s", target)
 	}
 	diff.Equal(t, failures, 2, "failures")
 }

@@ -59,16 +59,11 @@ func TestEscaping(t *testing.T) {
 	for _, target := range append(targets(), find) {
 		text := got(t, h, target)
 		for _, harm := range []string{"<script>document", "<b onload", "\x1b", "\u202e", "\x00"} {
-			if strings.Contains(text, harm) {
-				t.Errorf("%s: got %q in it, want it escaped", target, harm)
-			}
+			diff.Lacks(t, text, harm, "%s", target)
 		}
-		if strings.Count(text, "<script") != 1 || strings.Count(text, "<style") != 1 {
-			t.Errorf("%s: got further scripts or styles, want one of each", target)
-		}
-		if strings.Contains(text, `href="javascript`) {
-			t.Errorf("%s: got a link to a script, want none", target)
-		}
+		diff.Equal(t, strings.Count(text, "<script"), 1, "%s", target)
+		diff.Equal(t, strings.Count(text, "<style"), 1, "%s", target)
+		diff.Lacks(t, text, `href="javascript`, "%s", target)
 	}
 }
 
@@ -86,9 +81,7 @@ func TestNoSecrets(t *testing.T) {
 	for _, target := range targets() {
 		text := got(t, h, target)
 		for _, secret := range []string{"hush", "parameters", "eyJ", "cloud"} {
-			if strings.Contains(text, secret) {
-				t.Errorf("%s: got %s in it, want no secret", target, secret)
-			}
+			diff.Lacks(t, text, secret, "%s", target)
 		}
 	}
 }
@@ -107,9 +100,7 @@ func TestHeaders(t *testing.T) {
 		}
 		policy := answered.Header().Get("Content-Security-Policy")
 		has(t, policy, "default-src 'none'", "form-action 'self'", "base-uri 'none'", "frame-ancestors 'none'")
-		if strings.Contains(policy, "unsafe") {
-			t.Errorf("the policy: got %s, want no \"unsafe\" in it", policy)
-		}
+		diff.Lacks(t, policy, "unsafe", "the policy")
 	}
 }
 
@@ -131,9 +122,7 @@ func TestPolicyHasTheHashes(t *testing.T) {
 			}
 			has(t, policy, element+"-src '"+hash(inside)+"';")
 		}
-		if found := inline.FindString(mainOf(text)); found != "" {
-			t.Errorf("%s: got %s, want nothing that the policy keeps away", target, found)
-		}
+		diff.Equal(t, inline.FindString(mainOf(text)), "", "%s", target)
 	}
 }
 
@@ -170,17 +159,13 @@ func TestHost(t *testing.T) {
 			for host, want := range hosts {
 				r := requestAt(local, "GET", "/")
 				r.Host = host
-				if answered := answerTo(pageOf(t, shelf(), Options{}), r); answered.Code != want {
-					t.Errorf("%q at %s: got %d, want %d", host, local, answered.Code, want)
-				}
+				diff.Equal(t, answerTo(pageOf(t, shelf(), Options{}), r).Code, want, "%q at %s", host, local)
 			}
 		})
 	}
 	without := httptest.NewRequest("GET", "/", nil)
 	without.Host = "127.0.0.1:8090"
-	if answered := answerTo(h, without); answered.Code != http.StatusMisdirectedRequest {
-		t.Errorf("without an address: got %d, want %d", answered.Code, http.StatusMisdirectedRequest)
-	}
+	diff.Equal(t, answerTo(h, without).Code, http.StatusMisdirectedRequest, "without an address")
 }
 
 // The server of the programs says at which address it has accepted a connection.
@@ -212,9 +197,8 @@ func TestMethods(t *testing.T) {
 	h := pageOf(t, shelf(), Options{})
 	for _, method := range []string{"POST", "PUT", "DELETE", "PATCH", "OPTIONS", "TRACE", "CONNECT", "GETS"} {
 		answered := answerTo(h, request(method, "/"))
-		if answered.Code != http.StatusMethodNotAllowed || answered.Header().Get("Allow") != "GET, HEAD" {
-			t.Errorf("%s: got %d %v, want 405 and Allow: GET, HEAD", method, answered.Code, answered.Header())
-		}
+		diff.Equal(t, answered.Code, http.StatusMethodNotAllowed, "%s, %v", method, answered.Header())
+		diff.Equal(t, answered.Header().Get("Allow"), "GET, HEAD", "%s, %v", method, answered.Header())
 	}
 	head := answerTo(h, request("HEAD", "/"))
 	if head.Code != 200 || head.Body.Len() != 0 || len(head.Header().Get("Content-Length")) < 4 {
@@ -231,9 +215,7 @@ func TestErrorsTellNothing(t *testing.T) {
 		answerTo(h, request("GET", "/secret-path")), answerTo(h, request("GET", "/instance/secret-path")),
 		answerTo(h, request("GET", "/?secret-path")),
 	}
-	if len(failures) != 0 {
-		t.Errorf("the failures: got %v, want none", failures)
-	}
+	diff.Equal(t, len(failures), 0, "the failures, %v", failures)
 	tellsNothing(t, answerTo(h, request("POST", "/")).Body.String(), rejectedTells...)
 	store.err = errors.New("postgres at secret-path")
 	for _, target := range targets() {
@@ -263,9 +245,7 @@ var (
 func tellsNothing(t *testing.T, text string, parts ...string) {
 	t.Helper()
 	for _, part := range parts {
-		if strings.Contains(text, part) {
-			t.Errorf("got %s in it, want it hidden: %s", part, mainOf(text))
-		}
+		diff.Lacks(t, text, part, "")
 	}
 }
 
@@ -301,14 +281,10 @@ func TestPasswords(t *testing.T) {
 	}
 	r.SetBasicAuth("me", "old")
 	r.Header.Add("Authorization", "Basic bm9ib2R5Og==")
-	if answered := answerTo(h, r); answered.Code != 401 {
-		t.Errorf("two passwords: got %d, want 401", answered.Code)
-	}
+	diff.Equal(t, answerTo(h, r).Code, 401, "two passwords")
 	foreign := request("GET", "/")
 	foreign.Host = "evil.example"
-	if answered := answerTo(h, foreign); answered.Code != 421 {
-		t.Errorf("a foreign site: got %d, want 421", answered.Code)
-	}
+	diff.Equal(t, answerTo(h, foreign).Code, 421, "a foreign site")
 }
 
 type counting struct{ failed int }
@@ -422,9 +398,8 @@ func TestAtOnce(t *testing.T) {
 	go func() { first <- answerTo(h, request("GET", "/")).Code }()
 	<-reading
 	answered := answerTo(h, request("GET", "/"))
-	if answered.Code != 503 || !strings.Contains(answered.Body.String(), "Too many") {
-		t.Errorf("while one reads: got %d %s, want 503", answered.Code, answered.Body)
-	}
+	diff.Equal(t, answered.Code, 503, "while one reads, %s", answered.Body)
+	diff.Contains(t, answered.Body.String(), "Too many", "while one reads")
 	close(letGo)
 	diff.Equal(t, <-first, 503, "a reading that takes too long")
 }
@@ -438,9 +413,8 @@ func TestNewHandler(t *testing.T) {
 		"at once": {timeless{}, Options{AtOnce: -1}}, "timeout": {timeless{}, Options{Timeout: -1}},
 	} {
 		t.Run(name, func(t *testing.T) {
-			if _, err := NewHandler(test.reader, test.options); err == nil {
-				t.Error("got no error, want one")
-			}
+			_, err := NewHandler(test.reader, test.options)
+			diff.Error(t, err, "")
 		})
 	}
 }
@@ -464,9 +438,7 @@ func TestLongTexts(t *testing.T) {
 	h := pageOf(t, store, Options{})
 	for _, target := range targets() {
 		text := mainOf(got(t, h, target))
-		if !strings.Contains(text, "longlong") {
-			t.Errorf("%s: got no text of the broker, want one", target)
-		}
+		diff.Contains(t, text, "longlong", "%s", target)
 		if strings.Contains(text, much) || len(text) > 100_000 {
 			t.Errorf("%s: got %d bytes and one of the texts whole, want it cut", target, len(text))
 		}
@@ -569,9 +541,7 @@ func engineOver(t *testing.T, url string, exchange time.Duration) (*platform.Eng
 func areShort(t *testing.T, texts ...string) {
 	t.Helper()
 	for _, text := range texts {
-		if strings.Contains(text, much) {
-			t.Errorf("got %d bytes of the answer kept, want it cut", len(text))
-		}
+		diff.Lacks(t, text, much, "%d", len(text))
 	}
 }
 

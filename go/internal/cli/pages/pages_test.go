@@ -8,6 +8,8 @@ import (
 	"time"
 
 	"github.com/spf13/cobra"
+
+	"pippinterm/internal/diff"
 )
 
 func commands() *cobra.Command {
@@ -26,15 +28,11 @@ func commands() *cobra.Command {
 func writePages(t *testing.T, date time.Time) map[string]string {
 	t.Helper()
 	folder := t.TempDir()
-	if err := Write(commands(), folder, date); err != nil {
-		t.Fatal(err)
-	}
+	diff.Must(t, Write(commands(), folder, date))
 	files := make(map[string]string)
 	for _, name := range []string{"osb-test.1", "osb-test-serve.1", "osb-test.bash", "_osb-test"} {
 		text, err := os.ReadFile(filepath.Join(folder, name))
-		if err != nil {
-			t.Fatal(err)
-		}
+		diff.Must(t, err)
 		files[name] = string(text)
 	}
 	return files
@@ -53,9 +51,7 @@ func TestPages(t *testing.T) {
 	} {
 		t.Run(name, func(t *testing.T) {
 			for _, part := range parts {
-				if !strings.Contains(strings.ReplaceAll(files[name], `\-`, "-"), part) {
-					t.Errorf("got no %q in it, want one:\n%s", part, files[name])
-				}
+				diff.Contains(t, strings.ReplaceAll(files[name], `\-`, "-"), part, "%s", files[name])
 			}
 		})
 	}

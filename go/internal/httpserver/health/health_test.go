@@ -5,7 +5,6 @@ import (
 	"errors"
 	"net/http"
 	"net/http/httptest"
-	"strings"
 	"sync"
 	"testing"
 	"time"
@@ -66,9 +65,8 @@ func TestAnswers(t *testing.T) {
 				handler.Stop()
 			}
 			answer := ask(handler, test.method, test.target)
-			if answer.Code != test.status || answer.Body.String() != test.body {
-				t.Errorf("got %d %q, want %d %q", answer.Code, answer.Body, test.status, test.body)
-			}
+			diff.Equal(t, answer.Code, test.status, "%q", answer.Body)
+			diff.Equal(t, answer.Body.String(), test.body, "")
 			if test.status == 405 && answer.Header().Get("Allow") != "GET, HEAD" {
 				t.Errorf("Allow: got %q, want GET and HEAD", answer.Header().Get("Allow"))
 			}
@@ -80,9 +78,7 @@ func TestAnswers(t *testing.T) {
 func TestAnswersFitEachProgram(t *testing.T) {
 	for _, body := range []string{fine, notReady, stopping, notGet} {
 		for _, word := range []string{"broker", "platform", "worker"} {
-			if strings.Contains(body, word) {
-				t.Errorf("%s: got a %s in it, want none", body, word)
-			}
+			diff.Lacks(t, body, word, "")
 		}
 	}
 }
@@ -139,10 +135,8 @@ func TestAResultIsUsedForASecond(t *testing.T) {
 		now = now.Add(step.after)
 		counted.fail(step.err)
 		status, count := ask(handler, "GET", "/readyz").Code, counted.sum()
-		if status != step.status || count != step.count {
-			t.Errorf("%v later: got the status %d after %d calls, want %d after %d", step.after, status, count, step.status,
-				step.count)
-		}
+		diff.Equal(t, status, step.status, "%v later", step.after)
+		diff.Equal(t, count, step.count, "%v later", step.after)
 	}
 }
 
@@ -151,21 +145,15 @@ func TestACallThatHangsHoldsNobodyUp(t *testing.T) {
 	handler := New(context.Background(), Options{Ready: hanging.ready})
 	handler.readiness.waitsFor = 20 * time.Millisecond
 	for number := 0; number < 3; number++ {
-		if status := ask(handler, "GET", "/readyz").Code; status != http.StatusServiceUnavailable {
-			t.Errorf("got the status %d while the call hangs, want 503", status)
-		}
+		diff.Equal(t, ask(handler, "GET", "/readyz").Code, http.StatusServiceUnavailable, "")
 	}
-	if status := ask(handler, "GET", "/healthz").Code; status != http.StatusOK {
-		t.Errorf("/healthz: got the status %d, want 200", status)
-	}
+	diff.Equal(t, ask(handler, "GET", "/healthz").Code, http.StatusOK, "/healthz")
 	diff.Equal(t, hanging.sum(), 1, "calls at once")
 	handler.readiness.waitsFor = 10 * time.Second
 	status := make(chan int)
 	go func() { status <- ask(handler, "GET", "/readyz").Code }()
 	close(hanging.pass)
-	if got := <-status; got != http.StatusOK {
-		t.Errorf("got the status %d once the call returned nil, want 200", got)
-	}
+	diff.Equal(t, <-status, http.StatusOK, "")
 }
 
 func TestManyShareOneCall(t *testing.T) {
@@ -178,9 +166,7 @@ func TestManyShareOneCall(t *testing.T) {
 	<-counted.begun
 	close(counted.pass)
 	for number := 0; number < 5; number++ {
-		if got := <-status; got != http.StatusOK {
-			t.Errorf("got the status %d, want 200", got)
-		}
+		diff.Equal(t, <-status, http.StatusOK, "")
 	}
 	diff.Equal(t, counted.sum(), 1, "calls")
 }
@@ -191,9 +177,7 @@ func TestACallHasALimitOfTime(t *testing.T) {
 		return ctx.Err()
 	}})
 	handler.readiness.waitsFor = 10 * time.Millisecond
-	if status := ask(handler, "GET", "/readyz").Code; status != http.StatusServiceUnavailable {
-		t.Errorf("got the status %d, want 503", status)
-	}
+	diff.Equal(t, ask(handler, "GET", "/readyz").Code, http.StatusServiceUnavailable, "")
 }
 
 func TestARequestThatEndsEndsNoCall(t *testing.T) {

@@ -54,14 +54,10 @@ func TestTheTurns(t *testing.T) {
 			t.Fatalf("got %v for failure %d, want %v", got, count, want)
 		}
 	}
-	if got := limiter.FailedLogin("192.0.2.2"); got != 0 {
-		t.Errorf("another address: got a wait of %v, want 0", got)
-	}
+	diff.Equal(t, limiter.FailedLogin("192.0.2.2"), 0, "another address")
 	pass(18 * delay)
 	for count, want := range []time.Duration{0, 0, 0, 83 * delay, 84 * delay} { // three are free after nine seconds
-		if got := limiter.FailedLogin("192.0.2.1"); got != want {
-			t.Errorf("got %v for failure %d after %v, want %v", got, count+1, 18*delay, want)
-		}
+		diff.Equal(t, limiter.FailedLogin("192.0.2.1"), want, "%d, %v", count+1, 18*delay)
 	}
 }
 
@@ -82,9 +78,8 @@ func TestWhichAddressesShareALimit(t *testing.T) {
 		t.Run(test.first+" and "+test.second, func(t *testing.T) {
 			limiter, _ := at()
 			failures(limiter, test.first)
-			if isShared := limiter.FailedLogin(test.second) > 0; isShared != test.isShared {
-				t.Errorf("%q and %q: got shared %v, want %v", test.first, test.second, isShared, test.isShared)
-			}
+			isShared := limiter.FailedLogin(test.second) > 0
+			diff.Equal(t, isShared, test.isShared, "%q and %q", test.first, test.second)
 		})
 	}
 }
@@ -124,7 +119,5 @@ func TestManyGoroutines(t *testing.T) {
 		}()
 	}
 	all.Wait()
-	if got := failures(limiter, "192.0.2.1"); got != burst-10 {
-		t.Errorf("got %d more failures free after 10, want %d", got, burst-10)
-	}
+	diff.Equal(t, failures(limiter, "192.0.2.1"), burst-10, "")
 }
