@@ -48,7 +48,7 @@ If the creation fails for a reason that may pass, such as a timeout or a 503, it
 	flags.StringVar(&wanted.Broker, "broker", "", "the `name` of the broker, if there are several")
 	flags.StringVar(&wanted.Service, "service", "", "the `name` or id of the service in the broker's catalogue")
 	flags.StringVar(&wanted.Plan, "plan", "", "the `name` or id of the plan")
-	flags.Var((*chosenID)(&wanted.ID), "id", "the `id` of the instance, that nobody has used (default: a new GUID)")
+	flags.Var(chosenID(&wanted.ID), "id", "the `id` of the instance, that nobody has used (default: a new GUID)")
 	flags.StringVar(&wanted.Organization, "organization", "", "the `text` sent as organization_guid (default "+
 		platform.DefaultOrganization+")")
 	flags.StringVar(&wanted.Space, "space", "", "the `text` sent as space_guid (default "+platform.DefaultSpace+")")
@@ -109,7 +109,7 @@ has the ids of all tries.`,
 	}
 	flags := made.Flags()
 	flags.SortFlags = false
-	flags.Var((*chosenID)(&wanted.ID), "id", "the `id` of the binding, that nobody has used (default: a new GUID)")
+	flags.Var(chosenID(&wanted.ID), "id", "the `id` of the binding, that nobody has used (default: a new GUID)")
 	flags.Var(objectValue(&wanted.BindResource, made.InOrStdin), "resource",
 		"an object sent as bind_resource, or @ and a file with it")
 	addObjects(made, flags, &wanted.Parameters, &wanted.Context, &wanted.Identity)
@@ -189,7 +189,7 @@ func (w *waiting) Set(text string) error {
 		w.isOn, w.limit = true, 0
 		return nil
 	}
-	limit, err := secondsOf(text, time.Millisecond)
+	limit, err := cli.ParseSeconds(text, time.Millisecond, longestTime)
 	if err != nil {
 		return err
 	}

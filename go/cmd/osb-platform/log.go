@@ -11,7 +11,9 @@ import (
 	"time"
 
 	"github.com/rs/zerolog"
+	"github.com/spf13/pflag"
 
+	"pippinterm/internal/cli"
 	"pippinterm/internal/httpserver"
 	"pippinterm/internal/logs"
 	"pippinterm/platform"
@@ -21,7 +23,7 @@ import (
 // The levels of the log, the least first.
 var levels = []string{"debug", "info", "warning", "error"}
 
-// A level is the value of a flag that is one of levels.
+// A level is one of levels.
 type level int
 
 const (
@@ -31,18 +33,16 @@ const (
 	errorLevel
 )
 
-func (l *level) String() string { return levels[*l] }
-
-func (l *level) Type() string { return "level" }
-
-func (l *level) Set(text string) error {
-	for at, name := range levels {
-		if name == text {
-			*l = level(at)
-			return nil
+// levelFlag returns the value of the flag that is a level.
+func levelFlag(to *level) pflag.Value {
+	return cli.Value(to, "level", func(l level) string { return levels[l] }, func(text string) (level, error) {
+		for at, name := range levels {
+			if name == text {
+				return level(at), nil
+			}
 		}
-	}
-	return fmt.Errorf("want one of %s", strings.Join(levels, ", "))
+		return 0, fmt.Errorf("want one of %s", strings.Join(levels, ", "))
+	})
 }
 
 // An eventLog is a log without the lines below a level.

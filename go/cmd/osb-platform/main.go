@@ -10,7 +10,6 @@ import (
 	"io"
 	"os"
 	"runtime/debug"
-	"strconv"
 	"strings"
 	"syscall"
 	"time"
@@ -302,20 +301,15 @@ func (i *identity) Set(text string) error {
 	return nil
 }
 
-// A chosenID is the value of a flag that is an id. It isn't empty: a variable of a script may have been empty by
+// chosenID returns the value of a flag that is an id. It isn't empty: a variable of a script may have been empty by
 // mistake.
-type chosenID string
-
-func (i *chosenID) String() string { return string(*i) }
-
-func (i *chosenID) Type() string { return "id" }
-
-func (i *chosenID) Set(text string) error {
-	if text == "" {
-		return errors.New("it is empty: give an id, or leave --id out for a new GUID")
-	}
-	*i = chosenID(text)
-	return nil
+func chosenID(to *string) pflag.Value {
+	return cli.Text(to, "id", func(text string) (string, error) {
+		if text == "" {
+			return "", errors.New("it is empty: give an id, or leave --id out for a new GUID")
+		}
+		return text, nil
+	})
 }
 
 // longestTime is the longest time of a setting.
@@ -332,7 +326,7 @@ func (s *setting) String() string {
 	if s.to == nil || *s.to == nil {
 		return ""
 	}
-	return strconv.FormatFloat((*s.to).Seconds(), 'f', -1, 64)
+	return cli.SecondsText(**s.to)
 }
 
 func (s *setting) Type() string { return "seconds" }
@@ -342,18 +336,10 @@ func (s *setting) Set(text string) error {
 		*s.to, s.changed = nil, true
 		return nil
 	}
-	chosen, err := secondsOf(text, s.least)
+	chosen, err := cli.ParseSeconds(text, s.least, longestTime)
 	if err != nil {
 		return err
 	}
 	*s.to, s.changed = &chosen, true
 	return nil
-}
-
-func secondsOf(text string, least time.Duration) (time.Duration, error) {
-	number, err := strconv.ParseFloat(text, 64)
-	if err != nil || !(number >= least.Seconds() && number <= longestTime.Seconds()) {
-		return 0, fmt.Errorf("want a number of seconds from %v to %v", least.Seconds(), longestTime.Seconds())
-	}
-	return time.Duration(number * float64(time.Second)), nil
 }

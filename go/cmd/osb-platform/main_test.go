@@ -186,7 +186,7 @@ func TestRunOptions(t *testing.T) {
 // With the standard options, SIGTERM ends a worker within 10 seconds, whatever hangs.
 func TestStopTime(t *testing.T) {
 	given := runCommand(&app{}).Flags().Lookup("stop-seconds").DefValue
-	stop, err := secondsOf(given, 0)
+	stop, err := cli.ParseSeconds(given, 0, longestTime)
 	if err != nil || stop+lastWait+2*queueWait >= 10*time.Second {
 		t.Errorf("got %s and %v, want less than systemd's", given, lastWait+2*queueWait)
 	}
@@ -237,13 +237,13 @@ func TestCompletion(t *testing.T) {
 func TestValues(t *testing.T) {
 	for text, want := range map[string]time.Duration{"0.5": 500 * time.Millisecond, "0": 0, "31622400": longestTime} {
 		t.Run(text, func(t *testing.T) {
-			if got, err := secondsOf(text, 0); err != nil || got != want {
+			if got, err := cli.ParseSeconds(text, 0, longestTime); err != nil || got != want {
 				t.Errorf("got %v, %v, want %v", got, err, want)
 			}
 		})
 	}
 	for _, text := range []string{"", "-1", "31622401", "NaN", "1s", "inf"} {
-		got, err := secondsOf(text, 0)
+		got, err := cli.ParseSeconds(text, 0, longestTime)
 		diff.Error(t, err, "%q, %v", text, got)
 	}
 	for _, text := range []string{"0", "-1", "soon"} {

@@ -29,12 +29,12 @@ const defaultStop = 5 * time.Second
 type runSettings struct {
 	login      // of the broker default
 	moved      bool
-	worker     worker
+	worker     string
 	atOnce     int
 	seconds    time.Duration
 	look, stop time.Duration
 	once       bool
-	unsettled  policy
+	unsettled  platform.Policy
 	level      level
 	sites      siteSettings
 	servesOnly bool // whether it is the command serve, and sends nothing
@@ -42,7 +42,7 @@ type runSettings struct {
 }
 
 func runCommand(a *app) *cobra.Command {
-	s := &runSettings{unsettled: policy(platform.RemoveUnsettled), level: infoLevel, worker: worker(hostName())}
+	s := &runSettings{unsettled: platform.RemoveUnsettled, level: infoLevel, worker: hostName()}
 	made := &cobra.Command{
 		Use:   "run",
 		Short: "Send what is due, until SIGTERM",
@@ -84,16 +84,16 @@ The page and the API are served too, if --page and --api name where. GET /health
 }
 
 func (s *runSettings) addWork(flags *pflag.FlagSet) {
-	flags.Var(&s.worker, "worker", "the `name` of this worker, that no other one over the store has")
+	flags.Var(workerFlag(&s.worker), "worker", "the `name` of this worker, that no other one over the store has")
 	flags.Var(cli.Count(&s.atOnce, 16, 1, 1024), "at-once",
 		"requests that are in flight at once; half as many more if some weren't answered before")
 	flags.Var(cli.Seconds(&s.seconds, time.Minute), "seconds", "for a request to be sent and answered")
 	flags.BoolVar(&s.once, "once", false,
 		"send what is due, wait for the answers, and end. The exit status is 1 if a broker isn't reached, or if rows that "+
 			"are due stay locked")
-	flags.Var(&s.unsettled, "unsettled", "what becomes of what is unsettled under an id that was made up here: "+
+	flags.Var(unsettledFlag(&s.unsettled), "unsettled", "what becomes of what is unsettled under an id that was made up here: "+
 		"remove deletes it, wait leaves it to you. What is unsettled already stays (`remove|wait`)")
-	flags.Var(&s.level, "log-level", "the least `level` that is logged: debug, info, warning, error")
+	flags.Var(levelFlag(&s.level), "log-level", "the least `level` that is logged: debug, info, warning, error")
 	flags.Var(cli.Seconds(&s.look, time.Second), "look-seconds", "between two looks for what others have written")
 	flags.Var(cli.Seconds(&s.stop, defaultStop), "stop-seconds",
 		"for requests in flight to be answered after SIGTERM")
@@ -145,40 +145,30 @@ func (removedFlag) Type() string { return "text" }
 
 func (g removedFlag) Set(string) error { return g.says }
 
-// A policy is the value of --unsettled.
-type policy platform.Policy
-
-func (p *policy) String() string { return string(*p) }
-
-func (p *policy) Type() string { return "remove|wait" }
-
-func (p *policy) Set(text string) error {
-	switch chosen := platform.Policy(text); chosen {
-	case platform.RemoveUnsettled, platform.KeepUnsettled:
-		*p = policy(chosen)
-		return nil
-	}
-	return errors.New("want remove or wait")
+// unsettledFlag returns the value of --unsettled.
+func unsettledFlag(to *platform.Policy) pflag.Value {
+	return cli.Text(to, "remove|wait", func(text string) (platform.Policy, error) {
+		switch chosen := platform.Policy(text); chosen {
+		case platform.RemoveUnsettled, platform.KeepUnsettled:
+			return chosen, nil
+		}
+		return "", errors.New("want remove or wait")
+	})
 }
-
-// A worker is the value of --worker.
-type worker string
 
 var (
 	workerName = regexp.MustCompile(`^[A-Za-z0-9_.-]{1,64}$`)
 	notInName  = regexp.MustCompile(`[^A-Za-z0-9_.-]`)
 )
 
-func (w *worker) String() string { return string(*w) }
-
-func (w *worker) Type() string { return "name" }
-
-func (w *worker) Set(text string) error {
-	if !workerName.MatchString(text) {
-		return fmt.Errorf("a worker's name has 1 to 64 characters: letters, digits and _.-")
-	}
-	*w = worker(text)
-	return nil
+// workerFlag returns the value of --worker.
+func workerFlag(to *string) pflag.Value {
+	return cli.Text(to, "name", func(text string) (string, error) {
+		if !workerName.MatchString(text) {
+			return "", fmt.Errorf("a worker's name has 1 to 64 characters: letters, digits and _.-")
+		}
+		return text, nil
+	})
 }
 
 func hostName() string {

@@ -172,7 +172,7 @@ func (r *running) logStart() {
 		name = "serving"
 	}
 	event := r.log.at(infoLevel, name)
-	add(event, "worker", string(r.settings.worker))
+	add(event, "worker", r.settings.worker)
 	add(event, "page", r.pageURL)
 	add(event, "api", r.apiURL)
 	add(event, "health", r.healthURL)
@@ -218,7 +218,7 @@ func (r *running) open(ctx context.Context) (err error) {
 		}
 		r.reload = append(r.reload, certificatesOf(r.apiTLS.Reload))
 	}
-	if err := r.journal.open(r.settings.journal, string(r.settings.worker), r.vault); err != nil {
+	if err := r.journal.open(r.settings.journal, r.settings.worker, r.vault); err != nil {
 		return err
 	}
 	if !r.settings.servesOnly {
@@ -253,8 +253,8 @@ func (r *running) openEngine(ctx context.Context, own string) (err error) {
 	}
 	store := namingStore{Store: r.store, names: r.names}
 	with, options, err := forStorm(r.client, store, platform.Options{
-		Worker: string(s.worker), AtOnce: s.atOnce, Exchange: s.seconds, Look: s.look,
-		Unsettled: platform.Policy(s.unsettled),
+		Worker: s.worker, AtOnce: s.atOnce, Exchange: s.seconds, Look: s.look,
+		Unsettled: s.unsettled,
 	})
 	if err != nil {
 		return err
@@ -288,7 +288,7 @@ type right struct {
 // work steps what is due until stop is done. If the right to the name of the worker is lost, as after an outage of
 // PostgreSQL, it takes it again.
 func (r *running) work(work, stop context.Context) error {
-	end, lost, err := r.store.Only(stop, string(r.settings.worker))
+	end, lost, err := r.store.Only(stop, r.settings.worker)
 	if err != nil {
 		return err
 	}
@@ -313,7 +313,7 @@ func (r *running) workAs(work, stop context.Context, name *right) (again *right,
 		select {
 		case <-name.lost:
 			cancel()
-			r.log.at(warningLevel, "worker_name_lost").Str("worker", string(r.settings.worker)).Send()
+			r.log.at(warningLevel, "worker_name_lost").Str("worker", r.settings.worker).Send()
 			name.end()
 			taken <- r.nameAgain(stop)
 		case <-held.Done():
@@ -335,7 +335,7 @@ func (r *running) workAs(work, stop context.Context, name *right) (again *right,
 // notice that the session has ended.
 func (r *running) nameAgain(stop context.Context) *right {
 	for {
-		end, lost, err := r.store.Only(stop, string(r.settings.worker))
+		end, lost, err := r.store.Only(stop, r.settings.worker)
 		if err == nil && end != nil {
 			return &right{end, lost}
 		}
@@ -378,7 +378,7 @@ func (r *running) checkKeys(ctx context.Context) error {
 
 // free gives up what an earlier worker of this name has left in flight. Nothing of this one is in flight.
 func (r *running) free(ctx context.Context) error {
-	return r.store.Free(ctx, string(r.settings.worker))
+	return r.store.Free(ctx, r.settings.worker)
 }
 
 // A platformJournal is the journal of a process, if --journal names one. The zero platformJournal wraps nothing.

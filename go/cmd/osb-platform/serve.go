@@ -48,7 +48,7 @@ GET /healthz, /readyz and /metrics of --health-listen need no password.`,
 	s.sites.add(flags)
 	flags.BoolVar(&s.allowHTTP, "allow-http", false,
 		"let the API add brokers by http:// that aren't on this machine. 'run' needs it too")
-	flags.Var(&s.level, "log-level", "the least `level` that is logged: debug, info, warning, error")
+	flags.Var(levelFlag(&s.level), "log-level", "the least `level` that is logged: debug, info, warning, error")
 	flags.Var(cli.Seconds(&s.stop, defaultStop), "stop-seconds", "for requests to be answered after SIGTERM")
 	s.journal.add(flags)
 	return made

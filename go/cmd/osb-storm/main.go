@@ -54,38 +54,15 @@ docs/storm.md says how to run it against a broker or a platform of your own.`,
 	return root
 }
 
-// A choice is an option that has one of some values.
-type choice struct {
-	to     *string
-	values []string
-}
-
-var _ pflag.Value = (*choice)(nil)
-
 // choiceOf returns an option that has one of some values.
-func choiceOf(to *string, value string, values ...string) *choice {
+func choiceOf(to *string, value string, values ...string) pflag.Value {
 	*to = value
-	return &choice{to, values}
-}
-
-// String returns the value.
-func (c *choice) String() string {
-	if c.to == nil {
-		return ""
-	}
-	return *c.to
-}
-
-// Type returns the word for a value in the help.
-func (c *choice) Type() string { return "word" }
-
-// Set sets the value.
-func (c *choice) Set(text string) error {
-	for _, value := range c.values {
-		if text == value {
-			*c.to = text
-			return nil
+	return cli.Text(to, "word", func(text string) (string, error) {
+		for _, value := range values {
+			if text == value {
+				return text, nil
+			}
 		}
-	}
-	return fmt.Errorf("choose one of: %s", strings.Join(c.values, ", "))
+		return "", fmt.Errorf("choose one of: %s", strings.Join(values, ", "))
+	})
 }

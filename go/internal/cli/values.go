@@ -27,15 +27,36 @@ const (
 // an error and leaves *to unchanged. (The formats of Seconds, Count, Address and Place are this project's choice.)
 func Seconds(to *time.Duration, standard time.Duration) pflag.Value {
 	*to = standard
-	return (*seconds)(to)
+	return Value(to, "seconds", SecondsText, func(text string) (time.Duration, error) {
+		return ParseSeconds(text, shortest, longest)
+	})
 }
+
+// ParseSeconds returns the time of a text that is a number of seconds from least to most, with or without a fraction.
+func ParseSeconds(text string, least, most time.Duration) (time.Duration, error) {
+	number, err := strconv.ParseFloat(text, 64)
+	// a comparison with a number that isn't one is false
+	if err != nil || !(number >= least.Seconds() && number <= most.Seconds()) {
+		return 0, fmt.Errorf("want a number of seconds from %v to %v", least.Seconds(), most.Seconds())
+	}
+	return time.Duration(number * float64(time.Second)), nil
+}
+
+// SecondsText returns a time as the number of its seconds.
+func SecondsText(of time.Duration) string { return strconv.FormatFloat(of.Seconds(), 'f', -1, 64) }
 
 // Count returns the value of a flag that is a whole number from least to most, in decimal digits. It sets *to to
 // standard immediately, and to the number when the flag is read. If the text is anything else, Set returns an error and
 // leaves *to unchanged.
 func Count(to *int, standard, least, most int) pflag.Value {
 	*to = standard
-	return &count{to: to, least: least, most: most}
+	return Value(to, "number", strconv.Itoa, func(text string) (int, error) {
+		number, err := strconv.Atoi(text)
+		if err != nil || strings.HasPrefix(text, "+") || number < least || number > most {
+			return 0, fmt.Errorf("want a number from %d to %d", least, most)
+		}
+		return number, nil
+	})
 }
 
 // Address returns the value of a flag that is an address HOST:PORT at which a program listens. The host is a name, an
@@ -44,20 +65,37 @@ func Count(to *int, standard, least, most int) pflag.Value {
 // takes, such as [::1]:0. If the text is anything else, Set returns an error and leaves *to unchanged.
 func Address(to *string, standard string) pflag.Value {
 	*to = standard
-	return (*address)(to)
+	return Text(to, "host:port", parseAddress)
 }
 
 // Networks returns the value of a flag that may be given several times: each time it is an IP address, or a network such
 // as 10.1.0.0/16, which is added to *to. If the text is anything else, or the network of all addresses, Set returns an
 // error and leaves *to unchanged.
-func Networks(to *[]netip.Prefix) pflag.Value { return (*networks)(to) }
+func Networks(to *[]netip.Prefix) pflag.Value {
+	show := func(all []netip.Prefix) string {
+		return strings.Trim(strings.Join(strings.Fields(fmt.Sprint(all)), ","), "[]")
+	}
+	return Value(to, "network", show, func(text string) ([]netip.Prefix, error) {
+		network, err := netip.ParsePrefix(text)
+		if address, failed := netip.ParseAddr(text); failed == nil && address.Zone() == "" {
+			network, err = netip.PrefixFrom(address, address.BitLen()), nil
+		}
+		switch {
+		case err != nil || network.Addr().Is4In6():
+			return nil, fmt.Errorf("want an address or a network, such as 10.1.2.3 or 10.1.0.0/16")
+		case network.Bits() == 0:
+			return nil, fmt.Errorf("want a smaller network: with %s, each client could name any address as its own", text)
+		}
+		return append(*to, network.Masked()), nil
+	})
+}
 
 // Place returns the value of a flag that is the path of a file or a folder, or the URL of a PostgreSQL server. It sets
 // *to to standard immediately, and to the text when the flag is read. Set returns the error of CheckPlace, and leaves
 // *to unchanged then.
 func Place(to *string, standard string) pflag.Value {
 	*to = standard
-	return (*place)(to)
+	return Text(to, "place", func(text string) (string, error) { return text, CheckPlace(text) })
 }
 
 // CheckPlace returns an error if a text is the URL of anything but a PostgreSQL server: a scheme that is misspelt would
@@ -81,107 +119,53 @@ func isScheme(text string) bool {
 	return text != ""
 }
 
-type place string
+// Value returns the value of a flag whose texts parse reads and show writes. Its word in the help is kind. If parse
+// returns an error, Set returns the error and leaves *to unchanged.
+func Value[T any](to *T, kind string, show func(T) string, parse func(text string) (T, error)) pflag.Value {
+	return &value[T]{to, kind, show, parse}
+}
 
-func (p *place) String() string { return string(*p) }
+// Text returns the value of a flag that is a text, as Value does.
+func Text[T ~string](to *T, kind string, parse func(text string) (T, error)) pflag.Value {
+	return Value(to, kind, func(it T) string { return string(it) }, parse)
+}
 
-func (p *place) Set(text string) error {
-	if err := CheckPlace(text); err != nil {
-		return err
+type value[T any] struct {
+	to    *T
+	kind  string
+	show  func(T) string
+	parse func(text string) (T, error)
+}
+
+func (v *value[T]) String() string { return v.show(*v.to) }
+
+func (v *value[T]) Type() string { return v.kind }
+
+func (v *value[T]) Set(text string) error {
+	read, err := v.parse(text)
+	if err == nil {
+		*v.to = read
 	}
-	*p = place(text)
-	return nil
+	return err
 }
 
-func (p *place) Type() string { return "place" }
-
-type seconds time.Duration
-
-func (s *seconds) String() string {
-	return strconv.FormatFloat(time.Duration(*s).Seconds(), 'f', -1, 64)
-}
-
-func (s *seconds) Set(text string) error {
-	number, err := strconv.ParseFloat(text, 64)
-	// a comparison with a number that isn't one is false
-	if err != nil || !(number >= shortest.Seconds() && number <= longest.Seconds()) {
-		return fmt.Errorf("want a number of seconds from %v to %v", shortest.Seconds(), longest.Seconds())
-	}
-	*s = seconds(number * float64(time.Second))
-	return nil
-}
-
-func (s *seconds) Type() string { return "seconds" }
-
-type count struct {
-	to          *int
-	least, most int
-}
-
-func (c *count) String() string { return strconv.Itoa(*c.to) }
-
-func (c *count) Set(text string) error {
-	number, err := strconv.Atoi(text)
-	if err != nil || strings.HasPrefix(text, "+") || number < c.least || number > c.most {
-		return fmt.Errorf("want a number from %d to %d", c.least, c.most)
-	}
-	*c.to = number
-	return nil
-}
-
-func (c *count) Type() string { return "number" }
-
-type address string
-
-func (a *address) String() string { return string(*a) }
-
-func (a *address) Set(text string) error {
+func parseAddress(text string) (string, error) {
 	colon := strings.LastIndexByte(text, ':')
 	if colon < 0 {
-		return fmt.Errorf("want HOST:PORT")
+		return "", fmt.Errorf("want HOST:PORT")
 	}
 	host, port := text[:colon], text[colon+1:]
 	if strings.HasPrefix(host, "[") && strings.HasSuffix(host, "]") {
 		host = host[1 : len(host)-1]
 	}
 	if host == "" || strings.ContainsAny(host, "/@[] ") {
-		return fmt.Errorf("want HOST:PORT, such as 127.0.0.1:8080 or [::1]:8080")
+		return "", fmt.Errorf("want HOST:PORT, such as 127.0.0.1:8080 or [::1]:8080")
 	}
 	if !isPort(port) {
-		return fmt.Errorf("want HOST:PORT with a port from 0 to 65535")
+		return "", fmt.Errorf("want HOST:PORT with a port from 0 to 65535")
 	}
-	*a = address(net.JoinHostPort(host, port))
-	return nil
+	return net.JoinHostPort(host, port), nil
 }
-
-func (a *address) Type() string { return "host:port" }
-
-type networks []netip.Prefix
-
-func (n *networks) String() string {
-	var texts []string
-	for _, network := range *n {
-		texts = append(texts, network.String())
-	}
-	return strings.Join(texts, ",")
-}
-
-func (n *networks) Set(text string) error {
-	network, err := netip.ParsePrefix(text)
-	if address, failed := netip.ParseAddr(text); failed == nil && address.Zone() == "" {
-		network, err = netip.PrefixFrom(address, address.BitLen()), nil
-	}
-	switch {
-	case err != nil || network.Addr().Is4In6():
-		return fmt.Errorf("want an address or a network, such as 10.1.2.3 or 10.1.0.0/16")
-	case network.Bits() == 0:
-		return fmt.Errorf("want a smaller network: with %s, each client could name any address as its own", text)
-	}
-	*n = append(*n, network.Masked())
-	return nil
-}
-
-func (n *networks) Type() string { return "network" }
 
 func isPort(text string) bool {
 	if strings.Trim(text, "0123456789") != "" {
