@@ -41,7 +41,7 @@ func TestJournalAtCrashPoints(t *testing.T) {
 				_ = given.Body.Close()
 				t.Errorf("got the status %d, want it killed", given.StatusCode)
 			}
-			_ = s.command.Wait()
+			_ = s.Wait()
 			if got := eventsIn(t, folder); strings.Join(got, "; ") != "started, "+want {
 				t.Errorf("got %q, want %s", got, want)
 			}

@@ -101,7 +101,7 @@ func (h haproxy) status(from, login string, header http.Header) int {
 func (s *servedBroker) failedLogins(count int) (addresses []string) {
 	s.t.Helper()
 	for len(addresses) < count {
-		if event := s.event("request"); event["status"] == float64(401) {
+		if event := s.Event("request"); event["status"] == float64(401) {
 			addresses = append(addresses, event["address"].(string))
 		}
 	}
@@ -140,13 +140,10 @@ func TestBehindAProxyThatIsNotTrusted(t *testing.T) {
 	h := behind(t, s, func(config string) string { return strings.ReplaceAll(config, "send-proxy-v2", "") })
 	diff.Equal(t, h.status("127.0.0.2", "wrong", http.Header{"X-Forwarded-For": {"127.0.0.2"}}), 401, "")
 	diff.Equal(t, s.failedLogins(1)[0], "127.0.0.1", "")
-	connection, err := net.Dial("tcp", strings.TrimPrefix(s.url, "http://"))
-	check(t, err)
-	defer connection.Close()
+	connection := dial(t, strings.TrimPrefix(s.url, "http://"))
 	const sent = "PROXY TCP4 127.0.0.2 127.0.0.1 1 2\r\nGET /v2/catalog HTTP/1.1\r\n\r\n"
-	if _, err := connection.Write([]byte(sent)); err != nil {
-		t.Fatal(err)
-	}
+	_, err := io.WriteString(connection, sent)
+	check(t, err)
 	answer := make([]byte, 12)
 	if _, err := connection.Read(answer); err != nil || string(answer) != "HTTP/1.1 400" {
 		t.Errorf("got %q, %v, want 400", answer, err)
@@ -217,10 +214,7 @@ func TestConnectionsOfOneAddress(t *testing.T) {
 	address := strings.TrimPrefix(s.url, "http://")
 	open := 0
 	for count := 0; count < connections; count++ {
-		connection, err := net.Dial("tcp", address)
-		check(t, err)
-		defer connection.Close()
-		check(t, connection.SetDeadline(time.Now().Add(time.Minute)))
+		connection := dial(t, address)
 		_, _ = connection.Write([]byte("GET /healthz HTTP/1.1\r\nHost: a\r\n\r\n")) // it may be closed already
 		if got, _ := connection.Read(make([]byte, 1)); got == 1 {
 			open++
@@ -230,7 +224,7 @@ func TestConnectionsOfOneAddress(t *testing.T) {
 	if got := (haproxy{t, s.url}).status("127.0.0.2", password, nil); got != 200 {
 		t.Errorf("another address got %d, want 200", got)
 	}
-	event, _ := json.Marshal(s.event("address_at_limit"))
+	event, _ := json.Marshal(s.Event("address_at_limit"))
 	diff.Contains(t, string(event), "127.0.0.1/32 has 2 connections", "the log")
 	s.stop()
 }

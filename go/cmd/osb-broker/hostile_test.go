@@ -36,13 +36,7 @@ import (
 // dial connects to the broker.
 func (s *servedBroker) dial() *net.TCPConn {
 	s.t.Helper()
-	conn, err := net.Dial("tcp", strings.TrimPrefix(s.url, "http://"))
-	if err == nil {
-		err = conn.SetDeadline(time.Now().Add(20 * time.Second))
-	}
-	check(s.t, err)
-	s.t.Cleanup(func() { _ = conn.Close() })
-	return conn.(*net.TCPConn)
+	return dial(s.t, strings.TrimPrefix(s.url, "http://")).(*net.TCPConn)
 }
 
 // raw sends bytes and nothing more, and returns the whole answer.
@@ -81,19 +75,17 @@ func TestLogHasNoPassword(t *testing.T) {
 	requests := 0
 	for _, login := range logins {
 		for _, target := range []string{"/v2/catalog", one + "/last_operation", "/nowhere"} {
-			request, err := http.NewRequest("GET", s.url+target, nil)
-			check(t, err)
+			request := s.request("", "", "GET", target, "")
 			request.Header.Set("Authorization", login)
-			request.Header.Set("X-Broker-API-Version", "2.17")
 			if status, body := s.do(request); (status == 401) != (login != logins[0]) {
 				t.Errorf("login %s: got %d %s, want 401 for each but the first", login, status, body)
 			}
 			requests++
 		}
 	}
-	check(t, s.command.Process.Signal(syscall.SIGTERM))
+	s.Terminate()
 	logged := 0
-	for line := range s.lines {
+	for line := range s.Lines {
 		if strings.Contains(line, `"event":"request"`) {
 			logged++
 		}

@@ -1,10 +1,8 @@
 package main
 
 import (
-	"encoding/json"
 	"fmt"
 	"net/http"
-	"os"
 	"path/filepath"
 	"strings"
 	"testing"
@@ -15,37 +13,26 @@ import (
 	"pippinterm/internal/diff"
 	"pippinterm/internal/journalfile"
 	"pippinterm/internal/pg"
+	"pippinterm/internal/programtest"
 	"pippinterm/internal/sqlitefile"
 )
 
 // eventsIn are the events of all files of a folder with journals, one text for each file, by name.
 func eventsIn(t *testing.T, folder string) (all []string) {
 	t.Helper()
-	paths, err := filepath.Glob(filepath.Join(folder, "*"))
-	check(t, err)
-	for _, path := range paths {
-		text, err := os.ReadFile(path)
-		check(t, err)
-		var events []string
-		for _, line := range strings.Split(strings.TrimSuffix(string(text), "\n"), "\n") {
-			var read struct {
-				Event, Call, Stage string
-				Doubtful           bool
-			}
-			if err := json.Unmarshal([]byte(line), &read); err != nil {
-				t.Fatalf("%s: %q: got the error %v, want none", path, line, err)
-			}
-			switch {
-			case read.Event == "work":
-				read.Event = read.Call + " " + read.Stage
-			case read.Doubtful:
-				read.Event += " doubtful"
-			}
-			events = append(events, read.Event)
-		}
-		all = append(all, strings.Join(events, ", "))
+	type line struct {
+		Event, Call, Stage string
+		Doubtful           bool
 	}
-	return all
+	return programtest.Journals(t, folder, func(read line) string {
+		switch {
+		case read.Event == "work":
+			return read.Call + " " + read.Stage
+		case read.Doubtful:
+			return read.Event + " doubtful"
+		}
+		return read.Event
+	})
 }
 
 // The lines of a creation and of the deletion that follows.
@@ -80,8 +67,8 @@ func TestJournalAfterAKill(t *testing.T) {
 		if status, body := s.ask("PUT", one, order); status > 201 {
 			t.Fatalf("got %d %s, want 201 or less", status, body)
 		}
-		check(t, s.command.Process.Kill())
-		_ = s.command.Wait()
+		check(t, s.Process.Kill())
+		_ = s.Wait()
 	}
 	got := eventsIn(t, filepath.Dir(file))
 	if want := "started, " + creating + ", started, arrived, answered"; len(got) != 1 || got[0] != want {
@@ -144,13 +131,13 @@ type (
 func TestJournalOfAFullStore(t *testing.T) {
 	folder := t.TempDir()
 	s := start(t, []string{password}, "--state", t.TempDir(), "--journal", folder)
-	s.longest(200_000)
+	s.LimitFiles(200_000)
 	status := 201
 	for n := 0; n < 200 && status == 201; n++ {
 		status, _ = s.ask("PUT", fmt.Sprint(one, n), order)
 	}
-	s.longest(unix.RLIM_INFINITY)
-	s.untilReady(200)
+	s.LimitFiles(unix.RLIM_INFINITY)
+	s.until(200, "", "GET", "/readyz", "")
 	s.expect(201, "PUT", one, order)
 	s.stop()
 	events := eventsIn(t, folder)[0]

@@ -1,7 +1,6 @@
 package main
 
 import (
-	"bufio"
 	"bytes"
 	"context"
 	"crypto/tls"
@@ -23,6 +22,7 @@ import (
 	"pippinterm/broker"
 	"pippinterm/broker/sqlite"
 	"pippinterm/internal/diff"
+	"pippinterm/internal/programtest"
 )
 
 // The test binary is the program too.
@@ -47,71 +47,38 @@ const password = "OSB_BROKER_PASSWORD=secret"
 
 // A servedBroker is a broker that serves.
 type servedBroker struct {
-	t       *testing.T
-	command *exec.Cmd
-	lines   chan string
-	seen    []string // the lines of the log that event has taken
-	url     string
-	client  *http.Client
+	*programtest.Program
+	t      *testing.T
+	url    string
+	client *http.Client
 }
 
 // start starts a broker at a free port, and waits until it serves.
 func start(t *testing.T, environment []string, arguments ...string) *servedBroker {
 	t.Helper()
+	command := osbBroker(environment, append([]string{"serve", "--listen", "127.0.0.1:0"}, arguments...)...)
 	s := &servedBroker{
-		t: t, command: osbBroker(environment, append([]string{"serve", "--listen", "127.0.0.1:0"}, arguments...)...),
-		lines:  make(chan string, 10_000),
+		Program: programtest.Start(t, command), t: t,
 		client: &http.Client{Timeout: time.Minute, Transport: &http.Transport{DisableKeepAlives: true}},
 	}
-	stderr, err := s.command.StderrPipe()
-	check(t, err)
-	check(t, s.command.Start())
-	t.Cleanup(func() {
-		_ = s.command.Process.Kill()
-		_ = s.command.Wait()
-	})
-	go func() {
-		defer close(s.lines)
-		for lines := bufio.NewScanner(stderr); lines.Scan(); {
-			s.lines <- lines.Text()
-		}
-	}()
-	s.url = s.event("serving")["url"].(string)
+	s.url = s.Event("serving")["url"].(string)
 	return s
 }
 
-// event waits for a line of the log with this event.
-func (s *servedBroker) event(name string) map[string]any {
+// request is a request of a user.
+func (s *servedBroker) request(user, password, method, path, body string) *http.Request {
 	s.t.Helper()
-	late := time.After(time.Minute)
-	for {
-		select {
-		case line, isOpen := <-s.lines:
-			if !isOpen {
-				s.t.Fatalf("got an end without %s, want it", name)
-			}
-			s.seen = append(s.seen, line)
-			var read map[string]any
-			if err := json.Unmarshal([]byte(line), &read); err != nil {
-				s.t.Fatalf("a line: got %q, want JSON", line)
-			}
-			if read["event"] == name {
-				return read
-			}
-		case <-late:
-			s.t.Fatalf("the log: got no %s in time, want one", name)
-		}
-	}
+	request, err := http.NewRequest(method, s.url+path, strings.NewReader(body))
+	check(s.t, err)
+	request.SetBasicAuth(user, password)
+	request.Header.Set("X-Broker-API-Version", "2.17")
+	return request
 }
 
 // ask sends a request of the platform, and returns the status and the body.
 func (s *servedBroker) ask(method, path, body string) (int, string) {
 	s.t.Helper()
-	request, err := http.NewRequest(method, s.url+path, strings.NewReader(body))
-	check(s.t, err)
-	request.SetBasicAuth("platform", "secret")
-	request.Header.Set("X-Broker-API-Version", "2.17")
-	return s.do(request)
+	return s.do(s.request("platform", "secret", method, path, body))
 }
 
 func (s *servedBroker) do(request *http.Request) (int, string) {
@@ -124,16 +91,18 @@ func (s *servedBroker) do(request *http.Request) (int, string) {
 	return given.StatusCode, string(text)
 }
 
-// stop sends SIGTERM, and waits for status 0.
+// stop sends SIGTERM, and waits for the end of all work and of the broker.
 func (s *servedBroker) stop() {
 	s.t.Helper()
-	check(s.t, s.command.Process.Signal(syscall.SIGTERM))
-	if ended := s.event("stopped"); ended["all_work_ended"] != true {
-		s.t.Errorf("got %v, want that all work has ended", ended)
-	}
-	for range s.lines { // until it ends
-	}
-	diff.NoError(s.t, s.command.Wait(), "after SIGTERM")
+	s.Terminate()
+	s.ends(true)
+}
+
+// ends waits for the end of the broker, and checks whether all work has ended before.
+func (s *servedBroker) ends(afterAllWork bool) {
+	s.t.Helper()
+	diff.Check(s.t, s.Event("stopped")["all_work_ended"], afterAllWork, "all_work_ended")
+	s.End()
 }
 
 const (
@@ -281,13 +250,7 @@ func TestKey(t *testing.T) {
 func TestTLS(t *testing.T) {
 	folder := t.TempDir()
 	certificate, key := filepath.Join(folder, "c"), filepath.Join(folder, "k")
-	make := func(name string) {
-		line := []string{"req", "-x509", "-newkey", "ec", "-pkeyopt", "ec_paramgen_curve:prime256v1", "-nodes",
-			"-days", "1", "-subj", "/CN=" + name, "-keyout", key, "-out", certificate}
-		if out, err := exec.Command("openssl", line...).CombinedOutput(); err != nil {
-			t.Fatalf("openssl: got %v and %s, want no error", err, out)
-		}
-	}
+	make := func(name string) { programtest.WriteCertificate(t, name, certificate, key) }
 	make("first")
 	s := start(t, []string{password}, "--state", filepath.Join(folder, "s"), "--tls-certificate", certificate,
 		"--tls-key", key)
@@ -302,8 +265,8 @@ func TestTLS(t *testing.T) {
 		t.Errorf("got %d and %q, want 200 and \"first\"", status, seen)
 	}
 	make("second")
-	check(t, s.command.Process.Signal(syscall.SIGHUP))
-	s.event("certificates_reloaded")
+	check(t, s.Process.Signal(syscall.SIGHUP))
+	s.Event("certificates_reloaded")
 	if status, _ := s.ask("GET", "/v2/catalog", ""); status != 200 || seen != "second" {
 		t.Errorf("got %d and %q, want 200 and \"second\"", status, seen)
 	}
@@ -532,7 +495,7 @@ func TestOpenStateFolder(t *testing.T) {
 		s := start(t, []string{password}, "--state", state)
 		s.stop()
 		warned := false
-		for _, line := range s.seen {
+		for _, line := range s.Seen {
 			warned = warned || strings.Contains(line, `"event":"folder_open"`) && strings.Contains(line, state)
 		}
 		diff.Equal(t, warned, isOpen, "a state folder of mode %o is reported", mode)

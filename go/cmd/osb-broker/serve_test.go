@@ -13,7 +13,6 @@ import (
 	"net"
 	"net/http"
 	"os"
-	"os/exec"
 	"path/filepath"
 	"regexp"
 	"strings"
@@ -27,6 +26,7 @@ import (
 
 	"pippinterm/internal/cli"
 	"pippinterm/internal/diff"
+	"pippinterm/internal/programtest"
 	"pippinterm/internal/sqlitefile"
 )
 
@@ -119,7 +119,7 @@ func TestIDsReturnAfter(t *testing.T) {
 	s = start(t, []string{password}, after...)
 	diff.Contains(t, s.expect(200, "GET", "/v2/catalog", ""), `"x-osb-tombstones":false`, "")
 	s.expect(201, "PUT", one, order)
-	found := s.event("id_returned")
+	found := s.Event("id_returned")
 	if ago, _ := found["ended_seconds_ago"].(float64); ago < 300 || ago > 400 || found["request"] == "" ||
 		len(found["instance"].(string)) != 36 || found["binding"] != nil || found["level"] != "info" {
 		t.Errorf("got %v, want the ids of an instance, at the level info", found)
@@ -168,20 +168,16 @@ func (r rotation) reload(event, text string) map[string]any {
 
 func (r rotation) hangUp(event string) map[string]any {
 	r.t.Helper()
-	check(r.t, r.command.Process.Signal(syscall.SIGHUP))
-	return r.event(event)
+	check(r.t, r.Process.Signal(syscall.SIGHUP))
+	return r.Event(event)
 }
 
 // logins checks how requests with these users and passwords are answered.
 func (r rotation) logins(want map[string]int) {
 	r.t.Helper()
 	for login, status := range want {
-		request, err := http.NewRequest("GET", r.url+"/v2/catalog", nil)
-		check(r.t, err)
 		user, password, _ := strings.Cut(login, ":")
-		request.SetBasicAuth(user, password)
-		request.Header.Set("X-Broker-API-Version", "2.17")
-		given, body := r.do(request)
+		given, body := r.do(r.request(user, password, "GET", "/v2/catalog", ""))
 		diff.Equal(r.t, given, status, "%s, %s", login, body)
 	}
 }
@@ -219,7 +215,7 @@ func TestPasswordsAreReadAgain(t *testing.T) {
 // A broker whose password stands in the environment has nothing to read again, and goes on serving.
 func TestHangupWithoutFiles(t *testing.T) {
 	s := start(t, []string{password}, "--state", t.TempDir())
-	check(t, s.command.Process.Signal(syscall.SIGHUP))
+	check(t, s.Process.Signal(syscall.SIGHUP))
 	s.expect(200, "GET", "/v2/catalog", "")
 	s.stop()
 }
@@ -231,11 +227,7 @@ func TestPipesInPlaceOfFiles(t *testing.T) {
 	file := filepath.Join(folder, "password")
 	certificate, key := filepath.Join(folder, "certificate"), filepath.Join(folder, "key")
 	check(t, os.WriteFile(file, []byte("secret\n"), 0o600))
-	line := []string{"req", "-x509", "-newkey", "ec", "-pkeyopt", "ec_paramgen_curve:prime256v1", "-nodes", "-days", "1",
-		"-subj", "/CN=x", "-keyout", key, "-out", certificate}
-	if out, err := exec.Command("openssl", line...).CombinedOutput(); err != nil {
-		t.Fatalf("openssl: got %v and %s, want no error", err, out)
-	}
+	programtest.WriteCertificate(t, "x", certificate, key)
 	s := start(t, nil, "--state", filepath.Join(folder, "s"), "--password-file", file, "--tls-certificate", certificate,
 		"--tls-key", key)
 	for _, name := range []string{file, certificate} {
@@ -244,7 +236,7 @@ func TestPipesInPlaceOfFiles(t *testing.T) {
 	}
 	r := rotation{s, file}
 	diff.Contains(t, r.hangUp("users_not_reloaded")["error"].(string), "isn't a regular file", "the log")
-	late := time.AfterFunc(time.Minute, func() { _ = s.command.Process.Kill() })
+	late := time.AfterFunc(time.Minute, func() { _ = s.Process.Kill() })
 	defer late.Stop()
 	s.stop()
 	unusable(t, file+" isn't a regular file", "serve", "--state", filepath.Join(folder, "o"), "--password-file", file)
@@ -284,11 +276,7 @@ func TestARejectedLoginIsAnsweredAtOnce(t *testing.T) {
 func TestFailedLoginsOfAnAddressAreDelayed(t *testing.T) {
 	s := start(t, []string{password}, "--state", t.TempDir())
 	ask := func(secret string, want int) {
-		request, err := http.NewRequest("GET", s.url+"/v2/catalog", nil)
-		check(t, err)
-		request.SetBasicAuth("platform", secret)
-		request.Header.Set("X-Broker-API-Version", "2.17")
-		status, body := s.do(request)
+		status, body := s.do(s.request("platform", secret, "GET", "/v2/catalog", ""))
 		diff.Equal(t, status, want, "password %s, %s", secret, body)
 	}
 	for count := 0; count < 22; count++ { // one more is free each 3 seconds
@@ -358,8 +346,8 @@ func TestRequestsWhileItStops(t *testing.T) {
 			s := g.start("--health-listen", address)
 			s.send("PUT", one+async, plan)
 			g.waits()
-			g.check(s.command.Process.Signal(syscall.SIGTERM))
-			s.event("stopping")
+			s.Terminate()
+			s.Event("stopping")
 			second := strings.Replace(one, "one", "two", 1)
 			for _, test := range []struct{ method, path, body string }{
 				{"GET", "/v2/catalog", ""}, {"PUT", second, order}, {"GET", poll, ""}, {"DELETE", one + names, ""},
@@ -374,9 +362,7 @@ func TestRequestsWhileItStops(t *testing.T) {
 				}
 			}
 			g.open()
-			if stopped := s.event("stopped"); stopped["all_work_ended"] != true {
-				t.Errorf("got %v, want that all work has ended", stopped)
-			}
+			s.ends(true)
 			diff.Equal(t, g.count(), 1, "create: calls")
 		})
 	}
@@ -389,8 +375,8 @@ func TestHealthWhileItStops(t *testing.T) {
 		s := g.start(fmt.Sprintf("--share-port=%v", isShared))
 		s.send("PUT", one, order)
 		g.waits()
-		g.check(s.command.Process.Signal(syscall.SIGTERM))
-		s.event("stopping")
+		s.Terminate()
+		s.Event("stopping")
 		if !isShared {
 			for _, path := range []string{"/healthz", "/readyz"} {
 				if status, body := s.plain(path); status != 503 || !isRejection(body) {
@@ -409,9 +395,7 @@ func TestHealthWhileItStops(t *testing.T) {
 			}
 		}
 		g.open()
-		if stopped := s.event("stopped"); stopped["all_work_ended"] != true {
-			t.Errorf("got %v, want that all work has ended", stopped)
-		}
+		s.ends(true)
 	}
 }
 
@@ -429,9 +413,9 @@ func TestLogHasNoPasswordOfATarget(t *testing.T) {
 		}
 	}
 	s.raw("GET /nowhere HTTP/1.1" + headers() + "Connection: close\r\n\r\n")
-	check(t, s.command.Process.Signal(syscall.SIGTERM))
+	s.Terminate()
 	seen := false
-	for line := range s.lines {
+	for line := range s.Lines {
 		seen = seen || strings.Contains(line, `"target":"http://host/v2/catalog"`)
 		diff.Lacks(t, line, "hidden", "the log")
 	}

@@ -5,7 +5,6 @@ import (
 	"bytes"
 	"fmt"
 	"io"
-	"net"
 	"net/http"
 	"os"
 	"path/filepath"
@@ -16,6 +15,7 @@ import (
 	"time"
 
 	"pippinterm/internal/diff"
+	"pippinterm/internal/programtest"
 )
 
 // A gate is a backend whose create says when it has begun, and goes on once the test says so.
@@ -122,26 +122,15 @@ const (
 func TestStopWaitsForAnOperation(t *testing.T) {
 	g := newGate(t)
 	s := g.start()
-	if status, body := s.ask("PUT", one+async, asyncOrder); status != 202 {
-		t.Fatalf("got %d %s, want 202", status, body)
-	}
+	s.expect(202, "PUT", one+async, asyncOrder)
 	g.waits()
-	g.check(s.command.Process.Signal(syscall.SIGTERM))
-	s.event("stopping")
+	s.Terminate()
+	s.Event("stopping")
 	g.open()
-	if ended := s.event("operation_ended"); ended["succeeded"] != true {
-		t.Errorf("got %v, want an operation that has succeeded", ended)
-	}
-	if stopped := s.event("stopped"); stopped["all_work_ended"] != true {
-		t.Errorf("got %v, want that all work has ended", stopped)
-	}
-	for range s.lines { // until it ends
-	}
-	diff.NoError(t, s.command.Wait(), "after SIGTERM")
+	diff.Check(t, s.Event("operation_ended")["succeeded"], true, "the operation has succeeded")
+	s.ends(true)
 	s = g.start("--existing")
-	if status, body := s.ask("GET", poll, ""); status != 200 || !strings.Contains(body, "succeeded") {
-		t.Errorf("got %d %s, want 200 and succeeded", status, body)
-	}
+	diff.Contains(t, s.expect(200, "GET", poll, ""), "succeeded", "the operation")
 	s.stop()
 	diff.Equal(t, g.count(), 1, "create: calls")
 }
@@ -150,17 +139,10 @@ func TestStopWaitsForAnOperation(t *testing.T) {
 func TestStopDoesNotWaitForEver(t *testing.T) {
 	g := newGate(t)
 	s := g.start("--stop-seconds", "0.1")
-	if status, body := s.ask("PUT", one+async, asyncOrder); status != 202 {
-		t.Fatalf("got %d %s, want 202", status, body)
-	}
+	s.expect(202, "PUT", one+async, asyncOrder)
 	g.waits()
-	g.check(s.command.Process.Signal(syscall.SIGTERM))
-	if stopped := s.event("stopped"); stopped["all_work_ended"] != false {
-		t.Errorf("got %v, want that not all work has ended", stopped)
-	}
-	for range s.lines { // until it ends
-	}
-	diff.NoError(t, s.command.Wait(), "after SIGTERM")
+	s.Terminate()
+	s.ends(false)
 	s = g.start("--existing")
 	g.waits() // the create was killed, and begins again
 	g.open()
@@ -178,7 +160,7 @@ func TestKilledInsideCreate(t *testing.T) {
 				s := g.start()
 				s.send("PUT", one+async, body)
 				g.waits()
-				g.check(s.command.Process.Kill())
+				g.check(s.Process.Kill())
 				if !livesOn {
 					g.killCreate()
 				}
@@ -186,9 +168,7 @@ func TestKilledInsideCreate(t *testing.T) {
 				if !livesOn {
 					g.waits()
 				}
-				if status, body := s.ask("GET", poll, ""); status != 200 || !strings.Contains(body, "in progress") {
-					t.Errorf("got %d %s, want 200 and in progress", status, body)
-				}
+				diff.Contains(t, s.expect(200, "GET", poll, ""), "in progress", "the operation")
 				g.open()
 				s.until(200, "succeeded", "GET", poll, "")
 				s.stop()
@@ -226,10 +206,7 @@ func (g *gate) killCreate() {
 // send sends a request whose answer may never arrive.
 func (s *servedBroker) send(method, path, body string) {
 	s.t.Helper()
-	request, err := http.NewRequest(method, s.url+path, strings.NewReader(body))
-	check(s.t, err)
-	request.SetBasicAuth("platform", "secret")
-	request.Header.Set("X-Broker-API-Version", "2.17")
+	request := s.request("platform", "secret", method, path, body)
 	go func() {
 		if given, err := s.client.Do(request); err == nil {
 			_ = given.Body.Close()
@@ -267,12 +244,6 @@ func TestAnswerToALongBodyArrives(t *testing.T) {
 	s.stop()
 }
 
-const (
-	asynchronous = "00000000-0000-0000-0000-0000000000b2"
-	orderLater   = `{"service_id":"` + service + `","plan_id":"` + asynchronous +
-		`","organization_guid":"o","space_guid":"s"}`
-)
-
 // --wait-for-poll ends a creation for which no Poll arrives. Without a Poll, the broker looks at it as often as
 // --sweep-seconds says.
 func TestWaitForPoll(t *testing.T) {
@@ -282,26 +253,21 @@ func TestWaitForPoll(t *testing.T) {
 	}{{"0.2", true}, {"600", false}} {
 		t.Run(test.seconds+" seconds", func(t *testing.T) {
 			s := start(t, []string{password}, "--state", t.TempDir(), "--wait-for-poll", test.seconds, "--sweep-seconds", "0.1")
-			s.expect(202, "PUT", one+"?accepts_incomplete=true", orderLater)
+			s.expect(202, "PUT", one+async, asyncOrder)
 			if !test.fails {
-				s.expect(200, "GET", one+"/last_operation", "")
-				if ended := s.event("operation_ended"); ended["succeeded"] != true {
-					t.Errorf("got %v, want an operation that has succeeded", ended)
-				}
+				s.expect(200, "GET", poll, "")
+				diff.Check(t, s.Event("operation_ended")["succeeded"], true, "the operation has succeeded")
 				s.stop()
 				return
 			}
-			if found := s.event("creation_timed_out"); found["instance"] == "" || found["error"] == "" {
+			if found := s.Event("creation_timed_out"); found["instance"] == "" || found["error"] == "" {
 				t.Errorf("got %v, want an instance and an error", found)
 			}
-			status, body := s.ask("GET", one+"/last_operation", "")
-			if status != 200 || !strings.Contains(body, `"failed"`) || !strings.Contains(body, "No Poll") {
-				t.Errorf("a Poll: got %d %s, want 200, failed and No Poll", status, body)
-			}
-			status, body = s.ask("PUT", one+"?accepts_incomplete=true", orderLater)
-			diff.Equal(t, status, 500, "the Provision")
-			diff.Contains(t, body, "No Poll", "the Provision")
-			s.expect(202, "DELETE", one+"?service_id="+service+"&plan_id="+asynchronous+"&accepts_incomplete=true", "")
+			polled := s.expect(200, "GET", poll, "")
+			diff.Contains(t, polled, `"failed"`, "a Poll")
+			diff.Contains(t, polled, "No Poll", "a Poll")
+			diff.Contains(t, s.expect(500, "PUT", one+async, asyncOrder), "No Poll", "the Provision")
+			s.expect(202, "DELETE", one+asyncNames+"&accepts_incomplete=true", "")
 			s.stop()
 		})
 	}
@@ -323,30 +289,17 @@ func TestHungCommandsDontHoldUpOthers(t *testing.T) {
 	folder := t.TempDir()
 	program := filepath.Join(folder, "backend")
 	check(t, os.WriteFile(program, []byte(hanging), 0o700))
-	const byWorker = "00000000-0000-0000-0000-0000000000b2"
 	s := start(t, []string{password}, "--state", folder, "--backend", "command:"+program, "--stop-seconds", "0.1")
 	create := func(name, parameters string) string {
 		path := "/v2/service_instances/" + name
-		body := strings.Replace(order, atOnce, byWorker, 1)
-		body = strings.Replace(body, "{", `{"parameters":`+parameters+`,`, 1)
-		s.expect(202, "PUT", path+"?accepts_incomplete=true", body)
+		s.expect(202, "PUT", path+async, strings.Replace(asyncOrder, "{", `{"parameters":`+parameters+`,`, 1))
 		s.expect(200, "GET", path+"/last_operation", "") // which the creation waits for
 		return path
 	}
 	for n := 0; n < 4; n++ {
 		create(fmt.Sprint("bad", n), `{"mode":"hang"}`)
 	}
-	good, end := create("good", "{}"), time.Now().Add(2*time.Minute)
-	for {
-		_, body := s.ask("GET", good+"/last_operation", "")
-		if strings.Contains(body, "succeeded") {
-			break
-		}
-		if time.Now().After(end) {
-			t.Fatalf("the good creation: got %s, want its end", body)
-		}
-		time.Sleep(20 * time.Millisecond)
-	}
+	s.until(200, "succeeded", "GET", create("good", "{}")+"/last_operation", "")
 	for n := 0; n < 4; n++ {
 		_, body := s.ask("GET", fmt.Sprintf("/v2/service_instances/bad%d/last_operation", n), "")
 		diff.Contains(t, body, "in progress", "a creation that hangs")
@@ -355,23 +308,12 @@ func TestHungCommandsDontHoldUpOthers(t *testing.T) {
 
 // The service manager gets READY=1 once the broker listens, and STOPPING=1 after SIGTERM.
 func TestServiceManagerGetsReports(t *testing.T) {
-	name := filepath.Join(t.TempDir(), "notify")
-	manager, err := net.ListenUnixgram("unixgram", &net.UnixAddr{Name: name, Net: "unixgram"})
-	check(t, err)
-	defer manager.Close()
+	name, next := programtest.Manager(t)
 	s := start(t, []string{password, "NOTIFY_SOCKET=" + name}, "--state", t.TempDir())
-	for _, want := range []string{"READY=1", "STOPPING=1"} {
-		buffer := make([]byte, 100)
-		check(t, manager.SetReadDeadline(time.Now().Add(20*time.Second)))
-		length, err := manager.Read(buffer)
-		if got := string(buffer[:length]); got != want || err != nil {
-			t.Fatalf("got %q, %v, want %q", got, err, want)
-		}
-		if want == "READY=1" {
-			s.expect(200, "GET", "/v2/catalog", "")
-			s.stop()
-		}
-	}
+	diff.Equal(t, next(), "READY=1", "once it listens")
+	s.expect(200, "GET", "/v2/catalog", "")
+	s.stop()
+	diff.Equal(t, next(), "STOPPING=1", "after SIGTERM")
 }
 
 // A broker that can't reach the service manager serves, and logs why.
@@ -379,8 +321,8 @@ func TestServesWithoutTheServiceManager(t *testing.T) {
 	name := filepath.Join(t.TempDir(), "nobody")
 	s := start(t, []string{password, "NOTIFY_SOCKET=" + name}, "--state", t.TempDir())
 	s.expect(200, "GET", "/v2/catalog", "")
-	check(t, s.command.Process.Signal(syscall.SIGTERM))
-	reason, _ := s.event("stopping")["notify_error"].(string)
+	s.Terminate()
+	reason, _ := s.Event("stopping")["notify_error"].(string)
 	diff.Contains(t, reason, "STOPPING=1", "the log")
 	diff.Contains(t, reason, name, "the log")
 	s.stop()

@@ -141,7 +141,7 @@ func TestStoreGoesAway(t *testing.T) {
 		{"PUT", one + "/service_bindings/b", bind}, {"DELETE", one + names, ""},
 	} {
 		diff.Contains(t, s.expect(503, test[0], test[1], test[2]), "Send it again later.", "%s %s", test[0], test[1])
-		if failed := s.event("request_failed"); failed["error"] == "" {
+		if failed := s.Event("request_failed"); failed["error"] == "" {
 			t.Errorf("the log: got %v, want an error", failed)
 		}
 	}
@@ -156,11 +156,8 @@ func TestStoreGoesAway(t *testing.T) {
 // /metrics is answered though the store hangs, as the server does after SIGSTOP. Its sessions notice that much later.
 func TestMetricsWhileTheStoreHangs(t *testing.T) {
 	address, environment := postgresql(t)
-	schema := "osb_metrics_hangs"
-	db := pgtest.DB(t, pgtest.URL(t))
-	pgtest.Exec(t, db, "DROP SCHEMA IF EXISTS "+schema+" CASCADE", "CREATE SCHEMA "+schema)
-	t.Cleanup(func() { pgtest.Exec(t, db, "DROP SCHEMA "+schema+" CASCADE") })
-	proxy, address := storefaults.NewProxy(t, pgtest.With(t, address, "search_path", schema))
+	pgtest.Schema(t, pgtest.URL(t), "osb_metrics_hangs")
+	proxy, address := storefaults.NewProxy(t, pgtest.With(t, address, "search_path", "osb_metrics_hangs"))
 	s := start(t, environment, "--state", t.TempDir(), "--store", address)
 	s.expect(200, "GET", "/v2/catalog", "")
 	metrics := func(up string) time.Duration {
@@ -297,27 +294,6 @@ func TestStateOfVersion02(t *testing.T) {
 	diff.Equal(t, len(soldInstances(t, state)), 0, "")
 }
 
-// longest sets how long the files of the broker may become. With 0, every write to a file fails, as on a full disk.
-func (s *servedBroker) longest(bytes uint64) {
-	s.t.Helper()
-	limit := unix.Rlimit{Cur: bytes, Max: unix.RLIM_INFINITY}
-	check(s.t, unix.Prlimit(s.command.Process.Pid, unix.RLIMIT_FSIZE, &limit, nil))
-}
-
-// untilReady asks for /readyz until the status is this one. An answer may be a second old.
-func (s *servedBroker) untilReady(status int) {
-	s.t.Helper()
-	for late := time.Now().Add(time.Minute); ; time.Sleep(20 * time.Millisecond) {
-		given, body := s.plain("/readyz")
-		if given == status {
-			return
-		}
-		if time.Now().After(late) {
-			s.t.Fatalf("/readyz: got %d %s, want %d", given, body, status)
-		}
-	}
-}
-
 // On a full disk the broker lives and isn't ready, and creates nothing. It is ready again once there is space.
 func TestFullDisk(t *testing.T) {
 	var limit unix.Rlimit
@@ -326,15 +302,15 @@ func TestFullDisk(t *testing.T) {
 	}
 	state := t.TempDir()
 	s := start(t, []string{password}, "--state", state)
-	s.untilReady(200)
-	s.longest(0)
-	s.untilReady(503)
+	s.until(200, "", "GET", "/readyz", "") // an answer may be a second old
+	s.LimitFiles(0)
+	s.until(503, "", "GET", "/readyz", "")
 	status, body := s.plain("/healthz")
 	diff.Equal(t, status, 200, "/healthz, %s", body)
 	s.expect(500, "PUT", one, order)
 	diff.Equal(t, len(soldInstances(t, state)), 0, "")
-	s.longest(unix.RLIM_INFINITY)
-	s.untilReady(200)
+	s.LimitFiles(unix.RLIM_INFINITY)
+	s.until(200, "", "GET", "/readyz", "")
 	s.expect(201, "PUT", one, order)
 	s.stop()
 }

@@ -152,8 +152,7 @@ func TestAddOverTLS(t *testing.T) {
 // After a change of how the platform logs in, the catalogue is asked for: a wrong password is noticed at once, and with
 // the right one instances can be ordered before a worker runs.
 func TestSetAsksForCatalogue(t *testing.T) {
-	s, store, folder := newSite(t), filepath.Join(t.TempDir(), "store"), t.TempDir()
-	t.Setenv("XDG_STATE_HOME", t.TempDir())
+	s, store, folder := newSite(t), newPath(t), t.TempDir()
 	wrong, right := filepath.Join(folder, "wrong"), filepath.Join(folder, "right")
 	write(t, wrong, "hunter2\n")
 	write(t, right, "secret\n")
@@ -221,10 +220,8 @@ func TestReplacedPassword(t *testing.T) {
 		},
 	} {
 		t.Run(name, func(t *testing.T) {
-			s, store, key := newSite(t), filepath.Join(t.TempDir(), "store"), newKey(t)
-			t.Setenv("XDG_STATE_HOME", t.TempDir())
-			file := filepath.Join(t.TempDir(), "password")
-			write(t, file, "secret\n")
+			s, store, key := newSite(t), newPath(t), newKey(t)
+			file := passwordFile(t)
 			wantLines(t, store, []line{
 				{"broker add local " + s.url + " --first-pace 0.01 --hold 0 --password-file " + file, 0, ``, ``},
 			})
@@ -238,13 +235,13 @@ func TestReplacedPassword(t *testing.T) {
 				wantLines(t, store, []line{{fmt.Sprintf("create --plan by-worker --id new-%d --tries 3", n), 0, `.*`, ``}})
 			}
 			wantLines(t, store, []line{{"remove before --bindings", 0, ``, ``}})
-			p.event("broker_refuses")
+			p.Event("broker_refuses")
 			refused := settledRefusals(t, s)
 			if refused == 0 || refused > 2*4 { // what was in flight, and what was claimed just before the first 401 was read
 				t.Errorf("got %d requests with the old password, want 1 to 8", refused)
 			}
 			replace(t, store, file, key)
-			p.event("broker_reached")
+			p.Event("broker_reached")
 			for n := 1; n <= 9; n++ {
 				wantReady(t, store, fmt.Sprintf("new-%d", n))
 			}
@@ -337,11 +334,9 @@ func (f *front) name(answer *http.Response) error {
 // A broker is replaced by one over another store, which answers that each instance is gone. The platform believes none of
 // that, sends nothing more, and says what to do. Once the operator accepts the other store, it goes on.
 func TestBrokerOfAnotherStore(t *testing.T) {
-	s, store := newSite(t), filepath.Join(t.TempDir(), "store")
-	t.Setenv("XDG_STATE_HOME", t.TempDir())
+	s, store := newSite(t), newPath(t)
 	f := newFront(t, s)
-	file := filepath.Join(t.TempDir(), "password")
-	write(t, file, "secret\n")
+	file := passwordFile(t)
 	wantLines(t, store, []line{
 		{"broker add local " + f.url + " --first-pace 0.01 --hold 0 --password-file " + file, 0, ``, ``},
 		{"broker show local", 0, `(?s).*store\tone\n.*`, ``},
@@ -354,7 +349,7 @@ func TestBrokerOfAnotherStore(t *testing.T) {
 	f.isOther.Store(true)
 	f.store.Store("two")
 	wantLines(t, store, []line{{"remove before", 0, ``, ``}})
-	p.event("other_store")
+	p.Event("other_store")
 	wantAccept := `(?s).*the broker names the store two, and one is recorded\..*` +
 		`osb-platform broker set local --accept-store two.*`
 	for end := time.Now().Add(deadline); ; time.Sleep(10 * time.Millisecond) {

@@ -45,8 +45,7 @@ func TestKilledWorker(t *testing.T) {
 			continue
 		}
 		t.Run(point, func(t *testing.T) {
-			s, store := newSite(t), filepath.Join(t.TempDir(), "store")
-			t.Setenv("XDG_STATE_HOME", t.TempDir())
+			s, store := newSite(t), newPath(t)
 			t.Setenv(passwordVariable, "secret")
 			run := []string{"run", "--store", store, "--broker", s.url, "--worker", "one", "--first-pace", "0.01"}
 			wantLines(t, store, []line{

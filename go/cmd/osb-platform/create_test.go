@@ -6,7 +6,6 @@ import (
 	"encoding/json"
 	"io"
 	"os"
-	"path/filepath"
 	"regexp"
 	"strconv"
 	"strings"
@@ -182,11 +181,9 @@ func TestHostileTexts(t *testing.T) {
 
 // A binding is created again under another id after a passing reason, but not without --tries if it names its id.
 func TestTriesOfBinding(t *testing.T) {
-	key, s, store := newKey(t), newSite(t), filepath.Join(t.TempDir(), "store")
-	t.Setenv("XDG_STATE_HOME", t.TempDir())
-	p := start(t, store, []string{"OSB_PLATFORM_PASSWORD=secret"}, "--broker", s.url, "--first-pace", "0.01",
+	key, s, store := newKey(t), newSite(t), newPath(t)
+	p := startAt(t, s, store, "--first-pace", "0.01",
 		"--longest-pace", "0.02", "--hold", "0", "--key-file", key)
-	p.event("broker_reached")
 	wantLines(t, store, []line{{"create --plan at-once --id db --wait=60", 0, `db`, `ordered db`}})
 	s.answer(422)
 	bound := call(t, "--store", store, "bind", "db", "--wait=60", "--key-file", key)
@@ -227,11 +224,9 @@ func TestTriesOfBinding(t *testing.T) {
 // Of a further try of a binding that isn't due yet, list --reasons and show say until when it waits. If its instance is
 // removed meanwhile, it is withdrawn at once.
 func TestFurtherBindingThatWaits(t *testing.T) {
-	key, s, store := newKey(t), newSite(t), filepath.Join(t.TempDir(), "store")
-	t.Setenv("XDG_STATE_HOME", t.TempDir())
-	p := start(t, store, []string{"OSB_PLATFORM_PASSWORD=secret"}, "--broker", s.url, "--first-pace", "0.01",
+	key, s, store := newKey(t), newSite(t), newPath(t)
+	p := startAt(t, s, store, "--first-pace", "0.01",
 		"--longest-pace", "0.02", "--hold", "0", "--key-file", key)
-	p.event("broker_reached")
 	wantLines(t, store, []line{
 		{"create --plan at-once --id db --wait=60", 0, `db`, `ordered db`},
 		{"bind db --id one --tries 2 --wait=60 --key-file " + key, 0, `db/one`, `ordered db/one`},
@@ -403,10 +398,8 @@ func (l requestLog) OnExchange(it broker.Exchange) {
 // The platform's log and the broker's have each request under the same identity.
 func TestIdentityInBothLogs(t *testing.T) {
 	var ofBroker lockedBuffer
-	s, store := newSiteFor(t, requestLog{log: logs.New(&ofBroker)}), filepath.Join(t.TempDir(), "store")
-	t.Setenv("XDG_STATE_HOME", t.TempDir())
-	password := filepath.Join(t.TempDir(), "password")
-	write(t, password, "secret")
+	s, store := newSiteFor(t, requestLog{log: logs.New(&ofBroker)}), newPath(t)
+	password := passwordFile(t)
 	wantLines(t, store, []line{
 		{"broker add local " + s.url + " --password-file " + password + " --hold 0", 0, ``, ``},
 		{"create --plan at-once --id one", 0, `one`, ``},

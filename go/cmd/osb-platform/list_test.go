@@ -300,8 +300,7 @@ func TestReasonOfBroker(t *testing.T) {
 func TestRejectedPassword(t *testing.T) {
 	s, store := newSite(t), newStore(t)
 	wantLines(t, store, []line{{"broker drop shop", 0, ``, ``}})
-	p := start(t, store, []string{"OSB_PLATFORM_PASSWORD=secret"}, "--broker", s.url, "--first-pace", "0.01", "--hold", "0")
-	p.event("broker_reached")
+	p := startAt(t, s, store, "--first-pace", "0.01", "--hold", "0")
 	s.setPassword("another")
 	wantLines(t, store, []line{
 		{"create --plan at-once --id one --wait=2", 4, `one`,
@@ -319,7 +318,7 @@ func TestRejectedPassword(t *testing.T) {
 		{"show two --json", 0, `{.*"broker_reason":{.*`, ``},
 	})
 	s.setPassword("secret")
-	p.event("broker_reached")
+	p.Event("broker_reached")
 	wantLines(t, store, []line{
 		{"remove one --wait=60", 0, ``, `one is gone`},
 		{"show one", 0, ".*\nfailure\t.* provision 401: .*", ``}, // it had one try

@@ -99,11 +99,25 @@ const catalogue = `{"services": [{"id": "s-1", "name": "database", "description"
 	{"id": "p-1", "name": "small", "description": "d"},
 	{"id": "p-2", "name": "large", "description": "d", "bindable": false}]}]}`
 
+// newPath is the path of a store that doesn't exist yet. The state folder of the user is another one than that of others.
+func newPath(t *testing.T) string {
+	t.Helper()
+	t.Setenv("XDG_STATE_HOME", t.TempDir())
+	return filepath.Join(t.TempDir(), "store")
+}
+
+// passwordFile is a file with the password of a site.
+func passwordFile(t *testing.T) string {
+	t.Helper()
+	file := filepath.Join(t.TempDir(), "password")
+	write(t, file, "secret\n")
+	return file
+}
+
 // newStore is the path of a store with the broker shop, which nobody reaches.
 func newStore(t *testing.T) string {
 	t.Helper()
-	t.Setenv("XDG_STATE_HOME", t.TempDir())
-	path := filepath.Join(t.TempDir(), "store.sqlite")
+	path := newPath(t)
 	over(t, path, func(ctx context.Context, store platform.Store) error {
 		return store.AddBroker(ctx, platform.Broker{
 			Name: "shop", URL: "http://127.0.0.1:1", User: "platform", PasswordFile: "/nowhere/password",
@@ -142,10 +156,9 @@ func write(t *testing.T, name, text string) {
 
 // An option of version 0.2 that is no more says what to use. Options that don't go together are rejected.
 func TestRunOptions(t *testing.T) {
-	t.Setenv("XDG_STATE_HOME", t.TempDir())
 	t.Setenv(passwordVariable, "")
 	const here = " --broker http://127.0.0.1:1"
-	wantLines(t, filepath.Join(t.TempDir(), "store"), []line{
+	wantLines(t, newPath(t), []line{
 		{"run --organization o", 2, ``, `.*osb-platform create --organization TEXT.*`},
 		{"run --space o", 2, ``, `.*osb-platform create --space TEXT.*`},
 		{"run --catalog file", 2, ``, `.*Leave --catalog out.*`},

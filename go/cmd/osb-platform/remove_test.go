@@ -6,7 +6,6 @@ import (
 	"encoding/json"
 	"fmt"
 	"net/http"
-	"path/filepath"
 	"regexp"
 	"strings"
 	"testing"
@@ -22,15 +21,13 @@ import (
 
 // Whoever removes an instance by the id that `create` has printed removes the try that is ready.
 func TestRemoveLastTry(t *testing.T) {
-	s, store := newSite(t), filepath.Join(t.TempDir(), "store")
-	t.Setenv("XDG_STATE_HOME", t.TempDir())
-	password := filepath.Join(t.TempDir(), "password")
-	write(t, password, "secret\n")
+	s, store := newSite(t), newPath(t)
+	password := passwordFile(t)
 	wantLines(t, store, []line{
 		{"broker add local " + s.url + " --password-file " + password + " --first-pace 0.01", 0, ``, ``},
 	})
 	p := start(t, store, nil)
-	p.event("broker_reached")
+	p.Event("broker_reached")
 	s.answer(503)
 	created := call(t, "--store", store, "create", "--plan", "at-once", "--wait=60")
 	tried := regexp.MustCompile(`^ordered (\S+)\n(\S+) has failed: tried again as (\S+)\n$`).
@@ -253,10 +250,8 @@ func TestAdviceOfOthers(t *testing.T) {
 // newUnsettled is a store with the broker local, and with instances of these ids that are unsettled.
 func newUnsettled(t *testing.T, s *site, ids ...string) (store string) {
 	t.Helper()
-	t.Setenv("XDG_STATE_HOME", t.TempDir())
-	store = filepath.Join(t.TempDir(), "store")
-	password := filepath.Join(t.TempDir(), "password")
-	write(t, password, "secret")
+	store = newPath(t)
+	password := passwordFile(t)
 	lines := []line{{"broker add local " + s.url + " --password-file " + password + " --hold 0", 0, ``, ``}}
 	for _, id := range ids {
 		lines = append(lines, line{"create --plan at-once --id " + id, 0, id, ``})

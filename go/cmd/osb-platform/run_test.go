@@ -1,13 +1,11 @@
 package main
 
 import (
-	"bufio"
 	"bytes"
 	"encoding/json"
 	"encoding/pem"
 	"fmt"
 	"io"
-	"net"
 	"net/http"
 	"net/http/httptest"
 	"net/http/httputil"
@@ -26,16 +24,16 @@ import (
 
 	"pippinterm/internal/diff"
 	"pippinterm/internal/journalfile"
+	"pippinterm/internal/programtest"
 	"pippinterm/internal/sqlitefile"
 	"pippinterm/platform"
 )
 
 // A process is the program while it runs.
 type process struct {
-	t       *testing.T
-	command *exec.Cmd
-	lines   chan string
-	out     bytes.Buffer
+	*programtest.Program
+	t   *testing.T
+	out bytes.Buffer
 
 	health, page, api string // where they are served
 }
@@ -47,81 +45,37 @@ func start(t *testing.T, store string, environment []string, arguments ...string
 	return launch(t, "running", osbPlatform(environment, all...))
 }
 
+// startAt starts a worker over a store with the broker default, and waits until that is reached.
+func startAt(t *testing.T, s *site, store string, arguments ...string) *process {
+	t.Helper()
+	p := start(t, store, ownPassword, append([]string{"--broker", s.url}, arguments...)...)
+	p.Event("broker_reached")
+	return p
+}
+
 // launch starts a process, and waits until its log has an event.
 func launch(t *testing.T, event string, command *exec.Cmd) *process {
 	t.Helper()
-	p := &process{t: t, lines: make(chan string, 100_000), command: command}
-	stderr, err := p.command.StderrPipe()
-	check(t, err)
-	p.command.Stdout = &p.out
-	check(t, p.command.Start())
-	t.Cleanup(func() {
-		_ = p.command.Process.Kill()
-		_ = p.command.Wait()
-	})
-	go func() {
-		defer close(p.lines)
-		for lines := bufio.NewScanner(stderr); lines.Scan(); {
-			p.lines <- lines.Text()
-		}
-	}()
-	started := p.event(event)
+	p := &process{t: t}
+	command.Stdout = &p.out
+	p.Program = programtest.Start(t, command)
+	started := p.Event(event)
 	for name, to := range map[string]*string{"health": &p.health, "page": &p.page, "api": &p.api} {
 		*to, _ = started[name].(string)
 	}
 	return p
 }
 
-// event waits for a line of the log with this event.
-func (p *process) event(name string) map[string]any {
-	p.t.Helper()
-	late := time.After(deadline)
-	for {
-		select {
-		case line, isOpen := <-p.lines:
-			if !isOpen {
-				p.t.Fatalf("got an end without %s, want it", name)
-			}
-			var read map[string]any
-			if err := json.Unmarshal([]byte(line), &read); err != nil {
-				p.t.Fatalf("a line: got %q, want JSON", line)
-			}
-			if read["event"] == name {
-				return read
-			}
-		case <-late:
-			p.t.Fatalf("the log: got no %s in time, want one", name)
-		}
-	}
-}
-
 // stop sends SIGTERM, and waits for the status 0. It returns the rest of the log.
 func (p *process) stop() string {
 	p.t.Helper()
-	p.terminate()
-	return p.wait()
-}
-
-func (p *process) terminate() {
-	p.t.Helper()
-	check(p.t, p.command.Process.Signal(syscall.SIGTERM))
-}
-
-// wait waits for the status 0, and returns the rest of the log.
-func (p *process) wait() string {
-	p.t.Helper()
-	var rest strings.Builder
-	for line := range p.lines {
-		rest.WriteString(line + "\n")
-	}
-	diff.NoError(p.t, p.command.Wait(), "after SIGTERM")
-	return rest.String()
+	p.Terminate()
+	return p.End()
 }
 
 // The whole way: a broker is added; an instance and a binding are created; the credentials are read; all is removed.
 func TestWholeWay(t *testing.T) {
-	s, store, key := newSite(t), filepath.Join(t.TempDir(), "store"), newKey(t)
-	t.Setenv("XDG_STATE_HOME", t.TempDir())
+	s, store, key := newSite(t), newPath(t), newKey(t)
 	folder := t.TempDir()
 	password, secret := filepath.Join(folder, "password"), filepath.Join(folder, "secret")
 	write(t, password, "secret\n")
@@ -173,19 +127,18 @@ func TestWholeWay(t *testing.T) {
 // A request and its answer are logged, and counted.
 func TestLogAndMetrics(t *testing.T) {
 	s, store := newSite(t), newStore(t)
-	p := start(t, store, []string{"OSB_PLATFORM_PASSWORD=secret"}, "--broker", s.url, "--health-listen", "127.0.0.1:0",
+	p := startAt(t, s, store, "--health-listen", "127.0.0.1:0",
 		"--worker", "one", "--log-level", "debug")
-	p.event("broker_reached")
 	wantLines(t, store, []line{
 		{"create --broker default --plan at-once --id one --wait=60", 0, `one`, `ordered one`},
 		{"broker drop shop", 0, ``, ``},
 	})
-	sent, answered := p.event("request_sent"), p.event("request")
+	sent, answered := p.Event("request_sent"), p.Event("request")
 	if sent["request"] != answered["request"] || answered["status"] != 201.0 || answered["broker"] != "default" ||
 		answered["kind"] != "provision" || answered["level"] != "info" || answered["instance"] == nil {
 		t.Errorf("got %v and %v, want the Provision at the broker default, with its number, and 201", sent, answered)
 	}
-	if changed := p.event("state_changed"); changed["before"] != "ordered" || changed["after"] != "ready" {
+	if changed := p.Event("state_changed"); changed["before"] != "ordered" || changed["after"] != "ready" {
 		t.Errorf("got %v, want the change from ordered to ready", changed)
 	}
 	p.stop()
@@ -193,10 +146,8 @@ func TestLogAndMetrics(t *testing.T) {
 
 // /healthz, /readyz and /metrics are served.
 func TestHealth(t *testing.T) {
-	s, store := newSite(t), filepath.Join(t.TempDir(), "store")
-	t.Setenv("XDG_STATE_HOME", t.TempDir())
-	p := start(t, store, []string{"OSB_PLATFORM_PASSWORD=secret"}, "--broker", s.url, "--health-listen", "127.0.0.1:0")
-	p.event("broker_reached")
+	s, store := newSite(t), newPath(t)
+	p := startAt(t, s, store, "--health-listen", "127.0.0.1:0")
 	wantLines(t, store, []line{{"create --plan at-once --id one --wait=60", 0, `one`, `ordered one`}})
 	for path, text := range map[string]string{
 		"/healthz": `"ok"`, "/readyz": `"ok"`,
@@ -222,11 +173,9 @@ func TestHealth(t *testing.T) {
 // An order is tried again under another id after a passing reason, but not without --tries if it names its id. One that
 // is refused isn't.
 func TestTries(t *testing.T) {
-	s, store := newSite(t), filepath.Join(t.TempDir(), "store")
-	t.Setenv("XDG_STATE_HOME", t.TempDir())
-	p := start(t, store, []string{"OSB_PLATFORM_PASSWORD=secret"}, "--broker", s.url, "--first-pace", "0.01",
+	s, store := newSite(t), newPath(t)
+	p := startAt(t, s, store, "--first-pace", "0.01",
 		"--longest-pace", "0.02", "--hold", "0")
-	p.event("broker_reached")
 	s.answer(503)
 	wantLines(t, store, []line{
 		{"create --plan at-once --id one --tries 3 --wait=60", 0, guid,
@@ -284,12 +233,12 @@ func TestHangUp(t *testing.T) {
 	write(t, name, string(pem.EncodeToMemory(&pem.Block{Type: "CERTIFICATE", Bytes: server.Certificate().Raw})))
 	for _, arguments := range [][]string{{"--tls-ca", name}, nil} {
 		p := start(t, store, nil, arguments...)
-		check(t, p.command.Process.Signal(syscall.SIGHUP))
+		check(t, p.Process.Signal(syscall.SIGHUP))
 		if arguments != nil {
-			p.event("certificates_reloaded")
+			p.Event("certificates_reloaded")
 			write(t, name, "none")
-			check(t, p.command.Process.Signal(syscall.SIGHUP))
-			p.event("certificates_not_reloaded")
+			check(t, p.Process.Signal(syscall.SIGHUP))
+			p.Event("certificates_not_reloaded")
 		}
 		p.stop()
 	}
@@ -297,10 +246,9 @@ func TestHangUp(t *testing.T) {
 
 // One worker of a name runs at a time. --once ends, with the status 1 if a broker isn't reached.
 func TestWorkers(t *testing.T) {
-	s, store := newSite(t), filepath.Join(t.TempDir(), "store")
-	t.Setenv("XDG_STATE_HOME", t.TempDir())
+	s, store := newSite(t), newPath(t)
 	t.Setenv(passwordVariable, "secret")
-	p := start(t, store, []string{"OSB_PLATFORM_PASSWORD=secret"}, "--broker", s.url, "--worker", "one")
+	p := start(t, store, ownPassword, "--broker", s.url, "--worker", "one")
 	wantLines(t, store, []line{
 		{"run --worker one --once", 75, ``, `.*osb-platform: a worker one runs already.*`},
 		{"run --worker a/b", 2, ``, `osb-platform: .*a worker's name.*`},
@@ -316,7 +264,7 @@ func TestWorkers(t *testing.T) {
 		{[]string{"--broker", "http://127.0.0.1:1", "--moved", "--once", "--seconds", "0.3"}, 1, "refused\n"},
 		{[]string{"--broker", s.url, "--moved", "--late-for", "0", "--pace", "0.5", "--threads", "2", "--once"}, 0, ""},
 	} {
-		command := osbPlatform([]string{"OSB_PLATFORM_PASSWORD=secret"}, append([]string{"run", "--store", store},
+		command := osbPlatform(ownPassword, append([]string{"run", "--store", store},
 			test.arguments...)...)
 		out, _ := command.CombinedOutput()
 		diff.Equal(t, command.ProcessState.ExitCode(), test.status, "%v, %s", test.arguments, out)
@@ -340,11 +288,8 @@ func get(t *testing.T, url string) (int, string) {
 // answer is held.
 func newOne(t *testing.T, s *site, arguments ...string) (p *process, store string) {
 	t.Helper()
-	store = filepath.Join(t.TempDir(), "store")
-	t.Setenv("XDG_STATE_HOME", t.TempDir())
-	all := append([]string{"--broker", s.url, "--first-pace", "0.01", "--hold", "0", "--worker", "one"}, arguments...)
-	p = start(t, store, []string{"OSB_PLATFORM_PASSWORD=secret"}, all...)
-	p.event("broker_reached")
+	store = newPath(t)
+	p = startAt(t, s, store, append([]string{"--first-pace", "0.01", "--hold", "0", "--worker", "one"}, arguments...)...)
 	wantLines(t, store, []line{{"create --plan at-once --id one --tries 3", 0, "one", ``}})
 	s.await(t, 1)
 	return p, store
@@ -358,8 +303,8 @@ func TestStopTakesAnAnswer(t *testing.T) {
 	p, store := newOne(t, s, "--stop-seconds", "60", "--health-listen", "127.0.0.1:0")
 	status, _ := get(t, p.health+"/readyz")
 	diff.Equal(t, status, 200, "")
-	p.terminate()
-	p.event("stopping")
+	p.Terminate()
+	p.Event("stopping")
 	for late := time.Now().Add(deadline); ; time.Sleep(5 * time.Millisecond) {
 		if status, _ := get(t, p.health+"/readyz"); status == 503 {
 			break
@@ -369,7 +314,7 @@ func TestStopTakesAnAnswer(t *testing.T) {
 		}
 	}
 	release()
-	diff.Contains(t, p.wait(), `"all_work_ended":true`, "the log")
+	diff.Contains(t, p.End(), `"all_work_ended":true`, "the log")
 	wantLines(t, store, []line{{"list", 0, "one\tready\t.*", ``}})
 }
 
@@ -391,8 +336,8 @@ func TestKilled(t *testing.T) {
 	release := s.hold()
 	defer release()
 	p, store := newOne(t, s)
-	check(t, p.command.Process.Kill())
-	_ = p.command.Wait()
+	check(t, p.Process.Kill())
+	_ = p.Wait()
 	release()
 	endsWell(t, s, store)
 }
@@ -400,7 +345,7 @@ func TestKilled(t *testing.T) {
 // endsWell starts a worker, after which nothing is in flight, and of the order one try is ready.
 func endsWell(t *testing.T, s *site, store string) {
 	t.Helper()
-	p := start(t, store, []string{"OSB_PLATFORM_PASSWORD=secret"}, "--broker", s.url, "--worker", "one")
+	p := start(t, store, ownPassword, "--broker", s.url, "--worker", "one")
 	for late := time.Now().Add(deadline); ; time.Sleep(20 * time.Millisecond) {
 		if got := call(t, "--store", store, "list", "--state", "ready"); strings.Count(got.out, "\n") == 1 {
 			break
@@ -414,22 +359,11 @@ func endsWell(t *testing.T, s *site, store string) {
 
 // The service manager gets READY=1 once a worker runs, and STOPPING=1 after SIGTERM.
 func TestServiceManagerGetsReports(t *testing.T) {
-	name := filepath.Join(t.TempDir(), "notify")
-	manager, err := net.ListenUnixgram("unixgram", &net.UnixAddr{Name: name, Net: "unixgram"})
-	check(t, err)
-	defer manager.Close()
+	name, next := programtest.Manager(t)
 	p := start(t, filepath.Join(t.TempDir(), "store"), []string{"NOTIFY_SOCKET=" + name})
-	for _, want := range []string{"READY=1", "STOPPING=1"} {
-		buffer := make([]byte, 100)
-		check(t, manager.SetReadDeadline(time.Now().Add(deadline)))
-		length, err := manager.Read(buffer)
-		if got := string(buffer[:length]); got != want || err != nil {
-			t.Fatalf("got %q, %v, want %q", got, err, want)
-		}
-		if want == "READY=1" {
-			p.stop()
-		}
-	}
+	diff.Equal(t, next(), "READY=1", "once it runs")
+	p.stop()
+	diff.Equal(t, next(), "STOPPING=1", "after SIGTERM")
 }
 
 // oldestDue is the metric of a worker.
@@ -448,14 +382,12 @@ func oldestDue(t *testing.T, p *process) float64 {
 // While a broker doesn't answer, its oldest order counts as due since it was ordered, though each request is sent
 // again.
 func TestOldestDueOfSilentBroker(t *testing.T) {
-	s, store := newSite(t), filepath.Join(t.TempDir(), "store")
-	t.Setenv("XDG_STATE_HOME", t.TempDir())
-	password := filepath.Join(t.TempDir(), "password")
-	write(t, password, "secret")
+	s, store := newSite(t), newPath(t)
+	password := passwordFile(t)
 	settings := " --hold 0 --first-pace 0.01 --longest-pace 0.01 --password-file "
 	wantLines(t, store, []line{{"broker add local " + s.url + settings + password, 0, ``, ``}})
 	p := start(t, store, nil, "--seconds", "1", "--health-listen", "127.0.0.1:0")
-	p.event("broker_reached")
+	p.Event("broker_reached")
 	defer s.hold()()
 	begun := time.Now()
 	wantLines(t, store, []line{{"create --plan at-once --id one", 0, `one`, ``}})
@@ -467,22 +399,13 @@ func TestOldestDueOfSilentBroker(t *testing.T) {
 	}
 }
 
-// longest sets how long the files of a process may become. With 0, every write to a file fails, as on a full disk.
-func (p *process) longest(bytes uint64) {
-	p.t.Helper()
-	limit := unix.Rlimit{Cur: bytes, Max: unix.RLIM_INFINITY}
-	check(p.t, unix.Prlimit(p.command.Process.Pid, unix.RLIMIT_FSIZE, &limit, nil))
-}
-
 // On a full disk the orders of others stay as they are. What the worker prints and logs is what is on disk, and the log
 // says once why nothing goes on. Once there is space, each order is sent once.
 func TestFullDisk(t *testing.T) {
 	const orders = 20
-	s, store := newSite(t), filepath.Join(t.TempDir(), "store")
-	t.Setenv("XDG_STATE_HOME", t.TempDir())
-	p := start(t, store, []string{"OSB_PLATFORM_PASSWORD=secret"}, "--broker", s.url)
-	p.event("broker_reached")
-	p.longest(0)
+	s, store := newSite(t), newPath(t)
+	p := startAt(t, s, store)
+	p.LimitFiles(0)
 	for n := 0; n < orders; n++ {
 		id := fmt.Sprint("q", n)
 		wantLines(t, store, []line{{"create --plan at-once --id " + id, 0, id, ``}})
@@ -491,7 +414,7 @@ func TestFullDisk(t *testing.T) {
 	if count := countListed(t, store, "ordered"); count != orders || s.requests() > 0 {
 		t.Errorf("got %d orders and %d requests sent, want all and none", count, s.requests())
 	}
-	p.longest(unix.RLIM_INFINITY)
+	p.LimitFiles(unix.RLIM_INFINITY)
 	for late := time.Now().Add(deadline); countListed(t, store, "ready") < orders; time.Sleep(50 * time.Millisecond) {
 		if time.Now().After(late) {
 			t.Fatal("the orders: got them at rest, want them to go on")
@@ -515,22 +438,10 @@ func countListed(t *testing.T, store, state string) int {
 // eventsIn are the events of all files of a folder with journals, one text for each file, by name.
 func eventsIn(t *testing.T, folder string) (all []string) {
 	t.Helper()
-	paths, err := filepath.Glob(filepath.Join(folder, "*"))
-	check(t, err)
-	for _, path := range paths {
-		text, err := os.ReadFile(path)
-		check(t, err)
-		var events []string
-		for _, line := range strings.Split(strings.TrimSuffix(string(text), "\n"), "\n") {
-			var read struct{ Event, Kind, Cause, State string }
-			if err := json.Unmarshal([]byte(line), &read); err != nil {
-				t.Fatalf("%s: the line %q: got %v, want no error", path, line, err)
-			}
-			events = append(events, strings.Join(strings.Fields(read.Event+" "+read.Kind+read.Cause+" "+read.State), " "))
-		}
-		all = append(all, strings.Join(events, ", "))
-	}
-	return all
+	type line struct{ Event, Kind, Cause, State string }
+	return programtest.Journals(t, folder, func(read line) string {
+		return strings.Join(strings.Fields(read.Event+" "+read.Kind+read.Cause+" "+read.State), " ")
+	})
 }
 
 const creating = "changed claim wanted, sent provision, answered provision, changed take ready"
@@ -538,8 +449,7 @@ const creating = "changed claim wanted, sent provision, answered provision, chan
 // journaling is a store with an order at a broker, and the arguments of a worker over it.
 func journaling(t *testing.T) (s *site, store string) {
 	t.Helper()
-	s, store = newSite(t), filepath.Join(t.TempDir(), "store")
-	t.Setenv("XDG_STATE_HOME", t.TempDir())
+	s, store = newSite(t), newPath(t)
 	t.Setenv(passwordVariable, "secret")
 	wantLines(t, store, []line{{"run --once --broker " + s.url, 0, ``, `.*`}})
 	return s, store

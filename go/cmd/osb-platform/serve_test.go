@@ -4,18 +4,13 @@ import (
 	"bufio"
 	"bytes"
 	"context"
-	"crypto/ecdsa"
-	"crypto/elliptic"
-	"crypto/rand"
 	"crypto/sha256"
 	"crypto/tls"
 	"crypto/x509"
 	"encoding/json"
-	"encoding/pem"
 	"errors"
 	"fmt"
 	"io"
-	"math/big"
 	"net"
 	"net/http"
 	"net/http/httptest"
@@ -33,6 +28,7 @@ import (
 	"pippinterm/internal/diff"
 	"pippinterm/internal/logs"
 	"pippinterm/internal/pg/pgtest"
+	"pippinterm/internal/programtest"
 	"pippinterm/platform"
 	"pippinterm/platform/sqlite"
 )
@@ -107,14 +103,13 @@ func (c caller) await(path, state string) {
 // The whole way over the API, beside a worker: a broker is added; an instance and a binding are created; the
 // credentials are read; all is removed. The page shows the instance.
 func TestWholeWayOverAPI(t *testing.T) {
-	s, store, key := newSite(t), filepath.Join(t.TempDir(), "store"), newKey(t)
-	t.Setenv("XDG_STATE_HOME", t.TempDir())
+	s, store, key := newSite(t), newPath(t), newKey(t)
 	p := start(t, store, nil, "--key-file", key, "--api", "127.0.0.1:0", "--api-tokens", newTokens(t),
 		"--page", "127.0.0.1:0", "--page-host", "platform.example")
 	c := caller{t: t, client: http.DefaultClient, url: p.api, token: token}
 	c.call(201, "PUT", "/v1/brokers/local", fmt.Sprintf(
 		`{"url": %q, "user": "platform", "password": "secret", "settings": {"first_pace_seconds": 0.01}}`, s.url))
-	if reached := p.event("broker_reached"); reached["broker"] != "local" {
+	if reached := p.Event("broker_reached"); reached["broker"] != "local" {
 		t.Errorf("got %v, want the broker local", reached)
 	}
 	c.call(201, "POST", "/v1/instances", `{"plan": "by-worker", "id": "one"}`)
@@ -179,8 +174,7 @@ func pageShows(t *testing.T, p *process) {
 
 // serve takes orders and shows them, and sends nothing. It is no worker: one that has its host's name runs beside it.
 func TestServe(t *testing.T) {
-	s, store := newSite(t), filepath.Join(t.TempDir(), "store")
-	t.Setenv("XDG_STATE_HOME", t.TempDir())
+	s, store := newSite(t), newPath(t)
 	password := filepath.Join(t.TempDir(), "password")
 	users := filepath.Join(t.TempDir(), "users")
 	write(t, password, "secret\n")
@@ -215,7 +209,7 @@ func TestAPIOverTLS(t *testing.T) {
 	t.Setenv("XDG_STATE_HOME", t.TempDir())
 	folder := t.TempDir()
 	certificate, key := filepath.Join(folder, "certificate"), filepath.Join(folder, "key")
-	first := newCertificate(t, certificate, key)
+	first := programtest.WriteCertificate(t, "", certificate, key)
 	p := launch(t, "serving", osbPlatform(nil, "serve", "--store", filepath.Join(folder, "store"),
 		"--api", "127.0.0.1:0", "--api-tokens", newTokens(t),
 		"--api-tls-certificate", certificate, "--api-tls-key", key))
@@ -223,9 +217,9 @@ func TestAPIOverTLS(t *testing.T) {
 		t.Errorf("the API: got the address %s, want one of https", p.api)
 	}
 	secureCaller(t, p, first).call(200, "GET", "/v1/counts", "")
-	second := newCertificate(t, certificate, key)
-	check(t, p.command.Process.Signal(syscall.SIGHUP))
-	p.event("certificates_reloaded")
+	second := programtest.WriteCertificate(t, "", certificate, key)
+	check(t, p.Process.Signal(syscall.SIGHUP))
+	p.Event("certificates_reloaded")
 	secureCaller(t, p, second).call(200, "GET", "/v1/counts", "")
 	p.stop()
 }
@@ -236,27 +230,6 @@ func secureCaller(t *testing.T, p *process, trusted *x509.CertPool) caller {
 	transport := &http.Transport{TLSClientConfig: &tls.Config{RootCAs: trusted, MinVersion: tls.VersionTLS12}}
 	t.Cleanup(transport.CloseIdleConnections)
 	return caller{t: t, client: &http.Client{Transport: transport}, url: p.api, token: token}
-}
-
-// newCertificate writes a new certificate with its key, and returns what trusts only that one.
-func newCertificate(t *testing.T, certificate, key string) *x509.CertPool {
-	t.Helper()
-	private, err := ecdsa.GenerateKey(elliptic.P256(), rand.Reader)
-	check(t, err)
-	of := &x509.Certificate{
-		SerialNumber: big.NewInt(time.Now().UnixNano()), NotAfter: time.Now().Add(time.Hour),
-		IPAddresses: []net.IP{net.IPv4(127, 0, 0, 1)}, IsCA: true, BasicConstraintsValid: true,
-	}
-	made, err := x509.CreateCertificate(rand.Reader, of, of, &private.PublicKey, private)
-	check(t, err)
-	encoded, err := x509.MarshalPKCS8PrivateKey(private)
-	check(t, err)
-	text := pem.EncodeToMemory(&pem.Block{Type: "CERTIFICATE", Bytes: made})
-	write(t, certificate, string(text))
-	write(t, key, string(pem.EncodeToMemory(&pem.Block{Type: "PRIVATE KEY", Bytes: encoded})))
-	trusted := x509.NewCertPool()
-	trusted.AppendCertsFromPEM(text)
-	return trusted
 }
 
 // answerFrom connects from an address of this machine, sends a request behind a text, and returns the status line of the
@@ -280,8 +253,7 @@ func answerFrom(t *testing.T, from, url, before string) string {
 
 // The API and the page limit the connections of each client, also of those that a trusted proxy names.
 func TestConnectionsOfAClient(t *testing.T) {
-	t.Setenv("XDG_STATE_HOME", t.TempDir())
-	p := launch(t, "serving", osbPlatform(nil, "serve", "--store", filepath.Join(t.TempDir(), "store"),
+	p := launch(t, "serving", osbPlatform(nil, "serve", "--store", newPath(t),
 		"--api", "127.0.0.1:0", "--api-tokens", newTokens(t), "--page", "127.0.0.1:0",
 		"--connections-per-address", "2", "--trusted-proxy", "127.0.0.2"))
 	const one, other = "PROXY TCP4 198.51.100.1 192.0.2.1 8080 80\r\n", "PROXY TCP4 198.51.100.2 192.0.2.1 8080 80\r\n"
@@ -304,15 +276,14 @@ func TestConnectionsOfAClient(t *testing.T) {
 
 // What others than this machine reach without TLS or a password, and a file that others may read, are in the log.
 func TestServeWarns(t *testing.T) {
-	t.Setenv("XDG_STATE_HOME", t.TempDir())
 	tokens := newTokens(t)
 	check(t, os.Chmod(tokens, 0o644))
-	p := launch(t, "no_tls", osbPlatform(nil, "serve", "--store", filepath.Join(t.TempDir(), "store"),
+	p := launch(t, "no_tls", osbPlatform(nil, "serve", "--store", newPath(t),
 		"--page", "0.0.0.0:0", "--api", "127.0.0.1:0", "--api-tokens", tokens))
-	p.event("no_page_users")
-	secret, _ := p.event("secret")["warning"].(string)
+	p.Event("no_page_users")
+	secret, _ := p.Event("secret")["warning"].(string)
 	diff.Contains(t, secret, "chmod 600", "the warning")
-	p.event("serving")
+	p.Event("serving")
 	diff.Lacks(t, p.stop(), "no_tls", "the log")
 }
 
@@ -322,7 +293,7 @@ func TestWarningOfShortPasswords(t *testing.T) {
 	check(t, os.WriteFile(users, []byte("me:guessed\nyou:0123456789abcdef\n"), 0o600))
 	p := launch(t, "short_password", osbPlatform(nil, "serve", "--store", filepath.Join(t.TempDir(), "store"),
 		"--page", "127.0.0.1:0", "--page-users", users))
-	serving := p.event("serving")
+	serving := p.Event("serving")
 	if rest := p.stop(); serving == nil || strings.Contains(rest, "guessed") || strings.Contains(rest, "short_password") {
 		t.Errorf("the log: got %s, want it served without a guess", rest)
 	}
@@ -510,9 +481,9 @@ func TestUsersAndTokensAreReadAgain(t *testing.T) {
 	}
 	reload := func(events ...string) {
 		t.Helper()
-		check(t, p.command.Process.Signal(syscall.SIGHUP))
+		check(t, p.Process.Signal(syscall.SIGHUP))
 		for _, event := range events {
-			p.event(event)
+			p.Event(event)
 		}
 	}
 	logins(map[string]int{token: 200, other: 401, "operator:first": 200, "operator:second": 401})
@@ -537,7 +508,7 @@ func TestUsersAndTokensAreReadAgain(t *testing.T) {
 
 func TestRowsCannotBeWritten(t *testing.T) {
 	store := filepath.Join(t.TempDir(), "store")
-	checkUnwritten(t, store, []string{"OSB_PLATFORM_PASSWORD=secret"}, func(statement string) {
+	checkUnwritten(t, store, ownPassword, func(statement string) {
 		execute(t, store, statement)
 	}, "CREATE TRIGGER full BEFORE UPDATE ON osb_instances BEGIN SELECT RAISE(ABORT, 'no space'); END",
 		"DROP TRIGGER full")
@@ -560,7 +531,7 @@ func checkUnwritten(t *testing.T, store string, environment []string, execute fu
 	s := newSite(t)
 	t.Setenv("XDG_STATE_HOME", t.TempDir())
 	p := start(t, store, environment, "--broker", s.url, "--health-listen", "127.0.0.1:0")
-	p.event("broker_reached")
+	p.Event("broker_reached")
 	execute(spoil)
 	wantLines(t, store, []line{{"create --plan at-once --id one", 0, `one`, ``}})
 	readyIs(t, p, 503)
@@ -617,8 +588,7 @@ func execute(t *testing.T, store, statement string) {
 
 // A connection to the page that sends nothing is closed soon: it takes the place of another one.
 func TestSilentConnectionToPage(t *testing.T) {
-	t.Setenv("XDG_STATE_HOME", t.TempDir())
-	p := launch(t, "serving", osbPlatform(nil, "serve", "--store", filepath.Join(t.TempDir(), "store"),
+	p := launch(t, "serving", osbPlatform(nil, "serve", "--store", newPath(t),
 		"--page", "127.0.0.1:0"))
 	silent, err := net.Dial("tcp", strings.TrimPrefix(p.page, "http://"))
 	check(t, err)

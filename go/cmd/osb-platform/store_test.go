@@ -137,7 +137,7 @@ func TestStopWhileTheDatabaseHangs(t *testing.T) {
 			s := newSite(t)
 			proxy, address, environment := newProxy(t, schema)
 			p := start(t, address, environment, append(options, "--broker", s.url)...)
-			p.event("broker_reached")
+			p.Event("broker_reached")
 			proxy.Hang(true)
 			begun := time.Now()
 			diff.Contains(t, p.stop(), `"event":"stopped"`, "the log")
@@ -171,9 +171,9 @@ func TestSessionsThatAreEnded(t *testing.T) {
 	_, address, environment := newProxy(t, "osb_program_ended")
 	setenv(t, environment)
 	p := start(t, address, environment, "--broker", s.url, "--worker", "one")
-	p.event("broker_reached")
+	p.Event("broker_reached")
 	endSessions(t, "osb_program_ended")
-	p.event("worker_name_lost")
+	p.Event("worker_name_lost")
 	wantLines(t, address, []line{
 		{"create --plan at-once --id one --wait=60", 0, `one`, `ordered one`},
 		{"remove one --wait=60", 0, ``, `one is gone`},
@@ -198,8 +198,7 @@ func TestSessionsThatAreEndedInFlight(t *testing.T) {
 			s := newSite(t)
 			_, address, environment := newProxy(t, schema)
 			setenv(t, environment)
-			password := filepath.Join(t.TempDir(), "password")
-			write(t, password, "secret")
+			password := passwordFile(t)
 			wantLines(t, address, []line{
 				{"broker add shop " + s.url + " --hold 0 --first-pace 0.01 --password-file " + password, 0, ``, ``},
 				{"create --plan at-once --id one", 0, `one`, ``},
@@ -209,14 +208,14 @@ func TestSessionsThatAreEndedInFlight(t *testing.T) {
 			p := start(t, address, environment, append(options, "--worker", "one")...)
 			s.await(t, 1)
 			endSessions(t, schema)
-			p.event("worker_name_lost")
+			p.Event("worker_name_lost")
 			release()
-			if changed := p.event("state_changed"); changed["after"] != "ready" {
+			if changed := p.Event("state_changed"); changed["after"] != "ready" {
 				t.Errorf("the order: got %v, want it ready", changed)
 			}
 			want := 1
 			if len(options) > 0 {
-				p.wait()
+				p.End()
 			} else {
 				want = 2
 				wantLines(t, address, []line{{"create --plan at-once --id two --wait=60", 0, `two`, `ordered two`}})
@@ -259,8 +258,7 @@ func TestEmptyDatabase(t *testing.T) {
 	if err := pgtest.DB(t, pgtest.URL(t)).QueryRow(query).Scan(&relations); err != nil || relations != 0 {
 		t.Errorf("got %d relations, %v, want none", relations, err)
 	}
-	password := filepath.Join(t.TempDir(), "password")
-	write(t, password, "secret")
+	password := passwordFile(t)
 	wantLines(t, address, []line{
 		{"broker add shop http://127.0.0.1:1 --password-file " + password, 0, ``, `.*asks for the catalogue again`},
 		{"list", 0, ``, ``},
@@ -270,8 +268,7 @@ func TestEmptyDatabase(t *testing.T) {
 // bound is a store with the bindings one/1, one/2 and so on, which are ready, and the file with its key.
 func bound(t *testing.T, s *site, bindings int) (store, key string) {
 	t.Helper()
-	t.Setenv("XDG_STATE_HOME", t.TempDir())
-	store, key = filepath.Join(t.TempDir(), "store"), newKey(t)
+	store, key = newPath(t), newKey(t)
 	got := callWith(t, "secret\n", "--store", store, "--key-file", key, "broker", "add", "local", s.url,
 		"--store-password", "--first-pace", "0.01")
 	if got.status != 0 || got.failed != "" {
@@ -312,7 +309,7 @@ func TestRekey(t *testing.T) {
 		{"credentials one/3 --key-file " + other, 0, credentials, ``},
 	})
 	p := start(t, store, nil, "--key-file", other)
-	p.event("broker_reached") // its password was encrypted again, too
+	p.Event("broker_reached") // its password was encrypted again, too
 	wantLines(t, store, []line{{"bind one --id 4 --wait=60 --key-file " + other, 0, `one/4`, `ordered one/4`}})
 	p.stop()
 }
@@ -430,7 +427,7 @@ func TestPasswordAtAnotherURL(t *testing.T) {
 			others.Store(0)
 			p := start(t, store, nil, "--key-file", key)
 			for unreached := map[any]bool{}; !unreached["shop"] || !unreached["other"]; {
-				unreached[p.event("broker_unreached")["broker"]] = true
+				unreached[p.Event("broker_unreached")["broker"]] = true
 			}
 			p.stop()
 			if asked.Load() != 0 || others.Load() == 0 {
