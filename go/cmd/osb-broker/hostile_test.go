@@ -428,7 +428,7 @@ var spoilers = []spoiler{
 		m.access = append([]string{loginLine}, pickOne(chance, wrongVersions)...)
 	}},
 	{nil, []int{405}, func(chance *rand.Rand, m *message) { m.method = pickOne(chance, wrongMethods) }},
-	{nil, []int{400, 404}, func(chance *rand.Rand, m *message) { m.target = pickOne(chance, wrongPaths)(m.path()) }},
+	{nil, []int{400, 404}, func(chance *rand.Rand, m *message) { m.target = pickOne(chance, wrongPaths(m.path())) }},
 	{isNamed, []int{400, 404}, spoilID},
 	{takesQuery, []int{400}, func(chance *rand.Rand, m *message) {
 		m.query = append(m.query, pickOne(chance, oddQueries)...)
@@ -453,88 +453,59 @@ func isLater(m message) bool { return m.instance == "later" }
 // takesQuery is whether the parameter accepts_incomplete is judged: a Fetch has none.
 func takesQuery(m message) bool { return isNamed(m) && (m.method != "GET" || m.isPoll) }
 
-func authorization(values ...string) (lines []string) {
-	for _, value := range values {
-		lines = append(lines, "Authorization: "+value)
+// eachBehind are lists of one line: each text behind the name of a header.
+func eachBehind(header string, texts ...string) (lists [][]string) {
+	for _, text := range texts {
+		lists = append(lists, []string{header + ": " + text})
 	}
-	return lines
-}
-
-// basicHeader is a header of the Basic scheme over any bytes.
-func basicHeader(text string) string {
-	return "Basic " + base64.StdEncoding.EncodeToString([]byte(text))
+	return lists
 }
 
 var (
 	rightLogin  = basic("platform", "secret")
-	wrongLogins = [][]string{
-		nil, authorization(""), authorization("Basic"), authorization("Basic :"),
-		authorization("Basic  " + rightLogin[6:]),
-		authorization("Basic\t" + rightLogin[6:]), authorization("Bearer " + rightLogin[6:]),
-		authorization(rightLogin[6:]),
-		authorization("Basic platform:secret"), authorization(rightLogin[:len(rightLogin)-1]),
-		authorization(rightLogin + "="),
-		authorization(rightLogin + " x"), authorization(rightLogin[:12] + " " + rightLogin[12:]),
-		authorization(rightLogin + ", " + rightLogin),
-		authorization(rightLogin, rightLogin), authorization(rightLogin, basic("a", "b")),
-		authorization(basic("a", "b"), rightLogin),
-		authorization(basic("platform", "secre")), authorization(basic("platform", "secret ")),
-		authorization(basic("platform", "Secret")), authorization(basic("Platform", "secret")),
-		authorization(basic("platform", "")), authorization(basic("", "secret")), authorization(basic("", "")),
-		authorization(basic("secret", "platform")), authorization(basicHeader("platform:secret\x00")),
-		authorization(basicHeader("platform:secret\n")), authorization(basicHeader("\ufeffplatform:secret")),
-		authorization(basicHeader("platform\x00:secret")), authorization(basicHeader("platformsecret")),
-		authorization(basicHeader("platform:\xff\xfe")), authorization("Basic \xff\xfe"),
-		authorization(strings.ToLower(rightLogin)),
-		authorization("Basic " + strings.Repeat("QUFB", 2000)), {"Proxy-Authorization: " + rightLogin},
-		{"X-Authorization: " + rightLogin}, {"Cookie: Authorization=" + rightLogin},
-	}
-	wrongVersions = [][]string{
-		nil, {"X-Broker-API-Version:"}, {"X-Broker-API-Version: 2"}, {"X-Broker-API-Version: 2."},
-		{"X-Broker-API-Version: 3.0"}, {"X-Broker-API-Version: 1.17"}, {"X-Broker-API-Version: 2.x"},
-		{"X-Broker-API-Version: 2.-1"}, {"X-Broker-API-Version: 2.17.0"}, {"X-Broker-API-Version: 02.17"},
-		{"X-Broker-API-Version: 2,17"}, {"X-Broker-API-Version: v2.17"}, {"X-Broker-API-Version: 2.1e1"},
-		{"X-Broker-API-Version: 2.17, 2.17"}, {"X-Broker-API-Version: \u0662.17"}, {"X-Broker-API-Version: 2.17\xff"},
-		{versionLine, versionLine}, {versionLine, "X-Broker-API-Version: 3.0"}, {"X-Broker-API: 2.17"},
-		{"Broker-API-Version: 2.17"},
-	}
+	wrongLogins = append(eachBehind("Authorization",
+		"", "Basic", "Basic :", "Basic  "+rightLogin[6:], "Basic\t"+rightLogin[6:], "Bearer "+rightLogin[6:], rightLogin[6:],
+		"Basic platform:secret", rightLogin[:len(rightLogin)-1], rightLogin+"=", rightLogin+" x",
+		rightLogin[:12]+" "+rightLogin[12:], rightLogin+", "+rightLogin, basic("platform", "secre"),
+		basic("platform", "secret "), basic("platform", "Secret"), basic("Platform", "secret"), basic("platform", ""),
+		basic("", "secret"), basic("", ""), basic("secret", "platform"), basic("platform", "secret\x00"),
+		basic("platform", "secret\n"), basic("\ufeffplatform", "secret"), basic("platform\x00", "secret"),
+		"Basic "+inBase64("platformsecret"), basic("platform", "\xff\xfe"), "Basic \xff\xfe", strings.ToLower(rightLogin),
+		"Basic "+strings.Repeat("QUFB", 2000),
+	), nil, []string{"Authorization: " + rightLogin, "Authorization: " + rightLogin},
+		[]string{"Authorization: " + rightLogin, "Authorization: " + basic("a", "b")},
+		[]string{"Authorization: " + basic("a", "b"), "Authorization: " + rightLogin},
+		[]string{"Proxy-Authorization: " + rightLogin}, []string{"X-Authorization: " + rightLogin},
+		[]string{"Cookie: Authorization=" + rightLogin})
+	wrongVersions = append(eachBehind("X-Broker-API-Version",
+		"2", "2.", "3.0", "1.17", "2.x", "2.-1", "2.17.0", "02.17", "2,17", "v2.17", "2.1e1", "2.17, 2.17", "\u0662.17",
+		"2.17\xff",
+	), nil, []string{"X-Broker-API-Version:"}, []string{versionLine, versionLine}, []string{versionLine, "X-Broker-API-Version: 3.0"},
+		[]string{"X-Broker-API: 2.17"}, []string{"Broker-API-Version: 2.17"})
 	wrongMethods = []string{
 		"POST", "PATCH", "HEAD", "TRACE", "OPTIONS", "CONNECT", "BREW", "get", "put", "Put", "delete", "PUTS", "PRI",
 		"M-SEARCH",
 	}
 )
 
-// wrongPaths are paths at which there is nothing.
-var wrongPaths = []func(string) string{
-	func(path string) string { return strings.Replace(path, "/v2/", "/v3/", 1) },
-	func(path string) string { return strings.Replace(path, "/v2/", "/V2/", 1) },
-	func(path string) string { return strings.Replace(path, "/v2/", "/v2//", 1) },
-	func(path string) string { return strings.Replace(path, "/v2/", "/v2/./", 1) },
-	func(path string) string { return strings.Replace(path, "/v2/", "/v2/../v2/", 1) },
-	func(path string) string { return strings.Replace(path, "/v2/", "/v2/%2e%2e/v2/", 1) },
-	func(path string) string { return strings.Replace(path, "/v2/", "/v2%2F", 1) },
-	func(path string) string { return strings.Replace(path, "/v2/", "/%76%32/", 1) },
-	func(path string) string { return strings.Replace(path, "/v2/", "/v2;a=b/", 1) },
-	func(path string) string { return strings.Replace(path, "/v2/", "/v2\\", 1) },
-	func(path string) string { return strings.Replace(path, "/v2/", "/healthz/../v2/", 1) },
-	func(path string) string { return "/prefix" + path },
-	func(path string) string { return "/." + path },
-	func(path string) string { return "http:" + path },
-	func(path string) string { return "http://broker/x" + path },
-	func(path string) string { return path + "//" },
-	func(path string) string { return path + "/x" },
-	func(path string) string { return path + "/%2e%2e" },
-	func(path string) string { return path + "/../../catalog" },
-	func(path string) string { return path + "/last_operation/x" },
-	func(string) string { return "/" },
-	func(string) string { return "/v2" },
-	func(string) string { return "/v2/service_instances" },
-	func(string) string { return "/v2/service_instances/kept/service_bindings/b/last_operation/c" },
-	func(string) string { return "/v2/service_instances/kept/service_bindings/b%zz" },
-	func(string) string { return "/v2/service_instances/kept%" },
-	func(string) string { return "/v2/service_instances/ke\x00pt" },
-	func(string) string { return "/v2/catalog/%2e" },
-	func(string) string { return "/etc/passwd" },
+// wrongPaths are paths at which there is nothing, made of one at which there is something.
+func wrongPaths(path string) (all []string) {
+	for _, part := range []string{
+		"/v3/", "/V2/", "/v2//", "/v2/./", "/v2/../v2/", "/v2/%2e%2e/v2/", "/v2%2F", "/%76%32/", "/v2;a=b/", "/v2\\",
+		"/healthz/../v2/",
+	} {
+		all = append(all, strings.Replace(path, "/v2/", part, 1))
+	}
+	for _, begin := range []string{"/prefix", "/.", "http:", "http://broker/x"} {
+		all = append(all, begin+path)
+	}
+	for _, end := range []string{"//", "/x", "/%2e%2e", "/../../catalog", "/last_operation/x"} {
+		all = append(all, path+end)
+	}
+	return append(all, "/", "/v2", "/v2/service_instances",
+		"/v2/service_instances/kept/service_bindings/b/last_operation/c",
+		"/v2/service_instances/kept/service_bindings/b%zz", "/v2/service_instances/kept%",
+		"/v2/service_instances/ke\x00pt", "/v2/catalog/%2e", "/etc/passwd")
 }
 
 // wrongIDs are no ids: not UTF-8 once they are decoded, too long, too short, or a step in a path.
