@@ -317,7 +317,7 @@ func (q Query) chooseRows(s *selection) error {
 	}
 	if q.Prefix != "" {
 		var isPrefix bool
-		if s.filter.Prefix, isPrefix = prefixOf(q.Prefix); !isPrefix {
+		if s.filter.Prefix, isPrefix = Prefix(q.Prefix); !isPrefix {
 			return malformedError("a prefix has 1 to 32 hexadecimal digits; its hyphens don't count")
 		}
 	}
@@ -376,8 +376,8 @@ func turn(entries []platform.Entry) {
 	}
 }
 
-// prefixOf is the beginning of a GUID with the hyphens where they belong.
-func prefixOf(text string) (prefix string, isPrefix bool) {
+// Prefix returns the beginning of a GUID with the hyphens where they belong.
+func Prefix(text string) (prefix string, isPrefix bool) {
 	digits := strings.ToLower(strings.ReplaceAll(text, "-", ""))
 	if digits == "" || len(digits) > 32 || strings.Trim(digits, "0123456789abcdef") != "" {
 		return "", false

@@ -130,7 +130,6 @@ func hash(text string) string {
 	return "sha256-" + base64.StdEncoding.EncodeToString(digest[:])
 }
 
-// ServeHTTP answers one request.
 func (h *handler) ServeHTTP(w http.ResponseWriter, r *http.Request) {
 	status, text := h.answer(w, r)
 	header := w.Header()
@@ -513,19 +512,4 @@ func idsOf(path string) (instance, binding string, err error) {
 		return ids[0], "", nil
 	}
 	return ids[0], ids[1], nil
-}
-
-// prefixOf is the beginning of a GUID with the hyphens where they belong.
-func prefixOf(text string) (prefix string, isPrefix bool) {
-	digits := strings.ToLower(strings.ReplaceAll(text, "-", ""))
-	if digits == "" || len(digits) > 32 || strings.Trim(digits, "0123456789abcdef") != "" {
-		return "", false
-	}
-	for at := range digits {
-		if at == 8 || at == 12 || at == 16 || at == 20 {
-			prefix += "-"
-		}
-		prefix += digits[at : at+1]
-	}
-	return prefix, true
 }

@@ -76,7 +76,7 @@ func present(of map[string]int) (found []string) {
 
 // search are the rows whose numbers begin with what is sought, and before them the row that has it as its whole id.
 func (l look) search(a target) (all []api.Record, err error) {
-	if prefix, isPrefix := prefixOf(a.find); isPrefix {
+	if prefix, isPrefix := api.Prefix(a.find); isPrefix {
 		found, err := l.reader.List(l.ctx, api.Query{
 			Kind: api.Records, Prefix: prefix, Order: api.ByState, Life: spans + 1, Limit: size,
 		})
