@@ -20,7 +20,6 @@ import (
 //	Failure.Event    error: a failure, with request, instance, binding and error
 type logObserver struct{ *logs.Logger }
 
-// OnExchange logs a request.
 func (o logObserver) OnExchange(exchange broker.Exchange) {
 	event := o.Info("request")
 	add(event, "request", exchange.RequestID)
@@ -57,10 +56,8 @@ func (o logObserver) OnFailure(failure broker.Failure) {
 // OnCallFailure logs nothing: what the call was for is logged once it has failed, and not again with each retry.
 func (o logObserver) OnCallFailure(string) {}
 
-// OnCommit logs nothing.
 func (o logObserver) OnCommit(int) {}
 
-// OnEnd logs the end of an operation, or of pending work.
 func (o logObserver) OnEnd(key broker.Key, ok bool) {
 	event := o.Info("operation_ended")
 	addKey(event, key, true)
@@ -131,7 +128,6 @@ type returns struct {
 	log *logs.Logger
 }
 
-// OnReturn logs an id that returns.
 func (r returns) OnReturn(it broker.Return) {
 	event := r.log.Info("id_returned").Str("request", it.RequestID).Str("instance", it.Key.Instance.String())
 	if it.Key.IsBinding {

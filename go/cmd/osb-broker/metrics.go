@@ -122,10 +122,8 @@ func (m *metrics) OnFailure(failure broker.Failure) {
 // doesn't name counts as other.
 func (m *metrics) OnCallFailure(call string) { m.calls.WithLabelValues(callLabel(call)).Inc() }
 
-// OnCommit counts a commit.
 func (m *metrics) OnCommit(changes int) { m.commits.WithLabelValues().Observe(float64(changes)) }
 
-// OnEnd counts an operation that has ended, or pending work.
 func (m *metrics) OnEnd(_ broker.Key, ok bool) {
 	result := "failed"
 	if ok {
@@ -245,7 +243,6 @@ func newStoreCollector(ctx context.Context, store countedStore, now func() time.
 	return c
 }
 
-// Describe sends the descriptions of all metrics that Collect may send.
 func (c *storeCollector) Describe(to chan<- *prometheus.Desc) {
 	for _, desc := range []*prometheus.Desc{c.up, c.pending, c.operating, c.waiting, c.tombstones, c.oldest} {
 		to <- desc

@@ -112,12 +112,10 @@ type logObserver struct {
 
 var _ platform.Observer = logObserver{}
 
-// OnRequest logs a request that is about to be sent.
 func (o logObserver) OnRequest(of platform.Exchange) {
 	o.addExchange(o.at(debugLevel, "request_sent"), of).Send()
 }
 
-// OnAnswer logs a request and its answer.
 func (o logObserver) OnAnswer(of platform.Exchange) {
 	level := infoLevel
 	if of.Lost != nil || of.Status >= 400 && of.Status != 410 {
@@ -138,13 +136,11 @@ func (o logObserver) OnAnswer(of platform.Exchange) {
 	event.Float64("milliseconds", milliseconds(of.Duration)).Send()
 }
 
-// OnChange logs another state.
 func (o logObserver) OnChange(key platform.Key, before, after platform.State) {
 	event := o.addKey(o.at(infoLevel, "state_changed"), key)
 	event.Str("before", string(before)).Str("after", string(after)).Send()
 }
 
-// OnFailure logs a failure.
 func (o logObserver) OnFailure(of platform.Failure) {
 	event := o.at(errorLevel, of.Event)
 	add(event, "broker", of.Broker)
@@ -158,7 +154,6 @@ func (o logObserver) OnFailure(of platform.Failure) {
 	event.Send()
 }
 
-// OnOrphan logs the answer to the last deletion.
 func (o logObserver) OnOrphan(key platform.Key, status int, isFound bool) {
 	name := "orphan_unknown"
 	if isFound {
@@ -167,7 +162,6 @@ func (o logObserver) OnOrphan(key platform.Key, status int, isFound bool) {
 	o.addKey(o.at(warningLevel, name), key).Int("status", status).Send()
 }
 
-// OnCatalogue logs that a broker is reached.
 func (o logObserver) OnCatalogue(name string) {
 	o.at(infoLevel, "broker_reached").Str("broker", name).Send()
 }
@@ -237,7 +231,6 @@ type serverObserver struct{ to platform.Observer }
 // OnRejection does nothing: the log has the requests that the platform sends.
 func (serverObserver) OnRejection(httpserver.Rejection) {}
 
-// OnFailure hands a failure on.
 func (o serverObserver) OnFailure(event string, err error) {
 	o.to.OnFailure(platform.Failure{Event: event, Err: err})
 }
@@ -292,14 +285,12 @@ type namingStore struct {
 	names *orderedIDs
 }
 
-// Claim learns the ids of the rows that it steps.
 func (s namingStore) Claim(
 	ctx context.Context, brokers []string, most int, step platform.Step,
 ) ([]platform.ClaimedRow, error) {
 	return s.Store.Claim(ctx, brokers, most, s.learning(step))
 }
 
-// Change learns the ids of the row.
 func (s namingStore) Change(ctx context.Context, key platform.Key, step platform.Step) error {
 	return s.Store.Change(ctx, key, s.learning(step))
 }
@@ -318,7 +309,6 @@ type changes struct {
 	names *orderedIDs
 }
 
-// OnChange prints a line.
 func (c changes) OnChange(key platform.Key, _, after platform.State) {
 	id, binding := c.names.find(key)
 	if key.IsBinding {

@@ -76,7 +76,6 @@ func (m *metrics) handler() http.Handler {
 	return promhttp.HandlerFor(m.registry, promhttp.HandlerOpts{MaxRequestsInFlight: 10})
 }
 
-// OnRequest counts a request in flight.
 func (m *metrics) OnRequest(platform.Exchange) { m.inFlight.Inc() }
 
 // OnAnswer counts a request. There are at most 99 brokers with a time series of their own.
@@ -114,7 +113,6 @@ func errorLabel(code string) string {
 // OnChange counts nothing: the collector counts states.
 func (m *metrics) OnChange(platform.Key, platform.State, platform.State) {}
 
-// OnFailure counts a failure.
 func (m *metrics) OnFailure(of platform.Failure) {
 	m.failures.WithLabelValues(of.Event).Inc()
 	if of.Event == "lease_lost" {
@@ -122,7 +120,6 @@ func (m *metrics) OnFailure(of platform.Failure) {
 	}
 }
 
-// OnOrphan counts the answer to a last deletion.
 func (m *metrics) OnOrphan(_ platform.Key, _ int, isFound bool) {
 	result := "unknown"
 	if isFound {
@@ -131,7 +128,6 @@ func (m *metrics) OnOrphan(_ platform.Key, _ int, isFound bool) {
 	m.orphans.WithLabelValues(result).Inc()
 }
 
-// OnCatalogue counts nothing.
 func (m *metrics) OnCatalogue(string) {}
 
 // Names are the values of a label, of which there may only be few.
@@ -226,7 +222,6 @@ func newStoreCollector(ctx context.Context, store platform.Store, now func() tim
 	}
 }
 
-// Describe sends the descriptions.
 func (c *storeCollector) Describe(to chan<- *prometheus.Desc) {
 	for _, desc := range []*prometheus.Desc{c.up, c.records, c.unsettled, c.oldest, c.oldestDue} {
 		to <- desc

@@ -165,7 +165,6 @@ type front struct {
 	running  *tally // of the Server
 }
 
-// ServeHTTP answers one request.
 func (f front) ServeHTTP(w http.ResponseWriter, r *http.Request) {
 	c, isOurs := r.Context().Value(connKey{}).(*conn)
 	if !isOurs {

@@ -195,7 +195,6 @@ type connector struct {
 	check func(context.Context, driver.QueryerContext) error // or nil
 }
 
-// Connect opens a connection.
 func (c connector) Connect(ctx context.Context) (driver.Conn, error) {
 	var network *limitedConn
 	made, err := c.Connector.Connect(context.WithValue(ctx, dialedKey{}, &network))

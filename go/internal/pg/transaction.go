@@ -132,7 +132,6 @@ func keep(of driver.Rows, err error) (driver.Rows, error) {
 	return rows{of}, nil
 }
 
-// Next reads the next row.
 func (r rows) Next(values []driver.Value) error {
 	if err := r.Rows.Next(values); err != nil {
 		return err

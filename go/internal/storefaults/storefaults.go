@@ -379,7 +379,6 @@ type conn struct {
 	driver *Driver
 }
 
-// Exec executes statements.
 func (c *conn) Exec(text string, values []driver.Value) (driver.Result, error) {
 	return c.driver.exec(text, func() (driver.Result, error) { return c.SQLiteConn.Exec(text, values) })
 }
@@ -396,7 +395,6 @@ func (d *Driver) exec(text string, execute func() (driver.Result, error)) (drive
 	return done, err
 }
 
-// Query begins a query.
 func (c *conn) Query(text string, values []driver.Value) (driver.Rows, error) {
 	return c.driver.query(text, func() (driver.Rows, error) { return c.SQLiteConn.Query(text, values) })
 }
@@ -413,7 +411,6 @@ func (d *Driver) query(text string, query func() (driver.Rows, error)) (driver.R
 	return &rows{found, text, d}, nil
 }
 
-// Prepare prepares a statement.
 func (c *conn) Prepare(text string) (driver.Stmt, error) {
 	if err := c.driver.refuse("PREPARE " + text); err != nil {
 		return nil, err
@@ -431,12 +428,10 @@ type statement struct {
 	driver *Driver
 }
 
-// Exec executes the statement.
 func (s *statement) Exec(values []driver.Value) (driver.Result, error) {
 	return s.driver.exec(s.text, func() (driver.Result, error) { return s.SQLiteStmt.Exec(values) })
 }
 
-// Query begins the query.
 func (s *statement) Query(values []driver.Value) (driver.Rows, error) {
 	return s.driver.query(s.text, func() (driver.Rows, error) { return s.SQLiteStmt.Query(values) })
 }
@@ -447,7 +442,6 @@ type rows struct {
 	driver *Driver
 }
 
-// Next reads the next row.
 func (r *rows) Next(row []driver.Value) error {
 	if err := r.driver.refuse("a row of " + r.text); err != nil {
 		return err

@@ -156,7 +156,6 @@ type answer struct {
 	location string
 }
 
-// ServeHTTP answers one request.
 func (h *handler) ServeHTTP(w http.ResponseWriter, r *http.Request) {
 	began := time.Now()
 	exchange := Exchange{Client: addressOf(r), Method: r.Method, Target: cut(r.URL.EscapedPath(), 256)}
