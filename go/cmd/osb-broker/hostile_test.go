@@ -210,8 +210,7 @@ func TestLongestBody(t *testing.T) {
 			reader = io.MultiReader(reader) // of which the length isn't known
 		}
 		path := fmt.Sprintf("%s-%d-%v", one, test.bytes, test.isChunked)
-		request, err := http.NewRequest("PUT", s.url+path, reader)
-		check(t, err)
+		request := diff.Value(http.NewRequest("PUT", s.url+path, reader))(t)
 		request.SetBasicAuth("platform", "secret")
 		request.Header.Set("X-Broker-API-Version", "2.17")
 		if status, body := s.do(request); status != test.status {
@@ -634,8 +633,7 @@ func stateOf(t *testing.T, folder string) string {
 		find . -type f ! -name '*-shm' -print0 | LC_ALL=C sort -z | xargs -0 sha256sum`
 	command := exec.Command("sh", "-c", script)
 	command.Dir = folder
-	out, err := command.Output()
-	check(t, err)
+	out := diff.Value(command.Output())(t)
 	return string(out)
 }
 

@@ -99,10 +99,8 @@ func TestNoJournal(t *testing.T) {
 	}
 	for _, arguments := range [][]string{nil, {"--journal", t.TempDir()}} {
 		s := start(t, []string{password}, append([]string{"--state", t.TempDir()}, arguments...)...)
-		request, err := newOrder(s.url)
-		check(t, err)
-		given, err := s.client.Do(request)
-		check(t, err)
+		request := diff.Value(newOrder(s.url))(t)
+		given := diff.Value(s.client.Do(request))(t)
 		_ = given.Body.Close()
 		if got := given.Header.Get(journalfile.Header); given.StatusCode != 201 || (got == "") != (arguments == nil) {
 			t.Errorf("with %v: got %d and the time %q, want 201, and a time with a journal alone",

@@ -68,8 +68,7 @@ func start(t *testing.T, environment []string, arguments ...string) *servedBroke
 // request is a request of a user.
 func (s *servedBroker) request(user, password, method, path, body string) *http.Request {
 	s.t.Helper()
-	request, err := http.NewRequest(method, s.url+path, strings.NewReader(body))
-	check(s.t, err)
+	request := diff.Value(http.NewRequest(method, s.url+path, strings.NewReader(body)))(s.t)
 	request.SetBasicAuth(user, password)
 	request.Header.Set("X-Broker-API-Version", "2.17")
 	return request
@@ -83,11 +82,9 @@ func (s *servedBroker) ask(method, path, body string) (int, string) {
 
 func (s *servedBroker) do(request *http.Request) (int, string) {
 	s.t.Helper()
-	given, err := s.client.Do(request)
-	check(s.t, err)
+	given := diff.Value(s.client.Do(request))(s.t)
 	defer given.Body.Close()
-	text, err := io.ReadAll(given.Body)
-	check(s.t, err)
+	text := diff.Value(io.ReadAll(given.Body))(s.t)
 	return given.StatusCode, string(text)
 }
 
@@ -222,8 +219,7 @@ func TestHealth(t *testing.T) {
 	for path, text := range map[string]string{
 		"/healthz": `"ok"`, "/readyz": `"ok"`, "/metrics": "osb_broker_requests_total",
 	} {
-		request, err := http.NewRequest("GET", s.url+path, nil)
-		check(t, err)
+		request := diff.Value(http.NewRequest("GET", s.url+path, nil))(t)
 		s.ask("GET", "/v2/catalog", "")
 		if status, body := s.do(request); status != 200 || !strings.Contains(body, text) {
 			t.Errorf("%s: got %d %.100s, want 200 and its text", path, status, body)
@@ -324,8 +320,7 @@ func unusable(t *testing.T, says string, arguments ...string) {
 
 // An address that another process uses ends it, whichever of the two addresses that is.
 func TestAddressInUse(t *testing.T) {
-	used, err := net.Listen("tcp", "127.0.0.1:0")
-	check(t, err)
+	used := diff.Value(net.Listen("tcp", "127.0.0.1:0"))(t)
 	defer used.Close()
 	address := used.Addr().String()
 	says := ": can't listen: listen tcp4 " + address + ": bind: address already in use. "
@@ -508,8 +503,7 @@ func TestIsLoopback(t *testing.T) {
 		"127.0.0.1:1": true, "127.9.9.9:1": true, "[::1]:1": true, "0.0.0.0:1": false, "[::]:1": false, "192.0.2.1:1": false,
 	} {
 		t.Run(address, func(t *testing.T) {
-			resolved, err := net.ResolveTCPAddr("tcp", address)
-			check(t, err)
+			resolved := diff.Value(net.ResolveTCPAddr("tcp", address))(t)
 			diff.Equal(t, isLoopback(resolved), want, "")
 		})
 	}
@@ -565,8 +559,7 @@ func hasEvent(log []byte, name string) bool {
 // plain asks without a login.
 func (s *servedBroker) plain(path string) (int, string) {
 	s.t.Helper()
-	request, err := http.NewRequest("GET", s.url+path, nil)
-	check(s.t, err)
+	request := diff.Value(http.NewRequest("GET", s.url+path, nil))(s.t)
 	return s.do(request)
 }
 
@@ -583,8 +576,7 @@ func (s *servedBroker) expect(status int, method, path, body string) string {
 // soldInstances are the instances that exist as folders.
 func soldInstances(t *testing.T, state string) []string {
 	t.Helper()
-	found, err := filepath.Glob(filepath.Join(state, "instances", "*-*"))
-	check(t, err)
+	found := diff.Value(filepath.Glob(filepath.Join(state, "instances", "*-*")))(t)
 	return found
 }
 

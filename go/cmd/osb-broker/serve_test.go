@@ -79,8 +79,7 @@ func TestFilesThatAreNeeded(t *testing.T) {
 
 // The version is that of the changelog and of the library.
 func TestVersion(t *testing.T) {
-	changes, err := os.ReadFile("../../../CHANGELOG.md")
-	check(t, err)
+	changes := diff.Value(os.ReadFile("../../../CHANGELOG.md"))(t)
 	found := regexp.MustCompile(`(?m)^## (\d+\.\d+\.\d+)`).FindSubmatch(changes)
 	if found == nil {
 		t.Fatal("the changelog: got no version, want one")
@@ -94,8 +93,7 @@ func TestVersion(t *testing.T) {
 // later has the tombstones of a state folder written so many seconds earlier, as if so much time had passed.
 func later(t *testing.T, state string, seconds int) {
 	t.Helper()
-	store, err := sql.Open("sqlite3", filepath.Join(state, "holdings.sqlite"))
-	check(t, err)
+	store := diff.Value(sql.Open("sqlite3", filepath.Join(state, "holdings.sqlite")))(t)
 	defer store.Close()
 	if _, err := store.Exec("UPDATE holdings SET ended = ended - ?", 1000*seconds); err != nil {
 		t.Fatal(err)
@@ -304,8 +302,7 @@ func TestFailedLoginsOfAnAddressAreDelayed(t *testing.T) {
 // freeAddress is an address of this machine at which nobody listens.
 func freeAddress(t *testing.T) string {
 	t.Helper()
-	listener, err := net.Listen("tcp", "127.0.0.1:0")
-	check(t, err)
+	listener := diff.Value(net.Listen("tcp", "127.0.0.1:0"))(t)
 	defer listener.Close()
 	return listener.Addr().String()
 }
@@ -328,8 +325,7 @@ func TestHealthWhileAllConnectionsAreTaken(t *testing.T) {
 	_, err := full.Get(s.url + "/v2/catalog")
 	diff.Error(t, err, "the main address, which is full")
 	for _, path := range []string{"/healthz", "/readyz", "/metrics"} {
-		given, err := s.client.Get("http://" + address + path)
-		check(t, err)
+		given := diff.Value(s.client.Get("http://" + address + path))(t)
 		if _ = given.Body.Close(); given.StatusCode != 200 {
 			t.Errorf("%s: got %s, want 200", path, given.Status)
 		}
@@ -355,8 +351,7 @@ func TestRequestsWhileItStops(t *testing.T) {
 				s.expect(503, test.method, test.path, test.body)
 			}
 			for _, path := range []string{"/healthz", "/readyz"} {
-				given, err := s.client.Get("http://" + address + path)
-				check(t, err)
+				given := diff.Value(s.client.Get("http://" + address + path))(t)
 				if _ = given.Body.Close(); given.StatusCode != 503 {
 					t.Errorf("%s at --health-listen: got %s, want 503", path, given.Status)
 				}

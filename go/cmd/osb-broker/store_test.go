@@ -24,8 +24,7 @@ import (
 func postgresql(t *testing.T) (address string, environment []string) {
 	t.Helper()
 	address, secret := pgtest.URL(t), os.Getenv("PGPASSWORD")
-	parsed, err := url.Parse(address)
-	check(t, err)
+	parsed := diff.Value(url.Parse(address))(t)
 	if given, has := parsed.User.Password(); has {
 		secret = given
 		parsed.User = url.User(parsed.User.Username())
@@ -218,10 +217,8 @@ func oldInstances() []old {
 func oldState(t *testing.T) string {
 	t.Helper()
 	state := t.TempDir()
-	dump, err := os.ReadFile("testdata/store-0.2.sql")
-	check(t, err)
-	store, err := sql.Open("sqlite3", filepath.Join(state, "holdings.sqlite"))
-	check(t, err)
+	dump := diff.Value(os.ReadFile("testdata/store-0.2.sql"))(t)
+	store := diff.Value(sql.Open("sqlite3", filepath.Join(state, "holdings.sqlite")))(t)
 	defer store.Close()
 	var name string
 	if _, err := store.ExecContext(context.Background(), "PRAGMA journal_mode = WAL; "+string(dump)); err != nil {

@@ -41,8 +41,7 @@ func runTry(t *testing.T, environment []string, start func(*exec.Cmd), arguments
 		start(command)
 	}
 	_ = command.Wait()
-	left, err := filepath.Glob(temporary + "/*")
-	check(t, err)
+	left := diff.Value(filepath.Glob(temporary + "/*"))(t)
 	return tryRun{command.ProcessState.ExitCode(), stdout.String(), stderr.String(), left}
 }
 
@@ -129,8 +128,7 @@ func TestTryPlans(t *testing.T) {
 	if run.status != 0 || run.last() != "38 ok, 0 failed" || len(run.lines("try")) != 2 {
 		t.Errorf("got the status %d and %s%s, want 0 and 38 ok of two plans", run.status, run.stdout, run.stderr)
 	}
-	text, err := os.ReadFile(seen)
-	check(t, err)
+	text := diff.Value(os.ReadFile(seen))(t)
 	var plans []string
 	for decoder := json.NewDecoder(bytes.NewReader(text)); decoder.More(); {
 		var read struct {

@@ -292,8 +292,7 @@ func newFront(t *testing.T, s *site) *front {
 	t.Helper()
 	f := &front{}
 	f.store.Store("one")
-	to, err := url.Parse(s.url)
-	check(t, err)
+	to := diff.Value(url.Parse(s.url))(t)
 	proxy := httputil.NewSingleHostReverseProxy(to)
 	proxy.ModifyResponse = f.name
 	server := httptest.NewServer(http.HandlerFunc(func(w http.ResponseWriter, r *http.Request) {

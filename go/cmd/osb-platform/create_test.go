@@ -316,14 +316,11 @@ func TestLaterDeletion(t *testing.T) {
 // terminal is a terminal of its own: what is written to it is read from screen.
 func terminal(t *testing.T) (screen, written *os.File) {
 	t.Helper()
-	screen, err := os.OpenFile("/dev/ptmx", os.O_RDWR|unix.O_NOCTTY, 0)
-	check(t, err)
+	screen = diff.Value(os.OpenFile("/dev/ptmx", os.O_RDWR|unix.O_NOCTTY, 0))(t)
 	t.Cleanup(func() { _ = screen.Close() })
-	number, err := unix.IoctlGetInt(int(screen.Fd()), unix.TIOCGPTN)
-	check(t, err)
+	number := diff.Value(unix.IoctlGetInt(int(screen.Fd()), unix.TIOCGPTN))(t)
 	check(t, unix.IoctlSetPointerInt(int(screen.Fd()), unix.TIOCSPTLCK, 0))
-	written, err = os.OpenFile("/dev/pts/"+strconv.Itoa(number), os.O_RDWR|unix.O_NOCTTY, 0)
-	check(t, err)
+	written = diff.Value(os.OpenFile("/dev/pts/"+strconv.Itoa(number), os.O_RDWR|unix.O_NOCTTY, 0))(t)
 	t.Cleanup(func() { _ = written.Close() })
 	return screen, written
 }

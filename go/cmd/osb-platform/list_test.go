@@ -236,8 +236,7 @@ func TestMoment(t *testing.T) {
 }
 
 func TestIsTerminal(t *testing.T) {
-	file, err := os.Open(os.DevNull)
-	check(t, err)
+	file := diff.Value(os.Open(os.DevNull))(t)
 	defer file.Close()
 	if isTerminal(file) || isTerminal(nil) {
 		t.Error("isTerminal: got true of what is no terminal, want false")
@@ -372,8 +371,7 @@ func TestUnreadableRow(t *testing.T) {
 // spoil executes a statement in the file of a store.
 func spoil(t *testing.T, store, statement string) {
 	t.Helper()
-	made, err := (&sqlite3.SQLiteDriver{}).Open("file:" + store)
-	check(t, err)
+	made := diff.Value((&sqlite3.SQLiteDriver{}).Open("file:" + store))(t)
 	defer made.Close()
 	if done, err := made.(*sqlite3.SQLiteConn).Exec(statement, nil); err != nil {
 		t.Fatal(err)

@@ -131,8 +131,7 @@ func newStore(t *testing.T) string {
 func over(t *testing.T, path string, use func(context.Context, platform.Store) error) {
 	t.Helper()
 	ctx := context.Background()
-	store, err := sqlite.Open(ctx, path)
-	check(t, err)
+	store := diff.Value(sqlite.Open(ctx, path))(t)
 	check(t, use(ctx, store))
 	check(t, store.Close())
 }
@@ -297,8 +296,7 @@ func TestEnds(t *testing.T) {
 func newWaiting(t *testing.T, due, after time.Duration) (store, next string) {
 	t.Helper()
 	store = newStore(t)
-	id, err := osb.IDOfText("the next try")
-	check(t, err)
+	id := diff.Value(osb.IDOfText("the next try"))(t)
 	over(t, store, func(ctx context.Context, in platform.Store) error {
 		first, err := platform.NewOrders(in, nil).Create(ctx, platform.NewInstance{Plan: "small", ID: "one", Tries: 3})
 		if err != nil {
@@ -416,8 +414,7 @@ func TestURLWithVersion(t *testing.T) {
 
 // A store of another scheme isn't taken for a file of that name.
 func TestStoreWithAnotherScheme(t *testing.T) {
-	before, err := os.Getwd()
-	check(t, err)
+	before := diff.Value(os.Getwd())(t)
 	check(t, os.Chdir(t.TempDir()))
 	t.Cleanup(func() { _ = os.Chdir(before) })
 	for _, text := range []string{"list", "broker add x http://127.0.0.1:1", "run --once"} {

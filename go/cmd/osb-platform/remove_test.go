@@ -272,13 +272,11 @@ func (s *site) put(t *testing.T, id, plan string) {
 	body := `{"service_id": "00000000-0000-0000-0000-0000000000a0", "plan_id": "` + plan +
 		`", "organization_guid": "o", "space_guid": "s"}`
 	url := s.url + "/v2/service_instances/" + id + "?accepts_incomplete=true"
-	request, err := http.NewRequest(http.MethodPut, url, strings.NewReader(body))
-	check(t, err)
+	request := diff.Value(http.NewRequest(http.MethodPut, url, strings.NewReader(body)))(t)
 	request.SetBasicAuth("platform", "secret")
 	request.Header.Set("X-Broker-API-Version", "2.17")
 	request.Header.Set("Content-Type", "application/json")
-	answer, err := http.DefaultClient.Do(request)
-	check(t, err)
+	answer := diff.Value(http.DefaultClient.Do(request))(t)
 	defer answer.Body.Close()
 	if answer.StatusCode != http.StatusCreated && answer.StatusCode != http.StatusAccepted {
 		t.Fatalf("got the status %d, want 201 or 202", answer.StatusCode)

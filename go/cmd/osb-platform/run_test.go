@@ -276,11 +276,9 @@ func TestWorkers(t *testing.T) {
 // get is the answer to a GET.
 func get(t *testing.T, url string) (int, string) {
 	t.Helper()
-	given, err := http.Get(url)
-	check(t, err)
+	given := diff.Value(http.Get(url))(t)
 	defer given.Body.Close()
-	text, err := io.ReadAll(given.Body)
-	check(t, err)
+	text := diff.Value(io.ReadAll(given.Body))(t)
 	return given.StatusCode, string(text)
 }
 
@@ -374,8 +372,7 @@ func oldestDue(t *testing.T, p *process) float64 {
 	if found == nil {
 		t.Fatalf("got %s, want oldest_due_seconds", text)
 	}
-	seconds, err := strconv.ParseFloat(found[1], 64)
-	check(t, err)
+	seconds := diff.Value(strconv.ParseFloat(found[1], 64))(t)
 	return seconds
 }
 
@@ -537,8 +534,7 @@ func TestTimesCross(t *testing.T) {
 	p := start(t, store, ownPassword, "--broker", front, "--moved", "--worker", "one", "--journal", file)
 	wantLines(t, store, []line{{"create --plan at-once --wait=60 --id one", 0, "one", `.*`}})
 	p.stop()
-	text, err := os.ReadFile(file)
-	check(t, err)
+	text := diff.Value(os.ReadFile(file))(t)
 	at := map[string]int64{}
 	for _, line := range strings.Split(strings.TrimSuffix(string(text), "\n"), "\n") {
 		var read struct {
@@ -557,8 +553,7 @@ func TestTimesCross(t *testing.T) {
 // instances.
 func inFrontOf(t *testing.T, s *site, given string) (front string, received chan string) {
 	t.Helper()
-	behind, err := url.Parse(s.url)
-	check(t, err)
+	behind := diff.Value(url.Parse(s.url))(t)
 	received = make(chan string, 100)
 	proxy := httputil.NewSingleHostReverseProxy(behind)
 	proxy.ModifyResponse = func(of *http.Response) error {

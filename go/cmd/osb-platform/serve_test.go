@@ -319,8 +319,7 @@ func TestOrderedIDs(t *testing.T) {
 // learnID has ids learn of an instance, and returns its key.
 func learnID(t *testing.T, ids *orderedIDs, id string) platform.Key {
 	t.Helper()
-	key, err := platform.ParseKey(id)
-	check(t, err)
+	key := diff.Value(platform.ParseKey(id))(t)
 	ids.learn(platform.Entry{Order: platform.Order{Key: key, Names: platform.Names{Instance: id}}})
 	return key
 }
@@ -368,8 +367,7 @@ func TestServedStoreFails(t *testing.T) {
 		"/v1/counts": {r.api, `"level":"error","event":"api_request",.*"status":503,.*"error":"the store is away"`},
 	} {
 		t.Run(target, func(t *testing.T) {
-			handler, err := test.make()
-			check(t, err)
+			handler := diff.Value(test.make())(t)
 			recorder := answerOf(handler, target)
 			diff.Equal(t, recorder.Code, 503, "%s", recorder.Body)
 			diff.Lacks(t, recorder.Body.String(), "is away", "")
@@ -424,16 +422,13 @@ func (b *lockedBuffer) String() string {
 // While the API carries out all that it may at once, the page goes on: it asks an API of its own. What it asks isn't in
 // the log.
 func TestPageBesideBusyAPI(t *testing.T) {
-	file, err := sqlite.Open(context.Background(), filepath.Join(t.TempDir(), "store"))
-	check(t, err)
+	file := diff.Value(sqlite.Open(context.Background(), filepath.Join(t.TempDir(), "store")))(t)
 	defer file.Close()
 	written := &lockedBuffer{}
 	store := &lockedStore{Store: file, listing: make(chan struct{}), letGo: make(chan struct{})}
 	r := servingOver(t, store, written)
-	api, err := r.api()
-	check(t, err)
-	page, err := r.page(context.Background())
-	check(t, err)
+	api := diff.Value(r.api())(t)
+	page := diff.Value(r.page(context.Background()))(t)
 	const atOnce = 64 // of the API
 	var all sync.WaitGroup
 	for n := 0; n < atOnce; n++ {
@@ -578,8 +573,7 @@ func readyIs(t *testing.T, p *process, want int) {
 // execute executes a statement in the file of a store.
 func execute(t *testing.T, store, statement string) {
 	t.Helper()
-	made, err := (&sqlite3.SQLiteDriver{}).Open("file:" + store + "?_busy_timeout=5000")
-	check(t, err)
+	made := diff.Value((&sqlite3.SQLiteDriver{}).Open("file:" + store + "?_busy_timeout=5000"))(t)
 	defer made.Close()
 	if _, err := made.(*sqlite3.SQLiteConn).Exec(statement, nil); err != nil {
 		t.Fatal(err)

@@ -13,6 +13,7 @@ import (
 	"pippinterm/broker"
 	"pippinterm/broker/backend/folders"
 	"pippinterm/broker/sqlite"
+	"pippinterm/internal/diff"
 	"pippinterm/osb"
 )
 
@@ -39,27 +40,20 @@ func newSite(t *testing.T) *site {
 // newSiteFor is newSite of a broker whose requests an observer sees.
 func newSiteFor(t *testing.T, observer broker.Observer) *site {
 	t.Helper()
-	document, err := os.ReadFile("../osb-broker/catalogue.json")
-	check(t, err)
-	catalogue, err := broker.NewCatalogue(document, true)
-	check(t, err)
+	document := diff.Value(os.ReadFile("../osb-broker/catalogue.json"))(t)
+	catalogue := diff.Value(broker.NewCatalogue(document, true))(t)
 	folder, ctx := t.TempDir(), context.Background()
-	backend, err := folders.New(filepath.Join(folder, "instances"))
-	check(t, err)
-	store, err := sqlite.Open(ctx, filepath.Join(folder, "holdings"), broker.Silent{})
-	check(t, err)
-	locks, err := broker.NewFileLocks(filepath.Join(folder, "locks"))
-	check(t, err)
+	backend := diff.Value(folders.New(filepath.Join(folder, "instances")))(t)
+	store := diff.Value(sqlite.Open(ctx, filepath.Join(folder, "holdings"), broker.Silent{}))(t)
+	locks := diff.Value(broker.NewFileLocks(filepath.Join(folder, "locks")))(t)
 	service := broker.NewService(catalogue, store, backend, locks, broker.Rules{
 		FirstPoll: true, WaitForPoll: time.Minute,
 	}, broker.Silent{})
 	sweeper := broker.NewSweeper(service, broker.Silent{})
-	users, err := broker.NewUsers(map[string][]string{"platform": {"secret"}})
-	check(t, err)
-	handler, err := broker.NewHandler(ctx, service, broker.Config{
+	users := diff.Value(broker.NewUsers(map[string][]string{"platform": {"secret"}}))(t)
+	handler := diff.Value(broker.NewHandler(ctx, service, broker.Config{
 		Users: users, LongestBody: 1 << 20, AtOnce: 8, Touch: sweeper.Touch, Observer: observer,
-	})
-	check(t, err)
+	}))(t)
 	stop, cancel := context.WithCancel(ctx)
 	swept := make(chan struct{})
 	go func() {

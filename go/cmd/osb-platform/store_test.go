@@ -109,8 +109,7 @@ func newProxy(t *testing.T, schema string) (proxy *storefaults.Proxy, address st
 	t.Helper()
 	named := pgtest.With(t, pgtest.Schema(t, pgtest.URL(t), schema), "application_name", schema)
 	proxy, address = storefaults.NewProxy(t, named)
-	parsed, err := url.Parse(address)
-	check(t, err)
+	parsed := diff.Value(url.Parse(address))(t)
 	secret := os.Getenv("PGPASSWORD")
 	if given, has := parsed.User.Password(); has {
 		secret = given
@@ -374,8 +373,7 @@ func TestKeyReplacedBesideServe(t *testing.T) {
 // storeOf03 is a store that version 0.3 has written, and the file with its key.
 func storeOf03(t *testing.T) (store, key string) {
 	t.Helper()
-	dump, err := os.ReadFile("../../platform/vault/testdata/store-0.3.sql")
-	check(t, err)
+	dump := diff.Value(os.ReadFile("../../platform/vault/testdata/store-0.3.sql"))(t)
 	store, key = filepath.Join(t.TempDir(), "store"), filepath.Join(t.TempDir(), "key")
 	write(t, key, "the first key, of forty bytes, and more.\n")
 	executeIn(t, store, string(dump))
@@ -384,8 +382,7 @@ func storeOf03(t *testing.T) (store, key string) {
 
 func executeIn(t *testing.T, store, statements string) {
 	t.Helper()
-	db, err := sql.Open("sqlite3", store)
-	check(t, err)
+	db := diff.Value(sql.Open("sqlite3", store))(t)
 	if _, err := db.Exec(statements); err != nil {
 		t.Error(err)
 	}
@@ -413,8 +410,7 @@ func TestPasswordAtAnotherURL(t *testing.T) {
 	if others.Load() == 0 {
 		t.Error("the broker other: got no request, want one")
 	}
-	dump, err := os.ReadFile("../../platform/vault/testdata/store-0.3.sql")
-	check(t, err)
+	dump := diff.Value(os.ReadFile("../../platform/vault/testdata/store-0.3.sql"))(t)
 	old := filepath.Join(t.TempDir(), "old")
 	executeIn(t, old, string(dump))
 	for what, statement := range map[string]string{

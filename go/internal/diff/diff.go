@@ -102,6 +102,15 @@ func Must(t testing.TB, err error) {
 	}
 }
 
+// Value returns what a call has returned, and ends the test at its error: text := diff.Value(os.ReadFile(name))(t).
+func Value[T any](value T, err error) func(testing.TB) T {
+	return func(t testing.TB) T {
+		t.Helper()
+		Must(t, err)
+		return value
+	}
+}
+
 // Of says how got differs from want: the lines with + are what was got, and those with - what is wanted. If cmp sees no
 // difference, both are printed as a whole.
 func Of(got, want any) string {

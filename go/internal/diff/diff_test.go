@@ -96,6 +96,7 @@ func TestValuesAndErrors(t *testing.T) {
 		"got the error <nil>, want wrong":       func(t testing.TB) { ErrorIs(t, nil, wrong, "") },
 		"Read: got the error wrong, want none":  func(t testing.TB) { NoError(t, wrong, "Read") },
 		"ended: got the error wrong, want none": func(t testing.TB) { Must(t, wrong) },
+		"ended: got the error no, want none":    func(t testing.TB) { Value(1, errors.New("no"))(t) },
 		"Read 2: got no error, want one":        func(t testing.TB) { Error(t, nil, "Read %d", 2) },
 		`a log: got "a", want "b" in it`:        func(t testing.TB) { Contains(t, "a", "b", "a log") },
 		`got "abc", want no "b" in it`:          func(t testing.TB) { Lacks(t, "abc", "b", "") },
@@ -111,6 +112,7 @@ func TestValuesAndErrors(t *testing.T) {
 	f := &fake{TB: t}
 	Must(f, nil)
 	NoError(f, nil, "x")
+	Equal(t, Value(5, nil)(f), 5, "the value")
 	Error(f, wrong, "x")
 	Contains(f, "abc", "bc", "x")
 	Lacks(f, "abc", "ac", "x")

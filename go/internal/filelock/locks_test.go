@@ -28,16 +28,14 @@ const (
 
 func newLocks(t *testing.T, path string) *Locks {
 	t.Helper()
-	locks, err := New(path)
-	check(t, err)
+	locks := diff.Value(New(path))(t)
 	return locks
 }
 
 // isFree returns whether the lock of a key is free.
 func isFree(t *testing.T, locks *Locks, key string) bool {
 	t.Helper()
-	lock, err := locks.TryLock(key)
-	check(t, err)
+	lock := diff.Value(locks.TryLock(key))(t)
 	if lock == nil {
 		return false
 	}
@@ -50,8 +48,7 @@ func mustLock(t *testing.T, locks *Locks, key string) *Lock {
 	t.Helper()
 	ctx, cancel := context.WithTimeout(context.Background(), time.Minute)
 	defer cancel()
-	lock, err := locks.Lock(ctx, key)
-	check(t, err)
+	lock := diff.Value(locks.Lock(ctx, key))(t)
 	return lock
 }
 
@@ -226,8 +223,7 @@ func TestPausesForALockStayShort(t *testing.T) {
 // open until they are collected as garbage.
 func openFiles(t *testing.T) (count int) {
 	t.Helper()
-	found, err := os.ReadDir("/proc/self/fd")
-	check(t, err)
+	found := diff.Value(os.ReadDir("/proc/self/fd"))(t)
 	for _, entry := range found {
 		path, err := os.Readlink("/proc/self/fd/" + entry.Name())
 		if err == nil && !strings.HasSuffix(path, " (deleted)") {
@@ -305,8 +301,7 @@ func TestFileThatWasReplaced(t *testing.T) {
 }
 
 func BenchmarkLock(b *testing.B) {
-	locks, err := New(filepath.Join(b.TempDir(), "locks"))
-	check(b, err)
+	locks := diff.Value(New(filepath.Join(b.TempDir(), "locks")))(b)
 	for n := 0; n < b.N; n++ {
 		lock, err := locks.TryLock(one)
 		if err != nil || lock == nil {
@@ -481,8 +476,7 @@ func catWith(t *testing.T, lock *Lock) (*exec.Cmd, io.Closer) {
 		defer lent.Close()
 		child.ExtraFiles = []*os.File{lent}
 	}
-	input, err := child.StdinPipe()
-	check(t, err)
+	input := diff.Value(child.StdinPipe())(t)
 	check(t, child.Start())
 	return child, input
 }
@@ -490,8 +484,7 @@ func catWith(t *testing.T, lock *Lock) (*exec.Cmd, io.Closer) {
 // lend lends a lock. It fails if that isn't possible within ten seconds.
 func lend(t *testing.T, lock *Lock) *os.File {
 	t.Helper()
-	lent, err := Lend(lock.Context(context.Background()), 10*time.Second)
-	check(t, err)
+	lent := diff.Value(Lend(lock.Context(context.Background()), 10*time.Second))(t)
 	return lent
 }
 

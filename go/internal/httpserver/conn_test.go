@@ -240,8 +240,7 @@ func TestACutHeadBehindAnotherRequest(t *testing.T) {
 func from(t *testing.T, address string, listener *Listener) client {
 	t.Helper()
 	dialer := net.Dialer{Timeout: limit, LocalAddr: &net.TCPAddr{IP: net.ParseIP(address)}}
-	connection, err := dialer.Dial("tcp", listener.Addr().String())
-	check(t, err)
+	connection := diff.Value(dialer.Dial("tcp", listener.Addr().String()))(t)
 	return clientOf(t, connection)
 }
 
@@ -500,8 +499,7 @@ func (a *addresses) counts() map[string]int {
 // With TLS the PROXY header precedes the handshake.
 func TestPROXYHeaderBeforeTLS(t *testing.T) {
 	authority := newAuthority(t)
-	certificates, err := LoadCertificates(authority.issue("server"))
-	check(t, err)
+	certificates := diff.Value(LoadCertificates(authority.issue("server")))(t)
 	listener := start(t, Options{
 		Certificates: certificates, TrustedProxies: trusting(t, "127.0.0.1/32"),
 	}, Server{}, whoAsks)

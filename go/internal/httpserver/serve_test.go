@@ -67,8 +67,7 @@ func TestAClosedConnectionFreesItsPlaceOnce(t *testing.T) {
 
 func TestTwoListenersShareAnAddress(t *testing.T) {
 	first := listen(t, Options{Share: true})
-	second, err := Listen(context.Background(), first.Addr().String(), Options{Share: true})
-	check(t, err)
+	second := diff.Value(Listen(context.Background(), first.Addr().String(), Options{Share: true}))(t)
 	second.Close()
 	if third, err := Listen(context.Background(), first.Addr().String(), Options{}); err == nil {
 		third.Close()
@@ -496,8 +495,7 @@ func (endless) Read(p []byte) (int, error) { return len(p), nil }
 
 // A host that is an IPv4 address is listened at over IPv4 alone, also if it stands for all addresses.
 func TestIPv4HasNoIPv6(t *testing.T) {
-	listener, err := Listen(context.Background(), "0.0.0.0:0", Options{})
-	check(t, err)
+	listener := diff.Value(Listen(context.Background(), "0.0.0.0:0", Options{}))(t)
 	defer listener.Close()
 	at := listener.Addr().(*net.TCPAddr)
 	diff.Equal(t, at.IP.String(), "0.0.0.0", "")
@@ -589,8 +587,7 @@ func (r *recorder) events() []string {
 
 func listen(t *testing.T, options Options) *Listener {
 	t.Helper()
-	listener, err := Listen(context.Background(), "127.0.0.1:0", options)
-	check(t, err)
+	listener := diff.Value(Listen(context.Background(), "127.0.0.1:0", options))(t)
 	t.Cleanup(func() { _ = listener.Close() }) // it may be closed already
 	return listener
 }
@@ -642,8 +639,7 @@ type client struct {
 
 func dial(t *testing.T, listener *Listener) client {
 	t.Helper()
-	connection, err := net.DialTimeout("tcp", listener.Addr().String(), limit)
-	check(t, err)
+	connection := diff.Value(net.DialTimeout("tcp", listener.Addr().String(), limit))(t)
 	return clientOf(t, connection)
 }
 

@@ -24,8 +24,7 @@ import (
 // startTLS serves echo with these files.
 func startTLS(t *testing.T, files CertificateFiles, options Options, server Server) (*Listener, *Certificates) {
 	t.Helper()
-	certificates, err := LoadCertificates(files)
-	check(t, err)
+	certificates := diff.Value(LoadCertificates(files))(t)
 	options.Certificates = certificates
 	return start(t, options, server, func(w http.ResponseWriter, r *http.Request) {
 		if r.TLS == nil {
@@ -249,18 +248,15 @@ func newAuthority(t *testing.T) *authority {
 
 func (a *authority) newKey() *ecdsa.PrivateKey {
 	a.t.Helper()
-	key, err := ecdsa.GenerateKey(elliptic.P256(), rand.Reader)
-	check(a.t, err)
+	key := diff.Value(ecdsa.GenerateKey(elliptic.P256(), rand.Reader))(a.t)
 	return key
 }
 
 func (a *authority) sign(file string, template, parent *x509.Certificate, of *ecdsa.PrivateKey) *x509.Certificate {
 	a.t.Helper()
-	der, err := x509.CreateCertificate(rand.Reader, template, parent, &of.PublicKey, a.key)
-	check(a.t, err)
+	der := diff.Value(x509.CreateCertificate(rand.Reader, template, parent, &of.PublicKey, a.key))(a.t)
 	a.write(file, "CERTIFICATE", der)
-	certificate, err := x509.ParseCertificate(der)
-	check(a.t, err)
+	certificate := diff.Value(x509.ParseCertificate(der))(a.t)
 	return certificate
 }
 
@@ -281,8 +277,7 @@ func (a *authority) issue(name string) CertificateFiles {
 		IPAddresses: []net.IP{net.IPv4(127, 0, 0, 1)},
 		ExtKeyUsage: []x509.ExtKeyUsage{x509.ExtKeyUsageServerAuth, x509.ExtKeyUsageClientAuth},
 	}, a.certificate, key)
-	der, err := x509.MarshalECPrivateKey(key)
-	check(a.t, err)
+	der := diff.Value(x509.MarshalECPrivateKey(key))(a.t)
 	a.write(name+".key", "EC PRIVATE KEY", der)
 	return CertificateFiles{Certificate: a.path(name + ".pem"), Key: a.path(name + ".key")}
 }
@@ -296,8 +291,7 @@ func (a *authority) client(files CertificateFiles) *tls.Config {
 	if files.Certificate == "" {
 		return config
 	}
-	pair, err := tls.LoadX509KeyPair(files.Certificate, files.Key)
-	check(a.t, err)
+	pair := diff.Value(tls.LoadX509KeyPair(files.Certificate, files.Key))(a.t)
 	config.Certificates = []tls.Certificate{pair}
 	return config
 }

@@ -40,19 +40,17 @@ type member struct {
 // openJournal opens a journal at a path whose files have so many bytes. The test fails if a line is lost.
 func openJournal(t *testing.T, path string, most int64) *Writer {
 	t.Helper()
-	w, err := Open(Options{
+	w := diff.Value(Open(Options{
 		Path: path, Side: "broker", Most: most, Started: map[string]string{"version": "one"},
 		Failed: func(err error) { t.Error(err) },
-	})
-	check(t, err)
+	}))(t)
 	return w
 }
 
 // linesOf are the lines of a file.
 func linesOf(t *testing.T, path string) (lines []line) {
 	t.Helper()
-	text, err := os.ReadFile(path)
-	check(t, err)
+	text := diff.Value(os.ReadFile(path))(t)
 	for _, text := range strings.SplitAfter(string(text), "\n") {
 		var read line
 		if text == "" {
@@ -98,8 +96,7 @@ func TestALineAfterTheEnd(t *testing.T) {
 // filesIn are the paths of the files of a folder, by name.
 func filesIn(t *testing.T, folder string) (paths []string) {
 	t.Helper()
-	entries, err := os.ReadDir(folder)
-	check(t, err)
+	entries := diff.Value(os.ReadDir(folder))(t)
 	for _, entry := range entries {
 		paths = append(paths, filepath.Join(folder, entry.Name()))
 	}
@@ -299,8 +296,7 @@ func TestTorn(t *testing.T) {
 	path := filepath.Join(t.TempDir(), "journal")
 	check(t, os.WriteFile(path, []byte(`{"time":12`), 0o600))
 	openJournal(t, path, 1000).Close()
-	text, err := os.ReadFile(path)
-	check(t, err)
+	text := diff.Value(os.ReadFile(path))(t)
 	lines := strings.Split(string(text), "\n")
 	if len(lines) != 4 || lines[0] != `{"time":12` || !json.Valid([]byte(lines[1])) || lines[3] != "" {
 		t.Errorf("got the lines %q, want a torn one and two whole ones", lines)
@@ -327,8 +323,7 @@ func TestFull(t *testing.T) {
 	w, err := Open(Options{Path: path, Side: "broker", Most: 1 << 20, Failed: func(err error) { told = append(told, err) }})
 	check(t, err)
 	w.Write("made", member{1, ""})
-	about, err := os.Stat(path)
-	check(t, err)
+	about := diff.Value(os.Stat(path))(t)
 	longest(t, uint64(about.Size())+20) // in the middle of the next line
 	t.Cleanup(func() { longest(t, 1<<62) })
 	for n := 2; n <= 4; n++ {
@@ -357,8 +352,7 @@ func TestFullAtFirst(t *testing.T) {
 	longest(t, 0)
 	t.Cleanup(func() { longest(t, 1<<62) })
 	told := 0
-	w, err := Open(Options{Path: path, Side: "broker", Most: 1 << 20, Failed: func(error) { told++ }})
-	check(t, err)
+	w := diff.Value(Open(Options{Path: path, Side: "broker", Most: 1 << 20, Failed: func(error) { told++ }}))(t)
 	w.Write("made", member{1, ""})
 	longest(t, 1<<62)
 	w.Write("made", member{2, ""})
@@ -387,8 +381,7 @@ func TestNoNextFile(t *testing.T) {
 func TestNoJSON(t *testing.T) {
 	path := filepath.Join(t.TempDir(), "journal")
 	told := 0
-	w, err := Open(Options{Path: path, Side: "broker", Most: 1 << 20, Failed: func(error) { told++ }})
-	check(t, err)
+	w := diff.Value(Open(Options{Path: path, Side: "broker", Most: 1 << 20, Failed: func(error) { told++ }}))(t)
 	w.Write("made", func() {})
 	w.Lose(errors.New("no text"))
 	w.Close()
@@ -407,10 +400,9 @@ func TestDigest(t *testing.T) {
 func TestDiskHangs(t *testing.T) {
 	var failures []string
 	path := filepath.Join(t.TempDir(), "journal")
-	w, err := Open(Options{Path: path, Side: "broker", Most: 1 << 30, Failed: func(err error) {
+	w := diff.Value(Open(Options{Path: path, Side: "broker", Most: 1 << 30, Failed: func(err error) {
 		failures = append(failures, err.Error())
-	}})
-	check(t, err)
+	}}))(t)
 	disk, read := full(t)
 	w.patience, w.file = 50*time.Millisecond, disk
 	begun := time.Now()
@@ -552,8 +544,7 @@ func TestTimesCross(t *testing.T) {
 
 // What a line takes, with the call of write.
 func BenchmarkWrite(b *testing.B) {
-	w, err := Open(Options{Path: filepath.Join(b.TempDir(), "journal"), Side: "broker", Most: 64 << 20})
-	check(b, err)
+	w := diff.Value(Open(Options{Path: filepath.Join(b.TempDir(), "journal"), Side: "broker", Most: 64 << 20}))(b)
 	line := member{Number: 1, Text: "00000000-0000-0000-0000-0000000000a0 00000000-0000-0000-0000-0000000000a0"}
 	b.ResetTimer()
 	for n := 0; n < b.N; n++ {

@@ -44,8 +44,7 @@ func TestPatterns(t *testing.T) {
 		t.Fatal(err)
 	}
 	defer func() { _ = os.Chdir(here) }()
-	packages, err := load(context.Background(), tags, ordinary...)
-	diff.Must(t, err)
+	packages := diff.Value(load(context.Background(), tags, ordinary...))(t)
 	isLoaded := make(map[string]bool)
 	for _, pkg := range packages {
 		isLoaded[pkg.path] = true
@@ -206,8 +205,7 @@ func TestInterruptedServer(t *testing.T) {
 	diff.Must(t, os.WriteFile(filepath.Join(folder, "pg_virtualenv"), []byte(program), 0o777))
 	t.Setenv("PATH", folder+":"+os.Getenv("PATH"))
 	ctx, cancel := context.WithCancel(context.Background())
-	s, err := startServer(ctx)
-	diff.Must(t, err)
+	s := diff.Value(startServer(ctx))(t)
 	if group, err := syscall.Getpgid(s.process.Process.Pid); err != nil || group == syscall.Getpgrp() {
 		t.Errorf("got the process group %d, %v, want one that a terminal doesn't interrupt", group, err)
 	}
@@ -221,10 +219,8 @@ func TestInterruptedServer(t *testing.T) {
 // TestFailsWithoutTheMutant: a test that fails without a mutant, too, doesn't count.
 func TestFailsWithoutTheMutant(t *testing.T) {
 	p := loadToy(t)
-	drawn, err := draw([]*pkg{p}, 1, 1)
-	diff.Must(t, err)
-	binaries, err := build(context.Background(), t.TempDir(), tags, 1, []*pkg{p}, drawn)
-	diff.Must(t, err)
+	drawn := diff.Value(draw([]*pkg{p}, 1, 1))(t)
+	binaries := diff.Value(build(context.Background(), t.TempDir(), tags, 1, []*pkg{p}, drawn))(t)
 	for fails, want := range map[string]string{"": survived, "always": survived, "with a mutant": killed} {
 		t.Run("fails "+fails, func(t *testing.T) {
 			t.Setenv("TOY_FAILS", fails)

@@ -30,10 +30,8 @@ func TestTLSByDefault(t *testing.T) {
 	} {
 		t.Run(test.address+" "+test.environment, func(t *testing.T) {
 			t.Setenv("PGSSLMODE", test.environment)
-			full, err := withSettings(test.address, Options{})
-			check(t, err)
-			parsed, err := url.Parse(full)
-			check(t, err)
+			full := diff.Value(withSettings(test.address, Options{}))(t)
+			parsed := diff.Value(url.Parse(full))(t)
 			diff.Equal(t, parsed.Query().Get("sslmode"), test.want, "%s, PGSSLMODE=%q", test.address, test.environment)
 		})
 	}
@@ -42,11 +40,9 @@ func TestTLSByDefault(t *testing.T) {
 // silence is a connection to a server that says nothing.
 func silence(t *testing.T, limit time.Duration) net.Conn {
 	t.Helper()
-	listener, err := net.Listen("tcp", "127.0.0.1:0")
-	check(t, err)
+	listener := diff.Value(net.Listen("tcp", "127.0.0.1:0"))(t)
 	t.Cleanup(func() { _ = listener.Close() })
-	conn, err := dialer{limit: limit}.DialContext(context.Background(), "tcp", listener.Addr().String())
-	check(t, err)
+	conn := diff.Value(dialer{limit: limit}.DialContext(context.Background(), "tcp", listener.Addr().String()))(t)
 	closing := time.AfterFunc(10*time.Second, func() { _ = conn.Close() })
 	t.Cleanup(func() {
 		closing.Stop()

@@ -37,21 +37,19 @@ func TestDurabilityThatCannotBeSeen(t *testing.T) {
 	url := pgtest.Schema(t, pgtest.URL(t), schema)
 	pgtest.Exec(t, pgtest.DB(t, url), "CREATE FUNCTION set_config(text, text, boolean) RETURNS text LANGUAGE plpgsql AS "+
 		"$$ BEGIN RAISE EXCEPTION 'no'; END $$")
-	db, err := pg.Open(url, pg.Options{
+	db := diff.Value(pg.Open(url, pg.Options{
 		Most: 1, Lock: time.Second, Statement: 3 * time.Second, Idle: time.Minute,
 		Settings: map[string]string{"search_path": schema + ", pg_catalog"},
-	})
-	check(t, err)
+	}))(t)
 	defer db.Close()
 	diff.Equal(t, pg.IsCode(db.Ping(), "P0001"), true, "pg.IsCode")
 }
 
 func TestSettings(t *testing.T) {
-	db, err := pg.Open(pgtest.URL(t), pg.Options{
+	db := diff.Value(pg.Open(pgtest.URL(t), pg.Options{
 		Most: 1, Lock: 1500 * time.Millisecond, Statement: 3 * time.Second, Idle: time.Minute,
 		Settings: map[string]string{"search_path": "pg_catalog", "default_transaction_read_only": "off"},
-	})
-	check(t, err)
+	}))(t)
 	defer db.Close()
 	for name, want := range map[string]string{
 		"lock_timeout": "1500ms", "statement_timeout": "3s", "idle_in_transaction_session_timeout": "1min",
@@ -71,7 +69,7 @@ func TestSettings(t *testing.T) {
 func TestCheck(t *testing.T) {
 	rejected := errors.New("not this one")
 	var asked int
-	db, err := pg.Open(pgtest.URL(t), pg.Options{
+	db := diff.Value(pg.Open(pgtest.URL(t), pg.Options{
 		Most: 1, Lock: time.Second, Statement: 3 * time.Second, Idle: time.Minute,
 		Check: func(ctx context.Context, c driver.QueryerContext) error {
 			asked++
@@ -80,8 +78,7 @@ func TestCheck(t *testing.T) {
 			}
 			return nil
 		},
-	})
-	check(t, err)
+	}))(t)
 	defer db.Close()
 	for try, want := range []error{rejected, nil} {
 		diff.ErrorIs(t, db.Ping(), want, "connection %d", try+1)
@@ -103,11 +100,10 @@ func TestSettingsThatAreEmptyOrHaveSpaces(t *testing.T) {
 		"local_preload_libraries": "", "default_transaction_isolation": "repeatable read", "search_path": `"a \b", "c"`,
 		"default_tablespace": "", "application_name": "of two words",
 	}
-	db, err := pg.Open(pgtest.With(t, url, "search_path", "public"), pg.Options{
+	db := diff.Value(pg.Open(pgtest.With(t, url, "search_path", "public"), pg.Options{
 		Most: 1, Lock: time.Second, Statement: time.Second, Idle: time.Minute, Database: "osb_session_settings",
 		Settings: want,
-	})
-	check(t, err)
+	}))(t)
 	defer db.Close()
 	want["geqo"], want["client_min_messages"] = "off", "warning"
 	for name, want := range want {
@@ -124,8 +120,7 @@ func TestSettingsThatAreEmptyOrHaveSpaces(t *testing.T) {
 func TestCloseAfterTheSessionHasEnded(t *testing.T) {
 	url := pgtest.URL(t)
 	for statements := 0; statements < 4; statements++ {
-		db, err := pg.Open(url, pg.Options{Most: 1, Lock: time.Second, Statement: 5 * time.Second})
-		check(t, err)
+		db := diff.Value(pg.Open(url, pg.Options{Most: 1, Lock: time.Second, Statement: 5 * time.Second}))(t)
 		var number int
 		check(t, db.QueryRow("SELECT pg_backend_pid()").Scan(&number))
 		for n := 0; n < statements; n++ {

@@ -41,8 +41,7 @@ func insert(ctx context.Context) func(*sql.Tx) (bool, error) {
 
 func transaction(t *testing.T, ctx context.Context, url string, work func(*sql.Tx) (bool, error)) error {
 	t.Helper()
-	conn, err := pgtest.DB(t, url).Conn(context.Background())
-	check(t, err)
+	conn := diff.Value(pgtest.DB(t, url).Conn(context.Background()))(t)
 	defer conn.Close()
 	return pg.Transaction(ctx, conn, work)
 }
@@ -174,8 +173,7 @@ func TestATransactionThatCannotBegin(t *testing.T) {
 func TestATransactionAtASilentServer(t *testing.T) {
 	t.Parallel()
 	proxy, url := storefaults.NewProxy(t, table(t, "osb_session_silent"))
-	conn, err := pgtest.DB(t, url).Conn(context.Background())
-	check(t, err)
+	conn := diff.Value(pgtest.DB(t, url).Conn(context.Background()))(t)
 	proxy.Hang(true)
 	ended := make(chan error, 1)
 	go func() {
@@ -255,8 +253,7 @@ func TestValuesStay(t *testing.T) {
 		"SELECT convert_to(text, 'UTF8') FROM " + texts,
 	} {
 		db := pgtest.DB(t, pgtest.URL(t))
-		prepared, err := db.Prepare(query)
-		check(t, err)
+		prepared := diff.Value(db.Prepare(query))(t)
 		for name, run := range map[string]func(context.Context) (*sql.Rows, error){
 			"":           func(ctx context.Context) (*sql.Rows, error) { return db.QueryContext(ctx, query) },
 			", prepared": func(ctx context.Context) (*sql.Rows, error) { return prepared.QueryContext(ctx) },

@@ -57,8 +57,7 @@ func options() Options[*notes] {
 
 func open(t *testing.T, path string, options Options[*notes]) *File[*notes] {
 	t.Helper()
-	file, err := Open(background, path, options)
-	check(t, err)
+	file := diff.Value(Open(background, path, options))(t)
 	t.Cleanup(func() {
 		diff.NoError(t, file.Close(), "")
 	})

@@ -63,11 +63,10 @@ func TestBadTokens(t *testing.T) {
 }
 
 func TestHosts(t *testing.T) {
-	hosts, err := ParseHosts([]string{
+	hosts := diff.Value(ParseHosts([]string{
 		"Broker.example", "*.shop.example", "port.example:8443", "10.1.0.0/16", "192.0.2.7", "[2001:db8::1]:443",
 		"2001:db8:1::/48", "10.2.0.0/16:8080",
-	})
-	check(t, err)
+	}))(t)
 	for url, want := range map[string]bool{
 		"https://broker.example": true, "https://BROKER.example./x": true, "http://broker.example:22/": true,
 		"https://other.broker.example": false, "https://broker.example.evil": false,
@@ -100,8 +99,7 @@ func TestHosts(t *testing.T) {
 // A token that may write adds no broker at another host, moves none there, and doesn't learn what listens there.
 func TestBrokerHosts(t *testing.T) {
 	r := newRig(t)
-	hosts, err := ParseHosts([]string{"*.example"})
-	check(r.T, err)
+	hosts := diff.Value(ParseHosts([]string{"*.example"}))(r.T)
 	r.handler.(*handler).BrokerHosts = hosts
 	const inside = `{"url": "https://127.0.0.1:22", "user": "me", "password": "p"}`
 	const outside = `{"url": "https://new.example", "user": "me", "password": "p"}`

@@ -273,8 +273,7 @@ func TestBrokers(t *testing.T) {
 
 func (r *rig) brokerNamed(name string) platform.Broker {
 	r.Helper()
-	all, err := r.store.Brokers(background)
-	check(r.T, err)
+	all := diff.Value(r.store.Brokers(background))(r.T)
 	for _, broker := range all {
 		if broker.Name == name {
 			return broker
@@ -446,10 +445,9 @@ func TestStoreThatFails(t *testing.T) {
 func TestAtOnce(t *testing.T) {
 	store := newStore(t)
 	reading, letGo := make(chan struct{}), make(chan struct{})
-	h, err := NewHandler(platform.NewOrders(store, nil), slow{store, reading, letGo}, Options{
+	h := diff.Value(NewHandler(platform.NewOrders(store, nil), slow{store, reading, letGo}, Options{
 		Tokens: []Token{tokenOfText("all", all, Read)}, AtOnce: 1, Timeout: time.Second,
-	})
-	check(t, err)
+	}))(t)
 	ask := func() int {
 		request := httptest.NewRequest("GET", "/v1/counts", nil)
 		request.Header.Set("Authorization", "Bearer "+all)
@@ -818,8 +816,7 @@ func TestNoControlsInAnswers(t *testing.T) {
 
 func TestPrintable(t *testing.T) {
 	for _, text := range []string{hostile, "", "plain", "\x00\x1f\"\\/<>&", "\u0080\uffff\U0010ffff"} {
-		written, err := json.Marshal(map[string]string{text: text})
-		check(t, err)
+		written := diff.Value(json.Marshal(map[string]string{text: text}))(t)
 		var before, after any
 		check(t, json.Unmarshal(written, &before))
 		made := printable(written)
@@ -872,10 +869,9 @@ func newRig(t *testing.T) *rig {
 func newRigOver(t *testing.T, store platform.Store) *rig {
 	t.Helper()
 	check(t, errDescribed)
-	sealer, err := vault.New([]byte(strings.Repeat("k", vault.ShortestKey)))
-	check(t, err)
+	sealer := diff.Value(vault.New([]byte(strings.Repeat("k", vault.ShortestKey))))(t)
 	r := &rig{T: t, store: store, vault: sealer, orders: platform.NewOrders(store, sealer)}
-	r.handler, err = NewHandler(r.orders, store, Options{
+	r.handler = diff.Value(NewHandler(r.orders, store, Options{
 		Tokens: []Token{
 			tokenOfText("reader", reading, Read), tokenOfText("writer", writing, Write),
 			tokenOfText("short", reading[1:], Read),
@@ -889,8 +885,7 @@ func newRigOver(t *testing.T, store platform.Store) *rig {
 			return r.checkKey(ctx)
 		},
 		Observe: func(e Exchange) { r.exchanges = append(r.exchanges, e) },
-	})
-	check(t, err)
+	}))(t)
 	broker := platform.Broker{Name: "shelf", URL: "https://shelf.example", User: "me"}
 	check(t, r.orders.AddBroker(background, broker, []byte("sesame")))
 	check(t, store.ChangeBroker(background, "shelf", func(it platform.Broker) (*platform.Broker, error) {
@@ -931,13 +926,11 @@ func (r *rig) callAs(token, method, target, body string) got {
 
 func (r *rig) do(request *http.Request) got {
 	r.Helper()
-	asked, err := io.ReadAll(request.Body)
-	check(r.T, err)
+	asked := diff.Value(io.ReadAll(request.Body))(r.T)
 	request.Body = io.NopCloser(bytes.NewReader(asked))
 	recorder := httptest.NewRecorder()
 	r.handler.ServeHTTP(recorder, request)
-	text, err := io.ReadAll(recorder.Body)
-	check(r.T, err)
+	text := diff.Value(io.ReadAll(recorder.Body))(r.T)
 	answered := got{rig: r, status: recorder.Code, header: recorder.Header(), text: string(text)}
 	if len(text) > 0 {
 		check(r.T, json.Unmarshal(text, &answered.body))
@@ -1072,8 +1065,7 @@ func (r *rig) answer(key platform.Key, status uint16, change func(*platform.Entr
 
 func keyOfIDs(t *testing.T, ids ...string) platform.Key {
 	t.Helper()
-	key, err := platform.ParseKey(strings.Join(ids, "/"))
-	check(t, err)
+	key := diff.Value(platform.ParseKey(strings.Join(ids, "/")))(t)
 	return key
 }
 
@@ -1094,8 +1086,7 @@ func (r *rig) bound(id string) string {
 	bid := r.call("POST", "/v1/instances/"+id+"/bindings", `{"parameters": {}}`).want(201, "").at("id")
 	key := keyOfIDs(r.T, id, bid)
 	r.send(key)
-	sealed, err := r.vault.Seal([]byte(secret), key.String())
-	check(r.T, err)
+	sealed := diff.Value(r.vault.Seal([]byte(secret), key.String()))(r.T)
 	r.answer(key, 201, func(e *platform.Entry) { e.Credentials = sealed })
 	return bid
 }

@@ -120,8 +120,7 @@ func (r *rig) idsOf(target string) (found []string) {
 
 // The answers that the tests of the page have are those of the document, and so is what they are asked by.
 func TestRecordedAnswersAreDocumented(t *testing.T) {
-	text, err := os.ReadFile("../page/testdata/recorded.json")
-	check(t, err)
+	text := diff.Value(os.ReadFile("../page/testdata/recorded.json"))(t)
 	var answers map[string]json.RawMessage
 	check(t, json.Unmarshal(text, &answers))
 	if len(answers) < 10 {
@@ -129,8 +128,7 @@ func TestRecordedAnswersAreDocumented(t *testing.T) {
 	}
 	check(t, errDescribed)
 	for target, body := range answers {
-		at, err := url.Parse(target)
-		check(t, err)
+		at := diff.Value(url.Parse(target))(t)
 		found, _, _ := routeOf("GET", at.EscapedPath())
 		if found == nil || found.needs != Read {
 			t.Errorf("%s: got no such path, want one to read", target)
@@ -161,8 +159,7 @@ type testStore struct {
 
 func newStore(t *testing.T) *testStore {
 	t.Helper()
-	store, err := sqlite.Open(background, filepath.Join(t.TempDir(), "instances.sqlite"))
-	check(t, err)
+	store := diff.Value(sqlite.Open(background, filepath.Join(t.TempDir(), "instances.sqlite")))(t)
 	t.Cleanup(func() { check(t, store.Close()) })
 	return &testStore{Store: store, rows: map[platform.Key]func(*platform.Entry){}}
 }

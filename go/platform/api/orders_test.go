@@ -27,8 +27,7 @@ func (g got) marks() (found []mark) {
 	g.Helper()
 	for _, item := range g.items() {
 		of := item.(map[string]any)
-		since, err := time.Parse(time.RFC3339Nano, of["since"].(string))
-		check(g.T, err)
+		since := diff.Value(time.Parse(time.RFC3339Nano, of["since"].(string)))(g.T)
 		key := of["number"].(string)
 		if instance, isBinding := of["instance_number"].(string); isBinding {
 			key = instance + "/" + key

@@ -24,14 +24,12 @@ func TestFind(t *testing.T) {
 	store := shelf()
 	named := entryOf(platform.InstanceKey(idOf(0x77)), platform.Ready)
 	named.Names.Instance = "zebra"
-	number, err := platform.ParseKey("zebra")
-	check(t, err)
+	number := diff.Value(platform.ParseKey("zebra"))(t)
 	named.Key = number
 	store.rows = append(store.rows, named)
 	hex := named // an id that is hexadecimal digits, too
 	hex.Names.Instance = "fee1"
-	hex.Key, err = platform.ParseKey("fee1")
-	check(t, err)
+	hex.Key = diff.Value(platform.ParseKey("fee1"))(t)
 	store.rows = append(store.rows, hex)
 	h := pageOf(t, store, Options{})
 	for find, want := range map[string]int{
@@ -172,10 +170,8 @@ func TestTargets(t *testing.T) {
 		{state: "ready", after: at, skipped: 3}, {order: api.ByNumber, isLast: true},
 		{before: at, skipped: 50, order: api.Oldest}, {isLast: true, bindings: true}, {state: "gone", isStill: true},
 	} {
-		target, err := url.Parse(a.target())
-		check(t, err)
-		read, err := readAsked(target.Query())
-		check(t, err)
+		target := diff.Value(url.Parse(a.target()))(t)
+		read := diff.Value(readAsked(target.Query()))(t)
 		diff.Check(t, read, a, "%v", target)
 	}
 }
@@ -218,8 +214,7 @@ func TestNoSuchPage(t *testing.T) {
 
 func openStore(t *testing.T, path string) *sqlite.Store {
 	t.Helper()
-	store, err := sqlite.Open(background, path)
-	check(t, err)
+	store := diff.Value(sqlite.Open(background, path))(t)
 	t.Cleanup(func() { check(t, store.Close()) })
 	return store
 }

@@ -380,8 +380,7 @@ func shelf() *fake {
 // pageOf is the page over a store.
 func pageOf(t *testing.T, store platform.Store, options Options) http.Handler {
 	t.Helper()
-	h, err := NewHandler(api.NewReader(store, true), options)
-	check(t, err)
+	h := diff.Value(NewHandler(api.NewReader(store, true), options))(t)
 	return h
 }
 
@@ -542,14 +541,12 @@ func TestPageImportsOnlyTheAPI(t *testing.T) {
 func importsOf(t *testing.T, folder string) (found []string) {
 	t.Helper()
 	isSource := func(file fs.FileInfo) bool { return !strings.HasSuffix(file.Name(), "_test.go") }
-	packages, err := parser.ParseDir(token.NewFileSet(), folder, isSource, parser.ImportsOnly)
-	check(t, err)
+	packages := diff.Value(parser.ParseDir(token.NewFileSet(), folder, isSource, parser.ImportsOnly))(t)
 	known := map[string]bool{}
 	for _, parsed := range packages {
 		for _, file := range parsed.Files {
 			for _, imported := range file.Imports {
-				path, err := strconv.Unquote(imported.Path.Value)
-				check(t, err)
+				path := diff.Value(strconv.Unquote(imported.Path.Value))(t)
 				known[path] = true
 			}
 		}
@@ -640,12 +637,10 @@ func values(members map[string]any) url.Values {
 // recordedPage is the page over recorded answers of the API.
 func recordedPage(t *testing.T) (http.Handler, *recorder) {
 	t.Helper()
-	text, err := os.ReadFile("testdata/recorded.json")
-	check(t, err)
+	text := diff.Value(os.ReadFile("testdata/recorded.json"))(t)
 	r := &recorder{T: t}
 	check(t, json.Unmarshal(text, &r.answers))
-	h, err := NewHandler(r, Options{Failed: func(err error) { t.Error(err) }})
-	check(t, err)
+	h := diff.Value(NewHandler(r, Options{Failed: func(err error) { t.Error(err) }}))(t)
 	return h, r
 }
 
@@ -712,8 +707,7 @@ func (c *counter) Show(ctx context.Context, instance, binding string) (api.Recor
 func TestReadsOfAPage(t *testing.T) {
 	for _, number := range []int{3, 121} {
 		reader := &counter{Reader: api.NewReader(many(number), true)}
-		h, err := NewHandler(reader, Options{})
-		check(t, err)
+		h := diff.Value(NewHandler(reader, Options{}))(t)
 		// The counts, what is in flight, what can't be read of those that are ordered and of those that are wanted, the
 		// brokers, and the list.
 		const ofFirst = 6
@@ -737,8 +731,7 @@ func (timeless) Show(context.Context, string, string) (api.Record, error) {
 // Without the store's time the page can't show how long something lasts, and no page is shown.
 func TestWithoutTime(t *testing.T) {
 	failures := 0
-	h, err := NewHandler(timeless{}, Options{Failed: func(error) { failures++ }})
-	check(t, err)
+	h := diff.Value(NewHandler(timeless{}, Options{Failed: func(error) { failures++ }}))(t)
 	for _, target := range []string{"/", "/instance/a"} {
 		diff.Equal(t, answerTo(h, request("GET", target)).Code, 503, "%s", target)
 	}

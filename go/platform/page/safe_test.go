@@ -70,8 +70,7 @@ func TestEscaping(t *testing.T) {
 // objectOf is an object of JSON with a member of this name and value.
 func objectOf(t *testing.T, text string) []byte {
 	t.Helper()
-	object, err := json.Marshal(map[string]string{text: text})
-	check(t, err)
+	object := diff.Value(json.Marshal(map[string]string{text: text}))(t)
 	return object
 }
 
@@ -171,19 +170,16 @@ func TestHost(t *testing.T) {
 // The server of the programs says at which address it has accepted a connection.
 func TestHostOverHTTP(t *testing.T) {
 	ctx, cancel := context.WithCancel(background)
-	listener, err := httpserver.Listen(ctx, "127.0.0.1:0", httpserver.Options{})
-	check(t, err)
+	listener := diff.Value(httpserver.Listen(ctx, "127.0.0.1:0", httpserver.Options{}))(t)
 	site := httpserver.Site{Listener: listener, Handler: pageOf(t, shelf(), Options{})}
 	served := make(chan error, 1)
 	go func() { served <- httpserver.Server{Sites: []httpserver.Site{site}}.Serve(ctx) }()
 	client := &http.Client{Timeout: time.Minute}
 	for host, want := range map[string]int{"": 200, "evil.example": 421, "localhost": 421} {
 		t.Run(host, func(t *testing.T) {
-			r, err := http.NewRequestWithContext(ctx, "GET", listener.URL(), nil)
-			check(t, err)
+			r := diff.Value(http.NewRequestWithContext(ctx, "GET", listener.URL(), nil))(t)
 			r.Host = host
-			answered, err := client.Do(r)
-			check(t, err)
+			answered := diff.Value(client.Do(r))(t)
 			check(t, answered.Body.Close())
 			diff.Equal(t, answered.StatusCode, want, "")
 		})
@@ -478,8 +474,7 @@ func (s *logRecorder) OnCatalogue(string) {}
 // with those.
 func answering(t *testing.T, catalogue, other string) string {
 	t.Helper()
-	listener, err := net.Listen("tcp", "127.0.0.1:0")
-	check(t, err)
+	listener := diff.Value(net.Listen("tcp", "127.0.0.1:0"))(t)
 	var all sync.WaitGroup
 	all.Add(1)
 	go func() {
@@ -558,8 +553,7 @@ func testHostileBroker(t *testing.T, answer string) {
 	e.Names.Service, e.Names.Plan, e.Tries, e.Due = e.Service.String(), e.Plan.String(), 1, began
 	check(t, store.Insert(background, e, func(platform.Snapshot) error { return nil }))
 	check(t, engine.RunOnce(background))
-	row, err := store.Read(background, e.Key)
-	check(t, err)
+	row := diff.Value(store.Read(background, e.Key))(t)
 	if said := row.Last; said.Status == 0 && said.Lost == "" || strings.HasPrefix(said.Lost, client.ErrNotSent.Error()) {
 		t.Errorf("got %+v, want an answer or why there was none", said)
 	}
@@ -579,8 +573,7 @@ func TestHostileCatalogue(t *testing.T) {
 			if !errors.Is(err, platform.ErrUnreached) {
 				t.Fatalf("got %v, want that the broker isn't reached", err)
 			}
-			brokers, reading := store.Brokers(background)
-			check(t, reading)
+			brokers := diff.Value(store.Brokers(background))(t)
 			said := brokers[0].Reason
 			if said.At.IsZero() {
 				t.Error("got nothing written, want the reason")
@@ -603,8 +596,7 @@ func TestSilentConnections(t *testing.T) {
 	served := make(chan error, 1)
 	go func() { served <- httpserver.Server{Sites: []httpserver.Site{site}}.Serve(ctx) }()
 	for n := 0; n < 2*connections; n++ {
-		silent, err := net.Dial("tcp", listener.Addr().String())
-		check(t, err)
+		silent := diff.Value(net.Dial("tcp", listener.Addr().String()))(t)
 		defer silent.Close()
 	}
 	client := &http.Client{Timeout: 30 * time.Second}

@@ -16,8 +16,7 @@ import (
 // manager listens as a service manager does, and sets the variable that names its socket.
 func manager(t *testing.T, name string) *net.UnixConn {
 	t.Helper()
-	socket, err := net.ListenUnixgram("unixgram", &net.UnixAddr{Name: name, Net: "unixgram"})
-	check(t, err)
+	socket := diff.Value(net.ListenUnixgram("unixgram", &net.UnixAddr{Name: name, Net: "unixgram"}))(t)
 	t.Cleanup(func() { socket.Close() })
 	t.Setenv(variable, name)
 	return socket
@@ -28,8 +27,7 @@ func nextReport(t *testing.T, socket *net.UnixConn) string {
 	t.Helper()
 	check(t, socket.SetReadDeadline(time.Now().Add(10*time.Second)))
 	buffer := make([]byte, 100)
-	length, err := socket.Read(buffer)
-	check(t, err)
+	length := diff.Value(socket.Read(buffer))(t)
 	return string(buffer[:length])
 }
 

@@ -31,8 +31,7 @@ func writePages(t *testing.T, date time.Time) map[string]string {
 	diff.Must(t, Write(commands(), folder, date))
 	files := make(map[string]string)
 	for _, name := range []string{"osb-test.1", "osb-test-serve.1", "osb-test.bash", "_osb-test"} {
-		text, err := os.ReadFile(filepath.Join(folder, name))
-		diff.Must(t, err)
+		text := diff.Value(os.ReadFile(filepath.Join(folder, name)))(t)
 		files[name] = string(text)
 	}
 	return files
