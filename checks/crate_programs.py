@@ -43,9 +43,3 @@ def told_by(crate: str) -> Tell:
         return ran.stdout.decode()
 
     return tell
-
-
-def cases_of(library: str) -> Tell:
-    """Tells what library_cases writes of some lines of the library."""
-    tell = told_by("library_cases")
-    return lambda lines: tell((f"of {library}", *lines)).partition("\n")[2]

@@ -4,7 +4,8 @@
     PYTHONPATH=checks python3 -m binding.cases stdout
 
 write the two files of crates/service_cases: the first of the ways of binding.ways line by line, each other one in one
-line, and a short walk. test_network.py compares all ways line by line. The lines are those of binding.walks, and
+line, a short walk, and some lines without bindings. test_network.py compares all ways line by line, and that of
+checks/network all lines without bindings. The lines are those of network.cases and of binding.walks, and
 
     run SIDES: ORDER; ORDER ..: EVENT, EVENT ..
 
@@ -24,6 +25,7 @@ from binding.cells import Way
 from binding.model import Order, Rules
 from binding.walks import MADE, RULES, Walk, services
 from binding.ways import ALL
+from network.cases import FORMS, in_a_line, of_crate
 from network.walks import Step
 
 FOLDER = Path(__file__).resolve().parent.parent.parent / "crates" / "service_cases"
@@ -98,6 +100,8 @@ def steps_of(lines: Iterable[str]) -> Iterator[Step]:
             for event in events.split(", "):
                 walk.happen(event)
             yield Step(line, f"new: {walk.tied.words()}")
+        elif word in FORMS:
+            yield in_a_line(line)
         elif word != "#":
             assert walk is not None
             yield walk.happen(line)
@@ -121,7 +125,8 @@ def stdin() -> list[str]:
     first, *others = of_ways()
     told = [first, *([name, lines[-1]] for name, *lines in others), *of_unfetched()]
     walk = islice(services(random.Random(SEED), RULES), STEPS)
-    return [*(line for lines in told for line in lines), "# a walk", *(step.line for _, step in walk)]
+    lines = [line for lines in told for line in lines]
+    return [*lines, "# a walk", *(step.line for _, step in walk), "# without bindings", *of_crate()]
 
 
 def main(arguments: list[str]) -> int:

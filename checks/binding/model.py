@@ -324,20 +324,6 @@ class Life(Instance):
             self.go_well("end done")
             self.take_latest()
 
-    # ---- in words
-
-    def words(self) -> str:
-        """What is recorded and held, and the resource."""
-        record = "-" if self.state is None else f"{self.state} {self.out or '-'} {self.attempt}"
-        row, work = self.held.row, self.held.work
-        held = (row.phase if row else "-", work.kind if work else "-", "tombstone" if self.held.tombstone else "-")
-        return "; ".join([record, " ".join(held), self.resource])
-
-    def more_words(self, given: int) -> list[str]:
-        """How much was sent and given, and the answers that were given since there were so many."""
-        answers = [f"{it.attempt}: {it.answer.status} {it.answer.body}" for it in self.given[given:]]
-        return [f"{len(self.sent)} sent, {len(self.given)} given", *answers]
-
 
 @dataclass
 class Binding(Life):

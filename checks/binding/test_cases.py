@@ -22,7 +22,7 @@ def applied(line: str) -> str:
 
 
 def test_written() -> None:
-    assert list(written_of(lines_of("stdin"))) == lines_of("stdout")
+    assert "\n".join(written_of(lines_of("stdin"))).splitlines() == lines_of("stdout")
 
 
 def test_stdin() -> None:

@@ -8,14 +8,17 @@ from __future__ import annotations
 
 import json
 import random
+import uuid
 from typing import Any
 
 import pytest
 from binding.cases import begun, written_of
 from binding.model import Order
 from binding.walks import MADE, RULES, Walk
-from crate_programs import Tell, cases_of, told_by
-from network.cases import of_network
+from crate_programs import told_by
+from network.cases import in_a_line, teller
+from network.walks import Seen
+from network.walks import Walk as Life
 
 pytestmark = pytest.mark.slow
 
@@ -66,48 +69,46 @@ def test_the_model_begins_with_all_bindings() -> None:
 # ---- many instances of osb_network
 
 COUNT = 20_000
-# How many events of an instance are in a list, whose answers are all printed.
+# How many events of an instance are in a list.
 LIST = 2_000
 
 
-@pytest.fixture(scope="module")
-def network() -> Tell:
-    return cases_of("osb_network")
+def compare(begun: str, events: list[str]) -> None:
+    """The program writes behind a line with all of these events what the model says."""
+    line = f"{begun}: {', '.join(events)}"
+    assert after(line, told_by("service_cases")([line])) == in_a_line(line).wanted
 
 
-def compare(tell: Tell, lines: list[str]) -> None:
-    """The program writes behind each line what the model says."""
-    assert tell(lines) == "".join(f"{step.line}  {step.wanted}\n" for step in of_network(lines))
+def test_many_instances_and_answers() -> None:
+    """`Network::order` and `step`, and `run`: a Provision whose work goes on arrives again and again."""
+    arrivals = ["arrive 1"] * (COUNT + 1)
+    created = [f"{number} create" for number in range(1, COUNT + 1)]
+    compare(f"many {COUNT} sync accepts -", created + [f"1 {event}" for event in arrivals])
+    compare("life sync accepts -", ["create", *arrivals])
 
 
-def test_many_instances_and_answers(network: Tell) -> None:
-    """`Network::order` and `step`, and `run`."""
-    line = f"instances {COUNT}"
-    first = f"1: wanted provision 1; - provision -; absent; 1 sent, {COUNT} given"
-    last = f"{COUNT}: wanted provision 1; - - -; absent; 1 sent, 0 given"
-    assert after(line, network([line])) == f"{first}\n  {last}"
-    line = f"arrivals {COUNT}"
-    assert after(line, network([line])) == f"wanted provision 1; - provision -; absent; 1 sent, {COUNT} given"
-
-
-def test_a_list_of_many_events(network: Tell) -> None:
-    """`Network::steps`: a Provision whose work goes on arrives again and again, at each of three instances."""
+def test_a_list_of_many_events() -> None:
+    """`Network::steps`: the same at each of three instances."""
     events = [f"{number} {event}" for number in (1, 2, 3) for event in ("create", *["arrive 1"] * LIST)]
-    compare(network, [f"many sync accepts -: {', '.join(events)}"])
+    compare("many 3 sync accepts -", events)
 
 
-def test_rounds_of_an_instance_with_many_answers(network: Tell) -> None:
+def test_rounds_of_an_instance_with_many_answers() -> None:
     """`Instance::step` and `settle`: the platform takes none of the answers, gives the Provision up and cleans up."""
-    compare(network, ["order sync accepts -", "create", *["arrive 1"] * LIST, "timeout", "settle"])
+    walk = Life(Seen(), "sync", True, False)
+    for event in ("create", *["arrive 1"] * LIST, "timeout", "settle"):
+        walk.happen(event)
+    told = teller()([step.line for step in walk.steps])
+    assert told == [step.wanted for step in walk.steps]
 
 
 # ---- a broker alone
 
 
-def test_many_events_at_a_broker_alone(network: Tell) -> None:
+def test_many_events_at_a_broker_alone() -> None:
     """`run_any` and `AnyPlatform::step`, also at many crashes."""
-    events = ["arrive provision refuses 3 1", *["put-off provision", "crash"] * LIST, "work whole", "end done"]
-    compare(network, [f"run-alone sync - -: {', '.join(events)}", *["crash"] * LIST])
+    busy = ["put-off provision", "crash-broker"] * LIST
+    compare("alone sync - -", ["arrive provision refuses 3 1", *busy, "work whole", "end done", *busy])
 
 
 # ---- instances of one broker and one platform
@@ -115,21 +116,26 @@ def test_many_events_at_a_broker_alone(network: Tell) -> None:
 
 def test_one_run_of_many_creates() -> None:
     """`run` of osb_world, and `World::ids`."""
-    tell = cases_of("osb_world")
-    assert tell([f"run {COUNT}"]) == f"run {COUNT}  {COUNT} Wanted\n"
+    assert told_by("library_cases")([f"world {COUNT}"]) == f"world {COUNT}  {COUNT} Wanted\n"
 
 
 def test_many_instances_of_a_platform() -> None:
     """`Platform::create`, `ids`, `save` and `load`."""
-    tell = cases_of("osb_platform")
-    ids = [f"{number:x}" for number in range(1, 3_001)]
-    made = [f"create {it} accepts" for it in ids]
-    listed, _, text = tell(["new", *made, "ids", "save"]).rstrip("\n").rpartition("\nsave  ")
-    assert listed.rpartition("\nids  ")[2].split() == ids
+    tell = told_by("library_cases")
+    numbers = range(1, 3_001)
+    recorded = f"recorded  [{', '.join(str(uuid.UUID(int=number)) for number in numbers)}]\n"
+    made = [f"create {number} accepts" for number in numbers]
+    text = tell(["new", *made, "recorded", "save"]).partition(recorded)[2].removeprefix("save  ").rstrip("\n")
     saved = json.loads(text)["instances"]
-    assert [int(name.replace("-", ""), 16) for name in saved] == list(range(1, 3_001))
+    assert [uuid.UUID(name).int for name in saved] == [*numbers]
     assert {row["state"] for row in saved.values()} == {"wanted"}
-    assert tell([f"load {text}", "ids"]).rpartition("\nids  ")[2].split() == ids
+    assert tell([f"load {text}", "recorded"]).endswith(f"\n{recorded}")
+
+
+def test_texts_that_nest_without_an_end() -> None:
+    """`load` needs no deeper stack for them."""
+    for text in ("[" * 1_000_000, '{"a":' * 200_000):
+        assert after(f"load {text}", told_by("library_cases")([f"load {text}"])) == "NotJson"
 
 
 # ---- requests
@@ -137,32 +143,40 @@ def test_many_instances_of_a_platform() -> None:
 LENGTH = 2_000_000
 MEMBERS: dict[str, Any] = {f"member {number}": number for number in range(100)}
 GUID = "00000000-0000-0000-0000-0000000000{}"
+PLACES = {"organization_guid": "o", "space_guid": "s"}
 
 
-@pytest.mark.parametrize("crate", ["osb_wire", "osb_binding_wire"])
-def test_a_long_request(crate: str) -> None:
-    """`write_request` and `write_binding_request`, with a hundred further members."""
-    line = f"long {LENGTH}"
-    wanted = {"service_id": "s", "plan_id": "p", "parameters": "a" * LENGTH} | MEMBERS
-    if crate == "osb_wire":
-        wanted |= {"organization_guid": "o", "space_guid": "s"}
-    assert after(line, cases_of(crate)([line])) == json.dumps(wanted, separators=(",", ":"), sort_keys=True)
+def body_of(parameters: str, service: str, plan: str, places: dict[str, str]) -> str:
+    """The body of a request with a hundred further members, and with parameters that are JSON already."""
+    members = MEMBERS | {"service_id": service, "plan_id": plan, "parameters": None} | places
+    text = json.dumps(members, separators=(",", ":"), sort_keys=True)
+    return text.replace('"parameters":null', f'"parameters":{parameters}')
+
+
+def parameters_of(depth: int, length: int) -> str:
+    return f'{"[" * depth}"{"a" * length}"{"]" * depth}'
+
+
+def test_a_long_request() -> None:
+    """`write_request` and `write_binding_request`."""
+    told = told_by("library_cases")([f"bind 0 {LENGTH}", f"provision 0 {LENGTH}"]).splitlines()
+    parameters = parameters_of(0, LENGTH)
+    assert after(f"bind 0 {LENGTH}", told[0]) == f"read {body_of(parameters, 's', 'p', {})}"
+    assert after(f"provision 0 {LENGTH}", told[1]) == f"read {body_of(parameters, 's', 'p', PLACES)}"
 
 
 def test_a_long_request_of_guids() -> None:
-    """`write_target`, `asked_operation` and `write_body`, with a hundred further members."""
-    line, letters = f"guids {LENGTH}", "a" * LENGTH
-    target, operation, body = after(line, cases_of("osb_wire")([line])).split("\n  ")
+    """`write_target`, `asked_operation` and `write_body`."""
+    letters = "a" * LENGTH
+    _, target, operation, body = told_by("library_cases")([f"provision 0 {LENGTH}"]).splitlines()
     assert target.endswith(f"&accepts_incomplete=true&operation={letters}")
-    assert operation == letters
-    wanted = {"service_id": GUID.format("a0"), "plan_id": GUID.format("b1"), "parameters": letters} | MEMBERS
-    wanted |= {"organization_guid": "o", "space_guid": "s"}
-    assert body == json.dumps(wanted, separators=(",", ":"), sort_keys=True)
+    assert operation == f"  {letters}"
+    assert body == "  " + body_of(parameters_of(0, LENGTH), GUID.format("a0"), GUID.format("b1"), PLACES)
 
 
 def test_a_deep_request() -> None:
     """What a broker can't read any more is written all the same, whole."""
-    tell = cases_of("osb_binding_wire")
     for depth, what in ((126, "read"), (127, "400"), (10_000, "400")):
-        body = f'{{"parameters":{"[" * depth}null{"]" * depth},"plan_id":"p","service_id":"s"}}'
-        assert after(f"deep {depth}", tell([f"deep {depth}"])) == f"{what} {body}"
+        line = f"bind {depth} 1"
+        wanted = f"{what} {body_of(parameters_of(depth, 1), 's', 'p', {})}"
+        assert after(line, told_by("library_cases")([line])) == wanted

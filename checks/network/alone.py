@@ -1,6 +1,6 @@
 """An instance at a broker alone, and any platform: the model of AnyPlatform, by the cells.
 
-The lines are those of library_cases that begin with `alone MODE MODE first-poll|-`, and the events behind one.
+The lines are those of service_cases: `alone MODE MODE first-poll|-: EVENT, EVENT ..`.
 """
 
 from __future__ import annotations
@@ -13,7 +13,7 @@ from network.cells import KINDS, Any, Design, arrived, ended, put_off, wrong_in_
 from network.model import OUTCOMES, PHASES, RESOURCES, Request
 from network.walks import Step
 
-# The number that library_cases has for the first plan.
+# The number that service_cases has for the first plan.
 FIRST_PLAN = 3
 ENDS = [*(f"end {it}" for it in OUTCOMES), "finish ok", "finish failed", "give-up-waiting"]
 ARRIVALS = [
@@ -23,7 +23,7 @@ ARRIVALS = [
     for plan in (FIRST_PLAN, FIRST_PLAN + 1)
     for attributes in (1, 2)
 ]
-EVENTS = [*ARRIVALS, *(f"put-off {kind}" for kind in KINDS), *ENDS, *(f"work {it}" for it in RESOURCES), "crash"]
+EVENTS = [*ARRIVALS, *(f"put-off {kind}" for kind in KINDS), *ENDS, *(f"work {it}" for it in RESOURCES), "crash-broker"]
 REPORTS = ["ready", "gone", "leaving", "polled"]
 
 
@@ -55,8 +55,8 @@ class Alone:
 
     def __init__(self, seen: Seen, modes: tuple[str, str], first_poll: bool) -> None:
         self.seen, self.design, self.cell = seen, Design(modes, first_poll), Any()
-        line = f"alone {' '.join(modes)} {'first-poll' if first_poll else '-'}"
-        self.steps = [Step(line, f"new: {self.told()}")]
+        self.begun = f"alone {' '.join(modes)} {'first-poll' if first_poll else '-'}"
+        self.steps: list[Step] = []
 
     def after(self, line: str) -> Any | None:
         """What there is after the event; None if it doesn't apply."""
@@ -70,7 +70,7 @@ class Alone:
             return put_off(cell, rest)
         if word == "work":
             return cell._replace(resource=rest) if rest in self.design.changes(cell.held, cell.resource) else None
-        if word == "crash":
+        if word == "crash-broker":
             return cell
         found = [it for it in self.design.ends(cell.held, cell.resource) if it[0] == line]
         return ended(cell, found[0][1], found[0][2]) if found else None
@@ -85,6 +85,12 @@ class Alone:
         wrong = wrong_in_any(self.design, self.cell)
         assert wrong is None, "\n".join([*(step.line for step in self.steps), wrong])
 
+    def in_a_line(self) -> Step:
+        """All that happened, in one line. The last line behind it has the last event once more."""
+        what, _, left = self.steps[-1].wanted.partition(": ")
+        told = [*(step.wanted for step in self.steps), f"again: {what} {left}"]
+        return Step(f"{self.begun}: {', '.join(step.line for step in self.steps)}", "\n  ".join(told))
+
     def reports(self) -> list[str]:
         return [it for it in REPORTS if getattr(self.cell, it)]
 
@@ -92,9 +98,9 @@ class Alone:
         """What there is, and what was reported."""
         row, work, tombstone, attributes = self.cell.held
         words = (row.phase if row else "-", work.kind if work else "-", "tombstone" if tombstone else "-")
-        plans = [str(it.plan + FIRST_PLAN) if it else "-" for it in (row, work)]
-        held = f"{' '.join(words)}; {' '.join(plans)} {attributes}; {self.cell.resource};"
-        return " ".join([held, *self.reports()])
+        plans = [f"Some({it.plan + FIRST_PLAN})" if it else "None" for it in (row, work)]
+        reports = ", ".join(f"{it}: {str(getattr(self.cell, it)).lower()}" for it in REPORTS)
+        return f"{' '.join(words)}; {' '.join(plans)} {attributes}; {self.cell.resource}; Told {{ {reports} }}"
 
     def likely(self) -> list[str]:
         """Events that are likely to apply, each as often as it is likely."""

@@ -1,73 +1,120 @@
-"""What library_cases has to write behind a line of osb_network, by the models."""
+"""What service_cases writes of an instance without bindings, of many, and of a broker alone, by the models.
+
+Its lines `life`, `many` and `alone` let many events happen; an order, and each event by itself, stand in lines of an
+instance with a binding.
+"""
 
 from __future__ import annotations
 
-from collections.abc import Iterable, Iterator
+from collections.abc import Callable, Iterator
 from pathlib import Path
 
-from network import alone
+from crate_programs import told_by
 from network.alone import Alone
+from network.alone import Seen as SeenAlone
 from network.model import Instance
 from network.walks import Seen, Step, Walk
 
-FOLDER = Path(__file__).resolve().parent.parent.parent / "crates" / "library_cases"
+TellEach = Callable[[list[str]], list[str]]
+
+LIVES = Path(__file__).parent / "lives.txt"
+# A binding that nothing happens to, beside the instance: its order, and what there is of it.
+ORDER, NOTHING = "- accepts -", " | -; - - -; absent; credentials - -"
 
 
-# ---- one instance, and many
+# ---- many events in a line
 
 
-def many(line: str) -> str:
-    order, _, events = line.removeprefix("many ").partition(": ")
-    mode, accepts, first = order.split(" ")
-    instances = {str(at): Instance(mode, accepts == "accepts", first == "first-poll") for at in (1, 2, 3)}
-    for event in events.split(", "):
-        at, _, it = event.partition(" ")
-        if at in instances:
-            instances[at].happen(it)
-    return "\n".join(f"  {at}: {instance.told(0)}" for at, instance in instances.items()).removeprefix("  ")
+def instance_of(order: str) -> Instance:
+    mode, accepts, rule = order.split(" ")
+    return Instance(mode, accepts == "accepts", rule == "first-poll")
 
 
-def run_alone(rest: str) -> Alone:
-    """A broker alone after a list of events. Its last step is the line itself."""
+def life(order: str, events: list[str]) -> str:
+    instance = instance_of(order)
+    for event in events:
+        instance.happen(event)
+    return instance.told(0)
+
+
+def many(begun: str, events: list[str]) -> str:
+    count, _, order = begun.partition(" ")
+    instances = {str(number): instance_of(order) for number in range(1, int(count) + 1)}
+    for event in events:
+        number, _, it = event.partition(" ")
+        if number in instances:
+            instances[number].happen(it)
+    return "\n  ".join(f"{number}: {instance.told(0)}" for number, instance in instances.items())
+
+
+def alone(begun: str, events: list[str]) -> str:
+    one, other, rule = begun.split(" ")
+    broker = Alone(SeenAlone(), (one, other), rule == "first-poll")
+    for event in events:
+        broker.happen(event)
+    return broker.in_a_line().wanted
+
+
+FORMS = {"life": life, "many": many, "alone": alone}
+
+
+def in_a_line(line: str) -> Step:
+    """A line of one of these forms, and what stands behind it."""
+    form, _, rest = line.partition(" ")
     begun, _, events = rest.partition(": ")
-    one, other, first = begun.split(" ")
-    walk = Alone(alone.Seen(), (one, other), first == "first-poll")
-    for event in events.split(", "):
-        walk.happen(event)
-    walk.steps.append(Step(f"run-alone {rest}", f"new: {walk.told()}"))
-    return walk
+    return Step(line, FORMS[form](begun, events.split(", ")))
 
 
-def of_network(lines: Iterable[str]) -> Iterator[Step]:
-    """Each line, with what stands behind it. Those of `instances` and `arrivals` are left out."""
-    walk: Walk | Alone | None = None
-    for line in lines:
-        word, _, rest = line.partition(" ")
-        if word in ("instances", "arrivals"):
-            continue
-        if word == "many":
-            yield Step(line, many(line))
-            continue
-        if word in ("order", "alone"):
-            one, other, first = rest.split(" ")
-            poll = first == "first-poll"
-            walk = Walk(Seen(), one, other == "accepts", poll) if word == "order" else None
-            walk = walk or Alone(alone.Seen(), (one, other), poll)
-        elif word == "run-alone":
-            walk = run_alone(rest)
-        else:
-            assert walk is not None
-            walk.happen(line)
-        yield walk.steps[-1]
+# ---- lives.txt
 
 
-# ---- what library_cases has
+def lives() -> list[str]:
+    return [line for line in LIVES.read_text().splitlines() if line and not line.startswith("#")]
 
 
-def section(name: str) -> str:
-    """The lines of osb_network in `stdin` or in `stdout`."""
-    return (FOLDER / name).read_text().partition("of osb_network\n")[2].partition("\nof ")[0]
+def walks() -> Iterator[Walk]:
+    """The lines `order`, each event by itself."""
+    for line in lives():
+        order, _, events = line.partition(": ")
+        if order.startswith("order "):
+            mode, accepts, rule = order.split(" ")[1:]
+            walk = Walk(Seen(), mode, accepts == "accepts", rule == "first-poll")
+            for event in events.split(", "):
+                walk.happen(event)
+            yield walk
 
 
-def lines() -> list[str]:
-    return [line for line in section("stdin").splitlines() if line and not line.startswith("#")]
+def at_once() -> list[str]:
+    """The other lines, and one for each order, whose events before the rounds happen at once."""
+    return [line.replace("order ", "life ").partition(", settle")[0] for line in lives()]
+
+
+def of_crate() -> list[str]:
+    """Those of these lines that the crate runs: the shortest of each form."""
+    return [min((line for line in at_once() if line.startswith(form)), key=len) for form in FORMS]
+
+
+# ---- each event by itself
+
+
+def teller() -> TellEach:
+    """Tells what service_cases makes of each line of a walk."""
+    tell = told_by("service_cases")
+
+    def told(lines: list[str]) -> list[str]:
+        asked = [asked_of(line) for line in lines]
+        return [what_of(line, written) for line, written in zip(asked, tell(asked).splitlines())]
+
+    return told
+
+
+def asked_of(line: str) -> str:
+    order = line.removeprefix("order ")
+    return f"instance {line}" if order == line else f"service platform broker: {order}; {ORDER}"
+
+
+def what_of(line: str, written: str) -> str:
+    assert written.startswith(f"{line}  ")
+    what, nothing, more = written.removeprefix(f"{line}  ").partition(NOTHING)
+    assert nothing == NOTHING
+    return what + (more or " # 0 sent, 0 given")

@@ -500,14 +500,21 @@ class Instance:
 
     # ---- what there is
 
-    def told(self, before: int) -> str:
-        """What there is, and the answers that were given since there were so many."""
+    def words(self) -> str:
+        """What is recorded and held, and the resource."""
         record = "-" if self.state is None else f"{self.state} {self.out or '-'} {self.attempt}"
         row, work = self.held.row, self.held.work
-        words = (row.phase if row else "-", work.kind if work else "-", "tombstone" if self.held.tombstone else "-")
-        counts = f"{len(self.sent)} sent, {len(self.given)} given"
-        answers = [f"{it.attempt}: {it.answer.status} {it.answer.body}" for it in self.given[before:]]
-        return "; ".join([record, " ".join(words), self.resource, counts, *answers])
+        held = (row.phase if row else "-", work.kind if work else "-", "tombstone" if self.held.tombstone else "-")
+        return "; ".join([record, " ".join(held), self.resource])
+
+    def more_words(self, given: int) -> list[str]:
+        """How much was sent and given, and the answers that were given since there were so many."""
+        answers = [f"{it.attempt}: {it.answer.status} {it.answer.body}" for it in self.given[given:]]
+        return [f"{len(self.sent)} sent, {len(self.given)} given", *answers]
+
+    def told(self, given: int) -> str:
+        """All of these words."""
+        return f"{self.words()} # {'; '.join(self.more_words(given))}"
 
     def agrees(self) -> bool:
         """What is recorded as ready exists, whole; of what is gone, or was never recorded, there is nothing."""

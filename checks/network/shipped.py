@@ -144,7 +144,7 @@ class Shipped(Instance):
 
 
 def tell(lines: list[str]) -> list[str]:
-    """What library_cases would tell of these lines, by the record and the holding of libosb."""
+    """What there is after each line of a walk, by the record and the holding of libosb."""
     told: list[str] = []
     instance = Shipped("-", False, False)
     for line in lines:

@@ -1,6 +1,6 @@
 """Compares osb_network, and the records and holdings of libosb, with a second model of them.
 
-What osb_network makes of an event is told by the program of the crate library_cases. What a record and a holding of
+What osb_network makes of an event is told by the program of the crate service_cases. What a record and a holding of
 libosb make of it is asked through the package osb. Both are the proved code.
 
 OSB_EXAMPLES=10 compares ten times as many events, drawn at random (checks/generated.py).
@@ -11,43 +11,32 @@ from __future__ import annotations
 from collections.abc import Callable
 
 import pytest
-from crate_programs import cases_of
+from crate_programs import told_by
 from generated import examples
 from hypothesis import given
 from hypothesis import strategies as st
 from hypothesis.stateful import RuleBasedStateMachine, initialize, precondition, rule, run_state_machine_as_test
-from network import shipped
+from network import cases, shipped
 from network.alone import Alone
 from network.alone import Seen as SeenAlone
+from network.cases import TellEach, at_once, in_a_line
 from network.model import MODES, OUTCOMES, RESOURCES, is_made
 from network.walks import Seen, Step, Walk, any_event, likely
 
-Tell = Callable[[list[str]], list[str]]
 # hypothesis gives it no type.
 run_machine: Callable[..., object] = run_state_machine_as_test
 
 
 @pytest.fixture(params=["libosb", "osb_network"])
-def tell(request: pytest.FixtureRequest) -> Tell:
-    """Tells what is left after each line, as library_cases writes it."""
+def tell(request: pytest.FixtureRequest) -> TellEach:
+    """Tells what is left after each line of a walk."""
     if request.param == "libosb":
         request.getfixturevalue("library")
         return shipped.tell
-    return of_osb_network()
+    return cases.teller()
 
 
-def of_osb_network() -> Tell:
-    cases = cases_of("osb_network")
-
-    def told(lines: list[str]) -> list[str]:
-        written = cases(lines).splitlines()
-        assert all(case.startswith(f"{line}  ") for line, case in zip(lines, written))
-        return [case.removeprefix(f"{line}  ") for line, case in zip(lines, written)]
-
-    return told
-
-
-def compare(tell: Tell, steps: list[Step]) -> None:
+def compare(tell: TellEach, steps: list[Step]) -> None:
     """All of these steps leave what the model has after them."""
     told = tell([step.line for step in steps])
     assert len(told) == len(steps)
@@ -55,10 +44,24 @@ def compare(tell: Tell, steps: list[Step]) -> None:
         assert it == step.wanted, "\n".join(["after", *(before.line for before in steps[: at + 1])])
 
 
+def test_lives(tell: TellEach) -> None:
+    for walk in cases.walks():
+        compare(tell, walk.steps)
+
+
+def compare_at_once(steps: list[Step]) -> None:
+    told = told_by("service_cases")([step.line for step in steps])
+    assert told == "".join(f"{step.line}  {step.wanted}\n" for step in steps)
+
+
+def test_at_once() -> None:
+    compare_at_once([in_a_line(line) for line in at_once()])
+
+
 class Events(RuleBasedStateMachine):
     """Any events, in any order. `back` counts requests and answers from the latest."""
 
-    def __init__(self, tell: Tell) -> None:
+    def __init__(self, tell: TellEach) -> None:
         super().__init__()
         self.tell = tell
         self.walk = Walk(Seen(), "-", False, False)
@@ -134,7 +137,7 @@ class Events(RuleBasedStateMachine):
         compare(self.tell, self.walk.steps)
 
 
-def test_events(tell: Tell) -> None:
+def test_events(tell: TellEach) -> None:
     run_machine(lambda: Events(tell), settings=examples(100, steps=40))
 
 
@@ -157,7 +160,7 @@ def walks(draw: st.DrawFn, seen: Seen) -> Walk:
     return walk
 
 
-def test_walks(tell: Tell) -> None:
+def test_walks(tell: TellEach) -> None:
     seen = Seen()
 
     @examples(2000)
@@ -185,12 +188,12 @@ def alone(draw: st.DrawFn, seen: SeenAlone) -> Alone:
 
 
 def test_broker_alone() -> None:
-    told, seen = of_osb_network(), SeenAlone()
+    seen = SeenAlone()
 
     @examples(1000)
     @given(broker=alone(seen))
     def walked(broker: Alone) -> None:
-        compare(told, broker.steps)
+        compare_at_once([broker.in_a_line()])
 
     walked()
     assert not seen.missing()

@@ -15,7 +15,7 @@ ORDERS = [
 
 
 class Step(NamedTuple):
-    """A line for library_cases, and what is wanted behind it."""
+    """A line for service_cases, and what is wanted behind it."""
 
     line: str
     wanted: str

@@ -1,7 +1,7 @@
 """A table of docs/platform.md, line by line, worked out by hand. Those of docs/broker.md are in api/cases.txt.
 
 A holding handles every Poll as if its work were done, so the rule for one whose work fails isn't there either: it is in
-crates/library_cases.
+checks/replay/worked.txt, and for another plan than the row's in crates/library_cases.
 """
 from __future__ import annotations
 

@@ -1,26 +1,8 @@
-//! The cases of `osb_broker`: a line with the name of a call and its arguments, and behind it what the call returned.
-//! What isn't here is in `python/osb_tests/test_rules.py`.
-use crate::words::{body_word, first, kind, outcome};
-use anyhow::{Context, Result};
-use osb_broker::{Broker, Phase};
+//! A Poll of `osb_broker`. From C every Poll has the outcome `Done`, and in `osb-replay` it is of the row's plan.
+use anyhow::Result;
+use osb_broker::{Broker, Outcome};
 use osb_message::{Catalogue, InstanceId, Kind, Mode, PlanId, Request, ServiceId};
 use std::alloc::Global;
-
-// What a call is told to make of its arguments.
-pub(crate) fn tell(rt: &impl Print, alloc: Global, line: &str) -> Result<()> {
-    let (call, rest) = first(line);
-    match call {
-        "phase" => phase(rt, rest),
-        "life" => life(rt, alloc, rest),
-        _ => anyhow::bail!("no such call: {call}"),
-    }
-}
-
-// `phase PHASE`: the phase's word, and at the right of 8 places
-fn phase(rt: &impl Print, word: &str) -> Result<()> {
-    let phase = Phase::from_word(word).context("no such phase")?;
-    Ok(println!(rt; "  {phase} {phase:>8}|")?)
-}
 
 fn request(kind: Kind, plan: PlanId) -> Request {
     Request {
@@ -32,58 +14,23 @@ fn request(kind: Kind, plan: PlanId) -> Request {
     }
 }
 
-// A broker that sells two asynchronous plans, with the ids 3 and 4.
-fn broker(alloc: Global) -> Result<Broker> {
+// `poll-of-another-plan`: what a broker answers to a Provision that works, and then to Polls of another plan that fail
+// before and after their work; and its row after each.
+pub(crate) fn poll_of_another_plan(rt: &impl Print, alloc: Global) -> Result<()> {
+    let (plan, another) = (PlanId::from_value(3), PlanId::from_value(4));
     let mut catalogue = Catalogue::new(alloc);
-    for plan in [3, 4] {
-        catalogue.add(
-            ServiceId::from_value(2),
-            PlanId::from_value(plan),
-            Mode::Async,
-        )?;
-    }
-    Ok(Broker::new(alloc, catalogue))
-}
-
-// Has the broker handle a request, `KIND,OUTCOME` of the plan 3 or `KIND,OUTCOME,other` of the plan 4.
-fn handle(rt: &impl Print, broker: &mut Broker, words: &str) -> Result<()> {
-    let (kind_word, rest) = words.split_once(',').context("no comma")?;
-    let (outcome_word, other) = rest.split_once(',').unwrap_or((rest, ""));
-    let plan = match other {
-        "" => PlanId::from_value(3),
-        "other" => PlanId::from_value(4),
-        _ => anyhow::bail!("no such plan: {other}"),
-    };
-    let asked = request(kind(kind_word)?, plan);
-    let answer = broker.handle(&asked, outcome(outcome_word)?)?;
-    print!(rt; "  {} {}: ", answer.status, body_word(answer.body))?;
-    Ok(())
-}
-
-// Ends the operation that runs on the instance.
-fn finish(rt: &impl Print, broker: &mut Broker, ok: bool) -> Result<()> {
-    let word = match broker.finish(InstanceId::from_value(1), ok) {
-        Ok(()) => "finished",
-        Err(_) => "nothing runs",
-    };
-    print!(rt; "  {word}: ")?;
-    Ok(())
-}
-
-// `life CALL CALL ..`: what each call answers of one instance, and its phase then; `well` and `badly` end an operation
-fn life(rt: &impl Print, alloc: Global, calls: &str) -> Result<()> {
-    let mut broker = broker(alloc)?;
-    for call in calls.split(' ') {
-        match call {
-            "well" => finish(rt, &mut broker, true)?,
-            "badly" => finish(rt, &mut broker, false)?,
-            _ => handle(rt, &mut broker, call)?,
-        }
-        let phase = match broker.row(InstanceId::from_value(1)) {
-            Some(row) => row.phase.word(),
-            None => "-",
-        };
-        println!(rt; "{phase}")?;
+    catalogue.add(ServiceId::from_value(2), plan, Mode::Async)?;
+    catalogue.add(ServiceId::from_value(2), another, Mode::Async)?;
+    let mut broker = Broker::new(alloc, catalogue);
+    let calls = [
+        (request(Kind::Provision, plan), Outcome::Done),
+        (request(Kind::Poll, another), Outcome::Before),
+        (request(Kind::Poll, another), Outcome::After),
+    ];
+    for &(request, outcome) in &calls {
+        let answer = broker.handle(&request, outcome)?;
+        let phase = broker.row(request.id).map(|row| row.phase);
+        println!(rt; "  {} {:?} {phase:?}", answer.status, answer.body)?;
     }
     Ok(())
 }

@@ -1,82 +1,52 @@
-//! Tells what the libraries make of each case on standard input. A line `of LIBRARY` says whose cases follow, and each
-//! line is then a case of that library. It is written again, and behind it, after two blanks, what came of it: what
-//! takes further lines stands below. Empty lines, comments, which begin with `#`, and the lines that name a library are
-//! written as they are.
+//! Prints what the libraries return for each line of its input: what can be seen neither from C nor from `osb-replay`,
+//! nor in the cases of the crates `service_cases` and `refusal_cases`. A line is the name of a call and its arguments.
+//! The program writes the line again, and behind it, after two blanks, what came of it. What takes further lines stands
+//! below. Empty lines, and comments, which begin with `#`, are written as they are.
 #![tactic(auto)]
 
-mod binding_wire;
 mod broker;
 mod faults;
-mod instance;
-mod language;
 mod message;
-mod network;
 mod platform;
 mod wire;
-mod words;
 mod world;
 
 use anyhow::Result;
 use osb_platform::Platform;
+use std::alloc::Global;
 
-// Whose cases follow.
-#[derive(Clone, Copy)]
-enum Library {
-    BindingWire,
-    Broker,
-    Faults,
-    Instance,
-    Language,
-    Message,
-    Network,
-    Platform,
-    Wire,
-    World,
+// The first word, and what follows the blank after it.
+pub(crate) fn first(text: &str) -> (&str, &str) {
+    text.split_once(' ').unwrap_or((text, ""))
 }
 
-// The library of this name.
-fn named(name: &str) -> Result<Library> {
-    match name {
-        "osb_binding" | "osb_device" | "osb_words" => Ok(Library::Faults),
-        "osb_binding_wire" => Ok(Library::BindingWire),
-        "osb_broker" => Ok(Library::Broker),
-        "osb_instance" => Ok(Library::Instance),
-        "osb_language" => Ok(Library::Language),
-        "osb_message" => Ok(Library::Message),
-        "osb_network" => Ok(Library::Network),
-        "osb_platform" => Ok(Library::Platform),
-        "osb_wire" => Ok(Library::Wire),
-        "osb_world" => Ok(Library::World),
-        _ => anyhow::bail!("no such library: {name}"),
+// What a call makes of its arguments, and of the platform that the lines before have left.
+fn tell(rt: &impl Print, alloc: Global, platform: &mut Platform, line: &str) -> Result<()> {
+    let (call, rest) = first(line);
+    match call {
+        "id" => message::id(rt, rest),
+        "ids" => message::ids(rt, alloc, rest),
+        "word" => message::word(rt, rest),
+        "poll-of-another-plan" => broker::poll_of_another_plan(rt, alloc),
+        "world" => world::run_creates(rt, alloc, rest),
+        "bind" => wire::bind(rt, alloc, rest),
+        "provision" => wire::provision(rt, alloc, rest),
+        "constants" => wire::constants(rt),
+        "faults" => faults::tell_of(rt, alloc, rest),
+        _ => platform::tell(rt, alloc, platform, call, rest),
     }
 }
 
 fn main(rt: HostRuntime) -> Result<()> {
-    let mut of = Library::Wire;
-    let mut begun = network::Begun::Nothing;
     let mut platform = Platform::new(rt.alloc());
     for line in rt.lines(rt.alloc()) {
         let line = line?;
         let text = line.as_str();
-        if let Some(name) = text.strip_prefix("of ") {
-            of = named(name)?;
-            println!(rt; "{text}")?;
-        } else if text.is_empty() || text.starts_with('#') {
+        if text.is_empty() || text.starts_with('#') {
             println!(rt; "{text}")?;
         } else {
             print!(rt; "{text}")?;
-            match of {
-                Library::BindingWire => binding_wire::tell(&rt, rt.alloc(), text)?,
-                Library::Broker => broker::tell(&rt, rt.alloc(), text)?,
-                Library::Faults => faults::tell(&rt, rt.alloc(), text)?,
-                Library::Instance => instance::tell(&rt, text)?,
-                Library::Language => language::tell(&rt, text)?,
-                Library::Message => message::tell(&rt, rt.alloc(), text)?,
-                Library::Network => begun = network::tell(&rt, rt.alloc(), begun, text)?,
-                Library::Platform => platform::tell(&rt, rt.alloc(), &mut platform, text)?,
-                Library::Wire => wire::tell(&rt, rt.alloc(), text)?,
-                Library::World => world::tell(&rt, rt.alloc(), text)?,
-            }
+            tell(&rt, rt.alloc(), &mut platform, text)?;
         }
     }
     Ok(())

@@ -1,33 +1,24 @@
-//! The case of `osb_world` that C and the program can't see: `run COUNT` lets a Create of as many instances happen in one
-//! call. Behind it stands how many are recorded then, and what is recorded of the last.
-use crate::words::first;
+//! `run` of `osb_world`.
 use anyhow::{Context, Result};
 use osb_message::{Catalogue, InstanceId, Mode, PlanId, ServiceId};
 use osb_world::{Event, run};
 use std::alloc::Global;
 
-// The Create of an instance.
-fn create(value: u128) -> Event {
-    Event::Create {
-        id: InstanceId::from_value(value),
-        service: ServiceId::from_value(2),
-        plan: PlanId::from_value(3),
-        accepts: false,
-    }
-}
-
-// What a call is told to make of its arguments.
-pub(crate) fn tell(rt: &impl Print, alloc: Global, line: &str) -> Result<()> {
-    let (call, count) = first(line);
-    if call != "run" {
-        anyhow::bail!("no such call: {call}");
-    }
+// `world COUNT`: how many instances are recorded after a Create of as many, in one call, and what is recorded of the
+// last.
+pub(crate) fn run_creates(rt: &impl Print, alloc: Global, count: &str) -> Result<()> {
     let count: u128 = count.parse::<u128>()?;
+    let (service, plan) = (ServiceId::from_value(2), PlanId::from_value(3));
     let mut catalogue = Catalogue::new(alloc);
-    catalogue.add(ServiceId::from_value(2), PlanId::from_value(3), Mode::Sync)?;
+    catalogue.add(service, plan, Mode::Sync)?;
     let mut events = Vec::new(alloc);
     for value in 1..=count {
-        events.push(create(value))?;
+        events.push(Event::Create {
+            id: InstanceId::from_value(value),
+            service,
+            plan,
+            accepts: false,
+        })?;
     }
     let world = run(alloc, catalogue, events.as_slice())?;
     let row = world.platform_row(InstanceId::from_value(count));

@@ -52,7 +52,7 @@ fn place(word: &str) -> Result<usize> {
 }
 
 // What happens to a life of either kind.
-fn of_life(line: &str) -> Result<Event> {
+pub(crate) fn of_life(line: &str) -> Result<Event> {
     if let Some(event) = plain(line) {
         return Ok(event);
     }

@@ -1,8 +1,9 @@
 //! Tells what osb_binding_network makes of each line on standard input: an instance with its bindings, and what happens
-//! to them.
+//! to them. A line that begins with `alone`, `life` or `many` is one of osb_network (`alone.rt`, `network.rt`).
 //!
 //! - `service SIDES: ORDER; ORDER ..` begins anew (`orders.rt`).
 //! - `EVENT` happens (`events.rt`).
+//! - `instance settle`: the instance converges.
 //! - `settle`: the instance converges, and then each binding.
 //! - `remove`: the instance converges, each binding is removed, and then the instance.
 //! - `settle NUMBER` and `remove NUMBER`: the binding with this number alone, from 1.
@@ -13,7 +14,9 @@
 //! many more such lines with a model.
 #![tactic(auto)]
 
+mod alone;
 mod events;
+mod network;
 mod orders;
 mod sides;
 
@@ -40,9 +43,10 @@ fn id_of(number: u64) -> BindingId {
     BindingId::from_value(u128::from(number))
 }
 
-fn step_word(step: Step) -> &'static str {
+// The word, or `skipped`.
+fn word_of(step: Step, applied: &'static str) -> &'static str {
     match step {
-        Step::Applied => "applied",
+        Step::Applied => applied,
         Step::Skipped => "skipped",
     }
 }
@@ -53,10 +57,7 @@ fn settle(alloc: Global, service: &mut Service) -> Result<&'static str> {
     for number in 1..=service.bindings {
         service.lives.settle_binding(alloc, id_of(number))?;
     }
-    match step {
-        Step::Applied => Ok("settled"),
-        Step::Skipped => Ok("skipped"),
-    }
+    Ok(word_of(step, "settled"))
 }
 
 // Has all deleted: three rounds of the instance, three of each binding, in which it is removed, and then three of the
@@ -66,28 +67,25 @@ fn remove(alloc: Global, service: &mut Service) -> Result<&'static str> {
     for number in 1..=service.bindings {
         service.lives.remove_binding(alloc, id_of(number))?;
     }
-    match service.lives.remove(alloc)? {
-        Step::Applied => Ok("removed"),
-        Step::Skipped => Ok("skipped"),
-    }
+    Ok(word_of(service.lives.remove(alloc)?, "removed"))
 }
 
 // Lets three rounds without a fault pass of one binding.
 fn settle_one(alloc: Global, service: &mut Service, number: &str) -> Result<&'static str> {
     let number = number.parse().ok().context("no number")?;
-    match service.lives.settle_binding(alloc, id_of(number))? {
-        Step::Applied => Ok("settled"),
-        Step::Skipped => Ok("skipped"),
-    }
+    Ok(word_of(
+        service.lives.settle_binding(alloc, id_of(number))?,
+        "settled",
+    ))
 }
 
 // Lets three rounds pass in which one binding is removed.
 fn remove_one(alloc: Global, service: &mut Service, number: &str) -> Result<&'static str> {
     let number = number.parse().ok().context("no number")?;
-    match service.lives.remove_binding(alloc, id_of(number))? {
-        Step::Applied => Ok("removed"),
-        Step::Skipped => Ok("skipped"),
-    }
+    Ok(word_of(
+        service.lives.remove_binding(alloc, id_of(number))?,
+        "removed",
+    ))
 }
 
 // Lets an event happen that a line names.
@@ -98,6 +96,9 @@ fn happen(alloc: Global, service: &mut Service, line: &str) -> Result<&'static s
     if line == "remove" {
         return remove(alloc, service);
     }
+    if line == "instance settle" {
+        return Ok(word_of(service.lives.settle(alloc)?, "settled"));
+    }
     if let Some(number) = line.strip_prefix("settle ") {
         return settle_one(alloc, service, number);
     }
@@ -105,7 +106,7 @@ fn happen(alloc: Global, service: &mut Service, line: &str) -> Result<&'static s
         return remove_one(alloc, service, number);
     }
     let step = service.lives.step(alloc, events::event(line)?)?;
-    Ok(step_word(step))
+    Ok(word_of(step, "applied"))
 }
 
 // What the words after `service ` begin.
@@ -171,6 +172,18 @@ fn tell(rt: &impl Print, alloc: Global, begun: Option<Service>, line: &str) -> R
     Ok(service)
 }
 
+// Whether a line is one of osb_network. What it makes is told then.
+fn told_of_network(rt: &impl Print, alloc: Global, line: &str) -> Result<bool> {
+    let (word, words) = first(line);
+    match word {
+        "alone" => alone::tell(rt, alloc, words)?,
+        "life" => network::life(rt, alloc, words)?,
+        "many" => network::many(rt, alloc, words)?,
+        _ => return Ok(false),
+    }
+    Ok(true)
+}
+
 fn main(rt: HostRuntime) -> Result<()> {
     let mut begun = None;
     for line in rt.lines(rt.alloc()) {
@@ -178,7 +191,7 @@ fn main(rt: HostRuntime) -> Result<()> {
         let text = line.as_str();
         if text.is_empty() || text.starts_with('#') {
             println!(rt; "{text}")?;
-        } else {
+        } else if !told_of_network(&rt, rt.alloc(), text)? {
             begun = Some(tell(&rt, rt.alloc(), begun, text)?);
         }
     }

@@ -47,7 +47,7 @@ fn rules(sides: &str) -> Result<Rules> {
     Ok(Rules { platform, broker })
 }
 
-fn mode(word: &str) -> Result<Option<Mode>> {
+pub(crate) fn mode(word: &str) -> Result<Option<Mode>> {
     match word {
         "sync" => Ok(Some(Mode::Sync)),
         "async" => Ok(Some(Mode::Async)),
@@ -57,7 +57,7 @@ fn mode(word: &str) -> Result<Option<Mode>> {
 }
 
 // Whether a word is the first one; else it must be the second one.
-fn is_first(word: &str, yes: &str, no: &str) -> Result<bool> {
+pub(crate) fn is_first(word: &str, yes: &str, no: &str) -> Result<bool> {
     anyhow::ensure!(word == yes || word == no, "neither {yes} nor {no}: {word}");
     Ok(word == yes)
 }
@@ -74,16 +74,18 @@ fn read_terms(words: &str) -> Result<Terms> {
     })
 }
 
-fn of_instance(terms: Terms) -> Order {
-    Order {
-        id: InstanceId::from_value(1),
+// The order of the instance with this number.
+pub(crate) fn of_instance(number: u64, words: &str) -> Result<Order> {
+    let terms = read_terms(words)?;
+    Ok(Order {
+        id: InstanceId::from_value(u128::from(number)),
         service: ServiceId::from_value(2),
         plan: PlanId::from_value(3),
         mode: terms.mode,
         accepts: terms.accepts,
         first_poll: terms.first_poll,
         attributes: ATTRIBUTES,
-    }
+    })
 }
 
 fn of_binding(id: BindingId, terms: Terms) -> BindingOrder {
@@ -110,7 +112,7 @@ pub(crate) fn read_orders(alloc: Global, words: &str) -> Result<Ordered> {
     }
     Ok(Ordered {
         rules: rules(sides)?,
-        instance: of_instance(read_terms(instance)?),
+        instance: of_instance(1, instance)?,
         orders,
         bindings,
     })

@@ -16,7 +16,7 @@ fn kind_word(kind: Option<Kind>) -> &'static str {
     kind.map_or("-", |kind| kind.word())
 }
 
-fn resource_word(resource: Resource) -> &'static str {
+pub(crate) fn resource_word(resource: Resource) -> &'static str {
     match resource {
         Resource::Absent => "absent",
         Resource::Part => "part",
@@ -46,7 +46,7 @@ fn tell_record(rt: &impl Print, record: Option<Record>) -> Result<()> {
     Ok(print!(rt; "{state} {out} {}; ", record.attempt())?)
 }
 
-fn tell_holding(rt: &impl Print, holding: Holding) -> Result<()> {
+pub(crate) fn tell_holding(rt: &impl Print, holding: Holding) -> Result<()> {
     let phase = holding.row().map_or("-", |row| row.phase.word());
     let work = kind_word(holding.work().map(|request| request.kind));
     let tombstone = if holding.has_tombstone() {
@@ -64,7 +64,7 @@ fn tell_credentials(rt: &impl Print, credentials: Option<u64>) -> Result<()> {
     }
 }
 
-fn tell_instance(rt: &impl Print, instance: &Instance) -> Result<()> {
+pub(crate) fn tell_instance(rt: &impl Print, instance: &Instance) -> Result<()> {
     tell_record(rt, instance.record())?;
     tell_holding(rt, instance.holding())?;
     Ok(print!(rt; "{}", resource_word(instance.resource()))?)
