@@ -16,6 +16,7 @@ import (
 	"time"
 
 	"pippinterm/internal/diff"
+	"pippinterm/internal/waits"
 )
 
 // An haproxy is HAProxy with the configuration of deploy/haproxy before one broker. It speaks HTTP on both sides.
@@ -51,12 +52,7 @@ func behind(t *testing.T, s *servedBroker, change func(string) string) haproxy {
 		_ = command.Wait()
 	})
 	h := haproxy{t, "http://" + address}
-	for late := time.Now().Add(time.Minute); h.status("127.0.0.1", password, nil) != 200; {
-		if time.Now().After(late) {
-			t.Fatal("got no broker of haproxy's in a minute, want one")
-		}
-		time.Sleep(20 * time.Millisecond)
-	}
+	waits.Until(t, "haproxy has a broker", func() bool { return h.status("127.0.0.1", password, nil) == 200 })
 	return h
 }
 

@@ -23,6 +23,7 @@ import (
 	"pippinterm/broker/sqlite"
 	"pippinterm/internal/diff"
 	"pippinterm/internal/programtest"
+	"pippinterm/internal/waits"
 )
 
 // The test binary is the program too.
@@ -286,11 +287,10 @@ esac
 		given, _ := s.ask("PUT", one, order)
 		status <- given
 	}()
-	for begun := filepath.Join(folder, "command", "begun"); ; time.Sleep(5 * time.Millisecond) {
-		if _, err := os.Stat(begun); err == nil {
-			break
-		}
-	}
+	waits.Until(t, "the creation has begun", func() bool {
+		_, err := os.Stat(filepath.Join(folder, "command", "begun"))
+		return err == nil
+	})
 	s.stop()
 	diff.Equal(t, <-status, 201, "")
 }

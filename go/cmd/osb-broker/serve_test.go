@@ -28,6 +28,7 @@ import (
 	"pippinterm/internal/diff"
 	"pippinterm/internal/programtest"
 	"pippinterm/internal/sqlitefile"
+	"pippinterm/internal/waits"
 )
 
 // statusOf is the status of a program that ends with an error.
@@ -379,16 +380,16 @@ func TestHealthWhileItStops(t *testing.T) {
 				}
 			}
 		}
-		for end := time.Now().Add(time.Minute); isShared; time.Sleep(time.Millisecond) {
+		waits.Until(t, "the shared address is left", func() bool {
+			if !isShared {
+				return true
+			}
 			conn, err := net.Dial("tcp", strings.TrimPrefix(s.url, "http://"))
-			if err != nil {
-				break
+			if err == nil {
+				_ = conn.Close()
 			}
-			_ = conn.Close()
-			if time.Now().After(end) {
-				t.Fatal("the shared address: got an answer after the time for it, want none")
-			}
-		}
+			return err != nil
+		})
 		g.open()
 		s.ends(true)
 	}

@@ -16,6 +16,7 @@ import (
 
 	"pippinterm/internal/diff"
 	"pippinterm/internal/programtest"
+	"pippinterm/internal/waits"
 )
 
 // A gate is a backend whose create says when it has begun, and goes on once the test says so.
@@ -80,12 +81,7 @@ func (g *gate) in20Seconds(call func() error) {
 	g.t.Helper()
 	done := make(chan error, 1)
 	go func() { done <- call() }()
-	select {
-	case err := <-done:
-		g.check(err)
-	case <-time.After(time.Minute):
-		g.t.Fatal("the backend's create: got no run in a minute, want one")
-	}
+	g.check(waits.For(g.t, done, "the backend's create"))
 }
 
 // count is how often create was called.

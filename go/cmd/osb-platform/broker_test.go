@@ -20,6 +20,7 @@ import (
 	"time"
 
 	"pippinterm/internal/diff"
+	"pippinterm/internal/waits"
 	"pippinterm/osb"
 	"pippinterm/platform"
 )
@@ -351,13 +352,9 @@ func TestBrokerOfAnotherStore(t *testing.T) {
 	p.Event("other_store")
 	wantAccept := `(?s).*the broker names the store two, and one is recorded\..*` +
 		`osb-platform broker set local --accept-store two.*`
-	for end := time.Now().Add(deadline); ; time.Sleep(10 * time.Millisecond) {
-		if got := call(t, "--store", store, "broker", "list"); isAll(wantAccept, got.out) {
-			break
-		} else if time.Now().After(end) {
-			t.Fatalf("broker list: got %q after the time for it, want the new state", got.out)
-		}
-	}
+	waits.Until(t, "broker list names the command", func() bool {
+		return isAll(wantAccept, call(t, "--store", store, "broker", "list").out)
+	})
 	diff.Equal(t, f.deletion.Load(), 1, "deletions sent to the other broker")
 	for _, text := range []string{"before", "beside"} {
 		diff.Lacks(t, call(t, "--store", store, "show", text).out, "state\tgone", "the answer of the other broker")

@@ -18,6 +18,7 @@ import (
 	"pippinterm/broker"
 	"pippinterm/internal/diff"
 	"pippinterm/internal/logs"
+	"pippinterm/internal/waits"
 	"pippinterm/osb"
 	"pippinterm/platform"
 )
@@ -254,15 +255,9 @@ func TestFurtherBindingThatWaits(t *testing.T) {
 			" ordered", ``},
 		{"remove db --wait=60", 0, ``, `db is gone`},
 	})
-	for late := time.Now().Add(deadline); ; time.Sleep(10 * time.Millisecond) {
-		shown := call(t, "--store", store, "show", "db/"+next.String())
-		if strings.Contains(shown.out, "\nstate\twithdrawn\n") {
-			break
-		}
-		if time.Now().After(late) {
-			t.Fatalf("got %+v, want withdrawn", shown)
-		}
-	}
+	waits.Until(t, "the further binding is withdrawn", func() bool {
+		return strings.Contains(call(t, "--store", store, "show", "db/"+next.String()).out, "\nstate\twithdrawn\n")
+	})
 	p.stop()
 }
 

@@ -26,6 +26,7 @@ import (
 	"pippinterm/internal/journalfile"
 	"pippinterm/internal/programtest"
 	"pippinterm/internal/sqlitefile"
+	"pippinterm/internal/waits"
 	"pippinterm/platform"
 )
 
@@ -303,14 +304,7 @@ func TestStopTakesAnAnswer(t *testing.T) {
 	diff.Equal(t, status, 200, "")
 	p.Terminate()
 	p.Event("stopping")
-	for late := time.Now().Add(deadline); ; time.Sleep(5 * time.Millisecond) {
-		if status, _ := get(t, p.health+"/readyz"); status == 503 {
-			break
-		}
-		if time.Now().After(late) {
-			t.Fatal("got it ready while it is being stopped, want it not ready")
-		}
-	}
+	readyIs(t, p, 503)
 	release()
 	diff.Contains(t, p.End(), `"all_work_ended":true`, "the log")
 	wantLines(t, store, []line{{"list", 0, "one\tready\t.*", ``}})
@@ -344,14 +338,7 @@ func TestKilled(t *testing.T) {
 func endsWell(t *testing.T, s *site, store string) {
 	t.Helper()
 	p := start(t, store, ownPassword, "--broker", s.url, "--worker", "one")
-	for late := time.Now().Add(deadline); ; time.Sleep(20 * time.Millisecond) {
-		if got := call(t, "--store", store, "list", "--state", "ready"); strings.Count(got.out, "\n") == 1 {
-			break
-		}
-		if time.Now().After(late) {
-			t.Fatalf("the list: got %s after the time for it, want all of them there", call(t, "--store", store, "list").out)
-		}
-	}
+	waits.Until(t, "one try is ready", func() bool { return countListed(t, store, "ready") == 1 })
 	p.stop()
 }
 
@@ -412,11 +399,7 @@ func TestFullDisk(t *testing.T) {
 		t.Errorf("got %d orders and %d requests sent, want all and none", count, s.requests())
 	}
 	p.LimitFiles(unix.RLIM_INFINITY)
-	for late := time.Now().Add(deadline); countListed(t, store, "ready") < orders; time.Sleep(50 * time.Millisecond) {
-		if time.Now().After(late) {
-			t.Fatal("the orders: got them at rest, want them to go on")
-		}
-	}
+	waits.Until(t, "all orders have gone on", func() bool { return countListed(t, store, "ready") >= orders })
 	log := p.stop()
 	printed := p.out.String()
 	diff.Equal(t, strings.Count(printed, "\n"), orders, "the output, %s", printed)

@@ -29,6 +29,7 @@ import (
 	"pippinterm/internal/logs"
 	"pippinterm/internal/pg/pgtest"
 	"pippinterm/internal/programtest"
+	"pippinterm/internal/waits"
 	"pippinterm/platform"
 	"pippinterm/platform/sqlite"
 )
@@ -89,15 +90,7 @@ func (c caller) try(method, path, body string) (status int, text []byte) {
 // await waits until a row is in a state.
 func (c caller) await(path, state string) {
 	c.t.Helper()
-	for late := time.Now().Add(deadline); ; time.Sleep(10 * time.Millisecond) {
-		got := c.call(200, "GET", path, "")
-		if got["state"] == state {
-			return
-		}
-		if time.Now().After(late) {
-			c.t.Fatalf("%s: got %v after the time for it, want another", path, got)
-		}
-	}
+	waits.Until(c.t, path+" is "+state, func() bool { return c.call(200, "GET", path, "")["state"] == state })
 }
 
 // The whole way over the API, beside a worker: a broker is added; an instance and a binding are created; the
@@ -538,12 +531,7 @@ func checkUnwritten(t *testing.T, store string, environment []string, execute fu
 	}
 	execute(repair)
 	readyIs(t, p, 200)
-	for late := time.Now().Add(deadline); !strings.Contains(call(t, "--store", store, "list").out, "\tready\t"); {
-		if time.Now().After(late) {
-			t.Fatal("the order: got it at rest, want it to go on")
-		}
-		time.Sleep(50 * time.Millisecond)
-	}
+	waits.Until(t, "the order has gone on", func() bool { return countListed(t, store, "ready") > 0 })
 	log := p.stop()
 	if printed := p.out.String(); strings.Count(printed, "\n") != 1 || !strings.HasSuffix(printed, "\tone\tready\n") {
 		t.Errorf("the output: got %q, want the order ready", printed)
@@ -559,15 +547,10 @@ func checkUnwritten(t *testing.T, store string, environment []string, execute fu
 // readyIs waits until /readyz is answered so.
 func readyIs(t *testing.T, p *process, want int) {
 	t.Helper()
-	for late := time.Now().Add(deadline); ; time.Sleep(50 * time.Millisecond) {
+	waits.Until(t, fmt.Sprint("/readyz is answered with ", want), func() bool {
 		status, _ := get(t, p.health+"/readyz")
-		if status == want {
-			return
-		}
-		if time.Now().After(late) {
-			t.Fatalf("/readyz: got %d, want %d", status, want)
-		}
-	}
+		return status == want
+	})
 }
 
 // execute executes a statement in the file of a store.

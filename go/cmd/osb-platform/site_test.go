@@ -2,6 +2,7 @@ package main
 
 import (
 	"context"
+	"fmt"
 	"net/http"
 	"net/http/httptest"
 	"os"
@@ -14,6 +15,7 @@ import (
 	"pippinterm/broker/backend/folders"
 	"pippinterm/broker/sqlite"
 	"pippinterm/internal/diff"
+	"pippinterm/internal/waits"
 	"pippinterm/osb"
 )
 
@@ -139,15 +141,7 @@ func (s *site) since(first int) []string {
 // await waits for so many requests about instances and bindings.
 func (s *site) await(t *testing.T, count int) {
 	t.Helper()
-	for late := time.Now().Add(deadline); ; time.Sleep(5 * time.Millisecond) {
-		asked := s.requests()
-		if asked >= count {
-			return
-		}
-		if time.Now().After(late) {
-			t.Fatalf("got %d requests in the time for it, want more", asked)
-		}
-	}
+	waits.Until(t, fmt.Sprint(count, " requests were sent"), func() bool { return s.requests() >= count })
 }
 
 // before counts requests, answers some of them, and holds answers.

@@ -8,6 +8,7 @@ import (
 	"time"
 
 	"pippinterm/internal/diff"
+	"pippinterm/internal/waits"
 )
 
 const long = time.Minute // in which everything has to happen
@@ -64,13 +65,9 @@ func TestWaiting(t *testing.T) {
 	b.Give("one", 1)
 	b.Give("one", 1)
 	for want := 0; want < 2; want++ {
-		select {
-		case got := <-order:
-			diff.Equal(t, got, want, "")
-			b.Give("one", 2-got)
-		case <-time.After(long):
-			t.Fatal("got no part in time, want one")
-		}
+		got := waits.For(t, order, "a part")
+		diff.Equal(t, got, want, "")
+		b.Give("one", 2-got)
 	}
 }
 
@@ -116,15 +113,9 @@ func TestManyGoroutines(t *testing.T) {
 
 func waitFor(t *testing.T, b *Budget, count int) {
 	t.Helper()
-	for late := time.Now().Add(long); ; time.Sleep(time.Millisecond) {
+	waits.Until(t, fmt.Sprint(count, " are waiting"), func() bool {
 		b.mutex.Lock()
-		isSo := len(b.waiting) == count
-		b.mutex.Unlock()
-		if isSo {
-			return
-		}
-		if time.Now().After(late) {
-			t.Fatalf("got %d that wait, want another number in time", count)
-		}
-	}
+		defer b.mutex.Unlock()
+		return len(b.waiting) == count
+	})
 }

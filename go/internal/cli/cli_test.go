@@ -10,11 +10,11 @@ import (
 	"strings"
 	"syscall"
 	"testing"
-	"time"
 
 	"github.com/spf13/cobra"
 
 	"pippinterm/internal/diff"
+	"pippinterm/internal/waits"
 )
 
 // commands returns a root with the command serve, which does what run does.
@@ -182,12 +182,7 @@ func TestRunDoesntWaitForAStalledStandardError(t *testing.T) {
 	root.SetArgs([]string{"serve"})
 	status := make(chan int)
 	go func() { status <- Run(context.Background(), root) }()
-	select {
-	case got := <-status:
-		diff.Equal(t, got, StatusFailed, "")
-	case <-time.After(10 * time.Second):
-		t.Fatal("Run: got no end in 10 seconds, want one")
-	}
+	diff.Equal(t, waits.For(t, status, "Run"), StatusFailed, "")
 }
 
 func TestNoErrorStaysNoError(t *testing.T) {

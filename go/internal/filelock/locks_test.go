@@ -17,6 +17,7 @@ import (
 	"time"
 
 	"pippinterm/internal/diff"
+	"pippinterm/internal/waits"
 )
 
 // These keys have the form of those of a broker: an instance, another one, and a binding of the first one.
@@ -120,11 +121,7 @@ func TestMostOpenFilesAreKept(t *testing.T) {
 			lock.Unlock()
 		}
 	}()
-	select {
-	case <-unlocked:
-	case <-time.After(10 * time.Second):
-		t.Fatal("got an Unlock that waits, want none")
-	}
+	waits.For(t, unlocked, "each Unlock")
 	diff.Equal(t, openFiles(t)-before, mostSpare, "")
 }
 

@@ -15,6 +15,7 @@ import (
 	"time"
 
 	"pippinterm/internal/diff"
+	"pippinterm/internal/waits"
 )
 
 // A script is a connection whose Reads give these texts, and then an error.
@@ -275,7 +276,7 @@ func TestConnectionsOfAnAddress(t *testing.T) {
 	want := []string{"address_at_limit: 127.0.0.1/32 has 2 connections, and gets no further one"}
 	diff.Check(t, observer.events(), want, "the events")
 	first.Close()
-	waitUntil(t, "one more is served", func() bool { return !isRejected() })
+	waits.Until(t, "one more is served", func() bool { return !isRejected() })
 }
 
 func TestAddressesAreForgotten(t *testing.T) {
@@ -456,7 +457,7 @@ func TestRequestsThroughAProxy(t *testing.T) {
 	for _, client := range []client{first, second, third} {
 		client.until("GET /a ;")
 	}
-	waitUntil(t, "all requests have ended", func() bool { return len(listener.addresses.counts()) == 0 })
+	waits.Until(t, "all requests have ended", func() bool { return len(listener.addresses.counts()) == 0 })
 	if it := observer.rejections[0]; it.Status != 503 || it.Address != "198.51.100.1" {
 		t.Errorf("the observer: got %+v, want 503 of 198.51.100.1", it)
 	}
@@ -473,7 +474,7 @@ func TestARefusedBodyIsNotWaitedFor(t *testing.T) {
 		return c
 	}
 	first := slow()
-	waitUntil(t, "the first is served", func() bool { return len(listener.addresses.counts()) == 1 })
+	waits.Until(t, "the first is served", func() bool { return len(listener.addresses.counts()) == 1 })
 	began := time.Now()
 	if got := slow().rest(); !strings.HasPrefix(got, "HTTP/1.1 503 ") {
 		t.Errorf("got %q, want 503", got)
@@ -522,7 +523,7 @@ func TestNothingStaysCounted(t *testing.T) {
 		other := from(t, fmt.Sprintf("127.0.0.%d", count+2), listener)
 		other.Close()
 	}
-	waitUntil(t, "nothing is counted", func() bool {
+	waits.Until(t, "nothing is counted", func() bool {
 		return len(listener.addresses.counts()) == 0 && listener.Connections() == 1
 	})
 }

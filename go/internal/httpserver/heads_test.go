@@ -11,6 +11,7 @@ import (
 	"testing"
 
 	"pippinterm/internal/diff"
+	"pippinterm/internal/waits"
 )
 
 const end = "\r\n\r\n"
@@ -313,7 +314,7 @@ func TestWhatGoesWrongInNetHTTPIsReported(t *testing.T) {
 	client.until("\r\n\r\n")
 	client.send("GET /panic HTTP/1.1\r\nHost: x\r\n\r\n")
 	client.rest()
-	waitUntil(t, "a failure", func() bool { return len(observer.events()) > 0 })
+	waits.Until(t, "a failure", func() bool { return len(observer.events()) > 0 })
 	events := observer.events()
 	if len(events) != 1 || !strings.HasPrefix(events[0], "http_server: http: panic serving") ||
 		!strings.Contains(events[0], "index out of range") {

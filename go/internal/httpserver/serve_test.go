@@ -18,6 +18,7 @@ import (
 	"time"
 
 	"pippinterm/internal/diff"
+	"pippinterm/internal/waits"
 )
 
 // A pause is a handler that answers once it may.
@@ -62,7 +63,7 @@ func TestAClosedConnectionFreesItsPlaceOnce(t *testing.T) {
 		client.until("GET /a ;")
 		client.Close()
 	}
-	waitUntil(t, "only Accept has a place", func() bool { return listener.Connections() == 1 })
+	waits.Until(t, "only Accept has a place", func() bool { return listener.Connections() == 1 })
 }
 
 func TestTwoListenersShareAnAddress(t *testing.T) {
@@ -97,12 +98,7 @@ func TestAClientThatReadsNothingIsCut(t *testing.T) {
 	})
 	client := dial(t, listener)
 	client.send(whole)
-	select {
-	case err := <-wrote:
-		diff.ErrorIs(t, err, os.ErrDeadlineExceeded, "the handler's write")
-	case <-time.After(limit):
-		t.Fatal("the handler: got it still writing in time, want its end")
-	}
+	diff.ErrorIs(t, waits.For(t, wrote, "the handler's write"), os.ErrDeadlineExceeded, "the handler's write")
 }
 
 func TestASlowHandlerIsntCut(t *testing.T) {
@@ -131,7 +127,7 @@ func TestStopAnswersWhatRuns(t *testing.T) {
 	<-handler.begun
 	running.send(whole)
 	<-handler.begun
-	waitUntil(t, "all three are accepted", func() bool { return listener.Connections() == 4 })
+	waits.Until(t, "all three are accepted", func() bool { return listener.Connections() == 4 })
 	cancel()
 	<-isStopping
 	if err := silent.SetReadDeadline(time.Now().Add(3 * time.Second)); err != nil { // net/http closes it after 5
@@ -221,7 +217,7 @@ func TestTheLastSiteStopsLast(t *testing.T) {
 	}
 	ask("while the first has all its connections,")
 	cancel()
-	waitUntil(t, "the first takes no more connections", func() bool {
+	waits.Until(t, "the first takes no more connections", func() bool {
 		connection, err := net.DialTimeout("tcp", main.Addr().String(), limit)
 		if err == nil {
 			connection.Close()
@@ -316,7 +312,7 @@ func TestWhileWorkRunsRequestsAreAnswered(t *testing.T) {
 // A shared address is left to the other processes at once.
 func TestASharedListenerIsClosedAtOnce(t *testing.T) {
 	listener, handler, running, _, served := startStopping(t, Options{Share: true}, 0, func(context.Context) {})
-	waitUntil(t, "no more connections are taken", func() bool {
+	waits.Until(t, "no more connections are taken", func() bool {
 		connection, err := net.DialTimeout("tcp", listener.Addr().String(), limit)
 		if err == nil {
 			connection.Close()
@@ -557,7 +553,7 @@ func (r *recorder) OnFailure(event string, err error) {
 // waitForRejections returns the rejections, once there are so many: an answer is sent before the observer gets it.
 func (r *recorder) waitForRejections(t *testing.T, count int) []Rejection {
 	t.Helper()
-	waitUntil(t, "what the observer is told", func() bool {
+	waits.Until(t, "what the observer is told", func() bool {
 		r.mutex.Lock()
 		defer r.mutex.Unlock()
 		return len(r.rejections) >= count
@@ -692,15 +688,6 @@ func statusesIn(text string) []string {
 		statuses = append(statuses, strings.Fields(part)[1])
 	}
 	return statuses
-}
-
-func waitUntil(t *testing.T, what string, isSo func() bool) {
-	t.Helper()
-	for until := time.Now().Add(limit); !isSo(); time.Sleep(time.Millisecond) {
-		if time.Now().After(until) {
-			t.Fatalf("got no %s in time, want it", what)
-		}
-	}
 }
 
 var check = diff.Must

@@ -19,6 +19,7 @@ import (
 	"time"
 
 	"pippinterm/internal/diff"
+	"pippinterm/internal/waits"
 )
 
 // startTLS serves echo with these files.
@@ -110,7 +111,7 @@ func TestClientsThatCantShakeHands(t *testing.T) {
 			if err := tls.Client(dial(t, listener).Conn, test.config).Handshake(); err == nil {
 				t.Fatal("the handshake: got no error, want one")
 			}
-			waitUntil(t, "an event", func() bool { return len(observer.events()) > 0 })
+			waits.Until(t, "an event", func() bool { return len(observer.events()) > 0 })
 			if got := observer.events()[0]; !strings.HasPrefix(got, "tls_handshake_failed: client 127.0.0.1: ") ||
 				!strings.Contains(got, test.event) {
 				t.Errorf("the observer: got %q, want a handshake that failed with %q", got, test.event)
@@ -125,7 +126,7 @@ func TestHTTPAtAPortOfTLS(t *testing.T) {
 	client := dial(t, listener)
 	client.send(whole)
 	diff.Equal(t, client.rest(), plainAnswer, "")
-	waitUntil(t, "an event", func() bool { return len(observer.events()) > 0 })
+	waits.Until(t, "an event", func() bool { return len(observer.events()) > 0 })
 	if got := observer.events(); len(got) != 1 || !strings.HasSuffix(got[0], "the client sent HTTP") {
 		t.Errorf("the observer: got %q, want one of a client that sent HTTP", got)
 	}
@@ -139,7 +140,7 @@ func TestAnotherProtocolAtAPortOfTLS(t *testing.T) {
 		client := dial(t, listener)
 		client.send(sent)
 		diff.Equal(t, client.rest(), "", "%q", sent)
-		waitUntil(t, "an event", func() bool { return len(observer.events()) > n })
+		waits.Until(t, "an event", func() bool { return len(observer.events()) > n })
 		if got := observer.events()[n]; !strings.HasSuffix(got, "does not look like a TLS handshake") {
 			t.Errorf("%q: got %q for the observer, want that it is no TLS", sent, got)
 		}
@@ -151,7 +152,7 @@ func TestAProbeOfThePortIsNoFailure(t *testing.T) {
 	listener, _ := startTLS(t, newAuthority(t).issue("server"), Options{Silent: short, Observer: observer}, Server{})
 	dial(t, listener).Close()
 	diff.Equal(t, dial(t, listener).rest(), "", "a silent client")
-	waitUntil(t, "both are closed", func() bool { return listener.Connections() == 1 })
+	waits.Until(t, "both are closed", func() bool { return listener.Connections() == 1 })
 	if got := observer.events(); got != nil {
 		t.Errorf("the observer: got %q, want none", got)
 	}

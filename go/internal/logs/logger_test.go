@@ -14,21 +14,13 @@ import (
 	"time"
 
 	"pippinterm/internal/diff"
+	"pippinterm/internal/waits"
 )
 
 var aTime = regexp.MustCompile(`"time":"\d{4}-\d\d-\d\dT\d\d:\d\d:\d\d\.\d{3}Z"`)
 
 // withoutTimes returns the lines with T in the place of each time that has the form of the log.
 func withoutTimes(lines string) string { return aTime.ReplaceAllString(lines, `"time":"T"`) }
-
-func waitUntil(t *testing.T, isSo func() bool) {
-	t.Helper()
-	for until := time.Now().Add(limit); !isSo(); time.Sleep(time.Millisecond) {
-		if time.Now().After(until) {
-			t.Fatal("got nothing in the time for it, want it")
-		}
-	}
-}
 
 func TestEventsOfALogger(t *testing.T) {
 	var got bytes.Buffer
@@ -240,7 +232,7 @@ func TestATornLineStaysALineOfItsOwn(t *testing.T) {
 		to := &tearer{first: first}
 		queue := NewQueue(to)
 		write(t, queue, "first\n")
-		waitUntil(t, func() bool {
+		waits.Until(t, "the first line is written", func() bool {
 			queue.mutex.Lock()
 			defer queue.mutex.Unlock()
 			return queue.writing.lines == 0 && queue.lines == 0

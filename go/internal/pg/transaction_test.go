@@ -21,6 +21,7 @@ import (
 	"pippinterm/internal/pg"
 	"pippinterm/internal/pg/pgtest"
 	"pippinterm/internal/storefaults"
+	"pippinterm/internal/waits"
 )
 
 // table is a URL with an empty table t, whose name is that of a schema.
@@ -148,11 +149,7 @@ func TestACommitWhoseAnswerIsLost(t *testing.T) {
 	err := transaction(t, context.Background(), url, insert(context.Background()))
 	diff.ErrorIs(t, err, pg.ErrUnknownCommit, "")
 	db := pgtest.DB(t, direct)
-	for until := time.Now().Add(10 * time.Second); countIn(t, db) != 1; { // the server has got the COMMIT
-		if time.Now().After(until) {
-			t.Fatal("got no row in the time for it, want one: the test cuts too early")
-		}
-	}
+	waits.Until(t, "the server has got the COMMIT", func() bool { return countIn(t, db) == 1 })
 }
 
 func TestATransactionThatCannotBegin(t *testing.T) {
@@ -208,11 +205,7 @@ func TestWorkThatEndsItsGoroutine(t *testing.T) {
 			return true, nil
 		})
 	}()
-	select {
-	case <-ended:
-	case <-time.After(time.Minute):
-		t.Fatal("got no connection in a minute, want that of the transaction")
-	}
+	waits.For(t, ended, "the connection of the transaction")
 	var open int
 	err := db.QueryRow("SELECT count(*) FROM pg_locks JOIN pg_class ON pg_class.oid = relation " +
 		"WHERE relname = 't' AND relnamespace = current_schema()::regnamespace").Scan(&open)

@@ -8,9 +8,9 @@ import (
 	"strings"
 	"syscall"
 	"testing"
-	"time"
 
 	"pippinterm/internal/diff"
+	"pippinterm/internal/waits"
 )
 
 const variable = "OSB_TEST_PASSWORD"
@@ -160,13 +160,9 @@ func TestFilesThatAreNotRegular(t *testing.T) {
 			_, _, err := Passwords(variable, name)
 			done <- err
 		}()
-		select {
-		case err := <-done:
-			if err == nil || !strings.HasSuffix(err.Error(), name+" isn't a regular file") {
-				t.Errorf("%s: got the error %v, want one that says that it isn't a regular file", name, err)
-			}
-		case <-time.After(10 * time.Second):
-			t.Fatalf("%s: got no end of reading in 10 seconds, want an error", name)
+		err := waits.For(t, done, "reading "+name)
+		if err == nil || !strings.HasSuffix(err.Error(), name+" isn't a regular file") {
+			t.Errorf("%s: got the error %v, want one that says that it isn't a regular file", name, err)
 		}
 	}
 }

@@ -20,15 +20,13 @@ import (
 
 	"pippinterm/internal/diff"
 	"pippinterm/internal/storefaults"
+	"pippinterm/internal/waits"
 )
 
 var background = context.Background()
 
-// deadline is how long a test waits for something that must happen, and soon for what must not.
-const (
-	deadline = time.Minute
-	soon     = 150 * time.Millisecond
-)
+// soon is how long a test waits for something that must not happen.
+const soon = 150 * time.Millisecond
 
 // notes are what a test has for each connection: a table of texts.
 type notes struct {
@@ -108,16 +106,6 @@ func holdWriter(t *testing.T, file *File[*notes]) (release chan struct{}, all *s
 	return release, all
 }
 
-// eventually waits for a condition.
-func eventually(t *testing.T, what string, is func() bool) {
-	t.Helper()
-	for until := time.Now().Add(deadline); !is(); time.Sleep(time.Millisecond) {
-		if time.Now().After(until) {
-			t.Fatalf("got no end in time, want it: %s", what)
-		}
-	}
-}
-
 var errWrong = errors.New("wrong")
 
 // Of jobs that are written in one transaction, one that fails, panics or breaks a constraint after it has written is
@@ -161,7 +149,7 @@ func writeTogether(t *testing.T, file *File[*notes], jobs map[string]func(*notes
 			}
 		}()
 	}
-	eventually(t, "the jobs don't gather", func() bool { return file.Waiting() == len(jobs) })
+	waits.Until(t, "the jobs gather", func() bool { return file.Waiting() == len(jobs) })
 	close(release)
 	all.Wait()
 }
@@ -309,7 +297,7 @@ func breakOff(t *testing.T, file *File[*notes], by string) {
 			defer all.Done()
 			errs[n] = file.Write(background, job)
 		}()
-		eventually(t, "the job isn't waiting", func() bool { return len(file.queue) == n+1 })
+		waits.Until(t, "the job is waiting", func() bool { return len(file.queue) == n+1 })
 	}
 	close(release)
 	all.Wait()
@@ -345,14 +333,9 @@ func TestCancelled(t *testing.T) {
 		going, cancel := context.WithCancel(background)
 		failed := make(chan error, 1)
 		go func() { failed <- file.Write(going, note("going")) }()
-		eventually(t, "no job is waiting", func() bool { return len(file.queue) == 1 })
+		waits.Until(t, "a job is waiting", func() bool { return len(file.queue) == 1 })
 		time.AfterFunc(soon, cancel)
-		select {
-		case err := <-failed:
-			diff.ErrorIs(t, err, context.Canceled, "Write")
-		case <-time.After(deadline):
-			t.Error("Write: got no end before a job that hasn't begun, want one")
-		}
+		diff.ErrorIs(t, waits.For(t, failed, "Write of a job that hasn't begun"), context.Canceled, "Write")
 	}
 	close(release)
 	all.Wait()
@@ -371,7 +354,7 @@ func TestClose(t *testing.T) {
 	for n := 0; n < late; n++ {
 		go func() { failed <- file.Write(background, note("late")) }()
 	}
-	eventually(t, "no job is waiting", func() bool { return len(file.queue) == 1 })
+	waits.Until(t, "a job is waiting", func() bool { return len(file.queue) == 1 })
 	select {
 	case err := <-failed:
 		t.Errorf("beside another: got %v, want it to wait", err)
@@ -380,19 +363,9 @@ func TestClose(t *testing.T) {
 	}
 	closed := make(chan error, 1)
 	go func() { closed <- file.Close() }()
-	select {
-	case err := <-closed:
-		diff.NoError(t, err, "")
-	case <-time.After(deadline):
-		t.Error("Close: got no end beside another process, want one")
-	}
+	diff.NoError(t, waits.For(t, closed, "Close beside another process"), "")
 	for n := 0; n < late; n++ {
-		select {
-		case err := <-failed:
-			diff.ErrorIs(t, err, ErrClosed, "Write")
-		case <-time.After(deadline):
-			t.Error("Write: got no end at a closed file, want one")
-		}
+		diff.ErrorIs(t, waits.For(t, failed, "Write at a closed file"), ErrClosed, "Write")
 	}
 	close(release)
 	all.Wait()
@@ -436,7 +409,7 @@ func TestCloseAfterWriting(t *testing.T) {
 			})
 		}()
 	}
-	eventually(t, "not all jobs are written", func() bool { return written.Load() == many })
+	waits.Until(t, "all jobs are written", func() bool { return written.Load() == many })
 	diff.NoError(t, file.Close(), "")
 	close(late)
 	for n := 0; n < many; n++ {

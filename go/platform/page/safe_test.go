@@ -18,6 +18,7 @@ import (
 
 	"pippinterm/internal/diff"
 	"pippinterm/internal/httpserver"
+	"pippinterm/internal/waits"
 	"pippinterm/platform"
 	"pippinterm/platform/api"
 	"pippinterm/platform/client"
@@ -340,12 +341,7 @@ func TestFailedLoginsWait(t *testing.T) {
 	case <-time.After(50 * time.Millisecond):
 	}
 	stop()
-	select {
-	case got := <-answered:
-		diff.Equal(t, got, 401, "with a wrong password")
-	case <-time.After(time.Minute):
-		t.Error("got no answer in a minute after the stop, want one")
-	}
+	diff.Equal(t, waits.For(t, answered, "the answer after the stop"), 401, "with a wrong password")
 }
 
 // A stallingWriter client is one that takes nothing of an answer until it is let go.
