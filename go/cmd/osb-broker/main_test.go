@@ -134,9 +134,7 @@ func TestServe(t *testing.T) {
 	}
 	s.stop()
 	for _, pattern := range []string{"instances/*-*", "instances/.bindings/*", "instances/.part-*"} {
-		if left, err := filepath.Glob(filepath.Join(state, pattern)); err != nil || len(left) > 0 {
-			t.Errorf("got %v left, %v, want none", left, err)
-		}
+		diff.Check(t, diff.Value(filepath.Glob(filepath.Join(state, pattern)))(t), []string(nil), "what is left")
 	}
 }
 
@@ -376,9 +374,7 @@ func TestExistingCommand(t *testing.T) {
 		t.Fatal(err)
 	}
 	isMissing()
-	if found, err := os.ReadDir(own); len(found) != 0 || err != nil {
-		t.Errorf("the folder: got %v and %v, want none and no error", found, err)
-	}
+	diff.Equal(t, len(diff.Value(os.ReadDir(own))(t)), 0, "the folder")
 }
 
 // The password of a database depends on the key and on the id, and on nothing else.
@@ -699,9 +695,7 @@ func TestExampleDatabases(t *testing.T) {
 		s.until(410, "", "GET", instance+"/last_operation", "")
 	}
 	s.stop()
-	if left, err := filepath.Glob(filepath.Join(state, "command", "*-*")); err != nil || len(left) > 0 {
-		t.Errorf("got %v left, %v, want none", left, err)
-	}
+	diff.Check(t, diff.Value(filepath.Glob(filepath.Join(state, "command", "*-*")))(t), []string(nil), "what is left")
 }
 
 var check = diff.Must

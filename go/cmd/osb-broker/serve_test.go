@@ -86,9 +86,7 @@ func TestVersion(t *testing.T) {
 		t.Fatal("the changelog: got no version, want one")
 	}
 	want := fmt.Sprintf("osb-broker version %s (libosb %[1]s)\n", found[1])
-	if out, err := osbBroker(nil, "--version").Output(); err != nil || string(out) != want {
-		t.Errorf("got %q, %v, want %q", out, err, want)
-	}
+	diff.Equal(t, string(diff.Value(osbBroker(nil, "--version").Output())(t)), want, "")
 }
 
 // later has the tombstones of a state folder written so many seconds earlier, as if so much time had passed.

@@ -192,9 +192,7 @@ func TestTryLeft(t *testing.T) {
 	for _, path := range found {
 		diff.Contains(t, strings.Join(left, "\n"), " "+filepath.Base(path)+" couldn't be deleted",
 			"%s, %q", path, left)
-		if file, err := os.Stat(path); err != nil || file.Mode().Perm() != 0o600 {
-			t.Errorf("got %v and the error %v, want mode 0600", file, err)
-		}
+		diff.Equal(t, diff.Value(os.Stat(path))(t).Mode().Perm(), 0o600, "the mode")
 	}
 }
 

@@ -160,9 +160,7 @@ func TestEmptyFile(t *testing.T) {
 	for _, arguments := range ofExistingStores(t) {
 		wantLines(t, store, []line{{arguments, 78, ``, noStore}})
 	}
-	if about, err := os.Stat(store); err != nil || about.Size() != 0 {
-		t.Errorf("the file: got %v, %v, want an empty one", about, err)
-	}
+	diff.Equal(t, diff.Value(os.Stat(store))(t).Size(), 0, "the length of the file")
 }
 
 // The head, the rows and the help of `list` have the same columns.

@@ -249,9 +249,7 @@ func TestCompletion(t *testing.T) {
 func TestValues(t *testing.T) {
 	for text, want := range map[string]time.Duration{"0.5": 500 * time.Millisecond, "0": 0, "31622400": longestTime} {
 		t.Run(text, func(t *testing.T) {
-			if got, err := cli.ParseSeconds(text, 0, longestTime); err != nil || got != want {
-				t.Errorf("got %v, %v, want %v", got, err, want)
-			}
+			diff.Equal(t, diff.Value(cli.ParseSeconds(text, 0, longestTime))(t), want, "")
 		})
 	}
 	for _, text := range []string{"", "-1", "31622401", "NaN", "1s", "inf"} {
@@ -420,9 +418,7 @@ func TestStoreWithAnotherScheme(t *testing.T) {
 	for _, text := range []string{"list", "broker add x http://127.0.0.1:1", "run --once"} {
 		wantLines(t, "mysql://x", []line{{text, 78, ``, `osb-platform: .*mysql://.*`}})
 	}
-	if found, err := filepath.Glob("*"); err != nil || len(found) > 0 {
-		t.Errorf("got %q created, %v, want nothing", found, err)
-	}
+	diff.Check(t, diff.Value(filepath.Glob("*"))(t), []string(nil), "what is left")
 }
 
 // What nests too deep, or has a name twice, is rejected with that reason.

@@ -103,9 +103,7 @@ func TestWholeWay(t *testing.T) {
 	text, err := os.ReadFile(secret)
 	diff.NoError(t, err, "%q", text)
 	diff.Contains(t, string(text), `"token"`, "")
-	if about, err := os.Stat(secret); err != nil || about.Mode().Perm() != 0o600 {
-		t.Errorf("got %v, %v, want the mode 600", about, err)
-	}
+	diff.Equal(t, diff.Value(os.Stat(secret))(t).Mode().Perm(), 0o600, "the mode")
 	log := p.stop()
 	var read struct{ Credentials struct{ Token string } }
 	if err := json.Unmarshal(text, &read); err != nil || read.Credentials.Token == "" {

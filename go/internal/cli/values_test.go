@@ -190,9 +190,7 @@ func TestKeyIsWritten(t *testing.T) {
 	if err != nil || !oneKey.Match(written) {
 		t.Errorf("got %q and the error %v, want one key", written, err)
 	}
-	if about, err := os.Stat(file); err != nil || about.Mode().Perm() != 0o600 {
-		t.Errorf("got %v and the error %v, want mode 0600", about, err)
-	}
+	diff.Equal(t, diff.Value(os.Stat(file))(t).Mode().Perm(), 0o600, "the mode")
 	status, out, failed := key("--to", file)
 	if status != StatusUnusable || out != "" || !strings.Contains(failed, file+" exists already") {
 		t.Errorf("again: got the status %d, %q and %q, want %d and that the file exists", status, out, failed, StatusUnusable)

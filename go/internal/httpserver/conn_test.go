@@ -89,9 +89,7 @@ func TestWhatIsReadAheadIsntAnsweredWith408(t *testing.T) {
 
 func TestReadOfNothing(t *testing.T) {
 	accepted := newConn(listen(t, Options{}), &script{err: io.EOF})
-	if count, err := accepted.Read(nil); count != 0 || err != nil {
-		t.Errorf("got %d bytes and the error %v, want none", count, err)
-	}
+	diff.Equal(t, diff.Value(accepted.Read(nil))(t), 0, "")
 }
 
 const short = 300 * time.Millisecond // a limit that a test runs into, and that a busy machine doesn't exceed

@@ -128,9 +128,7 @@ func TestLines(t *testing.T) {
 		}
 	}
 	diff.Equal(t, lines[0].Version, "one", "%+v", lines[0])
-	if about, err := os.Stat(path); err != nil || about.Mode() != 0o600 {
-		t.Errorf("got the mode %v and the error %v, want 0600", about.Mode(), err)
-	}
+	diff.Equal(t, diff.Value(os.Stat(path))(t).Mode(), 0o600, "the mode")
 }
 
 // Many goroutines write at once: no line is lost or torn, and the times of each file ascend.
@@ -243,9 +241,7 @@ func TestOnlyTheOwnerReads(t *testing.T) {
 	}
 	w.Close()
 	for _, file := range []string{path, path + ".1", path + ".2"} {
-		if about, err := os.Stat(file); err != nil || about.Mode() != 0o600 {
-			t.Errorf("%s: got the mode %v, %v, want 0600", file, about.Mode(), err)
-		}
+		diff.Equal(t, diff.Value(os.Stat(file))(t).Mode(), 0o600, "the mode of %s", file)
 	}
 	for _, link := range []string{filepath.Join(folder, "link"), path + ".9"} {
 		check(t, os.Symlink(elsewhere, link))
