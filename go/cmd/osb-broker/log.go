@@ -1,7 +1,6 @@
 package main
 
 import (
-	"math"
 	"time"
 
 	"github.com/rs/zerolog"
@@ -22,19 +21,19 @@ type logObserver struct{ *logs.Logger }
 
 func (o logObserver) OnExchange(exchange broker.Exchange) {
 	event := o.Info("request")
-	add(event, "request", exchange.RequestID)
+	logs.Add(event, "request", exchange.RequestID)
 	addKey(event, exchange.Key, exchange.IsNamed)
-	add(event, "route", exchange.Route)
-	add(event, "method", exchange.Method)
-	add(event, "target", exchange.Target)
+	logs.Add(event, "route", exchange.Route)
+	logs.Add(event, "method", exchange.Method)
+	logs.Add(event, "target", exchange.Target)
 	event.Int("status", exchange.Status)
-	add(event, "reason", exchange.Reason)
-	event.Float64("milliseconds", milliseconds(exchange.Duration))
-	add(event, "user", exchange.User)
-	add(event, "address", exchange.Address)
-	add(event, "traceparent", exchange.Traceparent)
-	add(event, "vcap_request_id", exchange.VcapRequest)
-	add(event, "originating_identity", exchange.Identity)
+	logs.Add(event, "reason", exchange.Reason)
+	event.Float64("milliseconds", logs.Milliseconds(exchange.Duration))
+	logs.Add(event, "user", exchange.User)
+	logs.Add(event, "address", exchange.Address)
+	logs.Add(event, "traceparent", exchange.Traceparent)
+	logs.Add(event, "vcap_request_id", exchange.VcapRequest)
+	logs.Add(event, "originating_identity", exchange.Identity)
 	event.Send()
 }
 
@@ -45,7 +44,7 @@ func (o logObserver) OnFailure(failure broker.Failure) {
 		level = o.Info
 	}
 	event := level(failure.Event)
-	add(event, "request", failure.RequestID)
+	logs.Add(event, "request", failure.RequestID)
 	addKey(event, failure.Key, failure.IsNamed)
 	if failure.Err != nil {
 		event.Str("error", failure.Err.Error())
@@ -65,12 +64,6 @@ func (o logObserver) OnEnd(key broker.Key, ok bool) {
 	event.Send()
 }
 
-func add(event *zerolog.Event, name, text string) {
-	if text != "" {
-		event.Str(name, text)
-	}
-}
-
 func addKey(event *zerolog.Event, key broker.Key, isNamed bool) {
 	if !isNamed {
 		return
@@ -79,11 +72,6 @@ func addKey(event *zerolog.Event, key broker.Key, isNamed bool) {
 	if key.IsBinding {
 		event.Str("binding", key.Binding.String())
 	}
-}
-
-// milliseconds returns a time in milliseconds, rounded to tenths.
-func milliseconds(duration time.Duration) float64 {
-	return math.Round(float64(duration)/float64(time.Millisecond)*10) / 10
 }
 
 // observers are one broker.Observer, which hands each event to all of them, in this order.

@@ -3,7 +3,6 @@ package main
 
 import (
 	"bytes"
-	"context"
 	_ "embed"
 	"fmt"
 	"os"
@@ -17,18 +16,11 @@ import (
 )
 
 func main() {
-	outcome := &outcome{}
-	status := cli.Run(context.Background(), rootCommand(outcome))
-	if status == cli.StatusDone {
-		status = outcome.status
-	}
-	os.Exit(status)
+	outcome := &cli.Outcome{}
+	cli.Main(rootCommand(outcome), outcome)
 }
 
-// An outcome is what a command has found. It is the exit status of the program if the command itself has succeeded.
-type outcome struct{ status int }
-
-func rootCommand(o *outcome) *cobra.Command {
+func rootCommand(o *cli.Outcome) *cobra.Command {
 	root := &cobra.Command{
 		Use:     "osb-broker",
 		Short:   "A broker under the Open Service Broker API 2.17",

@@ -4,7 +4,6 @@ import (
 	"net/netip"
 	"os"
 	"path/filepath"
-	"strings"
 	"time"
 
 	"github.com/spf13/cobra"
@@ -68,7 +67,7 @@ func serveCommand() *cobra.Command {
 		Long:  "Serve the catalogue, instances and bindings until SIGTERM.\n" + environment,
 		RunE:  func(c *cobra.Command, _ []string) error { return serve(c.Context(), s, os.Stderr) },
 	}
-	wrapUsage(made)
+	cli.WrapUsage(made)
 	flags := made.Flags()
 	flags.SortFlags = false
 	s.addPlaces(flags)
@@ -76,11 +75,6 @@ func serveCommand() *cobra.Command {
 	s.addRules(flags)
 	s.addLimits(flags)
 	return made
-}
-
-// wrapUsage breaks the lines of the options in the help of a command.
-func wrapUsage(made *cobra.Command) {
-	made.SetUsageTemplate(strings.ReplaceAll(made.UsageTemplate(), ".FlagUsages", ".FlagUsagesWrapped 110"))
 }
 
 // stateFolder is where the state is if no folder is named.

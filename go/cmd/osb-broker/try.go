@@ -63,18 +63,18 @@ type tryOptions struct {
 var sharedOptions = []string{"backend", "catalog", "customer-address", "backend-key-file", "command-seconds",
 	"connections-per-instance", "template", "stop-seconds"}
 
-func tryCommand(o *outcome) *cobra.Command {
+func tryCommand(o *cli.Outcome) *cobra.Command {
 	t := &tryOptions{settings: &settings{}}
 	made := &cobra.Command{
 		Use: "try", Short: "Test a backend of your own", Long: tryHelp,
 		Example: `  osb-broker try --backend command:./mine --catalog mine.json
   osb-broker try --backend command:./mine --catalog mine.json --plan small --parameters '{"size": "small"}'`,
 		RunE: func(c *cobra.Command, _ []string) (err error) {
-			o.status, err = t.run(c.Context(), c.OutOrStdout(), c.ErrOrStderr())
+			o.Status, err = t.run(c.Context(), c.OutOrStdout(), c.ErrOrStderr())
 			return err
 		},
 	}
-	wrapUsage(made)
+	cli.WrapUsage(made)
 	t.add(made.Flags())
 	return made
 }

@@ -4,7 +4,6 @@ import (
 	"context"
 	"fmt"
 	"io"
-	"math"
 	"sort"
 	"strings"
 	"sync"
@@ -78,18 +77,14 @@ func (l eventLog) apiRequest(of api.Exchange) {
 	for _, pair := range [][2]string{
 		{"client", of.Client}, {"token", of.Token}, {"method", of.Method}, {"target", of.Target}, {"route", of.Route},
 	} {
-		add(event, pair[0], pair[1])
+		logs.Add(event, pair[0], pair[1])
 	}
 	event.Int("status", of.Status)
-	add(event, "code", of.Code)
+	logs.Add(event, "code", of.Code)
 	if of.Err != nil {
 		event.Str("error", of.Err.Error())
 	}
-	event.Float64("milliseconds", milliseconds(of.Duration)).Send()
-}
-
-func milliseconds(of time.Duration) float64 {
-	return math.Round(float64(of)/float64(time.Millisecond)*10) / 10
+	event.Float64("milliseconds", logs.Milliseconds(of.Duration)).Send()
 }
 
 func (l eventLog) warn(text string) { l.at(warningLevel, "secret").Str("warning", text).Send() }
@@ -125,15 +120,15 @@ func (o logObserver) OnAnswer(of platform.Exchange) {
 	if of.Status != 0 {
 		event.Int("status", of.Status)
 	}
-	add(event, "error", of.Error)
-	add(event, "description", of.Description)
+	logs.Add(event, "error", of.Error)
+	logs.Add(event, "description", of.Description)
 	if of.Lost != nil {
 		event.Str("lost", of.Lost.Error())
 	}
 	if of.RetryAfter > 0 {
 		event.Float64("retry_after_seconds", of.RetryAfter.Seconds())
 	}
-	event.Float64("milliseconds", milliseconds(of.Duration)).Send()
+	event.Float64("milliseconds", logs.Milliseconds(of.Duration)).Send()
 }
 
 func (o logObserver) OnChange(key platform.Key, before, after platform.State) {
@@ -143,11 +138,11 @@ func (o logObserver) OnChange(key platform.Key, before, after platform.State) {
 
 func (o logObserver) OnFailure(of platform.Failure) {
 	event := o.at(errorLevel, of.Event)
-	add(event, "broker", of.Broker)
+	logs.Add(event, "broker", of.Broker)
 	if of.IsNamed {
 		o.addKey(event, of.Key)
 	}
-	add(event, "request", of.RequestID)
+	logs.Add(event, "request", of.RequestID)
 	if of.Err != nil {
 		event.Str("error", of.Err.Error())
 	}
@@ -167,22 +162,16 @@ func (o logObserver) OnCatalogue(name string) {
 }
 
 func (o logObserver) addExchange(event *zerolog.Event, of platform.Exchange) *zerolog.Event {
-	add(event, "request", of.RequestID)
-	add(event, "broker", of.Broker)
+	logs.Add(event, "request", of.RequestID)
+	logs.Add(event, "broker", of.Broker)
 	o.addKey(event, of.Key)
 	return event.Str("kind", of.Kind).Uint64("attempt", of.Attempt)
 }
 
-func add(event *zerolog.Event, name, text string) {
-	if text != "" {
-		event.Str(name, text)
-	}
-}
-
 func (o logObserver) addKey(event *zerolog.Event, key platform.Key) *zerolog.Event {
 	instance, binding := o.names.find(key)
-	add(event, "instance", instance)
-	add(event, "binding", binding)
+	logs.Add(event, "instance", instance)
+	logs.Add(event, "binding", binding)
 	return event
 }
 

@@ -82,7 +82,7 @@ docs/platform-guide.md says how to run it.
 	root.SetHelpCommandGroupID("run")
 	root.SetCompletionCommandGroupID("run")
 	a.places.add(root.PersistentFlags())
-	wrapUsage(root)
+	cli.WrapUsage(root)
 	return root
 }
 
@@ -199,12 +199,6 @@ func closeStore(store platform.Store, err error) error {
 		return failed
 	}
 	return err
-}
-
-// wrapUsage has the options of all commands shown in lines that fit a wide terminal.
-func wrapUsage(command *cobra.Command) {
-	text := strings.ReplaceAll(command.UsageTemplate(), ".FlagUsages", ".FlagUsagesWrapped 110")
-	command.SetUsageTemplate(text)
 }
 
 // wants is the Args of a command that takes these arguments.

@@ -172,10 +172,10 @@ func (r *running) logStart() {
 		name = "serving"
 	}
 	event := r.log.at(infoLevel, name)
-	add(event, "worker", r.settings.worker)
-	add(event, "page", r.pageURL)
-	add(event, "api", r.apiURL)
-	add(event, "health", r.healthURL)
+	logs.Add(event, "worker", r.settings.worker)
+	logs.Add(event, "page", r.pageURL)
+	logs.Add(event, "api", r.apiURL)
+	logs.Add(event, "health", r.healthURL)
 	event.AnErr("notify_error", notify.Ready()).Send()
 }
 

@@ -2,9 +2,7 @@
 package main
 
 import (
-	"context"
 	"fmt"
-	"os"
 	"strings"
 
 	"github.com/spf13/cobra"
@@ -14,16 +12,9 @@ import (
 )
 
 func main() {
-	outcome := &outcome{}
-	status := cli.Run(context.Background(), rootCommand(outcome))
-	if status == cli.StatusDone {
-		status = outcome.status
-	}
-	os.Exit(status)
+	outcome := &cli.Outcome{}
+	cli.Main(rootCommand(outcome), outcome)
 }
-
-// An outcome is what a command has found. It is the exit status of the program if the command itself has succeeded.
-type outcome struct{ status int }
 
 // The exit statuses besides those of the package cli.
 const (
@@ -32,7 +23,7 @@ const (
 	statusUnreachable = 69 // the broker doesn't answer (EX_UNAVAILABLE in sysexits.h)
 )
 
-func rootCommand(o *outcome) *cobra.Command {
+func rootCommand(o *cli.Outcome) *cobra.Command {
 	root := &cobra.Command{
 		Use:     "osb-storm",
 		Short:   "Test a broker or a platform under the Open Service Broker API 2.17",

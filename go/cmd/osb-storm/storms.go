@@ -8,7 +8,6 @@ import (
 	"io/fs"
 	"math/rand"
 	"os"
-	"strings"
 	"time"
 
 	"github.com/spf13/cobra"
@@ -180,16 +179,17 @@ func statusOfFailure(found *run.Report, failure error, out, stderr io.Writer) (i
 // commandOf returns a command. required is the option without which the command isn't run, or "". run returns the exit
 // status.
 func commandOf(
-	o *outcome, use, short, long, required string, add func(*cobra.Command), run func(*cobra.Command) (int, error),
+	o *cli.Outcome, use, short, long, required string, add func(*cobra.Command), run func(*cobra.Command) (int, error),
 ) *cobra.Command {
 	made := &cobra.Command{
 		Use: use, Short: short, Long: long,
 		RunE: func(c *cobra.Command, _ []string) (err error) {
-			o.status, err = run(c)
+			o.Status, err = run(c)
 			return err
 		},
 	}
-	wrapUsages(made)
+	cli.WrapUsage(made)
+	made.Flags().SortFlags = false
 	add(made)
 	if required == "" {
 		return made
@@ -198,12 +198,6 @@ func commandOf(
 		panic(err) // there is no such flag
 	}
 	return made
-}
-
-// wrapUsages wraps the help of the options, and leaves them in their order.
-func wrapUsages(made *cobra.Command) {
-	made.SetUsageTemplate(strings.ReplaceAll(made.UsageTemplate(), ".FlagUsages", ".FlagUsagesWrapped 110"))
-	made.Flags().SortFlags = false
 }
 
 // A reportFile is a file for a report. It is opened before the run, so that no report is lost because of its name. It

@@ -89,6 +89,23 @@ func Run(ctx context.Context, root *cobra.Command) (status int) {
 	return status
 }
 
+// An Outcome is what a command has found. Its status is that of the program if the command itself has succeeded.
+type Outcome struct{ Status int }
+
+// Main runs a command as Run does, and ends the process with the status.
+func Main(root *cobra.Command, outcome *Outcome) {
+	status := Run(context.Background(), root)
+	if status == StatusDone {
+		status = outcome.Status
+	}
+	os.Exit(status)
+}
+
+// WrapUsage has the options of a command, and of its subcommands, shown in lines that fit a wide terminal.
+func WrapUsage(command *cobra.Command) {
+	command.SetUsageTemplate(strings.ReplaceAll(command.UsageTemplate(), ".FlagUsages", ".FlagUsagesWrapped 110"))
+}
+
 // usageStatus returns the status for a command line that can't be parsed. systemd reports the process that it starts as
 // the main process of a unit in SYSTEMD_EXEC_PID.
 func usageStatus() int {

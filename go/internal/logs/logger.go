@@ -6,6 +6,7 @@ import (
 	"context"
 	"fmt"
 	"io"
+	"math"
 	"sync"
 	"time"
 	"unicode/utf16"
@@ -49,6 +50,18 @@ func (l *Logger) Error(event string) *zerolog.Event { return l.begin(failure, ev
 // not of a logger.
 func (l *Logger) begin(level, event string) *zerolog.Event {
 	return l.events.Log().Str("time", timeOf(l.now())).Str("level", level).Str("event", event)
+}
+
+// Add adds a text to an event, unless it is empty.
+func Add(event *zerolog.Event, name, text string) {
+	if text != "" {
+		event.Str(name, text)
+	}
+}
+
+// Milliseconds returns a time in milliseconds, rounded to tenths.
+func Milliseconds(of time.Duration) float64 {
+	return math.Round(float64(of)/float64(time.Millisecond)*10) / 10
 }
 
 func timeOf(t time.Time) string { return t.UTC().Format("2006-01-02T15:04:05.000Z") }
