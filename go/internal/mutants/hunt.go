@@ -47,12 +47,7 @@ func (h *hunt) run(ctx context.Context) error {
 		return err
 	}
 	reaching := h.reaching()
-	var left []mutant
-	for _, mutant := range h.mutants {
-		if h.ledger.verdict(mutant.ID).Ending == "" {
-			left = append(left, mutant)
-		}
-	}
+	left := those(h.mutants, func(m mutant) bool { return h.ledger.verdict(m.ID).Ending == "" })
 	done := len(h.mutants) - len(left)
 	return parallel(ctx, h.many, len(left), func(ctx context.Context, w *worker, i int) error {
 		found, err := h.judge(ctx, w, left[i], reaching[left[i].ID])

@@ -412,12 +412,17 @@ func check(packages []*pkg, mutants []mutant) (found []mutant, err error) {
 			isBad[id] = true
 		}
 	}
+	return those(mutants, func(m mutant) bool { return !isBad[m.ID] }), nil
+}
+
+// those returns the mutants of which something is so.
+func those(mutants []mutant, isSo func(mutant) bool) (found []mutant) {
 	for _, mutant := range mutants {
-		if !isBad[mutant.ID] {
+		if isSo(mutant) {
 			found = append(found, mutant)
 		}
 	}
-	return found, nil
+	return found
 }
 
 // with returns the packages that have mutants.
@@ -430,13 +435,8 @@ func with(packages []*pkg, mutants []mutant) (found []*pkg) {
 	return found
 }
 
-func inPackage(p *pkg, mutants []mutant) (found []mutant) {
-	for _, mutant := range mutants {
-		if mutant.Package == p.path {
-			found = append(found, mutant)
-		}
-	}
-	return found
+func inPackage(p *pkg, mutants []mutant) []mutant {
+	return those(mutants, func(m mutant) bool { return m.Package == p.path })
 }
 
 // An edit is a committed mutant:

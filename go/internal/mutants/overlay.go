@@ -177,23 +177,13 @@ func isOfCases(block *ast.BlockStmt) bool {
 }
 
 // within returns those mutants that are between two offsets.
-func within(mutants []mutant, begin, end int) (found []mutant) {
-	for _, mutant := range mutants {
-		if begin <= mutant.Start && mutant.End <= end {
-			found = append(found, mutant)
-		}
-	}
-	return found
+func within(mutants []mutant, begin, end int) []mutant {
+	return those(mutants, func(m mutant) bool { return begin <= m.Start && m.End <= end })
 }
 
 // of returns the mutants of a file.
-func of(file *source, mutants []mutant) (found []mutant) {
-	for _, mutant := range mutants {
-		if mutant.File == file.path {
-			found = append(found, mutant)
-		}
-	}
-	return found
+func of(file *source, mutants []mutant) []mutant {
+	return those(mutants, func(m mutant) bool { return m.File == file.path })
 }
 
 // compiling returns those mutants of a package that compile, and for each other one why it doesn't. Each mutant has an
@@ -234,12 +224,7 @@ func compiling(p *pkg, mutants []mutant) (good []mutant, bad map[int]error, err 
 		}
 		bad[id] = reported
 	})
-	for _, mutant := range mutants {
-		if bad[mutant.ID] == nil {
-			good = append(good, mutant)
-		}
-	}
-	return good, bad, failed
+	return those(mutants, func(m mutant) bool { return bad[m.ID] == nil }), bad, failed
 }
 
 // mutantAt returns the mutant whose function has this offset in it, or 0.
