@@ -134,8 +134,7 @@ func TestStopAnswersWhatRuns(t *testing.T) {
 		t.Fatal(err)
 	}
 	diff.Equal(t, silent.rest()+idle.rest(), "", "the silent and the idle one")
-	_, err := net.DialTimeout("tcp", listener.Addr().String(), limit)
-	diff.Error(t, err, "a new connection")
+	diff.Equal(t, takes(listener.Addr().String()), false, "a new connection")
 	select {
 	case err := <-served:
 		t.Fatalf("Serve while a request runs: got %v, want it to wait", err)
@@ -217,13 +216,7 @@ func TestTheLastSiteStopsLast(t *testing.T) {
 	}
 	ask("while the first has all its connections,")
 	cancel()
-	waits.Until(t, "the first takes no more connections", func() bool {
-		connection, err := net.DialTimeout("tcp", main.Addr().String(), limit)
-		if err == nil {
-			connection.Close()
-		}
-		return err != nil
-	})
+	waits.Until(t, "the first takes no more connections", func() bool { return !takes(main.Addr().String()) })
 	ask("while the first stops,")
 	handler.pass <- struct{}{}
 	diff.NoError(t, <-served, "Serve")
@@ -303,22 +296,13 @@ func TestWhileWorkRunsRequestsAreAnswered(t *testing.T) {
 	diff.Check(t, statusAt(t, listener), []string{"503"}, "a request while the work runs")
 	close(goOn)
 	diff.NoError(t, <-served, "Serve")
-	if connection, err := net.DialTimeout("tcp", listener.Addr().String(), limit); err == nil {
-		connection.Close()
-		t.Error("a connection to it: got no error, want one")
-	}
+	diff.Equal(t, takes(listener.Addr().String()), false, "a connection afterwards")
 }
 
 // A shared address is left to the other processes at once.
 func TestASharedListenerIsClosedAtOnce(t *testing.T) {
 	listener, handler, running, _, served := startStopping(t, Options{Share: true}, 0, func(context.Context) {})
-	waits.Until(t, "no more connections are taken", func() bool {
-		connection, err := net.DialTimeout("tcp", listener.Addr().String(), limit)
-		if err == nil {
-			connection.Close()
-		}
-		return err != nil
-	})
+	waits.Until(t, "no more connections are taken", func() bool { return !takes(listener.Addr().String()) })
 	handler.pass <- struct{}{}
 	diff.Check(t, statusesIn(running.rest()), []string{"200"}, "the running request")
 	diff.NoError(t, <-served, "Serve")
@@ -350,10 +334,7 @@ func TestASiteThatFailsStopsTheOthers(t *testing.T) {
 	if err := server.Serve(context.Background()); !errors.Is(err, net.ErrClosed) || !isStopping {
 		t.Errorf("Serve: got %v and stopping %v, want %v and true", err, isStopping, net.ErrClosed)
 	}
-	if connection, err := net.DialTimeout("tcp", other.Addr().String(), limit); err == nil {
-		connection.Close()
-		t.Error("a connection to the other: got no error, want one")
-	}
+	diff.Equal(t, takes(other.Addr().String()), false, "a connection to the other")
 }
 
 func TestStopBeforeTheBegin(t *testing.T) {
@@ -496,15 +477,8 @@ func TestIPv4HasNoIPv6(t *testing.T) {
 	at := listener.Addr().(*net.TCPAddr)
 	diff.Equal(t, at.IP.String(), "0.0.0.0", "")
 	port := strconv.Itoa(at.Port)
-	if conn, err := net.DialTimeout("tcp", "127.0.0.1:"+port, limit); err != nil {
-		t.Error(err)
-	} else {
-		_ = conn.Close()
-	}
-	if conn, err := net.DialTimeout("tcp", "[::1]:"+port, limit); err == nil {
-		_ = conn.Close()
-		t.Error("got a connection at ::1, want none")
-	}
+	diff.Equal(t, takes("127.0.0.1:"+port), true, "a connection at 127.0.0.1")
+	diff.Equal(t, takes("[::1]:"+port), false, "a connection at ::1")
 }
 
 // What is logged of a target has no user and no password.
@@ -637,6 +611,15 @@ func dial(t *testing.T, listener *Listener) client {
 	t.Helper()
 	connection := diff.Value(net.DialTimeout("tcp", listener.Addr().String(), limit))(t)
 	return clientOf(t, connection)
+}
+
+// takes returns whether a connection to an address is taken.
+func takes(address string) bool {
+	connection, err := net.DialTimeout("tcp", address, limit)
+	if err == nil {
+		connection.Close()
+	}
+	return err == nil
 }
 
 func clientOf(t *testing.T, connection net.Conn) client {
