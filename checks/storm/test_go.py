@@ -15,6 +15,5 @@ def test_tests(packages: Packages) -> None:
 
 @pytest.mark.long(15)
 def test_hook(packages: Packages) -> None:
-    """The one place in the package broker, and that in the platform's program."""
-    packages.test("./broker", tags=TAGS, options=("-run", "TestBindWithoutAvailable"), race=True)
+    """The place in the platform's program."""
     packages.test("./cmd/osb-platform", tags=TAGS, options=("-run", "TestForStorm"), race=True)

@@ -430,7 +430,7 @@ func (s *Service) beginHolding(
 	if visit.Key.IsBinding {
 		instance, err := visit.instance(snapshot)
 		if err == nil {
-			holding, happened, err = snapshot.Holding.BeginBinding(beside(instance, request), mode, request, rules)
+			holding, happened, err = snapshot.Holding.BeginBinding(instance, mode, request, rules)
 		}
 		return holding, happened, false, err
 	}

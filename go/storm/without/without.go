@@ -11,12 +11,13 @@ import (
 	"pippinterm/broker"
 	"pippinterm/osb"
 	"pippinterm/platform"
+	"pippinterm/storm/run/goods"
 )
 
 // Without returns the store and the locks of a broker that lacks a part of the design:
 //
 //	(empty)     nothing is taken out
-//	available   here nothing is: package broker judges every instance as available to a Bind
+//	available   a Bind begins although its instance isn't available
 //	held        a Deprovision begins although bindings of its instance are held
 //	tombstones  nothing is kept of what has ended
 //	work        no work becomes pending: it is done, and then written down
@@ -30,8 +31,10 @@ func Without(
 	ctx context.Context, part string, store broker.NamedStore, locks broker.Locks,
 ) (broker.NamedStore, broker.Locks, error) {
 	switch part {
-	case "", "available":
+	case "":
 		return store, locks, nil
+	case "available":
+		return withoutAvailable{store}, locks, nil
 	case "held":
 		return withoutHeld{store}, locks, nil
 	case "tombstones":
@@ -47,6 +50,40 @@ func Without(
 		return withoutTombstones{newWithoutWork(idleStore{store})}, withoutLocks{}, err
 	}
 	return nil, nil, fmt.Errorf("storm: a broker can't run without %q", part)
+}
+
+// withoutAvailable judges a Bind that doesn't begin once more, as if its instance were available, with each plan of a
+// storm's catalogue.
+type withoutAvailable struct{ broker.NamedStore }
+
+func (s withoutAvailable) Change(ctx context.Context, key broker.Key, fence int64, step broker.Step) error {
+	return s.NamedStore.Change(ctx, key, fence, func(snapshot broker.Snapshot) (*broker.Entry, error) {
+		next, err := step(snapshot)
+		if !key.IsBinding || next != nil || err != nil || snapshot.Holding.IsHeld() {
+			return next, err
+		}
+		for _, plan := range []string{goods.AtOnce, goods.Later, goods.LaterWithBinds, goods.OnlyBindsLater} {
+			available := snapshot
+			if available.Instance.Holding, err = ready(key, osb.MustParseID(goods.Service), osb.MustParseID(plan)); err != nil {
+				return nil, err
+			}
+			if next, err := step(available); err == nil && next != nil && next.Holding.IsHeld() {
+				return next, nil
+			}
+		}
+		return step(snapshot)
+	})
+}
+
+// ready is the holding of a binding's instance that is available.
+func ready(of broker.Key, service, plan osb.ID) (osb.Holding, error) {
+	request := osb.Request{ID: of.Instance, Kind: osb.KindProvision, Service: service, Plan: plan}
+	begun, _, err := osb.Holding{}.Begin(osb.ModeSync, request, osb.Rules{})
+	if err != nil {
+		return osb.Holding{}, err
+	}
+	available, _, err := begun.End(osb.ModeSync, osb.OutcomeDone)
+	return available, err
 }
 
 // withoutHeld says of each instance that none of its bindings is held.

@@ -19,6 +19,7 @@ import (
 	"pippinterm/broker/sqlite"
 	"pippinterm/internal/diff"
 	"pippinterm/osb"
+	"pippinterm/storm/run/goods"
 )
 
 // begin writes pending work, and end ends what is pending, as broker.Service does.
@@ -104,7 +105,6 @@ func request(key broker.Key) broker.Request {
 	return broker.Request{Key: key, InstanceID: one.String(), ServiceID: service.String(), PlanID: now.String()}
 }
 
-// failingAt is a pause that fails the n-th time.
 func failingAt(n int) func(context.Context) error {
 	return func(context.Context) error {
 		if n--; n == 0 {
@@ -199,17 +199,10 @@ func TestPauseEndsWithItsContext(t *testing.T) {
 	diff.ErrorIs(t, newChance(1).pause(ctx), context.Canceled, "a pause whose context is over")
 }
 
-const catalogue = `{"services": [{
-	"id": "00000000-0000-0000-0000-0000000000a0", "name": "folder", "description": "A folder", "bindable": true,
-	"bindings_retrievable": true, "plans": [
-	{"id": "00000000-0000-0000-0000-0000000000b1", "name": "now", "description": "all at once"},
-	{"id": "00000000-0000-0000-0000-0000000000b2", "name": "later", "description": "all later",
-		"x-osb-asynchronous": true, "x-osb-asynchronous-bindings": true}]}]}`
-
 var (
-	service = osb.MustParseID("00000000-0000-0000-0000-0000000000a0")
-	now     = osb.MustParseID("00000000-0000-0000-0000-0000000000b1")
-	later   = osb.MustParseID("00000000-0000-0000-0000-0000000000b2")
+	service = osb.MustParseID(goods.Service)
+	now     = osb.MustParseID(goods.AtOnce)
+	later   = osb.MustParseID(goods.LaterWithBinds)
 	one     = osb.MustParseID("00000000-0000-0000-0000-000000000001")
 	bound   = osb.MustParseID("00000000-0000-0000-0000-0000000000f1")
 
@@ -219,7 +212,6 @@ var (
 
 var check = diff.Must
 
-// openEmpty is an empty store.
 func openEmpty(t *testing.T) broker.NamedStore {
 	t.Helper()
 	store, err := sqlite.Open(context.Background(), filepath.Join(t.TempDir(), "store"), broker.Silent{})
@@ -236,7 +228,6 @@ func holding(t *testing.T, row, work string, hasTombstone bool) (read osb.Holdin
 	return read
 }
 
-// in is a row in a phase.
 func in(phase string) string {
 	return fmt.Sprintf(`{"phase":%q,"plan":%q,"service":%q}`, phase, later, service)
 }
@@ -271,18 +262,18 @@ type site struct {
 	store   broker.NamedStore
 }
 
-func newSite(t *testing.T, part string) *site {
+func newSite(t *testing.T, part string, rules broker.Rules) *site {
 	t.Helper()
 	ctx, s := context.Background(), &site{t: t, top: t.TempDir()}
 	sold, err := folders.New(s.top)
 	check(t, err)
 	store, locks, err := Without(ctx, part, openEmpty(t), sold.Locks())
 	check(t, err)
-	read, err := broker.NewCatalogue([]byte(catalogue), true)
+	read, err := broker.NewCatalogue(goods.Document(), true)
 	check(t, err)
 	users, err := broker.NewUsers(map[string][]string{"u": {"p"}})
 	check(t, err)
-	made := broker.NewService(read, store, sold, locks, broker.Rules{}, broker.Silent{})
+	made := broker.NewService(read, store, sold, locks, rules, broker.Silent{})
 	s.store = store
 	s.handler, err = broker.NewHandler(ctx, made, broker.Config{
 		Users: users, LongestBody: 1000, AtOnce: 4, Observer: broker.Silent{},
@@ -302,7 +293,6 @@ func (s *site) ask(method, target, body string) int {
 	return given.Code
 }
 
-// want asks, and compares the status.
 func (s *site) want(status int, method, target, body string) {
 	s.t.Helper()
 	diff.Equal(s.t, s.ask(method, target, body), status, "%s %s", method, target)
@@ -320,7 +310,6 @@ func (s *site) bind(status int, plan osb.ID) {
 	s.want(status, http.MethodPut, "/service_bindings/"+bound.String()+"?accepts_incomplete=true", body)
 }
 
-// remove deletes the instance, or its binding.
 func (s *site) remove(status int, of broker.Key, plan osb.ID) {
 	s.t.Helper()
 	target := fmt.Sprintf("?service_id=%v&plan_id=%v&accepts_incomplete=true", service, plan)
