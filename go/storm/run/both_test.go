@@ -41,13 +41,24 @@ func fakes(t *testing.T) BothConfig {
 	}
 }
 
+// openFakes returns a Both of such programs, which ends with the test.
+func openFakes(t *testing.T, change func(*BothConfig)) *Both {
+	t.Helper()
+	config := fakes(t)
+	change(&config)
+	b, err := NewBoth(context.Background(), config)
+	check(t, err)
+	t.Cleanup(func() {
+		diff.NoError(t, b.Close(), "Close")
+		stormtest.Empty(t, config.Folder)
+	})
+	return b
+}
+
 // With a folder for journals, each program gets a folder of its own below it.
 func TestJournal(t *testing.T) {
 	for _, folder := range []string{"", filepath.Join(t.TempDir(), "journals")} {
-		config := fakes(t)
-		config.Journal = folder
-		b, err := NewBoth(context.Background(), config)
-		check(t, err)
+		b := openFakes(t, func(c *BothConfig) { c.Journal = folder })
 		for name, line := range map[string][]string{"broker": b.brokers[0].line, "platform": b.workers[0].line} {
 			t.Run(name, func(t *testing.T) {
 				text, wanted := strings.Join(line, " "), " --journal "+filepath.Join(folder, name)
@@ -59,18 +70,12 @@ func TestJournal(t *testing.T) {
 				}
 			})
 		}
-		diff.NoError(t, b.Close(), "")
-		stormtest.Empty(t, config.Folder)
 	}
 }
 
 // Each worker has a name of its own and each broker an address of its own. Each crash point is one program's to visit.
 func TestSeveralPrograms(t *testing.T) {
-	config := fakes(t)
-	config.Brokers, config.Workers, config.CrashPoints = 3, 2, AllPoints
-	b, err := NewBoth(context.Background(), config)
-	check(t, err)
-	defer b.Close()
+	b := openFakes(t, func(c *BothConfig) { c.Brokers, c.Workers, c.CrashPoints = 3, 2, AllPoints })
 	seen, logs, open := map[string]int{}, map[string]bool{}, 0
 	for _, program := range b.programs() {
 		line := strings.Join(program.line, " ")
@@ -96,7 +101,6 @@ func TestSeveralPrograms(t *testing.T) {
 	}
 }
 
-// after returns the word after a text.
 func after(line, text string) string {
 	_, rest, _ := strings.Cut(line, text)
 	word, _, _ := strings.Cut(rest, " ")
@@ -105,11 +109,7 @@ func after(line, text string) string {
 
 // A storm in which nothing has happened has tried nothing: each of these is named.
 func TestUntried(t *testing.T) {
-	config := fakes(t)
-	config.Share, config.CrashPoints = 0.4, SomePoints
-	b, err := NewBoth(context.Background(), config)
-	check(t, err)
-	defer b.Close()
+	b := openFakes(t, func(c *BothConfig) { c.Share, c.CrashPoints = 0.4, SomePoints })
 	all := strings.Join(b.omissions(), "\n")
 	for _, part := range []string{
 		"instances that are ready were compared 0 times", "bindings that are gone were compared 0 times",
@@ -319,11 +319,7 @@ func TestWithout(t *testing.T) {
 		"broker": whoBroker, "platform": whoPlatform,
 	} {
 		t.Run(name, func(t *testing.T) {
-			config := fakes(t)
-			config.Without, config.Share = name, 0.4
-			b, err := NewBoth(context.Background(), config)
-			check(t, err)
-			defer b.Close()
+			b := openFakes(t, func(c *BothConfig) { c.Without, c.Share = name, 0.4 })
 			for _, program := range b.programs() {
 				has := strings.HasSuffix(strings.Join(program.environment, "\n"), "\nOSB_WITHOUT="+name)
 				if has != (program.name == wanted) {
@@ -354,11 +350,7 @@ func TestCheckTag(t *testing.T) {
 	for content, wanted := range map[string]string{text: "", strings.Replace(text, "no-such", "any", 1): "without the tag storm"} {
 		t.Run(content, func(t *testing.T) {
 			check(t, os.WriteFile(script, []byte(content), 0o700))
-			config := fakes(t)
-			config.Broker, config.Platform, config.Without = script, script, "work"
-			b, err := NewBoth(context.Background(), config)
-			check(t, err)
-			defer b.Close()
+			b := openFakes(t, func(c *BothConfig) { c.Broker, c.Platform, c.Without = script, script, "work" })
 			b.brokers[0].times.point, b.workers[0].times.point = 300*time.Millisecond, 300*time.Millisecond
 			got := ""
 			if err := b.checkTag(context.Background()); err != nil {
@@ -389,11 +381,7 @@ func TestReportWithout(t *testing.T) {
 
 // In a storm with both as they are usually written, each program is. Only the broker reaches no crash points.
 func TestWithoutBoth(t *testing.T) {
-	config := fakes(t)
-	config.Without, config.CrashPoints = withoutBoth, SomePoints
-	b, err := NewBoth(context.Background(), config)
-	check(t, err)
-	defer b.Close()
+	b := openFakes(t, func(c *BothConfig) { c.Without, c.CrashPoints = withoutBoth, SomePoints })
 	for _, program := range b.programs() {
 		if !strings.HasSuffix(strings.Join(program.environment, "\n"), "\nOSB_WITHOUT="+program.name) {
 			t.Errorf("got the environment of %s %v, want its own name in it", program, program.environment)
@@ -443,7 +431,6 @@ func (l *leaving) ServeHTTP(w http.ResponseWriter, r *http.Request) {
 	}
 }
 
-// holdings is what the broker holds.
 func (l *leaving) holdings(t *testing.T) map[Key]audit.Row {
 	const ready = `{"attributes":"%064d","row":{"phase":"ready","plan":"%s","service":"%s"},"tombstone":false,` +
 		`"version":2,"work":null}`

@@ -122,16 +122,14 @@ func TestNoSecretsInErrors(t *testing.T) {
 	config := configFor(t, server.URL)
 	config.Broker.Pause = time.Millisecond
 	config.Commands.List = "echo " + password + " >&2; exit 3"
-	storm, err := New(config)
-	check(t, err)
+	storm := opened(t, config)
 	got, failed := storm.Run(context.Background(), context.Background())
 	if !errors.Is(failed, ErrTrial) || len(got.Leftovers) != 1 {
 		t.Fatalf("got the error %v and the leftovers %v, want %v and one", failed, got.Leftovers, ErrTrial)
 	}
 	m, url := newModel(t, false, mistakes{})
 	config.Broker.URL = url
-	storm, err = New(config)
-	check(t, err)
+	storm = opened(t, config)
 	_, listed := storm.Run(context.Background(), context.Background())
 	if !errors.Is(listed, ErrList) || len(m.left(t)) > 0 {
 		t.Fatalf("got the error %v, want %v", listed, ErrList)
@@ -189,7 +187,7 @@ func TestUnasked(t *testing.T) {
 		{0, "asked", "", "0 lost, 0 false records, "},
 		{1, "asked", "1 instance or binding couldn't be asked for: give --list-command",
 			"0 lost of those that could be asked for, 1 couldn't be asked for, 0 false records, "},
-		{7, byListCommand, "7 instances and bindings couldn't be asked for: give --list-bindings-command",
+		{7, ByListCommand, "7 instances and bindings couldn't be asked for: give --list-bindings-command",
 			"0 lost of those that could be asked for, 7 couldn't be asked for, 0 false records, "},
 	} {
 		t.Run(fmt.Sprint(test.unknown), func(t *testing.T) {
@@ -437,7 +435,6 @@ func checkRequests(t *testing.T, lines []journalLine, arrivals map[string]arriva
 	}
 }
 
-// kindOf returns the kind of a request.
 func kindOf(it arrival) string {
 	switch {
 	case strings.HasSuffix(it.path, "/last_operation"):

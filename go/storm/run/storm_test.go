@@ -20,7 +20,6 @@ import (
 	"pippinterm/storm/stormtest"
 )
 
-// configFor is a Config of short times.
 func configFor(t *testing.T, url string) BrokerConfig {
 	t.Helper()
 	return BrokerConfig{
@@ -36,11 +35,16 @@ func configFor(t *testing.T, url string) BrokerConfig {
 	}
 }
 
-// runStorm returns the report of a storm.
-func runStorm(t *testing.T, config BrokerConfig) *Report {
+func opened(t *testing.T, config BrokerConfig) *Storm {
 	t.Helper()
 	storm, err := New(config)
 	check(t, err)
+	return storm
+}
+
+func runStorm(t *testing.T, config BrokerConfig) *Report {
+	t.Helper()
+	storm := opened(t, config)
 	report, err := storm.Run(context.Background(), context.Background())
 	check(t, err)
 	return report
@@ -61,7 +65,6 @@ func inOneStorm(t *testing.T, look func(seed int64) string) {
 	t.Errorf("got it in none of %d storms, want it in one: %s", storms, missing)
 }
 
-// textOf returns the report as text.
 func textOf(t *testing.T, report *Report) string {
 	t.Helper()
 	return stormtest.Written(t, report.WriteText)
@@ -202,9 +205,8 @@ func TestMinimize(t *testing.T) {
 func TestNoCatalogue(t *testing.T) {
 	server := httptest.NewServer(http.NotFoundHandler())
 	defer server.Close()
-	storm, err := New(configFor(t, server.URL))
-	check(t, err)
-	_, err = storm.Run(context.Background(), context.Background())
+	storm := opened(t, configFor(t, server.URL))
+	_, err := storm.Run(context.Background(), context.Background())
 	if !errors.Is(err, conform.ErrNoPlan) || !strings.Contains(err.Error(), "give --service and --plan with ids") {
 		t.Errorf("got %v, want %v and which options to give", err, conform.ErrNoPlan)
 	}
@@ -216,8 +218,7 @@ func TestCleanUpAfterSignal(t *testing.T) {
 	m, url := newModel(t, true, mistakes{})
 	config := configFor(t, url)
 	config.Commands, config.Time, config.Broker.RequestTime = m.commands(), 15*time.Second, time.Second
-	storm, err := New(config)
-	check(t, err)
+	storm := opened(t, config)
 	running, signal := context.WithCancel(context.Background())
 	go func() {
 		for len(m.left(t)) < 5 {
@@ -248,8 +249,7 @@ func TestSecondSignal(t *testing.T) {
 	m, url := newModel(t, false, mistakes{})
 	config := configFor(t, url)
 	config.Commands, config.Time = m.commands(), 15*time.Second
-	storm, err := New(config)
-	check(t, err)
+	storm := opened(t, config)
 	running, first := context.WithCancel(context.Background())
 	deleting, second := context.WithCancel(context.Background())
 	go func() {
@@ -281,8 +281,7 @@ func TestOthersUntouched(t *testing.T) {
 	m, url := newModel(t, false, mistakes{})
 	config := configFor(t, url)
 	config.Commands, config.Time, config.Broker.Instances = m.commands(), 2*time.Second, 8
-	storm, err := New(config)
-	check(t, err)
+	storm := opened(t, config)
 	other := "0" + storm.Prefix()[1:]
 	if other == storm.Prefix() {
 		other = "1" + storm.Prefix()[1:]
@@ -318,8 +317,7 @@ func TestTrial(t *testing.T) {
 			check(t, os.RemoveAll(filepath.Join(m.folder, "instances")))
 			config := configFor(t, url)
 			config.Broker.RequestTime, config.Journal = time.Second, folder
-			storm, err := New(config)
-			check(t, err)
+			storm := opened(t, config)
 			if _, err := storm.Run(context.Background(), context.Background()); !errors.Is(err, ErrTrial) {
 				t.Errorf("got the error %v, want %v", err, ErrTrial)
 			}
@@ -505,8 +503,7 @@ func TestWrongLists(t *testing.T) {
 					if hasJournal {
 						config.Journal = t.TempDir()
 					}
-					storm, err := New(config)
-					check(t, err)
+					storm := opened(t, config)
 					report, err := storm.Run(context.Background(), context.Background())
 					if errors.Is(err, ErrList) != (it.wanted != "") {
 						t.Fatalf("got the error %v, want %q:\n%s", err, it.wanted, textOf(t, report))
@@ -553,8 +550,7 @@ func TestHangingCommands(t *testing.T) {
 				config.Commands, config.Time = m.commands(), 30*time.Second
 				flag := filepath.Join(t.TempDir(), "hang")
 				change(&config.Commands, "! test -e "+flag)
-				storm, err := New(config)
-				check(t, err)
+				storm := opened(t, config)
 				running, first := context.WithCancel(context.Background())
 				deleting, end := context.WithCancel(context.Background())
 				defer end()
@@ -590,11 +586,9 @@ func TestHangingCommands(t *testing.T) {
 
 // In a calm storm nothing is killed or has to be tried, and it ends with its lives.
 func TestCalm(t *testing.T) {
-	config := fakes(t)
-	config.Calm, config.Without, config.Time, config.password = true, "held", 3*time.Second, "the password"
-	b, err := NewBoth(context.Background(), config)
-	check(t, err)
-	defer b.Close()
+	b := openFakes(t, func(c *BothConfig) {
+		c.Calm, c.Without, c.Time, c.password = true, "held", 3*time.Second, "the password"
+	})
 	for _, program := range b.programs() {
 		if b.isKilled(program) {
 			t.Errorf("%s: got it killed, want it to live", program)
@@ -618,7 +612,7 @@ func TestCalm(t *testing.T) {
 		"unruly": func(c *BothConfig) { c.Unruly = true }, "points": func(c *BothConfig) { c.CrashPoints = SomePoints },
 	} {
 		t.Run(name, func(t *testing.T) {
-			wrong := config
+			wrong := b.config
 			if change(&wrong); wrong.check() == nil {
 				t.Errorf("%s: got no error of a calm storm, want one", name)
 			}
@@ -629,11 +623,7 @@ func TestCalm(t *testing.T) {
 // The lives of a trial are those that these instances had in the storm, in whichever round, except that all begin at
 // once.
 func TestLivesOfTrial(t *testing.T) {
-	config := fakes(t)
-	config.Instances = 3
-	b, err := NewBoth(context.Background(), config)
-	check(t, err)
-	defer b.Close()
+	b := openFakes(t, func(c *BothConfig) { c.Instances = 3 })
 	var wanted []life
 	for _, numbers := range [][2]int{{0, 2}, {2, 7}, {2, 9}} { // the round and the number
 		for _, of := range b.lives(numbers[0]) {
