@@ -15,7 +15,6 @@ import (
 	"pippinterm/storm/run"
 )
 
-// bothSettings are the options of `osb-storm both`.
 type bothSettings struct {
 	stormSettings
 	config run.BothConfig
@@ -66,7 +65,6 @@ func (s *bothSettings) chooseSettleTime(c *cobra.Command) {
 	}
 }
 
-// add adds the options.
 func (s *bothSettings) add(made *cobra.Command) {
 	flags, config := made.Flags(), &s.config
 	flags.StringVar(&config.Broker, "broker-program", "", "the `program` osb-broker")

@@ -12,7 +12,6 @@ import (
 	"pippinterm/storm/run"
 )
 
-// brokerSettings are the options of `osb-storm broker`.
 type brokerSettings struct {
 	stormSettings
 	config run.BrokerConfig
@@ -51,14 +50,12 @@ func brokerCommand(o *cli.Outcome) *cobra.Command {
 		"Drive a broker through a faulty network, and find what was lost", brokerHelp, "url", s.add, run)
 }
 
-// add adds the options.
 func (s *brokerSettings) add(made *cobra.Command) {
 	s.addBroker(made)
 	s.addStorm(made)
 	s.addReports(made)
 }
 
-// addBroker adds the options about the broker.
 func (s *brokerSettings) addBroker(made *cobra.Command) {
 	flags, broker, commands := made.Flags(), &s.config.Broker, &s.config.Commands
 	flags.StringVar(&broker.URL, "url", "", "the `URL` of the broker, without /v2")
@@ -77,7 +74,6 @@ func (s *brokerSettings) addBroker(made *cobra.Command) {
 	flags.StringVar(&commands.Start, "start-command", "", "a `command` that starts the broker; with --kill-command")
 }
 
-// addStorm adds the options about the storm.
 func (s *brokerSettings) addStorm(made *cobra.Command) {
 	flags, config := made.Flags(), &s.config
 	flags.Var(cli.Count(&config.Broker.Instances, 50, 2, 10000), "instances", "the most instances that a run creates")

@@ -16,7 +16,6 @@ import (
 	"pippinterm/storm/conform"
 )
 
-// conformSettings are the options of `osb-storm conform`.
 type conformSettings struct {
 	config               conform.Config
 	passwordFile, json   string
@@ -46,7 +45,6 @@ func conformCommand(o *cli.Outcome) *cobra.Command {
 		func(c *cobra.Command) (int, error) { return s.run(c.Context(), c.OutOrStdout(), c.ErrOrStderr()) })
 }
 
-// add adds the options.
 func (s *conformSettings) add(made *cobra.Command) {
 	flags, config := made.Flags(), &s.config
 	flags.StringVar(&config.URL, "url", "", "the `URL` of the broker, without /v2")
@@ -128,7 +126,6 @@ func (s *conformSettings) failureStatus(failure error, stderr io.Writer) (int, e
 	return 0, cli.Unusable(failure)
 }
 
-// status returns the exit status for a report.
 func (s *conformSettings) status(report *conform.Report) int {
 	if len(report.Leftovers) > 0 {
 		return statusLeft

@@ -45,7 +45,6 @@ docs/storm.md says how to run it against a broker or a platform of your own.`,
 	return root
 }
 
-// choiceOf returns an option that has one of some values.
 func choiceOf(to *string, value string, values ...string) pflag.Value {
 	*to = value
 	return cli.Text(to, "word", func(text string) (string, error) {

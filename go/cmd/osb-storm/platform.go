@@ -13,7 +13,6 @@ import (
 	"pippinterm/storm/run/platform"
 )
 
-// platformSettings are the options of `osb-storm platform`.
 type platformSettings struct {
 	stormSettings
 	config platform.Config
@@ -57,14 +56,12 @@ func platformCommand(o *cli.Outcome) *cobra.Command {
 		"Be a broker behind a faulty network, and find what your platform abandons", platformHelp, "listen", s.add, run)
 }
 
-// add adds the options.
 func (s *platformSettings) add(made *cobra.Command) {
 	s.addPlatform(made)
 	s.addStorm(made)
 	s.addReports(made)
 }
 
-// addPlatform adds the options about the platform and its broker.
 func (s *platformSettings) addPlatform(made *cobra.Command) {
 	flags, config := made.Flags(), &s.config
 	flags.Var(cli.Address(&config.Address, ""), "listen",
@@ -81,7 +78,6 @@ func (s *platformSettings) addPlatform(made *cobra.Command) {
 		"a `command` that has the platform create and delete instances and bindings at the broker OSB_STORM_URL")
 }
 
-// addStorm adds the options about the storm.
 func (s *platformSettings) addStorm(made *cobra.Command) {
 	flags, config := made.Flags(), &s.config
 	flags.Var(cli.Seconds(&config.WaitTime, 10*time.Minute), "wait-seconds", "for the first request about an instance")

@@ -30,7 +30,6 @@ type stormSettings struct {
 	minimizeTime         time.Duration
 }
 
-// addFaults adds the options about the faults.
 func (s *stormSettings) addFaults(made *cobra.Command) {
 	flags := made.Flags()
 	flags.Var(cli.Count(&s.percent, 40, 0, 100), "fault-percent", "how many of 100 requests have a fault")
@@ -49,7 +48,6 @@ func (s *stormSettings) addMinimize(made *cobra.Command, usage string) {
 		"for --minimize. If the time is over before, the list may not be the shortest")
 }
 
-// addReports adds the options about the reports.
 func (s *stormSettings) addReports(made *cobra.Command) {
 	flags := made.Flags()
 	flags.StringVar(&s.json, "json", "", "a `file` to which the report is written as JSON, too")
@@ -73,7 +71,6 @@ func (s *stormSettings) fill(config *run.Config) (err error) {
 	return err
 }
 
-// password reads the password.
 func (s *stormSettings) password(warnings io.Writer) (string, error) {
 	return passwordOf(s.passwordFile, warnings)
 }
@@ -207,7 +204,6 @@ type reportFile struct {
 	isNew, isWritten bool
 }
 
-// reportFiles are the files of a run.
 type reportFiles []*reportFile
 
 // openReports opens a file for each name. Until write, it changes no file that was there before.

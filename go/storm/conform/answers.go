@@ -113,12 +113,10 @@ func (r *Runner) accessToPolls(name string, k key, created *exchange) {
 	r.wants(name, x, 401)
 }
 
-// askAnonymously judges the answer to a request without a password.
 func (r *Runner) askAnonymously(name string, sent request) {
 	r.wants(name, r.send(anonymous(sent)), 401)
 }
 
-// anonymous returns the request without a password.
 func anonymous(sent request) request {
 	sent.headers = map[string]string{"Authorization": ""}
 	return sent
@@ -128,7 +126,6 @@ func (r *Runner) wrongPassword() map[string]string {
 	return map[string]string{"Authorization": "Basic " + basic(r.config.User, wrong(r.config.Password))}
 }
 
-// wrong returns a wrong password.
 func wrong(password string) string { return password + "-wrong" }
 
 // hasPlan returns whether there is a plan to order. If there is none, the rest of the scenario isn't run.

@@ -65,7 +65,6 @@ var bindingCases = scenario{
 	},
 }
 
-// canBind returns whether there is an instance that can be bound.
 func (r *Runner) canBind() bool {
 	if r.hasPlan() && !r.target.Bindable {
 		r.because = reasonNotBindable

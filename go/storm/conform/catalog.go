@@ -308,7 +308,6 @@ func targetsOf(service object) (all []Target) {
 	return all
 }
 
-// text returns a value as JSON.
 func text(value any) string {
 	bytes, err := json.Marshal(value)
 	if err != nil {

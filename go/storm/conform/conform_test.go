@@ -16,7 +16,6 @@ import (
 	"time"
 )
 
-// serve returns the URL of a model.
 func serve(t *testing.T, m *model) string {
 	t.Helper()
 	server := httptest.NewServer(m)
@@ -49,7 +48,6 @@ func opened(t *testing.T, r *Runner) Target {
 	return target
 }
 
-// ran returns the report of a Runner.
 func ran(t *testing.T, r *Runner) *Report {
 	t.Helper()
 	report, err := r.Run(context.Background())
@@ -178,7 +176,6 @@ func TestReasonsWithoutCatalogue(t *testing.T) {
 	}
 }
 
-// A mistake is what a broker does wrong.
 type mistake struct {
 	name  string
 	fails string // the cases that must fail, and no others, with spaces between
@@ -251,10 +248,8 @@ func hasEmpty(member string) func(*call) bool {
 	return func(c *call) bool { return c.sent[member] == "" }
 }
 
-// saysState gives the answer to a Poll.
 func saysState(c *call) { c.give(200, object{"state": "in progress"}) }
 
-// retries gives answers with a Retry-After.
 func retries(text string) func(*call) { return func(c *call) { c.retry = text } }
 
 func hasHeader(name string) func(*call) bool {
@@ -717,7 +712,6 @@ func (m *model) poll(c *call) {
 	c.give(200, object{"state": state, "description": "about half", "instance_usable": true})
 }
 
-// left returns how many instances and bindings exist.
 func (m *model) left() (count int) {
 	m.turn.Lock()
 	defer m.turn.Unlock()

@@ -84,7 +84,6 @@ func (r *Report) WriteText(w io.Writer) error {
 	return err
 }
 
-// writeFailures writes what was sent and received for each case that failed.
 func (r *Report) writeFailures(w io.Writer) {
 	for _, result := range r.Results {
 		if result.Verdict == Fail {

@@ -61,7 +61,6 @@ func (r *Runner) deleteBy(k key, sent request) *exchange {
 	return x
 }
 
-// fetch fetches what exists.
 func (r *Runner) fetch(k key) *exchange { return r.send(fetching(k, r.target.Pair)) }
 
 // wants judges a case: the answer has one of these statuses. It returns the exchange.
@@ -438,7 +437,6 @@ func cause(err error) error {
 // longestShown is how much of a body a report has, in characters.
 const longestShown = 300
 
-// is returns whether the answer has one of these statuses.
 func (x *exchange) is(statuses ...int) bool {
 	for _, status := range statuses {
 		if x.status == status {
@@ -475,7 +473,6 @@ func (x *exchange) wantOr(code string, statuses ...int) string {
 	return x.wantError(code)
 }
 
-// hasError returns whether the answer is 422 with this error code.
 func (x *exchange) hasError(code string) bool { return x.wantError(code) == "" }
 
 // string returns a member of the body that is a string, or "".
@@ -555,7 +552,6 @@ func (r *Runner) Open(ctx context.Context) (Target, error) {
 	return target, nil
 }
 
-// hasCatalogue returns whether the catalogue could be read.
 func (r *Runner) hasCatalogue() bool {
 	_, isList := listOf(r.fetched.object["services"])
 	return r.fetched.is(200) && isList

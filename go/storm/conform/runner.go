@@ -231,7 +231,6 @@ func (r *Runner) id() string {
 	return fmt.Sprintf("%s-%s-4%s-8%s-%s", r.prefix, text[:4], text[4:7], text[7:10], text[10:22])
 }
 
-// random returns so many random bytes in hexadecimal digits.
 func random(count int) (string, error) {
 	bytes := make([]byte, count)
 	if _, err := rand.Read(bytes); err != nil {
@@ -351,7 +350,6 @@ func (r *Runner) CleanUp(ctx context.Context) []Leftover {
 	return left
 }
 
-// A removal is the deletion of an entry.
 type removal struct {
 	*entry
 	state     removalState
@@ -365,7 +363,6 @@ type removal struct {
 	silent    int       // polls of it without a state
 }
 
-// A removalState is how far a removal is.
 type removalState int
 
 const (
@@ -375,7 +372,6 @@ const (
 	failed // it was tried for long enough
 )
 
-// A cleaning is one run of CleanUp.
 type cleaning struct {
 	*Runner
 	all         []*removal
@@ -396,7 +392,6 @@ func (c *cleaning) pass(ctx context.Context) {
 	c.announce(ctx, true, time.Since(c.begun) > quietTime)
 }
 
-// hasPending returns whether a binding of an instance isn't deleted yet.
 func (c *cleaning) hasPending(of *removal) bool {
 	if of.binding != "" {
 		return false
@@ -437,7 +432,6 @@ func (c *cleaning) step(ctx context.Context, it *removal) {
 	}
 }
 
-// sendDeletion sends a deletion.
 func (c *cleaning) sendDeletion(ctx context.Context, it *removal) {
 	it.sent = time.Now()
 	x := c.client.send(ctx, deletion(it.key, it.pairs[it.at], true))
@@ -462,7 +456,6 @@ func (c *cleaning) sendDeletion(ctx context.Context, it *removal) {
 	}
 }
 
-// pollDeletion polls an asynchronous deletion.
 func (c *cleaning) pollDeletion(ctx context.Context, it *removal) {
 	x := c.client.send(ctx, poll(it.key, it.pairs[it.at], it.operation))
 	state := x.string("state")
@@ -594,7 +587,6 @@ type ledger struct {
 	all     map[string]bool // the ids of all instances that were ever asked for
 }
 
-// sending notes that a creation is about to be sent.
 func (l *ledger) sending(k key, p Pair) {
 	if l.all == nil {
 		l.all = map[string]bool{}
@@ -613,7 +605,6 @@ func (l *ledger) sending(k key, p Pair) {
 	it.pairs = append(it.pairs, p)
 }
 
-// noteCreation notes the answer to a creation.
 func (l *ledger) noteCreation(k key, x *exchange) {
 	it := l.entry(k)
 	if x.status < 400 || x.status > 499 || x.status == 408 {

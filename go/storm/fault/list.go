@@ -209,7 +209,6 @@ func ParseNumber(text string) (Number, error) {
 	return n, nil
 }
 
-// less returns whether a number comes first in a list.
 func (n Number) less(other Number) bool {
 	return n.Place.Less(other.Place) || n.Place == other.Place && n.Request < other.Request
 }

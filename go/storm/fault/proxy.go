@@ -151,7 +151,6 @@ func (p *Proxy) accept() {
 	}
 }
 
-// serve carries the request of a connection.
 func (p *Proxy) serve(connection net.Conn) {
 	request, body, err := read(connection)
 	if err != nil || p.ctx.Err() != nil {
@@ -218,7 +217,6 @@ func (p *Proxy) restart() {
 	}
 }
 
-// read reads a request.
 func read(connection net.Conn) (*http.Request, []byte, error) {
 	request, err := http.ReadRequest(bufio.NewReader(connection))
 	if err != nil {
@@ -267,7 +265,6 @@ var (
 	gotNobody = Got{Words: "no answer"}
 )
 
-// carry carries the request, and returns what the platform got.
 func (c *carriage) carry() Got {
 	switch c.fault.Kind {
 	case RequestLost:
@@ -540,7 +537,6 @@ func readAnswer(connection net.Conn, request *http.Request) (*answer, error) {
 	return &answer{status: response.StatusCode, header: response.Header, body: body}, nil
 }
 
-// An answer is a whole answer of a broker.
 type answer struct {
 	status int
 	header http.Header
@@ -563,7 +559,6 @@ func (a *answer) bytes() []byte {
 	return text.Bytes()
 }
 
-// page is the answer of a gateway.
 func page(status int) []byte {
 	header := http.Header{"Content-Type": {"text/html"}}
 	return (&answer{status, header, []byte("<html></html>")}).bytes()

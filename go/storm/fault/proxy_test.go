@@ -195,7 +195,6 @@ func TestKinds(t *testing.T) {
 	}
 }
 
-// until waits for a condition.
 func until(t *testing.T, is func() bool) {
 	t.Helper()
 	for end := time.Now().Add(time.Minute); !is(); time.Sleep(5 * time.Millisecond) {

@@ -33,7 +33,6 @@ type Difference struct {
 // A Kind is the kind of a Difference.
 type Kind int
 
-// The kinds of differences.
 const (
 	Lost     Kind = iota // it exists, and the platform has no record, or one that says that nothing exists
 	False                // the record says ready, and that isn't true
@@ -318,7 +317,6 @@ type Event struct {
 	What string
 }
 
-// The programs that are killed and started again.
 const (
 	WhoBroker   = "broker"
 	WhoPlatform = "platform"
@@ -358,7 +356,6 @@ func LifeOf(key Key, exchanges []fault.Exchange, events []Event, hide Hider) []L
 	return life
 }
 
-// linesOf returns the lines of a request.
 func linesOf(x fault.Exchange, hide Hider) []Line {
 	number := x.Number.String()
 	line := func(at time.Duration, who, what string) Line {

@@ -29,7 +29,6 @@ type picture struct {
 	Restarts                   []tick
 }
 
-// A lane is one life.
 type lane struct {
 	Label  string
 	Y      float64

@@ -82,7 +82,6 @@ const (
 	SomePoints = "some" // as many as there is time for
 )
 
-// needsPostgreSQL returns whether PostgreSQL is the store or the backend.
 func (c BothConfig) needsPostgreSQL() bool {
 	return c.Store == InPostgreSQL || c.Backend == InPostgreSQL
 }
@@ -140,7 +139,7 @@ func NewBoth(ctx context.Context, config BothConfig) (*Both, error) {
 		b.password = hex.EncodeToString(password)
 	}
 	if err := b.open(ctx); err != nil {
-		return nil, either(err, b.Close())
+		return nil, Either(err, b.Close())
 	}
 	return b, nil
 }
@@ -239,7 +238,6 @@ func (b *Both) startHAProxy(ctx context.Context) (*url.URL, error) {
 	return entrances[0], err
 }
 
-// file returns the path of a file in the folder.
 func (b *Both) file(name string) string { return filepath.Join(b.folder, name) }
 
 // addPlatform adds the broker to the platform, opens the platform's store, and prepares to look at everything.
@@ -326,7 +324,7 @@ func (b *Both) Close() error {
 	if b.places != nil {
 		all = append(all, b.places.close(isOurs))
 	}
-	return either(append(all, os.RemoveAll(b.folder))...)
+	return Either(append(all, os.RemoveAll(b.folder))...)
 }
 
 // platformLine is the program osb-platform with the options of its store.
@@ -343,7 +341,6 @@ func (b *Both) tries(key Key) int {
 // plans are those of the instances of a storm.
 var plans = []string{goods.AtOnce, goods.Later, goods.LaterWithBinds, goods.OnlyBindsLater}
 
-// plan chooses the plan of an instance.
 func (b *Both) plan(key Key) string {
 	place, _ := b.keys.Place(key.Instance, "")
 	return plans[place.Instance%len(plans)]
@@ -411,7 +408,6 @@ func (b *Both) share(among []*victim, points []string) {
 	}
 }
 
-// programs are the brokers and the workers.
 func (b *Both) programs() []*victim { return append(append([]*victim{}, b.brokers...), b.workers...) }
 
 // victim returns a program that is to be killed. With PostgreSQL, its store may be away.
@@ -458,19 +454,6 @@ func together(all []*victim, call func(*victim)) {
 		}()
 	}
 	group.Wait()
-}
-
-// lastOf returns the end of a log.
-func lastOf(log string) string {
-	text, err := os.ReadFile(log)
-	if err != nil {
-		return err.Error()
-	}
-	const most = 1000
-	if len(text) > most {
-		text = text[len(text)-most:]
-	}
-	return string(text)
 }
 
 // checkPoints returns an error if crash points are to be visited, and a program was built without them. A program with
@@ -524,7 +507,7 @@ func openPlaces(ctx context.Context, c BothConfig, folder, prefix string) (*plac
 		return p, nil
 	}
 	if err := p.openDatabase(ctx, c, "storm_"+prefix); err != nil {
-		return nil, either(err, p.close(nil))
+		return nil, Either(err, p.close(nil))
 	}
 	p.useDatabase(c)
 	return p, nil
@@ -559,7 +542,6 @@ func (p *places) useDatabase(c BothConfig) {
 	}
 }
 
-// openStore opens the store of the platform, which exists.
 func (p *places) openStore(ctx context.Context, c BothConfig) (store platform.Store, err error) {
 	if c.Store == InPostgreSQL {
 		const connections = 8
@@ -597,10 +579,10 @@ func (p *places) close(isOurs func(string) bool) (err error) {
 		err = p.resources.Clear(context.Background(), isOurs)
 	}
 	if p.database != nil && p.server == nil {
-		err = either(err, p.database.Close())
+		err = Either(err, p.database.Close())
 	}
 	if p.server != nil { // everything ends with it
-		err = either(err, p.server.Close())
+		err = Either(err, p.server.Close())
 	}
 	return err
 }

@@ -70,7 +70,6 @@ func (a *auditor) end(ctx context.Context) (all report.Differences, failed error
 	return append(all, left...), err
 }
 
-// counts returns how many records of each kind were compared.
 func (a *auditor) counts() map[string]int {
 	a.mutex.Lock()
 	defer a.mutex.Unlock()
@@ -185,7 +184,6 @@ func (k *keyring) has(key Key) bool {
 	return has
 }
 
-// all returns the objects that were read.
 func (k *keyring) all() map[Key]json.RawMessage {
 	k.mutex.Lock()
 	defer k.mutex.Unlock()
@@ -222,7 +220,6 @@ type Programs struct {
 	Odd            []string       `json:"odd"`               // ends that nobody had a hand in, and errors that a program didn't expect
 }
 
-// newReport returns the report of a storm of both.
 func (b *Both) newReport() *Report {
 	report := NewReport(b.proxy.URL(), b.config.Seed, "platform", b.password)
 	report.Prefix, report.Service, report.Plan = b.ids.Prefix(), "osb-storm", "all plans"

@@ -12,6 +12,7 @@ import (
 	"pippinterm/storm/fault"
 	"pippinterm/storm/report"
 	"pippinterm/storm/run/audit"
+	"pippinterm/storm/run/servers"
 )
 
 // Run runs the storm, and returns what was lost. If ctx is done, it ends at once.
@@ -33,7 +34,6 @@ func (b *Both) Run(ctx context.Context) (*Report, error) {
 	return into, err
 }
 
-// once is one run.
 func (b *Both) once(ctx context.Context) (*Result, error) {
 	if err := b.begin(ctx); err != nil {
 		return &Result{Keys: b.keys}, err
@@ -56,12 +56,12 @@ func (b *Both) again(ctx context.Context, of Candidate) (*Result, error) {
 		return nil, err
 	}
 	again, err := trial.once(ctx)
-	return again, either(err, trial.Close())
+	return again, Either(err, trial.Close())
 }
 
 // begin starts the brokers and a worker once without faults, until the platform has the catalogue.
 func (b *Both) begin(ctx context.Context) error {
-	if err := either(b.checkPoints(ctx), b.checkTag(ctx)); err != nil {
+	if err := Either(b.checkPoints(ctx), b.checkTag(ctx)); err != nil {
 		return err
 	}
 	first, end := append([]*victim{b.workers[0]}, b.brokers...), (*victim).kill
@@ -78,11 +78,11 @@ func (b *Both) begin(ctx context.Context) error {
 	defer cancel()
 	for at, address := range b.addresses {
 		if err := awaitBroker(within, address); err != nil {
-			return fmt.Errorf("%w. Its log: %.1000s", err, lastOf(b.brokers[at].log))
+			return fmt.Errorf("%w. Its log: %.1000s", err, servers.LastOf(b.brokers[at].log, 1000))
 		}
 	}
 	if _, isThere := awaitCatalogue(within, b.store); !isThere {
-		return fmt.Errorf("the platform doesn't get the catalogue. Its log: %.1000s", lastOf(b.workers[0].log))
+		return fmt.Errorf("the platform doesn't get the catalogue. Its log: %.1000s", servers.LastOf(b.workers[0].log, 1000))
 	}
 	return nil
 }
@@ -117,7 +117,6 @@ func (b *Both) livesOf(round int, only map[int]bool) []life {
 	return all
 }
 
-// remainingPoints returns the crash points that are still to be visited.
 func (b *Both) remainingPoints() (points []string) {
 	for _, program := range b.programs() {
 		points = append(points, program.counts().remainingPoints()...)
@@ -240,7 +239,6 @@ type troubles struct {
 	group  sync.WaitGroup
 }
 
-// trouble begins all of it.
 func (b *Both) trouble(ctx context.Context) *troubles {
 	ctx, cancel := context.WithCancel(ctx)
 	t := &troubles{cancel: cancel}
@@ -347,7 +345,6 @@ var (
 	isAbandoned = map[platform.State]float64{platform.Cleaning: 0.005, platform.CleaningPolling: 0.005}
 )
 
-// meddle removes, retries and abandons by chance.
 func (b *Both) meddle(ctx context.Context) {
 	chance := fault.Chance(b.config.Seed, "operator")
 	for fault.Sleep(ctx, meddleEach) {
@@ -437,7 +434,6 @@ func (b *Both) omissions() (all []string) {
 	return all
 }
 
-// unmetFaults returns the kinds of faults that no request has met.
 func (b *Both) unmetFaults() (all []string) {
 	if b.config.List != nil || b.config.Share == 0 {
 		return nil

@@ -218,7 +218,6 @@ func (c *commands) ShowState(ctx context.Context, key Key) (string, error) {
 	return row.State, nil
 }
 
-// counts returns how many instances and bindings were ordered.
 func (c *commands) counts() (instances, bindings int) {
 	c.turn.Lock()
 	defer c.turn.Unlock()
@@ -363,7 +362,6 @@ func (c *commands) note(what string) {
 	c.wrong = append(c.wrong, what)
 }
 
-// odd returns what the commands have got wrong.
 func (c *commands) odd() []string {
 	c.turn.Lock()
 	defer c.turn.Unlock()

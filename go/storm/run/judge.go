@@ -89,7 +89,6 @@ func deliveriesOf(exchanges []fault.Exchange) []*delivery {
 	return all
 }
 
-// firstDeletion returns when a deletion was first with the broker.
 func firstDeletion(all []*delivery) (begun time.Duration) {
 	begun = math.MaxInt64
 	for _, delivery := range all {
@@ -136,10 +135,8 @@ func overlaps(all []*delivery, at int) bool {
 	return !all[at].isAnswered
 }
 
-// changes returns whether a request may change what exists.
 func (s *delivery) changes() bool { return s.Method == http.MethodPut || s.Method == http.MethodDelete }
 
-// after returns what is known after the answer.
 func (s *delivery) after(before knowledge) knowledge {
 	switch {
 	case !s.isAnswered:
@@ -193,7 +190,6 @@ func (s *delivery) isPoll() bool {
 	return s.Method == http.MethodGet && strings.HasSuffix(path, "/last_operation")
 }
 
-// pollOperation returns the operation that a Poll names, or "".
 func (s *delivery) pollOperation() string {
 	_, query, _ := strings.Cut(s.Target, "?")
 	values, err := url.ParseQuery(query)
@@ -368,7 +364,6 @@ func byFetch(status int) Existence {
 	return Unknown
 }
 
-// lastOperation returns the status and the state of the last operation.
 func (s *standard) lastOperation(ctx context.Context, key Key) string {
 	answer := s.broker.Ask(ctx, http.MethodGet, key.Instance, key.Binding, "/last_operation", s.names())
 	if answer.Status != http.StatusOK {
@@ -377,12 +372,10 @@ func (s *standard) lastOperation(ctx context.Context, key Key) string {
 	return fmt.Sprint(answer.Status, " ", answer.Text("state"))
 }
 
-// names are the parameters of a request with the service and the plan.
 func (s *standard) names() url.Values {
 	return url.Values{"service_id": {s.target.Service}, "plan_id": {s.target.Plan}}
 }
 
-// describe says how the Inventory finds out what exists.
 func (s *standard) describe() string {
 	switch {
 	case s.target.InstancesRetrievable:
@@ -431,7 +424,6 @@ func (w *watch) look(ctx context.Context) {
 	}
 }
 
-// due returns the keys to look at.
 func (w *watch) due(records map[Key]Record) (keys []Key) {
 	for key, record := range records {
 		if (record.State == audit.Ready || record.IsEnded()) && (w.isCheap || w.seen[key] != record) {
@@ -518,7 +510,6 @@ func (e *events) add(key Key, who, what string) {
 	e.all = append(e.all, Event{At: e.now(), Key: key, Who: who, What: what})
 }
 
-// list returns all events, in their order.
 func (e *events) list() []Event {
 	e.mutex.Lock()
 	defer e.mutex.Unlock()

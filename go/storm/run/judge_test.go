@@ -210,7 +210,6 @@ func recordIn(state platform.State) Record {
 	return Record{State: state, Since: since, Rests: true, Known: true}
 }
 
-// textsOf are differences as texts.
 func textsOf(all []Difference) string {
 	var texts []string
 	for _, difference := range all {
@@ -264,7 +263,6 @@ func TestCompare(t *testing.T) {
 
 func point(r Record) *Record { return &r }
 
-// stub is an Orders and an Inventory.
 type stub struct {
 	Orders
 	records []map[Key]Record // of one call after another

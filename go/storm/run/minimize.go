@@ -34,7 +34,6 @@ type Candidate struct {
 // chance at the broker or the platform, too.
 const tries = 2
 
-// minimize shrinks the list of faults of a run that has lost something.
 func (c Core) minimize(ctx context.Context, found *Result) {
 	limited, cancel := context.WithTimeout(ctx, c.MinimizeTime)
 	defer cancel()
@@ -184,7 +183,6 @@ func candidates(found *Result) (all []Candidate) {
 	return all
 }
 
-// part returns the faults of some instances.
 func part(given []fault.Entry, only map[int]bool) Candidate {
 	of := Candidate{Only: only}
 	for _, entry := range given {

@@ -12,7 +12,6 @@ import (
 	"pippinterm/storm/stormtest"
 )
 
-// listOf returns a list of faults.
 func listOf(t *testing.T, text string) []fault.Entry {
 	t.Helper()
 	list, err := fault.ReadList(strings.NewReader(text))
@@ -20,7 +19,6 @@ func listOf(t *testing.T, text string) []fault.Entry {
 	return list
 }
 
-// contains returns whether a list has these faults.
 func contains(list []fault.Entry, needed string) bool {
 	words := strings.Fields(needed)
 	for at := 0; at < len(words); at += 2 {

@@ -19,10 +19,8 @@ const secret = "the-secret-of-a-binding"
 // pin is a number in the credentials of each binding.
 const pin = 8675309
 
-// password is the one of the broker.
 const password = "the-password"
 
-// mistakes are what a model does wrong.
 type mistakes struct {
 	forgetsUnread   bool // it forgets an instance if the connection is cut before the answer
 	forgetsRestart  bool // it forgets the operations when it is restarted
@@ -69,7 +67,6 @@ func newModel(t *testing.T, isAsync bool, wrong mistakes) (*model, string) {
 	return m, server.URL
 }
 
-// commands are the commands that list what exists.
 func (m *model) commands() Commands {
 	return Commands{Lists: Lists{
 		List:         "ls " + m.folder + "/instances | sed 's/~.*//'",
@@ -77,7 +74,6 @@ func (m *model) commands() Commands {
 	}}
 }
 
-// file is the file of what exists.
 func (m *model) file(k Key) string {
 	if k.Binding != "" {
 		return filepath.Join(m.folder, "bindings", k.Instance+"_"+k.Binding)
@@ -85,7 +81,6 @@ func (m *model) file(k Key) string {
 	return filepath.Join(m.folder, "instances", k.Instance)
 }
 
-// left returns the names of all files.
 func (m *model) left(t *testing.T) (names []string) {
 	t.Helper()
 	for _, name := range []string{"instances", "bindings"} {
@@ -110,7 +105,6 @@ func (m *model) create(k Key) {
 
 type object = map[string]any
 
-// catalogue has one plan.
 func catalogue(isRetrievable bool) object {
 	return object{"services": []object{{
 		"id": "s", "name": "service", "description": "a service", "bindable": true, "instances_retrievable": isRetrievable,

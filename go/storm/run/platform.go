@@ -53,18 +53,17 @@ func startPlatform(
 ) (*platformRig, error) {
 	rig := &platformRig{book: bookOf(target), writer: writer, ended: make(chan error, 1)}
 	if err := rig.open(ctx, c, folder, url, observer); err != nil {
-		return nil, either(err, rig.closeFiles())
+		return nil, Either(err, rig.closeFiles())
 	}
 	rig.resume()
 	within, cancel := context.WithTimeout(ctx, 30*time.Second)
 	defer cancel()
 	if reason, isThere := awaitCatalogue(within, rig.store); !isThere {
-		return nil, either(fmt.Errorf("the platform can't read the catalogue: %s", reason), rig.close())
+		return nil, Either(fmt.Errorf("the platform can't read the catalogue: %s", reason), rig.close())
 	}
 	return rig, nil
 }
 
-// open opens the store, adds the broker, and makes the engine.
 func (p *platformRig) open(ctx context.Context, c BrokerConfig, folder, url string, observer platform.Observer) error {
 	sealing, err := newVault()
 	if err != nil {
@@ -147,11 +146,10 @@ func (p *platformRig) halt() error {
 	}
 }
 
-// close ends everything.
 func (p *platformRig) close() error {
 	err := p.halt()
 	p.client.Close()
-	return either(err, p.closeFiles())
+	return Either(err, p.closeFiles())
 }
 
 // closeFiles closes the store and the journal, as far as they are open.
@@ -463,14 +461,12 @@ func (k *Keys) add(key Key, place fault.Place) Key {
 	return key
 }
 
-// instance makes up the id of an instance.
 func (k *Keys) instance(number int) Key {
 	k.mutex.Lock()
 	defer k.mutex.Unlock()
 	return k.add(Key{Instance: k.newID(number)}, fault.Place{Instance: number})
 }
 
-// binding makes up the id of a binding.
 func (k *Keys) binding(of Key) Key {
 	k.mutex.Lock()
 	defer k.mutex.Unlock()
@@ -544,7 +540,6 @@ type (
 	KindCount = report.KindCount
 )
 
-// The kinds of differences.
 const (
 	Lost     = report.Lost
 	False    = report.False
@@ -553,7 +548,6 @@ const (
 	Present  = report.Present
 )
 
-// The programs that are killed and started again.
 const (
 	whoBroker   = report.WhoBroker
 	whoPlatform = report.WhoPlatform

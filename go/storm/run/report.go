@@ -120,7 +120,6 @@ func (r *Report) omissions() (lines []string) {
 	return lines
 }
 
-// take takes the result of a run.
 func (r *Report) take(found *Result) {
 	for _, key := range found.Keys.All() {
 		if key.Binding == "" {
@@ -156,7 +155,6 @@ func (r *Report) hider(found *Result) report.Hider {
 	return report.NewHider(r.user, r.password, found.Exchanges)
 }
 
-// findings returns the differences of some kinds, with their lives.
 func (r *Report) findings(found *Result, kinds ...report.Kind) []Finding {
 	return r.runOf(found).Findings(found.Differences, kinds...)
 }
@@ -229,7 +227,7 @@ func (r *Report) unknownLines() []string {
 		return nil
 	}
 	option := "--list-command"
-	if r.Inventory == byListCommand {
+	if r.Inventory == ByListCommand {
 		option = "--list-bindings-command"
 	}
 	return []string{fmt.Sprintf("%s couldn't be asked for: give %s",
@@ -317,7 +315,6 @@ func (r *Report) notes() []string {
 	return notes
 }
 
-// verdict says in one line what the storm has found.
 func (r *Report) verdict() string {
 	if r.IsOfPlatform {
 		return fmt.Sprintf("%d abandoned, %d false records, %s of the standard broken, %s", len(r.Lost), len(r.False),
@@ -379,10 +376,8 @@ func (r *Report) WriteHTML(w io.Writer) error {
 	return page.Write(w)
 }
 
-// capital returns a word with a capital.
 func capital(word string) string { return strings.ToUpper(word[:1]) + word[1:] }
 
-// addFacts adds the rows of the table of facts.
 func (r *Report) addFacts(page *report.Page) {
 	created := fmt.Sprintf("%d instances, %d bindings", r.Instances, r.Bindings)
 	requests := strings.Join(append([]string{fmt.Sprint(r.Requests)}, report.KindLines(r.Counts)...), "; ")

@@ -152,15 +152,14 @@ func catalogueOf(target conform.Target) []byte {
 
 func (s *Storm) describe() string {
 	if s.isListed {
-		return byListCommand
+		return ByListCommand
 	}
 	return s.standard.describe()
 }
 
-// byListCommand is how osb-storm finds out what exists if there is a command for it.
-const byListCommand = "the list command was run"
+// ByListCommand is how osb-storm finds out what exists if there is a command for it.
+const ByListCommand = "the list command was run"
 
-// deletion are the parameters of a deletion.
 func (s *Storm) deletion() url.Values {
 	names := s.standard.names()
 	names.Set("accepts_incomplete", "true")
@@ -253,7 +252,6 @@ func deletedSince(begun time.Duration, exchanges []fault.Exchange) map[Key]Exist
 	return found
 }
 
-// hasCreation returns whether a creation has reached the broker.
 func hasCreation(exchanges []fault.Exchange, key Key) bool {
 	for _, exchange := range exchanges {
 		if exchange.Method == http.MethodPut && exchange.Instance == key.Instance && exchange.Binding == key.Binding && len(exchange.Deliveries) > 0 {
@@ -293,10 +291,9 @@ func (c BrokerConfig) check() error {
 	if !c.Commands.restarts() {
 		noRestart = "give a command for it"
 	}
-	return either(c.Commands.Lists.Check(), c.Config.Check(noRestart, c.CleanUpTime))
+	return Either(c.Commands.Lists.Check(), c.Config.Check(noRestart, c.CleanUpTime))
 }
 
-// A running is a run that goes on.
 type running struct {
 	*Storm
 	journal  *fault.Journal

@@ -153,7 +153,6 @@ func (u *unruly) left(ctx context.Context) (keys []Key, err error) {
 	return keys, err
 }
 
-// isDone returns whether the broker holds nothing any more of what was bound.
 func (u *unruly) isDone(ctx context.Context) bool {
 	keys, err := u.left(ctx)
 	return err == nil && len(keys) == 0
@@ -166,7 +165,6 @@ func (u *unruly) calm() {
 	u.isCalm = true
 }
 
-// all returns what a Bind was sent for.
 func (u *unruly) all() map[Key]bool {
 	u.mutex.Lock()
 	defer u.mutex.Unlock()

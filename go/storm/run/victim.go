@@ -250,7 +250,6 @@ func (v *victim) end() {
 	}
 }
 
-// tell adds an event to the lives.
 func (v *victim) tell(what string) {
 	if v.number > 0 {
 		what = fmt.Sprintf("number %d %s", v.number, what)
@@ -275,7 +274,6 @@ func (v *victim) between(times [2]time.Duration) time.Duration {
 	return times[0] + time.Duration(v.chance.Float64()*float64(times[1]-times[0]))
 }
 
-// remainingPoints returns the crash points that are still to be visited.
 func (t tally) remainingPoints() []string {
 	points := append([]string{}, t.open...)
 	if t.trying != "" {
@@ -341,7 +339,6 @@ func (c Commands) restart(broker *url.URL) func(context.Context) error {
 	}
 }
 
-// awaitBroker waits until a broker takes connections.
 func awaitBroker(ctx context.Context, broker *url.URL) error {
 	for {
 		connection, err := fault.Dial(ctx, broker)

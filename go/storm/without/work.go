@@ -255,7 +255,6 @@ type chance struct {
 
 func newChance(seed int64) *chance { return &chance{source: rand.New(rand.NewSource(seed))} }
 
-// next is a number from 0 to 1.
 func (c *chance) next() float64 {
 	c.turn.Lock()
 	defer c.turn.Unlock()

@@ -137,7 +137,6 @@ func readRows(ctx context.Context, tx *sql.Tx, query string, all map[Key]Row) er
 	return rows.Err()
 }
 
-// holdingOf returns a holding of an instance or a binding from its text.
 func holdingOf(isBinding bool, text string) (osb.Holding, error) {
 	if isBinding {
 		return osb.BindingHoldingFromText([]byte(text))
@@ -190,7 +189,6 @@ func (d Databases) Look(ctx context.Context, isOurs func(string) bool) (There, e
 	return there, rows.Err()
 }
 
-// keyOfRole returns the key whose role or database has a name.
 func keyOfRole(name string) (Key, bool) {
 	named, isOne := postgres.KeyOf(name)
 	if !isOne {
@@ -203,8 +201,8 @@ func keyOfRole(name string) (Key, bool) {
 	return key, true
 }
 
-// numericKey returns the key with the numbers of its ids.
-func numericKey(key Key) (named broker.Key, err error) {
+// BrokerKey returns the key with the numbers of its ids.
+func BrokerKey(key Key) (named broker.Key, err error) {
 	if named.Instance, err = osb.IDOfText(key.Instance); err != nil || key.Binding == "" {
 		return named, err
 	}
@@ -215,7 +213,7 @@ func numericKey(key Key) (named broker.Key, err error) {
 
 // IsUsable returns whether the database of an instance lets its role in, and takes a table from it.
 func (d Databases) IsUsable(ctx context.Context, key Key, _ Record) (bool, error) {
-	named, err := numericKey(key)
+	named, err := BrokerKey(key)
 	if err != nil {
 		return false, err
 	}
@@ -234,7 +232,7 @@ func (d Databases) Works(ctx context.Context, key Key, credentials json.RawMessa
 	if json.Unmarshal(credentials, &given) != nil {
 		return false, nil
 	}
-	named, err := numericKey(key.InstanceKey())
+	named, err := BrokerKey(key.InstanceKey())
 	if err != nil || given.Database != postgres.NameOf(named) {
 		return false, err
 	}
@@ -277,7 +275,7 @@ func (d Databases) Clear(ctx context.Context, isOurs func(string) bool) error {
 	}
 	var databases, bindings, instances []string
 	for key := range there.Of {
-		named, err := numericKey(key)
+		named, err := BrokerKey(key)
 		if err != nil {
 			return err
 		}
@@ -381,7 +379,6 @@ func (f Folders) IsUsable(_ context.Context, key Key, record Record) (bool, erro
 	return err == nil && isSame, nil
 }
 
-// digits returns an id without its hyphens.
 func digits(id osb.ID) string { return strings.ReplaceAll(id.String(), "-", "") }
 
 // Works returns whether the file of a binding has these credentials, which are for the folder of its instance.

@@ -29,7 +29,6 @@ func (s Sight) SteadyKeys(state platform.State, isBinding bool) (keys []Key) {
 	return keys
 }
 
-// A finder collects what is wrong.
 type finder struct {
 	Sight
 	report.Differences
@@ -61,7 +60,6 @@ func (s Sight) Wrong() report.Differences {
 // IsEnded returns whether a record says that nothing exists.
 func (r Record) IsEnded() bool { return !r.Known || r.State == Gone || r.State == platform.Withdrawn }
 
-// isOfNoRecord returns whether the state isn't that of a record.
 func (r Record) isOfNoRecord() bool {
 	return r.State == platform.Ordered || r.State == platform.Withdrawn || r.State == platform.Abandoned
 }
@@ -222,7 +220,6 @@ type Row struct {
 // An Existence is what exists of an instance or a binding.
 type Existence int
 
-// The values of Existence.
 const (
 	Nothing Existence = iota
 	Part              // nobody can use it
@@ -337,7 +334,6 @@ func isFinal(state platform.State) bool {
 	return false
 }
 
-// readyAtEnd finds what is wrong with a record that is ready at the end.
 func (f *finder) readyAtEnd(ctx context.Context, key Key, record Record, usable Resources) error {
 	if why := f.notReady(key, record); why != "" {
 		f.Add(key, report.False, "its record says ready, and "+why)

@@ -141,7 +141,6 @@ func (s scene) sight(t *testing.T, key Key) Sight {
 	return sight
 }
 
-// usable are resources that can be used, or not.
 type usable struct {
 	Resources
 	is bool
@@ -159,7 +158,6 @@ func texts(all report.Differences, key Key) string {
 	return strings.Join(found, "; ")
 }
 
-// left is what is wrong at the end.
 func left(t *testing.T, s Sight, key Key) string {
 	t.Helper()
 	all, err := s.Left(context.Background(), usable{is: true})
@@ -410,7 +408,7 @@ func TestFile(t *testing.T) {
 		one: {Holding: row(t, "ready", plan)}, bound: {Holding: row(t, "ready", plan), Object: json.RawMessage(object)},
 	}
 	for key, row := range wanted {
-		numbered, err := numericKey(key)
+		numbered, err := BrokerKey(key)
 		check(t, err)
 		entry := broker.Entry{Holding: row.Holding, Binding: row.Object}
 		step := func(broker.Snapshot) (*broker.Entry, error) { return &entry, nil }
@@ -428,9 +426,9 @@ func TestDatabases(t *testing.T) {
 	db, parsed := pgtest.DB(t, server), mustParse(t, server)
 	secret := []byte("the key of a test's passwords, long enough for that")
 	d := Databases{DB: db, Server: server, Secret: secret}
-	instance, err := numericKey(one)
+	instance, err := BrokerKey(one)
 	check(t, err)
-	binding, err := numericKey(bound)
+	binding, err := BrokerKey(bound)
 	check(t, err)
 	name, role, password := postgres.NameOf(instance), postgres.NameOf(binding), postgres.PasswordOf(secret, instance)
 	ours := func(id string) bool { return id == one.Instance }

@@ -48,7 +48,6 @@ func viewsOf(exchanges []fault.Exchange) map[report.Key]view {
 	return views
 }
 
-// after returns the view after a further request.
 func (v view) after(x fault.Exchange) view {
 	next, tried := v.belief, v.tried
 	switch kind := kindOf(x); kind {
@@ -186,7 +185,6 @@ func kindOf(x fault.Exchange) kind {
 	return other
 }
 
-// is returns whether a kind is one of some.
 func (k kind) is(kinds ...kind) bool {
 	for _, kind := range kinds {
 		if kind == k {
@@ -249,7 +247,6 @@ func (v view) reason() string {
 	return v.lastRequest()
 }
 
-// lastRequest says what the platform did last.
 func (v view) lastRequest() string {
 	return "The platform's last request: " + answerText(v.last)
 }

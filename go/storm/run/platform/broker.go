@@ -20,6 +20,8 @@ import (
 	"pippinterm/osb"
 	"pippinterm/storm/fault"
 	"pippinterm/storm/report"
+	"pippinterm/storm/run"
+	"pippinterm/storm/run/audit"
 	"pippinterm/storm/run/goods"
 )
 
@@ -37,7 +39,6 @@ type shop struct {
 	failed []string
 }
 
-// openShop opens a broker in a folder.
 func openShop(ctx context.Context, c Config, folder string) (s *shop, err error) {
 	s = &shop{served: make(chan error, 1)}
 	catalogue, err := broker.NewCatalogue(goods.Document(), true)
@@ -65,7 +66,7 @@ func openShop(ctx context.Context, c Config, folder string) (s *shop, err error)
 		err = s.serve(ctx, broker.NewService(catalogue, store, sold, s.backend.Locks(), rules, s), config)
 	}
 	if err != nil {
-		return nil, either(err, s.closeFiles())
+		return nil, run.Either(err, s.closeFiles())
 	}
 	return s, nil
 }
@@ -92,7 +93,6 @@ func (s *shop) openJournal(below string, catalogue *broker.Catalogue, rules brok
 	return journal.New(s.writer, isDoubtful), nil
 }
 
-// serve serves until close.
 func (s *shop) serve(ctx context.Context, service *broker.Service, config broker.Config) error {
 	sweeper := broker.NewSweeper(service, s)
 	config.Touch = sweeper.Touch
@@ -123,13 +123,11 @@ func (s *shop) serve(ctx context.Context, service *broker.Service, config broker
 	return nil
 }
 
-// close ends the broker.
 func (s *shop) close() error {
 	s.stop()
-	return either(<-s.served, s.closeFiles())
+	return run.Either(<-s.served, s.closeFiles())
 }
 
-// closeFiles closes the store, and the journal if there is one.
 func (s *shop) closeFiles() error {
 	err := s.store.Close()
 	if s.writer != nil {
@@ -188,8 +186,8 @@ func (s *shop) isWorking(ctx context.Context) (bool, error) {
 func (s *shop) existing(ctx context.Context, keys []report.Key) (map[report.Key]bool, error) {
 	found := map[report.Key]bool{}
 	for _, key := range keys {
-		its, isID := numberOf(key)
-		if !isID {
+		its, err := audit.BrokerKey(key)
+		if err != nil { // the broker accepts no such id
 			continue
 		}
 		look := s.backend.Look
@@ -205,16 +203,6 @@ func (s *shop) existing(ctx context.Context, keys []report.Key) (map[report.Key]
 		}
 	}
 	return found, nil
-}
-
-// numberOf returns the broker's key, unless an id is none that the broker accepts.
-func numberOf(key report.Key) (broker.Key, bool) {
-	instance, err := osb.IDOfText(key.Instance)
-	if err != nil || key.Binding == "" {
-		return broker.InstanceKey(instance), err == nil
-	}
-	binding, err := osb.IDOfText(key.Binding)
-	return broker.BindingKey(instance, binding), err == nil
 }
 
 // A backend is folders whose asynchronous work takes a while.

@@ -116,7 +116,6 @@ func requestOf(x fault.Exchange) request {
 	return r
 }
 
-// learn adds a request to what is known.
 func (w *world) learn(r request) {
 	if r.Instance == "" {
 		return
@@ -128,7 +127,6 @@ func (w *world) learn(r request) {
 	}
 }
 
-// breaches are what breaks rules.
 type breaches struct{ report.Breaches }
 
 func (b *breaches) add(of conform.Case, why string, x fault.Exchange) {
@@ -141,7 +139,6 @@ func (b *breaches) add(of conform.Case, why string, x fault.Exchange) {
 	}, number, "about no instance")
 }
 
-// addMitigations adds what was never cleaned up.
 func (b *breaches) addMitigations(now map[report.Key]view) {
 	var open []view
 	for _, view := range now {

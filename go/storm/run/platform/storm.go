@@ -51,7 +51,7 @@ func Start(ctx context.Context, config Config) (s *Storm, err error) {
 		return nil, err
 	}
 	if s.shop, err = openShop(ctx, config, s.folder); err != nil {
-		return nil, either(err, os.RemoveAll(s.folder))
+		return nil, run.Either(err, os.RemoveAll(s.folder))
 	}
 	s.proxy, err = fault.Listen(fault.Config{
 		Address: config.Address, Broker: s.shop.address, Source: s.source, Journal: s.journal, Place: s.places.PlaceOrNew,
@@ -59,7 +59,7 @@ func Start(ctx context.Context, config Config) (s *Storm, err error) {
 		AnswerTime: config.RequestTime + config.RequestTime/10 + config.OperationTime + time.Second,
 	})
 	if err != nil {
-		return nil, either(err, s.shop.close(), os.RemoveAll(s.folder))
+		return nil, run.Either(err, s.shop.close(), os.RemoveAll(s.folder))
 	}
 	return s, nil
 }
@@ -70,7 +70,7 @@ func (s *Storm) URL() string { return s.proxy.URL() }
 // Close ends the broker, and deletes all that it has sold. No request is answered any more.
 func (s *Storm) Close() error {
 	s.proxy.Close()
-	return either(s.shop.close(), os.RemoveAll(s.folder))
+	return run.Either(s.shop.close(), os.RemoveAll(s.folder))
 }
 
 // Run starts the order command, waits for the first request about an instance, has faults befall the requests for a
@@ -96,7 +96,6 @@ func (s *Storm) Run(ctx context.Context) *run.Report {
 	return into
 }
 
-// newReport returns the report of the Storm.
 func (s *Storm) newReport() *run.Report {
 	into := run.NewReport(s.URL(), s.config.Seed, s.config.User, s.config.Password)
 	into.IsOfPlatform, into.FirstPoll, into.Inventory = true, s.config.FirstPoll, knownByRequests
@@ -108,11 +107,10 @@ func (s *Storm) newReport() *run.Report {
 
 // The ways in which it is known what the platform has.
 const (
-	knownByList     = "the list command was run"
+	knownByList     = run.ByListCommand
 	knownByRequests = "from the platform's requests alone: give --list-command to ask the platform"
 )
 
-// once is the run of the Storm.
 func (s *Storm) once(ctx context.Context) *run.Result {
 	found := &result{Result: run.Result{Keys: s.places, OrdersAll: true}}
 	ordering, err := startOrders(s.config.Commands.Order, s.URL())
@@ -285,16 +283,6 @@ func (s *Storm) readLists(ctx context.Context) (l list, err error) {
 	return l, nil
 }
 
-// either returns the first error that isn't nil.
-func either(all ...error) error {
-	for _, err := range all {
-		if err != nil {
-			return err
-		}
-	}
-	return nil
-}
-
 // A Config says where a Storm listens, and within which limits. Folder is the one in which that of the broker is
 // created.
 type Config struct {
@@ -318,7 +306,7 @@ func (c Config) check() error {
 	if c.MinimizeTime > 0 && c.Commands.Order == "" {
 		return errors.New("--minimize needs --order-command: in each further run, the platform has to order the same again")
 	}
-	return either(c.Commands.Lists.Check(), c.Config.Check("this broker isn't restarted", c.WaitTime, c.OperationTime))
+	return run.Either(c.Commands.Lists.Check(), c.Config.Check("this broker isn't restarted", c.WaitTime, c.OperationTime))
 }
 
 // urlVariable is the variable in which the order command gets the URL of the broker, without /v2.
@@ -352,7 +340,6 @@ func (o *orders) done() <-chan struct{} {
 	return o.command.Done()
 }
 
-// hasEnded returns whether the command has ended.
 func (o *orders) hasEnded() bool {
 	select {
 	case <-o.done():

@@ -902,7 +902,6 @@ func TestStartAgain(t *testing.T) {
 	}
 }
 
-// mistakes are what a model does wrong.
 type mistakes struct {
 	forgetsTimeout bool // it forgets what it gets no answer about
 	forgetsErrors  bool // it forgets an instance after a 5xx
@@ -936,7 +935,6 @@ func newModel(t *testing.T, url string, wrong mistakes, within time.Duration) *m
 	return m
 }
 
-// commands are those that list what the model has.
 func commandsOf(folder string) Commands {
 	return Commands{Lists: run.Lists{List: "cat " + folder + "/instances", ListBindings: "cat " + folder + "/bindings"}}
 }
@@ -948,7 +946,6 @@ func (m *model) set(key report.Key, has bool) {
 	m.write()
 }
 
-// write writes the files that the commands print.
 func (m *model) write() {
 	var instances, bindings strings.Builder
 	for key, has := range m.has {
@@ -1038,7 +1035,6 @@ func (m *model) query(plan string) string {
 	return query
 }
 
-// create creates an instance or a binding, and returns whether it exists.
 func (m *model) create(ctx context.Context, key report.Key, plan string) bool {
 	body := map[string]any{
 		"service_id": goods.Service, "plan_id": plan, "organization_guid": "o", "space_guid": "s",
@@ -1071,7 +1067,6 @@ func (m *model) create(ctx context.Context, key report.Key, plan string) bool {
 	return false
 }
 
-// remove deletes until that has succeeded.
 func (m *model) remove(ctx context.Context, key report.Key, plan string) {
 	m.set(key, false)
 	for try := 0; ctx.Err() == nil && !(m.oneRetry && try >= 2); try++ {
@@ -1083,7 +1078,6 @@ func (m *model) remove(ctx context.Context, key report.Key, plan string) {
 	}
 }
 
-// poll returns whether an operation has ended so.
 func (m *model) poll(ctx context.Context, key report.Key, wanted string) bool {
 	for ctx.Err() == nil {
 		a := m.send(ctx, http.MethodGet, pathOf(key)+"/last_operation", nil)

@@ -89,7 +89,6 @@ func findHAProxy() (string, error) {
 	return "", errors.New("haproxy isn't installed. On Debian, install the package haproxy")
 }
 
-// await waits until HAProxy listens.
 func (h *HAProxy) await(ctx context.Context, address, log string) error {
 	for {
 		connection, err := net.DialTimeout("tcp", address, time.Second)

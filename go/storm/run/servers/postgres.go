@@ -144,7 +144,7 @@ func (p *Postgres) create() error {
 		err = <-ended
 	}
 	if err != nil {
-		return fmt.Errorf("initdb: %w: %s", err, p.lastLog())
+		return fmt.Errorf("initdb: %w: %s", err, LastOf(p.log, 2000))
 	}
 	return nil
 }
@@ -193,7 +193,6 @@ func (p *Postgres) begin(program string, words ...string) (ended <-chan error, e
 	return child.Start(p.process, syscall.SIGQUIT)
 }
 
-// start starts the server, and returns once it answers.
 func (p *Postgres) start(ctx context.Context) error {
 	words := []string{"-p", strconv.Itoa(p.port), "-k", p.folder}
 	for _, setting := range append(p.further(), settings...) {
@@ -212,7 +211,7 @@ func (p *Postgres) start(ctx context.Context) error {
 			return nil
 		}
 		if !fault.Sleep(ctx, startAgain) {
-			return fmt.Errorf("PostgreSQL doesn't start: %s", p.lastLog())
+			return fmt.Errorf("PostgreSQL doesn't start: %s", LastOf(p.log, 2000))
 		}
 	}
 }
@@ -232,7 +231,6 @@ func (p *Postgres) further() []string {
 	return []string{"recovery_init_sync_method=syncfs"}
 }
 
-// runs returns whether the first process of the server hasn't ended.
 func (p *Postgres) runs() bool {
 	if p.ended == nil {
 		return false
@@ -284,7 +282,6 @@ func stop(pid int) []int {
 	return []int{pid}
 }
 
-// children returns the processes that a process has started.
 func children(parent int) (pids []int) {
 	text, err := os.ReadFile(fmt.Sprintf("/proc/%d/task/%d/children", parent, parent))
 	if err != nil {
@@ -314,10 +311,9 @@ func (p *Postgres) Close() error {
 	return os.RemoveAll(p.folder)
 }
 
-// lastLog returns the end of the server's log.
-func (p *Postgres) lastLog() string {
-	const most = 2000
-	text, err := os.ReadFile(p.log)
+// LastOf returns the end of a log: at most so many bytes.
+func LastOf(log string, most int) string {
+	text, err := os.ReadFile(log)
 	if err != nil {
 		return err.Error()
 	}
@@ -419,14 +415,12 @@ func (d *Database) Close() error {
 	return execute(ctx, d.server, "DROP DATABASE IF EXISTS "+d.name+" WITH (FORCE)")
 }
 
-// open returns connections to the server of a URL.
 func open(address string) (*sql.DB, error) {
 	return pg.Open(address, pg.Options{
 		Most: 4, Lock: 10 * time.Second, Statement: time.Minute, Idle: time.Minute,
 	})
 }
 
-// execute runs a statement in a session of its own.
 func execute(ctx context.Context, address, statement string) error {
 	db, err := open(address)
 	if err != nil {

@@ -17,7 +17,6 @@ import (
 	"pippinterm/storm/stormtest"
 )
 
-// rows returns what a query prints, or the error.
 func rows(t *testing.T, address, query string) string {
 	t.Helper()
 	db, err := open(address)

@@ -174,7 +174,6 @@ func TestMostPrinted(t *testing.T) {
 	}
 }
 
-// awaitEnd waits until a command has ended by itself.
 func awaitEnd(t *testing.T, c *Command) {
 	t.Helper()
 	if !isClosed(c.Done(), 10*time.Second) {
