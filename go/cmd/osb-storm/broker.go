@@ -97,7 +97,7 @@ func (s *brokerSettings) addStorm(made *cobra.Command) {
 // open reads the password and the list of faults, and opens a storm for the settings.
 func (s *brokerSettings) open(running context.Context, stderr io.Writer) (opened storm, err error) {
 	s.config.Broker.Tell = waits(running, stderr)
-	if s.config.Broker.Password, err = s.password(stderr); err != nil {
+	if s.config.Broker.Password, err = passwordOf(s.passwordFile, stderr); err != nil {
 		return opened, err
 	}
 	if err := s.fill(&s.config.Config); err != nil {

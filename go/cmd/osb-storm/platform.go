@@ -99,7 +99,7 @@ func (s *platformSettings) addStorm(made *cobra.Command) {
 
 // open reads the password and the list of faults, and starts a storm for the settings.
 func (s *platformSettings) open(running context.Context, stderr io.Writer) (opened storm, err error) {
-	if s.config.Password, err = s.password(stderr); err != nil {
+	if s.config.Password, err = passwordOf(s.passwordFile, stderr); err != nil {
 		return opened, err
 	}
 	s.config.Warnings = stderr

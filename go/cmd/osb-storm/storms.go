@@ -71,10 +71,6 @@ func (s *stormSettings) fill(config *run.Config) (err error) {
 	return err
 }
 
-func (s *stormSettings) password(warnings io.Writer) (string, error) {
-	return passwordOf(s.passwordFile, warnings)
-}
-
 // passwordOf reads the password from a file, or else from the environment.
 func passwordOf(file string, warnings io.Writer) (string, error) {
 	passwords, warning, err := secrets.Passwords("OSB_BROKER_PASSWORD", file)

@@ -46,22 +46,30 @@ func (r *Runner) accessToInstances() {
 	wrong := r.creation(k, nil)
 	wrong.headers = r.wrongPassword()
 	r.wants("auth-provision", r.create(k, r.target.Pair, wrong), 401)
-	r.wants("auth-provision", r.create(k, r.target.Pair, anonymous(wrong)), 401)
+	if r.accessTo(k, "auth-provision", "auth-last-operation", "auth-fetch", r.target.InstancesRetrievable) {
+		r.skip(reasonNotFetched, "auth-fetch")
+		r.accessToBindings(k)
+		r.askAnonymously("auth-deprovision", deletion(k, r.target.Pair, true)) // CleanUp deletes it, whatever the answer says
+	}
+}
+
+// accessTo judges the answers to requests without a password about what it then creates: a creation, a Poll and, if the
+// service allows it, a Fetch. It returns whether that exists.
+func (r *Runner) accessTo(k key, creates, polls, fetches string, isFetched bool) bool {
+	r.wants(creates, r.create(k, r.target.Pair, anonymous(r.creation(k, nil))), 401)
 	x := r.put(k, nil)
 	if !x.is(200, 201, 202) {
-		return
+		return false
 	}
-	r.tellsNothing(k)
-	r.accessToPolls("auth-last-operation", k, x)
-	if !r.settle(k, x) {
-		return
+	if k.binding == "" {
+		r.tellsNothing(k)
 	}
-	if r.target.InstancesRetrievable {
-		r.askAnonymously("auth-fetch", fetching(k, r.target.Pair))
+	r.accessToPolls(polls, k, x)
+	isThere := r.settle(k, x)
+	if isThere && isFetched {
+		r.askAnonymously(fetches, fetching(k, r.target.Pair))
 	}
-	r.skip(reasonNotFetched, "auth-fetch")
-	r.accessToBindings(k)
-	r.askAnonymously("auth-deprovision", deletion(k, r.target.Pair, true)) // CleanUp deletes it, whatever the answer says
+	return isThere
 }
 
 // tellsNothing compares the answers to a wrong password for an instance that exists, and for one that doesn't.
@@ -85,20 +93,10 @@ func (r *Runner) accessToBindings(of key) {
 		return
 	}
 	k := key{of.instance, r.id()}
-	r.wants("auth-bind", r.create(k, r.target.Pair, anonymous(r.creation(k, nil))), 401)
-	x := r.put(k, nil)
-	if !x.is(200, 201, 202) {
-		return
+	if r.accessTo(k, "auth-bind", "auth-binding-last-operation", "auth-fetch-binding", r.target.BindingsRetrievable) {
+		r.skip(reasonNotRetrievable, "auth-fetch-binding")
+		r.askAnonymously("auth-unbind", deletion(k, r.target.Pair, true)) // CleanUp deletes it, whatever the answer says
 	}
-	r.accessToPolls("auth-binding-last-operation", k, x)
-	if !r.settle(k, x) {
-		return
-	}
-	if r.target.BindingsRetrievable {
-		r.askAnonymously("auth-fetch-binding", fetching(k, r.target.Pair))
-	}
-	r.skip(reasonNotRetrievable, "auth-fetch-binding")
-	r.askAnonymously("auth-unbind", deletion(k, r.target.Pair, true)) // CleanUp deletes it, whatever the answer says
 }
 
 // accessToPolls judges the answer to a Poll without a password. A broker without asynchronous operations may not have

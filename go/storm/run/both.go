@@ -442,11 +442,11 @@ func workerPoints() (points []string) {
 	return points
 }
 
-// together calls for each program at once, and returns once all calls have returned.
-func together(all []*victim, call func(*victim)) {
+// together calls for each program, or something else, at once, and returns once all calls have returned.
+func together[T any](all []T, call func(T)) {
 	var group sync.WaitGroup
-	for _, victim := range all {
-		it := victim
+	for _, one := range all {
+		it := one
 		group.Add(1)
 		go func() {
 			defer group.Done()

@@ -89,11 +89,7 @@ func (c *commands) Bind(ctx context.Context, key Key) error {
 
 // order orders something. It is wrong if the record isn't what the command has reported.
 func (c *commands) order(ctx context.Context, key Key, words ...string) error {
-	ended, err := c.call(ctx, words...)
-	if err != nil {
-		return err
-	}
-	record, err := c.recordAt(ctx, key)
+	ended, record, err := c.callAndRead(ctx, key, words...)
 	if err != nil {
 		return err
 	}
@@ -115,11 +111,14 @@ func (c *commands) order(ctx context.Context, key Key, words ...string) error {
 	return nil
 }
 
-// recordAt reads a record, also if the store is away for a while.
-func (c *commands) recordAt(ctx context.Context, key Key) (record Record, err error) {
+// callAndRead runs a command about a key, and then reads the record, also if the store is away for a while.
+func (c *commands) callAndRead(ctx context.Context, key Key, words ...string) (ended endedCommand, record Record, err error) {
+	if ended, err = c.call(ctx, words...); err != nil {
+		return ended, record, err
+	}
 	for until := time.Now().Add(longestAway); ; {
 		if record, err = c.Record(ctx, key); err == nil || time.Now().After(until) || !fault.Sleep(ctx, awayEach) {
-			return record, err
+			return ended, record, err
 		}
 	}
 }
@@ -143,11 +142,7 @@ func (c *commands) Retry(ctx context.Context, key Key) error {
 
 // Abandon gives a record up.
 func (c *commands) Abandon(ctx context.Context, key Key) error {
-	ended, err := c.call(ctx, "abandon", ofKey(key), "--because", "the storm")
-	if err != nil {
-		return err
-	}
-	record, err := c.recordAt(ctx, key)
+	ended, record, err := c.callAndRead(ctx, key, "abandon", ofKey(key), "--because", "the storm")
 	if err != nil {
 		return err
 	}
@@ -387,16 +382,7 @@ type operator struct {
 
 // run lives all lives, until ctx is done.
 func (o *operator) run(ctx context.Context, all []life) {
-	var group sync.WaitGroup
-	for _, life := range all {
-		it := life
-		group.Add(1)
-		go func() {
-			defer group.Done()
-			o.live(ctx, it)
-		}()
-	}
-	group.Wait()
+	together(all, func(l life) { o.live(ctx, l) })
 }
 
 func (o *operator) live(ctx context.Context, l life) {

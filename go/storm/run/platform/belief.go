@@ -4,6 +4,7 @@ import (
 	"encoding/json"
 	"fmt"
 	"net/http"
+	"regexp"
 	"sort"
 	"strings"
 
@@ -159,30 +160,27 @@ const (
 	pollBinding
 )
 
+var (
+	ofInstance = regexp.MustCompile(`^/v2/service_instances/[^/]+(/service_bindings/[^/]+)?(/last_operation)?$`)
+	instances  = map[string]kind{
+		"PUT": provision, "DELETE": deprovision, "PATCH": update, "GET": fetch, "GET/last_operation": poll,
+	}
+	bindings = map[string]kind{"PUT": bind, "DELETE": unbind, "GET": fetchBinding, "GET/last_operation": pollBinding}
+)
+
 // kindOf returns what a request asks for, by its method and its path.
 func kindOf(x fault.Exchange) kind {
 	path, _, _ := strings.Cut(x.Target, "?")
-	parts := strings.Split(strings.TrimPrefix(path, "/"), "/")
-	if path == "/v2/catalog" && x.Method == http.MethodGet {
-		return catalogue
-	}
-	isInstance := len(parts) >= 3 && parts[0] == "v2" && parts[1] == "service_instances" && parts[2] != ""
-	isBinding := isInstance && len(parts) >= 5 && parts[3] == "service_bindings" && parts[4] != ""
+	found := ofInstance.FindStringSubmatch(path)
 	switch {
-	case isInstance && len(parts) == 3:
-		return map[string]kind{
-			http.MethodPut: provision, http.MethodDelete: deprovision, http.MethodPatch: update, http.MethodGet: fetch,
-		}[x.Method]
-	case isBinding && len(parts) == 5:
-		return map[string]kind{
-			http.MethodPut: bind, http.MethodDelete: unbind, http.MethodGet: fetchBinding,
-		}[x.Method]
-	case isInstance && len(parts) == 4 && parts[3] == "last_operation" && x.Method == http.MethodGet:
-		return poll
-	case isBinding && len(parts) == 6 && parts[5] == "last_operation" && x.Method == http.MethodGet:
-		return pollBinding
+	case path == "/v2/catalog" && x.Method == http.MethodGet:
+		return catalogue
+	case found == nil:
+		return other
+	case found[1] != "":
+		return bindings[x.Method+found[2]]
 	}
-	return other
+	return instances[x.Method+found[2]]
 }
 
 func (k kind) is(kinds ...kind) bool {

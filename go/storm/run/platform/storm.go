@@ -113,11 +113,15 @@ const (
 
 func (s *Storm) once(ctx context.Context) *run.Result {
 	found := &result{Result: run.Result{Keys: s.places, OrdersAll: true}}
-	ordering, err := startOrders(s.config.Commands.Order, s.URL())
+	var ordering *shell.Command // or nil
+	var err error
+	if s.config.Commands.Order != "" {
+		ordering, err = shell.Start(s.config.Commands.Order, urlVariable+"="+s.URL())
+	}
 	if err != nil {
-		found.Ended, found.Failed = "the order command can't be run", append(found.Failed, err.Error())
+		found.Ended, found.Failed = "the order command can't be run", append(found.Failed, failedOrders(err).Error())
 	} else {
-		found.Ended = s.storm(ctx, ordering.done())
+		found.Ended = s.storm(ctx, ordering.Done())
 	}
 	if found.Ended == "" {
 		s.source.End()
@@ -129,7 +133,7 @@ func (s *Storm) once(ctx context.Context) *run.Result {
 	if ctx.Err() != nil {
 		found.Ended = run.EndedBefore
 	}
-	hadEnded := ordering.hasEnded()
+	hadEnded := ordering.HasEnded()
 	s.finish(ctx, found)
 	s.endOrders(ordering, hadEnded, found)
 	found.Failed = append(found.Failed, s.shop.failures()...)
@@ -315,54 +319,22 @@ const urlVariable = "OSB_STORM_URL"
 // nothingOrdered is why a run has ended whose order command ended too early.
 const nothingOrdered = "no request about an instance came until the order command ended"
 
-// orders are an order command that goes on while a storm does. A nil orders is none.
-type orders struct{ command *shell.Command }
-
-// startOrders starts an order command, or returns nil if its text is empty.
-func startOrders(text, url string) (*orders, error) {
-	if text == "" {
-		return nil, nil
-	}
-	command, err := shell.Start(text, urlVariable+"="+url)
-	if err != nil {
-		return nil, failedOrders(err)
-	}
-	return &orders{command}, nil
-}
-
 func failedOrders(err error) error { return fmt.Errorf("the order command has failed: %w", err) }
-
-// done returns a channel that is closed once the command has ended. It is nil if there is none.
-func (o *orders) done() <-chan struct{} {
-	if o == nil {
-		return nil
-	}
-	return o.command.Done()
-}
-
-func (o *orders) hasEnded() bool {
-	select {
-	case <-o.done():
-		return true
-	default:
-		return false
-	}
-}
 
 // endOrders kills what is left of the order command. If the command had ended while the broker listened, endOrders
 // notes if it had failed: one that fails later may fail because the broker is gone. If the command had failed, or has
 // ordered nothing, endOrders writes what it has printed last.
-func (s *Storm) endOrders(o *orders, hadEnded bool, found *result) {
+func (s *Storm) endOrders(o *shell.Command, hadEnded bool, found *result) {
 	if o == nil {
 		return
 	}
-	err := o.command.End()
+	err := o.End()
 	isFailure := hadEnded && err != nil
 	if isFailure {
 		found.Failed = append(found.Failed, failedOrders(err).Error())
 	}
 	if isFailure || found.Ended == nothingOrdered {
-		s.warn(o.command.LastLines(), found.Exchanges)
+		s.warn(o.LastLines(), found.Exchanges)
 	}
 }
 

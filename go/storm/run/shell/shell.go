@@ -174,12 +174,21 @@ func Start(command string, variables ...string) (*Command, error) {
 	return c, nil
 }
 
-// Done returns a channel that is closed once the shell has ended. What it has started in the background may go on.
-func (c *Command) Done() <-chan struct{} { return c.ended }
+// Done returns a channel that is closed once the shell has ended. What it has started in the background may go on. It
+// is nil if there is no command.
+func (c *Command) Done() <-chan struct{} {
+	if c == nil {
+		return nil
+	}
+	return c.ended
+}
+
+// HasEnded returns whether the shell has ended.
+func (c *Command) HasEnded() bool { return isClosed(c.Done(), 0) }
 
 // End kills the command with all processes of its group. It returns an error if the command had failed before.
 func (c *Command) End() error {
-	hasEnded := isClosed(c.ended, 0)
+	hasEnded := c.HasEnded()
 	killAll(c.process)
 	<-c.ended
 	isClosed(c.isRead, time.Second) // a process that has left the group may keep the pipe open
