@@ -34,45 +34,54 @@ func Without(
 	case "":
 		return store, locks, nil
 	case "available":
-		return withoutAvailable{store}, locks, nil
+		return changed{store, bindsAnyway}, locks, nil
 	case "held":
-		return withoutHeld{store}, locks, nil
+		return changed{store, ignoreBindings}, locks, nil
 	case "tombstones":
-		return withoutTombstones{store}, locks, nil
+		return changed{store, forgetEnds}, locks, nil
 	case "work":
-		return newWithoutWork(store), locks, nil
+		return changed{store, newDiary().step}, locks, nil
 	case "busy":
-		return withoutBusy{store}, locks, nil
+		return changed{store, ignoreWork}, locks, nil
 	case "locks":
 		return store, withoutLocks{}, nil
 	case "broker":
 		err := failUnfinished(ctx, store)
-		return withoutTombstones{newWithoutWork(idleStore{store})}, withoutLocks{}, err
+		return changed{changed{idleStore{store}, newDiary().step}, forgetEnds}, withoutLocks{}, err
 	}
 	return nil, nil, fmt.Errorf("storm: a broker can't run without %q", part)
 }
 
-// withoutAvailable judges a Bind that doesn't begin once more, as if its instance were available, with each plan of a
-// storm's catalogue.
-type withoutAvailable struct{ broker.NamedStore }
+// changed is a store whose transactions have another step.
+type changed struct {
+	broker.NamedStore
+	step func(key broker.Key, step broker.Step, snapshot broker.Snapshot) (*broker.Entry, error)
+}
 
-func (s withoutAvailable) Change(ctx context.Context, key broker.Key, fence int64, step broker.Step) error {
+// Change has the other step decide what is written.
+func (s changed) Change(ctx context.Context, key broker.Key, fence int64, step broker.Step) error {
 	return s.NamedStore.Change(ctx, key, fence, func(snapshot broker.Snapshot) (*broker.Entry, error) {
-		next, err := step(snapshot)
-		if !key.IsBinding || next != nil || err != nil || snapshot.Holding.IsHeld() {
-			return next, err
-		}
-		for _, plan := range []string{goods.AtOnce, goods.Later, goods.LaterWithBinds, goods.OnlyBindsLater} {
-			available := snapshot
-			if available.Instance.Holding, err = ready(key, osb.MustParseID(goods.Service), osb.MustParseID(plan)); err != nil {
-				return nil, err
-			}
-			if next, err := step(available); err == nil && next != nil && next.Holding.IsHeld() {
-				return next, nil
-			}
-		}
-		return step(snapshot)
+		return s.step(key, step, snapshot)
 	})
+}
+
+// bindsAnyway judges a Bind that doesn't begin once more, as if its instance were available, with each plan of a
+// storm's catalogue.
+func bindsAnyway(key broker.Key, step broker.Step, snapshot broker.Snapshot) (*broker.Entry, error) {
+	next, err := step(snapshot)
+	if !key.IsBinding || next != nil || err != nil || snapshot.Holding.IsHeld() {
+		return next, err
+	}
+	for _, plan := range []string{goods.AtOnce, goods.Later, goods.LaterWithBinds, goods.OnlyBindsLater} {
+		available := snapshot
+		if available.Instance.Holding, err = ready(key, osb.MustParseID(goods.Service), osb.MustParseID(plan)); err != nil {
+			return nil, err
+		}
+		if next, err := step(available); err == nil && next != nil && next.Holding.IsHeld() {
+			return next, nil
+		}
+	}
+	return step(snapshot)
 }
 
 // ready is the holding of a binding's instance that is available.
@@ -86,29 +95,21 @@ func ready(of broker.Key, service, plan osb.ID) (osb.Holding, error) {
 	return available, err
 }
 
-// withoutHeld says of each instance that none of its bindings is held.
-type withoutHeld struct{ broker.NamedStore }
-
-func (s withoutHeld) Change(ctx context.Context, key broker.Key, fence int64, step broker.Step) error {
-	return s.NamedStore.Change(ctx, key, fence, func(snapshot broker.Snapshot) (*broker.Entry, error) {
-		if !key.IsBinding {
-			snapshot.AnyBinding = func() (bool, error) { return false, nil }
-		}
-		return step(snapshot)
-	})
+// ignoreBindings says of each instance that none of its bindings is held.
+func ignoreBindings(key broker.Key, step broker.Step, snapshot broker.Snapshot) (*broker.Entry, error) {
+	if !key.IsBinding {
+		snapshot.AnyBinding = func() (bool, error) { return false, nil }
+	}
+	return step(snapshot)
 }
 
-// withoutTombstones keeps nothing of what has ended.
-type withoutTombstones struct{ broker.NamedStore }
-
-func (s withoutTombstones) Change(ctx context.Context, key broker.Key, fence int64, step broker.Step) error {
-	return s.NamedStore.Change(ctx, key, fence, func(snapshot broker.Snapshot) (*broker.Entry, error) {
-		next, err := step(snapshot)
-		if err == nil && next != nil && next.Holding.HasTombstone() {
-			next = &broker.Entry{}
-		}
-		return next, err
-	})
+// forgetEnds keeps nothing of what has ended.
+func forgetEnds(_ broker.Key, step broker.Step, snapshot broker.Snapshot) (*broker.Entry, error) {
+	next, err := step(snapshot)
+	if err == nil && next != nil && next.Holding.HasTombstone() {
+		next = &broker.Entry{}
+	}
+	return next, err
 }
 
 // withoutLocks are locks that exclude nobody.

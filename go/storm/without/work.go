@@ -20,73 +20,51 @@ import (
 	"pippinterm/osb"
 )
 
-// withoutWork writes no pending work. It only remembers it, until the process ends, for the change that ends the work.
-type withoutWork struct {
-	broker.NamedStore
+// A diary remembers pending work, until the process ends, for the change that ends the work.
+type diary struct {
 	turn  sync.Mutex
 	begun map[broker.Key]broker.Entry
 }
 
-func newWithoutWork(store broker.NamedStore) *withoutWork {
-	return &withoutWork{NamedStore: store, begun: map[broker.Key]broker.Entry{}}
+func newDiary() *diary { return &diary{begun: map[broker.Key]broker.Entry{}} }
+
+// step writes what a step returns, unless that has pending work, which is only remembered. A step that misses its
+// pending work is called again with what is remembered.
+func (d *diary) step(key broker.Key, step broker.Step, snapshot broker.Snapshot) (*broker.Entry, error) {
+	next, err := step(snapshot)
+	d.turn.Lock()
+	defer d.turn.Unlock()
+	if begun, isBegun := d.begun[key]; isBegun && errors.Is(err, broker.ErrLostWork) {
+		snapshot.Entry = begun
+		return step(snapshot)
+	}
+	if err == nil && next != nil && isPending(*next) {
+		d.begun[key] = *next
+		return nil, nil
+	}
+	return next, err
 }
 
-// Change writes what a step returns, unless that has pending work. A step that misses its pending work is called again
-// with what is remembered.
-func (s *withoutWork) Change(ctx context.Context, key broker.Key, fence int64, step broker.Step) error {
-	return s.NamedStore.Change(ctx, key, fence, func(snapshot broker.Snapshot) (*broker.Entry, error) {
-		next, err := step(snapshot)
-		if errors.Is(err, broker.ErrLostWork) {
-			if begun, isBegun := s.of(key); isBegun {
-				snapshot.Entry = begun
-				return step(snapshot)
-			}
-		}
-		if err == nil && next != nil && isPending(*next) {
-			s.remember(key, *next)
-			return nil, nil
-		}
-		return next, err
-	})
-}
-
-func (s *withoutWork) of(key broker.Key) (broker.Entry, bool) {
-	s.turn.Lock()
-	defer s.turn.Unlock()
-	begun, isBegun := s.begun[key]
-	return begun, isBegun
-}
-
-func (s *withoutWork) remember(key broker.Key, entry broker.Entry) {
-	s.turn.Lock()
-	defer s.turn.Unlock()
-	s.begun[key] = entry
-}
-
-// withoutBusy shows a step what is held without its pending work. That stays pending, until other work takes its place.
-type withoutBusy struct{ broker.NamedStore }
-
-// Change writes what a step returns. A step that misses its pending work is called again with it.
-func (s withoutBusy) Change(ctx context.Context, key broker.Key, fence int64, step broker.Step) error {
-	return s.NamedStore.Change(ctx, key, fence, func(snapshot broker.Snapshot) (*broker.Entry, error) {
-		if !isPending(snapshot.Entry) {
-			return step(snapshot)
-		}
-		without, err := idle(snapshot.Holding)
-		if err != nil {
-			return nil, err
-		}
-		shown := snapshot
-		shown.Holding = without
-		next, err := step(shown)
-		if errors.Is(err, broker.ErrLostWork) {
-			return step(snapshot)
-		}
-		if err == nil && next != nil && !isPending(*next) {
-			next = nil
-		}
-		return next, err
-	})
+// ignoreWork shows a step what is held without its pending work. That stays pending, until other work takes its place.
+// A step that misses its pending work is called again with it.
+func ignoreWork(_ broker.Key, step broker.Step, snapshot broker.Snapshot) (*broker.Entry, error) {
+	if !isPending(snapshot.Entry) {
+		return step(snapshot)
+	}
+	without, err := idle(snapshot.Holding)
+	if err != nil {
+		return nil, err
+	}
+	shown := snapshot
+	shown.Holding = without
+	next, err := step(shown)
+	if errors.Is(err, broker.ErrLostWork) {
+		return step(snapshot)
+	}
+	if err == nil && next != nil && !isPending(*next) {
+		next = nil
+	}
+	return next, err
 }
 
 func isPending(entry broker.Entry) bool {
