@@ -184,11 +184,7 @@ func TestBindings(t *testing.T) {
 		unheld   = "3 the broker holds it, and doesn't hold its instance ready at the same plan"
 		wanting  = "2 its record is still wanted"
 	)
-	for name, test := range map[string]struct {
-		scene     scene
-		found     string // while the storm goes on
-		foundLeft string
-	}{
+	checkScenes(t, bound, map[string]finding{
 		"ready":                  {readyBinding, "", ""},
 		"other spaces":           {readyBinding.with(func(s *scene) { s.object = `{"credentials":{"token":"t"}}` }), "", ""},
 		"gone with a tombstone":  {scene{state: Gone, held: "tombstone"}, "", ""},
@@ -222,13 +218,23 @@ func TestBindings(t *testing.T) {
 		"came before the end":    {scene{state: platform.Wanted, restless: true, exists: Whole, came: true, instance: "-"}, "", wanting},
 		"ended without instance": {scene{state: Gone, held: "tombstone", instance: "-"}, "", ""},
 		"instance recorded gone": {readyBinding.with(func(s *scene) { s.instanceState = Gone }), "", "3 its record says ready, and that of its instance says gone"},
-	} {
+	})
+}
+
+// A finding is what has to be found of a scene.
+type finding struct {
+	scene     scene
+	found     string // while the storm goes on
+	foundLeft string
+}
+
+func checkScenes(t *testing.T, key Key, scenes map[string]finding) {
+	t.Helper()
+	for name, test := range scenes {
 		t.Run(name, func(t *testing.T) {
-			s := test.scene.sight(t, bound)
-			if found := texts(s.Wrong(), bound); found != test.found {
-				t.Errorf("%s: while the storm goes on: got %q, want %q", name, found, test.found)
-			}
-			diff.Equal(t, left(t, s, bound), test.foundLeft, "%s: at the end", name)
+			s := test.scene.sight(t, key)
+			diff.Equal(t, texts(s.Wrong(), key), test.found, "while the storm goes on")
+			diff.Equal(t, left(t, s, key), test.foundLeft, "at the end")
 		})
 	}
 }
@@ -250,10 +256,7 @@ func TestInstances(t *testing.T) {
 		absent = "1 its record says ready, and it doesn't exist, or not as a whole"
 		other  = "1 its record says ready, and the broker's row says something else"
 	)
-	for name, test := range map[string]struct {
-		scene            scene
-		found, foundLeft string
-	}{
+	checkScenes(t, one, map[string]finding{
 		"ready":             {scene{state: Ready, held: "ready", exists: Whole}, "", ""},
 		"gone":              {scene{state: Gone}, "", ""},
 		"withdrawn":         {scene{state: platform.Withdrawn}, "", ""},
@@ -270,15 +273,7 @@ func TestInstances(t *testing.T) {
 		"gone, both":   {scene{state: Gone, held: "ready", exists: Part}, stands + "; " + holds, stands + "; " + holds},
 		"absent":       {scene{state: Ready, held: "ready"}, absent, absent},
 		"no row":       {scene{state: Ready, exists: Whole}, other, other},
-	} {
-		t.Run(name, func(t *testing.T) {
-			s := test.scene.sight(t, one)
-			if found := texts(s.Wrong(), one); found != test.found {
-				t.Errorf("%s: while the storm goes on: got %q, want %q", name, found, test.found)
-			}
-			diff.Equal(t, left(t, s, one), test.foundLeft, "%s: at the end", name)
-		})
-	}
+	})
 	s := scene{state: Ready, held: "ready", exists: Whole}.sight(t, one)
 	if all, err := s.Left(context.Background(), usable{is: false}); err != nil || len(all) != 1 {
 		t.Errorf("a resource that can't be used: got %v %v, want 1", all, err)
