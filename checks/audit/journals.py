@@ -260,15 +260,24 @@ class Journal:
         return made
 
 
-# ---- what most stories begin with
+# ---- what most stories begin with, and go on with
 
-CREATED = """
-P claim wanted/1/provision; P send r1 provision 1
-B arrive 1 r1 provision; B change 1 pending-provision; B look absent; B create; B look whole; B change 1 ready
+SENT = "P claim wanted/1/provision; P send r1 provision 1; "
+ASKED = f"{SENT}B arrive 1 r1 provision; "
+PENDING = f"{ASKED}B change 1 pending-provision; "
+POLLING = f"""{PENDING}B change 1 making; B answer 1 202; P hear r1 202; P take 1 polling/1
+P claim polling/2/poll; P send r2 poll 2; """
+"""An asynchronous plan: the instance is being made, and a Poll is out."""
+CREATED = f"""{PENDING}B look absent; B create; B look whole; B change 1 ready
 B answer 1 201; P hear r1 201; P take 1 ready/1
 """
-BOUND = f"""{CREATED}
-P claim wanted/1/provision of binding; P send b1 provision 1 of binding
+REMOVE = "P claim cleaning/2/deprovision; P send r2 deprovision 2; "
+GIVEN_UP = f"P lose r1; P take 1 cleaning/1; {REMOVE}"
+EXPIRED = "P lose r2; P take 2 polling/2; P claim cleaning/3/deprovision; P send r3 deprovision 3; "
+REMOVING = f"{CREATED}{REMOVE}B arrive 2 r2 deprovision; "
+DELETING = f"{REMOVING}B change 2 ready+deprovision; "
+BIND = f"{CREATED}P claim wanted/1/provision of binding; P send b1 provision 1 of binding; "
+BOUND = f"""{BIND}
 B arrive 2 b1 provision of binding; B change 2 pending-provision of binding; B look absent of binding
 B create @c1 of binding; B look whole of binding; B change 2 ready @c1 of binding; B answer 2 201 of binding
 P hear b1 201 @c1 of binding; P take 1 ready/1 @c1 of binding
@@ -278,8 +287,6 @@ B arrive 5 x1 provision of binding; B change 5 pending-provision of binding; B l
 B create @c1 of binding; B look whole of binding; B change 5 ready @c1 of binding; B answer 5 201 of binding
 """
 """Another client creates the binding."""
-REMOVED = f"""{CREATED}
-P claim cleaning/2/deprovision; P send r2 deprovision 2
-B arrive 2 r2 deprovision; B change 2 ready+deprovision; B look whole; B delete; B look absent; B change 2 tombstone
+REMOVED = f"""{DELETING}B look whole; B delete; B look absent; B change 2 tombstone
 B answer 2 200; P hear r2 200; P take 2 gone/2
 """

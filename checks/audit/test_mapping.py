@@ -9,7 +9,27 @@ import json
 from typing import NamedTuple
 
 import pytest
-from audit.journals import BINDING, BOUND, BOUND_BY_OTHERS, CREATED, INSTANCE, PLANS, REMOVED, SERVICE, Journal, started
+from audit.journals import (
+    ASKED,
+    BIND,
+    BINDING,
+    BOUND,
+    BOUND_BY_OTHERS,
+    CREATED,
+    DELETING,
+    EXPIRED,
+    GIVEN_UP,
+    INSTANCE,
+    PENDING,
+    PLANS,
+    POLLING,
+    REMOVE,
+    REMOVED,
+    SENT,
+    SERVICE,
+    Journal,
+    started,
+)
 from osb_audit.broker_side import ALTERED, FAILED, FOREIGN, UNCOMPARED, UNRECORDED
 from osb_audit.events import Story
 from osb_audit.lines import Place, read
@@ -41,29 +61,17 @@ def events_of(found: Story) -> list[str]:
     return [short(it.text) for it in found.events if not it.text.startswith(("instance ", "binding "))]
 
 
-ASKED = "P claim wanted/1/provision; P send r1 provision 1; B arrive 1 r1 provision; "
-PENDING = ASKED + "B change 1 pending-provision; "
 MADE = "create I; arrive I 1; work I part; work I whole; end I done; take I 0"
 BINDING_MADE = f"{MADE}; create B; arrive B 1; work B part; issue B 1; end B done; take B 0"
-# An asynchronous plan: the instance is being made, and a Poll is out.
-MAKING = (
-    PENDING
-    + """B change 1 making; B answer 1 202; P hear r1 202; P take 1 polling/1; P claim polling/2/poll
-         P send r2 poll 2; """
-)
 BEGUN = "create I; arrive I 1; end I done; take I 0; send I"
 POLLED = "create I; arrive I 1; take I 0; send I; "
 WAITING = ASKED + "B change 1 waiting; B answer 1 202; "
-BIND = CREATED + "P claim wanted/1/provision of binding; P send b1 provision 1 of binding; "
-ASYNC_BIND = (
-    BIND
-    + """B arrive 2 b1 provision of binding; B change 2 pending-provision of binding; B change 2 making of binding
-         B answer 2 202 of binding; P hear b1 202 of binding; P take 1 polling/1 of binding
-         P claim polling/2/poll of binding; P send b2 poll 2 of binding; B create @c1 of binding
-         B look whole of binding; B change 0 ready @c1 of binding; B arrive 3 b2 poll of binding
-         B answer 3 200 succeeded of binding
-         P hear b2 200 succeeded of binding; P send b3 fetch of binding; """
-)
+ASYNC_BIND = f"""{BIND}
+B arrive 2 b1 provision of binding; B change 2 pending-provision of binding; B change 2 making of binding
+B answer 2 202 of binding; P hear b1 202 of binding; P take 1 polling/1 of binding; P claim polling/2/poll of binding
+P send b2 poll 2 of binding; B create @c1 of binding; B look whole of binding; B change 0 ready @c1 of binding
+B arrive 3 b2 poll of binding; B answer 3 200 succeeded of binding; P hear b2 200 succeeded of binding
+P send b3 fetch of binding; """
 ASYNC_BOUND = (
     f"{MADE}; create B; arrive B 1; end B done; take B 0; send B; work B part; issue B 1; finish B ok; arrive B 2"
 )
@@ -83,80 +91,72 @@ class Rule(NamedTuple):
 
 
 # A broker is paused in a call, and has lost its lock when it goes on: B2 has done the work. What the call says is old.
-DELETING = (
-    CREATED
-    + """P claim cleaning/2/deprovision; P send r2 deprovision 2; B arrive 2 r2 deprovision
-         B change 2 ready+deprovision; B look whole visit=2; """
-)
+LOOKED = f"{DELETING}B look whole visit=2; "
 TAKEN_OVER = "B2 begin delete; B2 end delete done; B2 look absent; B2 change 0 tombstone from ready+deprovision; "
 DELETED = f"{MADE}; remove I; send I; arrive I 2; "
 LATE_CALLS = {
     "a look that is late, of a worker that was killed before it": Rule(
-        DELETING
-        + """B begin delete visit=2; P lose r2; P take 2 cleaning/2; B3 begin look; P claim cleaning/3/deprovision
-             P send r3 deprovision 3; B2 arrive 1 r3 deprovision; B2 answer 1 422 concurrency-error; B2 look part
-             B2 begin delete; B2 end delete failed; B2 look part; """
-        + TAKEN_OVER
-        + """B3 end look part; B3 begin delete; B3 end delete failed; P hear r3 422 concurrency-error
-             P take 3 cleaning/3; P claim cleaning/4/deprovision; P send r4 deprovision 4
-             B2 arrive 2 r4 deprovision; B2 answer 2 410 other-error; P hear r4 410 other-error; P take 4 gone/4""",
+        f"{LOOKED}B begin delete visit=2; P lose r2; P take 2 cleaning/2; B3 begin look; "
+        "P claim cleaning/3/deprovision; P send r3 deprovision 3; B2 arrive 1 r3 deprovision; "
+        "B2 answer 1 422 concurrency-error; B2 look part; B2 begin delete; B2 end delete failed; B2 look part; "
+        f"{TAKEN_OVER}B3 end look part; B3 begin delete; B3 end delete failed; P hear r3 422 concurrency-error; "
+        "P take 3 cleaning/3; P claim cleaning/4/deprovision; P send r4 deprovision 4; B2 arrive 2 r4 deprovision; "
+        "B2 answer 2 410 other-error; P hear r4 410 other-error; P take 4 gone/4",
         DELETED
         + "work I part; timeout I; send I; arrive I 3; work I part; work I part; work I absent; crash I broker; "
         "end I done; take I 1; send I; arrive I 4; take I 2",
     ),
     "a look that is late, of what was there before a creation": Rule(
-        PENDING + "B begin look visit=1; B2 look absent; B2 create; B2 look whole; B2 change 0 ready from "
-        "pending-provision; B end look absent visit=1; B answer 1 500 other-error",
+        f"{PENDING}B begin look visit=1; B2 look absent; B2 create; B2 look whole; "
+        "B2 change 0 ready from pending-provision; B end look absent visit=1; B answer 1 500 other-error",
         "create I; arrive I 1; work I part; work I whole; end I done",
     ),
     "a look that is late, of what was whole before a deletion": Rule(
-        DELETING + f"B begin look visit=2; {TAKEN_OVER}B end look whole visit=2; B answer 2 500 other-error",
+        f"{LOOKED}B begin look visit=2; {TAKEN_OVER}B end look whole visit=2; B answer 2 500 other-error",
         DELETED + "work I part; work I absent; end I done",
     ),
     "a look that is late, and found what a killed broker had not yet deleted": Rule(
-        f"{DELETING}B begin delete visit=2; B3 begin look; B2 look part; {TAKEN_OVER}B3 end look whole",
+        f"{LOOKED}B begin delete visit=2; B3 begin look; B2 look part; {TAKEN_OVER}B3 end look whole",
         DELETED + "work I part; work I part; work I absent; crash I broker; end I done",
     ),
     "a creation whose line is late": Rule(
-        PENDING + "B begin create visit=1; B2 look whole; B2 change 0 ready from pending-provision; "
+        f"{PENDING}B begin create visit=1; B2 look whole; B2 change 0 ready from pending-provision; "
         "B end create done visit=1; B answer 1 500 other-error",
         "create I; arrive I 1; work I part; work I whole; end I done",
     ),
     "a creation whose line is late, of what is deleted meanwhile": Rule(
-        PENDING + "B begin create visit=1; B2 look whole; B2 change 0 ready from pending-provision; P lose r1; "
-        "P take 1 cleaning/1; P claim cleaning/2/deprovision; P send r2 deprovision 2; B2 arrive 1 r2 deprovision; "
-        "B2 change 1 ready+deprovision; B2 delete visit=1; B end create done visit=1; B2 look absent visit=1; "
-        "B2 change 1 tombstone; B2 answer 1 200; B answer 1 500 other-error",
+        f"{PENDING}B begin create visit=1; B2 look whole; B2 change 0 ready from pending-provision; {GIVEN_UP}"
+        "B2 arrive 1 r2 deprovision; B2 change 1 ready+deprovision; B2 delete visit=1; B end create done visit=1; "
+        "B2 look absent visit=1; B2 change 1 tombstone; B2 answer 1 200; B answer 1 500 other-error",
         "create I; arrive I 1; work I part; work I whole; end I done; timeout I; send I; arrive I 2; work I part; "
         "work I absent; end I done",
     ),
     "a deletion whose line is late": Rule(
-        DELETING + "B begin delete visit=2; B2 look absent; B2 change 0 tombstone from ready+deprovision; "
+        f"{LOOKED}B begin delete visit=2; B2 look absent; B2 change 0 tombstone from ready+deprovision; "
         "B end delete done visit=2; B answer 2 500 other-error",
         DELETED + "work I part; work I absent; end I done",
     ),
     "credentials that are read late": Rule(
-        BIND + "B arrive 2 b1 provision of binding; B change 2 pending-provision of binding; B2 create @c1 of binding; "
-        "B begin credentials visit=2 of binding; B2 look whole of binding; B2 delete of binding; "
-        "B2 create @c2 of binding; B2 look whole of binding; B2 change 0 ready @c2 of binding; "
+        f"{BIND}B arrive 2 b1 provision of binding; B change 2 pending-provision of binding; "
+        "B2 create @c1 of binding; B begin credentials visit=2 of binding; B2 look whole of binding; "
+        "B2 delete of binding; B2 create @c2 of binding; B2 look whole of binding; B2 change 0 ready @c2 of binding; "
         "B end credentials done visit=2 @c1 of binding; B answer 2 500 other-error of binding",
         f"{MADE}; create B; arrive B 1; work B part; issue B 1; work B part; work B absent; work B part; issue B 2; "
         "end B done",
     ),
     "a call that begins late, after whoever ends the work has looked": Rule(
-        DELETING + "B2 look whole; B2 delete; B2 look absent; B begin delete visit=2; "
+        f"{LOOKED}B2 look whole; B2 delete; B2 look absent; B begin delete visit=2; "
         "B2 change 0 tombstone from ready+deprovision; B end delete failed visit=2; B answer 2 500 other-error",
         DELETED + "work I part; work I absent; work I part; work I absent; end I done",
     ),
     "a deletion that is late, and finds nothing": Rule(
-        DELETING + TAKEN_OVER + "B begin delete visit=2; B end delete done visit=2; B look absent visit=2; "
+        f"{LOOKED}{TAKEN_OVER}B begin delete visit=2; B end delete done visit=2; B look absent visit=2; "
         "B answer 2 500 other-error",
         DELETED + "work I part; work I absent; end I done",
     ),
     "a call that is late, while its process changes the row for another request": Rule(
-        PENDING + "B look absent visit=1; B2 create; B2 look whole; B2 change 0 ready from pending-provision; "
-        "B begin create visit=1; P lose r1; P take 1 cleaning/1; P claim cleaning/2/deprovision; "
-        "P send r2 deprovision 2; B arrive 2 r2 deprovision; B change 2 ready+deprovision; "
+        f"{PENDING}B look absent visit=1; B2 create; B2 look whole; B2 change 0 ready from pending-provision; "
+        f"B begin create visit=1; {GIVEN_UP}B arrive 2 r2 deprovision; B change 2 ready+deprovision; "
         "B end create failed visit=1; B look whole visit=1; B answer 1 500 other-error",
         "create I; arrive I 1; work I part; work I whole; end I done; timeout I; send I; arrive I 2",
     ),
@@ -168,13 +168,13 @@ RULES = {
     "removal": Rule(REMOVED, f"{MADE}; remove I; send I; arrive I 2; work I part; work I absent; end I done; take I 1"),
     "binding": Rule(BOUND, BINDING_MADE),
     "an operation": Rule(
-        MAKING + "B create; B look whole; B change 0 ready; B arrive 2 r2 poll; B answer 2 200 succeeded",
+        POLLING + "B create; B look whole; B change 0 ready; B arrive 2 r2 poll; B answer 2 200 succeeded",
         f"{BEGUN}; work I part; work I whole; finish I ok; arrive I 2",
         "async",
     ),
-    "an operation that fails": Rule(MAKING + "B change 0 failed", f"{BEGUN}; finish I fail", "async"),
+    "an operation that fails": Rule(POLLING + "B change 0 failed", f"{BEGUN}; finish I fail", "async"),
     "the first Poll": Rule(
-        WAITING + "P hear r1 202; P take 1 polling/1; P claim polling/2/poll; P send r2 poll 2; B arrive 2 r2 poll; "
+        f"{WAITING}P hear r1 202; P take 1 polling/1; P claim polling/2/poll; P send r2 poll 2; B arrive 2 r2 poll; "
         "B change 2 making; B answer 2 200 in-progress",
         POLLED + "arrive I 2",
         "async",
@@ -182,15 +182,12 @@ RULES = {
     ),
     "no first Poll": Rule(WAITING + "B change 0 failed", "create I; arrive I 1; give-up-waiting I", "async", True),
     "a deletion that overtakes": Rule(
-        "P claim wanted/1/provision; P send r1 provision 1; P lose r1; P take 1 cleaning/1; "
-        "P claim cleaning/2/deprovision; P send r2 deprovision 2; B arrive 1 r2 deprovision; B change 1 tombstone; "
-        "B answer 1 410 other-error; P hear r2 410 other-error; P take 2 gone/2; "
-        "B arrive 2 r1 provision; B answer 2 409 other-error",
+        f"{SENT}{GIVEN_UP}B arrive 1 r2 deprovision; B change 1 tombstone; B answer 1 410 other-error; "
+        "P hear r2 410 other-error; P take 2 gone/2; B arrive 2 r1 provision; B answer 2 409 other-error",
         "create I; timeout I; send I; arrive I 2; take I 0; arrive I 1",
     ),
     "a request while work is pending": Rule(
-        PENDING + "P lose r1; P take 1 cleaning/1; P claim cleaning/2/deprovision; P send r2 deprovision 2; "
-        "B arrive 2 r2 deprovision; B answer 2 422 concurrency-error",
+        f"{PENDING}{GIVEN_UP}B arrive 2 r2 deprovision; B answer 2 422 concurrency-error",
         "create I; arrive I 1; timeout I; send I; arrive I 2",
     ),
     "a request that repeats": Rule(CREATED + "B arrive 2 r1 provision; B answer 2 200", f"{MADE}; arrive I 1"),
@@ -210,8 +207,8 @@ RULES = {
         PENDING + "B answer 1 503 other-error", "create I; arrive I 1; crash I broker"
     ),
     "a refusal": Rule(
-        PENDING
-        + "B begin create; B end create rejected; B look absent; B change 1 tombstone; B answer 1 422 other-error",
+        f"{PENDING}B begin create; B end create rejected; B look absent; B change 1 tombstone; "
+        "B answer 1 422 other-error",
         "create I; arrive I 1; work I part; work I absent; end I refused-422",
     ),
     "a creation that fails": Rule(
@@ -219,16 +216,14 @@ RULES = {
         "create I; arrive I 1; work I part; work I absent; end I before",
     ),
     "an answer 5xx without anything": Rule(
-        ASKED + "B answer 1 503 other-error; P hear r1 503 other-error; P take 1 cleaning/1",
-        "create I; gateway I 503",
+        ASKED + "B answer 1 503 other-error; P hear r1 503 other-error; P take 1 cleaning/1", "create I; gateway I 503"
     ),
     "a garbled answer": Rule(
         CREATED.replace("P hear r1 201; P take 1 ready/1", "P hear r1 201 malformed; P take 1 cleaning/1"),
         MADE.replace("take I 0", "garble I 0"),
     ),
     "a gateway's answer": Rule(
-        "P claim wanted/1/provision; P send r1 provision 1; P hear r1 502 malformed; P take 1 cleaning/1; "
-        "B arrive 1 r1 provision; B answer 1 500 other-error",
+        SENT + "P hear r1 502 malformed; P take 1 cleaning/1; B arrive 1 r1 provision; B answer 1 500 other-error",
         "create I; gateway I 502",
     ),
     "a gateway's answer that says nothing": Rule(
@@ -239,54 +234,50 @@ RULES = {
         PENDING + "P2 claim cleaning/2/deprovision", "create I; arrive I 1; crash I platform; timeout I; send I"
     ),
     "polling that takes too long": Rule(
-        MAKING + "P lose r2; P take 2 polling/2; P claim cleaning/3/deprovision",
+        POLLING + "P lose r2; P take 2 polling/2; P claim cleaning/3/deprovision",
         f"{BEGUN}; timeout I; expire I; send I",
         "async",
     ),
     "a change that was undone": Rule(
-        PENDING + "B create; B change 1 ready !undone; B answer 1 500 other-error; "
+        f"{PENDING}B create; B change 1 ready !undone; B answer 1 500 other-error; "
         "B change 0 ready from pending-provision",
         "create I; arrive I 1; work I part; work I whole; end I unknown; end I done",
     ),
     "a doubtful change that the next one shows": Rule(
-        PENDING + "B create; B change 1 ready !doubtful; B answer 1 503 other-error; "
-        "P hear r1 503 other-error; P take 1 cleaning/1; P claim cleaning/2/deprovision; P send r2 deprovision 2; "
-        "B arrive 2 r2 deprovision; B change 2 ready+deprovision",
+        f"{PENDING}B create; B change 1 ready !doubtful; B answer 1 503 other-error; P hear r1 503 other-error; "
+        f"P take 1 cleaning/1; {REMOVE}B arrive 2 r2 deprovision; B change 2 ready+deprovision",
         "create I; arrive I 1; work I part; work I whole; end I done; gateway I 503; send I; arrive I 2",
     ),
     "a doubtful change that the next one doesn't show": Rule(
-        PENDING + "B create; B change 1 ready !doubtful; B answer 1 503 other-error; "
-        "B2 look whole; B2 change 0 ready from pending-provision",
+        f"{PENDING}B create; B change 1 ready !doubtful; B answer 1 503 other-error; B2 look whole; "
+        "B2 change 0 ready from pending-provision",
         "create I; arrive I 1; work I part; work I whole; crash I broker; end I done",
     ),
     "a doubtful change after another process has gone on": Rule(
-        "P claim wanted/1/provision; P send r1 provision 1; P2 claim cleaning/2/deprovision; "
-        "P take 1 cleaning/1 from wanted/1/provision !doubtful; P2 lose r2; "
+        f"{SENT}P2 claim cleaning/2/deprovision; P take 1 cleaning/1 from wanted/1/provision !doubtful; P2 lose r2; "
         "P2 take 2 cleaning/2 from cleaning/2/deprovision; B arrive 9 x poll",
         "create I; crash I platform; timeout I; send I; timeout I",
     ),
     "a doubtful change that another process has made before": Rule(
-        PENDING + "P lose r1; P take 1 cleaning/1; P claim cleaning/2/deprovision; P send r2 deprovision 2; "
-        "P2 claim cleaning/2/deprovision from cleaning/1 !doubtful; P lose r2; P take 2 cleaning/2",
+        f"{PENDING}{GIVEN_UP}P2 claim cleaning/2/deprovision from cleaning/1 !doubtful; P lose r2; P take 2 cleaning/2",
         "create I; arrive I 1; timeout I; send I; timeout I",
     ),
     "a call of a worker that was paused, and whose lock was gone": Rule(
-        PENDING + "B look absent; B2 create; B2 look whole; B2 change 0 ready from pending-provision; "
-        "B begin create; B end create failed; B answer 1 500 other-error",
+        f"{PENDING}B look absent; B2 create; B2 look whole; B2 change 0 ready from pending-provision; B begin create; "
+        "B end create failed; B answer 1 500 other-error",
         "create I; arrive I 1; work I part; work I whole; end I done",
     ),
     "a doubtful change behind the last one that counts": Rule(
-        PENDING + "B create; B change 1 ready; B answer 1 201; P hear r1 201; P take 1 ready/1; "
+        f"{PENDING}B create; B change 1 ready; B answer 1 201; P hear r1 201; P take 1 ready/1; "
         "P2 claim cleaning/1 from wanted/1/provision !doubtful",
         MADE,
     ),
     "a doubtful change that is the last one": Rule(
-        PENDING + "B create; B change 1 ready !doubtful",
-        "create I; arrive I 1; work I part; work I whole",
+        PENDING + "B create; B change 1 ready !doubtful", "create I; arrive I 1; work I part; work I whole"
     ),
     "a doubtful change that a request has seen": Rule(
-        PENDING + "B create; B change 1 ready !doubtful; B answer 1 503 other-error; "
-        "B arrive 2 r1 provision; B answer 2 200 saw=ready",
+        f"{PENDING}B create; B change 1 ready !doubtful; B answer 1 503 other-error; B arrive 2 r1 provision; "
+        "B answer 2 200 saw=ready",
         "create I; arrive I 1; work I part; work I whole; end I done; arrive I 1",
     ),
     "a kill before a commit": Rule(
@@ -294,43 +285,41 @@ RULES = {
         "create I; arrive I 1; work I part; work I whole; crash I broker; end I done",
     ),
     "a kill before a commit, once another request has arrived": Rule(
-        PENDING + "B create; B change 1 ready; P lose r1; P take 1 cleaning/1; P claim cleaning/2/deprovision; "
-        "P send r2 deprovision 2; B arrive 2 r2 deprovision; B2 look whole; B2 change 0 ready from pending-provision",
+        f"{PENDING}B create; B change 1 ready; {GIVEN_UP}B arrive 2 r2 deprovision; B2 look whole; "
+        "B2 change 0 ready from pending-provision",
         "create I; arrive I 1; work I part; work I whole; timeout I; send I; crash I broker; end I done",
     ),
     "a kill after a commit": Rule(
-        PENDING + "B create; B change 1 ready; P lose r1; P take 1 cleaning/1; P claim cleaning/2/deprovision; "
-        "P send r2 deprovision 2; B2 arrive 1 r2 deprovision; B2 change 1 ready+deprovision",
+        f"{PENDING}B create; B change 1 ready; {GIVEN_UP}B2 arrive 1 r2 deprovision; B2 change 1 ready+deprovision",
         "create I; arrive I 1; work I part; work I whole; end I done; timeout I; send I; arrive I 2",
     ),
     "a change that a request hasn't seen": Rule(
-        MAKING + "B create; B look whole; B change 0 ready; B arrive 2 r2 poll; B answer 2 200 in-progress saw=making; "
-        "P hear r2 200 in-progress; P take 2 polling/2; P claim polling/3/poll; P send r3 poll 3; B arrive 3 r3 poll; "
-        "B answer 3 200 succeeded saw=ready",
+        f"{POLLING}B create; B look whole; B change 0 ready; B arrive 2 r2 poll; "
+        "B answer 2 200 in-progress saw=making; P hear r2 200 in-progress; P take 2 polling/2; "
+        "P claim polling/3/poll; P send r3 poll 3; B arrive 3 r3 poll; B answer 3 200 succeeded saw=ready",
         f"{BEGUN}; work I part; work I whole; arrive I 2; finish I ok; take I 1; send I; arrive I 3",
         "async",
     ),
     "two changes of one commit that a request hasn't seen": Rule(
-        MAKING + "P lose r2; P take 2 polling/2; P claim cleaning/3/deprovision; P send r3 deprovision 3; B create; "
-        "B look whole; B arrive 3 r3 deprovision; B change 0 ready; B change 3 ready+deprovision; B arrive 2 r2 poll; "
-        "B answer 2 200 in-progress saw=making",
+        f"{POLLING}{EXPIRED}B create; B look whole; B arrive 3 r3 deprovision; B change 0 ready; "
+        "B change 3 ready+deprovision; B arrive 2 r2 poll; B answer 2 200 in-progress saw=making",
         f"{BEGUN}; timeout I; expire I; send I; work I part; work I whole; arrive I 2; finish I ok; arrive I 3",
         "async",
     ),
     "a change that is still to be committed, and that a request hasn't seen": Rule(
-        MAKING + "B create; B look whole; B change 0 ready; B arrive 2 r2 poll committed=2; "
+        f"{POLLING}B create; B look whole; B change 0 ready; B arrive 2 r2 poll committed=2; "
         "B answer 2 200 in-progress saw=making",
         f"{BEGUN}; work I part; work I whole; arrive I 2; finish I ok",
         "async",
     ),
     "a change that nobody knows whether it is committed, and that a request hasn't seen": Rule(
-        MAKING + "B create; B look whole; B change 0 ready !doubtful; B arrive 2 r2 poll committed=3; "
+        f"{POLLING}B create; B look whole; B change 0 ready !doubtful; B arrive 2 r2 poll committed=3; "
         "B answer 2 200 in-progress saw=making; B arrive 3 r2 poll committed=3; B answer 3 200 succeeded saw=ready",
         f"{BEGUN}; work I part; work I whole; arrive I 2; finish I ok; arrive I 2",
         "async",
     ),
     "a change of another process that a request hasn't seen": Rule(
-        MAKING + "B create; B look whole; B change 0 ready; B2 arrive 2 r2 poll committed=9; "
+        f"{POLLING}B create; B look whole; B change 0 ready; B2 arrive 2 r2 poll committed=9; "
         "B2 answer 2 200 in-progress saw=making",
         f"{BEGUN}; work I part; work I whole; arrive I 2; finish I ok",
         "async",
@@ -341,54 +330,50 @@ RULES = {
         locks_can_be_lost=False,
     ),
     "workers one after the other, with locks that can't be lost": Rule(
-        PENDING + "B look absent visit=1; B begin create visit=1; B end create failed visit=1; B look absent visit=1; "
+        f"{PENDING}B look absent visit=1; B begin create visit=1; B end create failed visit=1; B look absent visit=1; "
         "B answer 1 500 other-error; B2 look absent; B2 create; B look whole; B2 look whole; B2 change 0 ready",
         "create I; arrive I 1; work I part; work I absent; end I unknown; work I part; work I whole; end I done",
         locks_can_be_lost=False,
     ),
     "a change while a request waits": Rule(
-        MAKING + "B arrive 2 r2 poll; B create; B look whole; B change 0 ready; B answer 2 200 succeeded saw=ready",
+        POLLING + "B arrive 2 r2 poll; B create; B look whole; B change 0 ready; B answer 2 200 succeeded saw=ready",
         f"{BEGUN}; work I part; work I whole; finish I ok; arrive I 2",
         "async",
     ),
     "a request between two changes": Rule(
-        MAKING + "B arrive 2 r2 poll; B create; B look whole; B change 0 ready; P lose r2; P take 2 polling/2; "
-        "P claim cleaning/3/deprovision; P send r3 deprovision 3; B arrive 3 r3 deprovision; "
+        f"{POLLING}B arrive 2 r2 poll; B create; B look whole; B change 0 ready; {EXPIRED}B arrive 3 r3 deprovision; "
         "B change 3 ready+deprovision; B answer 2 200 succeeded saw=ready",
         f"{BEGUN}; work I part; work I whole; finish I ok; arrive I 2; timeout I; expire I; send I; arrive I 3",
         "async",
     ),
     "a Bind that is put off": Rule(
-        BIND + "P claim cleaning/2/deprovision; P send r2 deprovision 2; B arrive 2 r2 deprovision; "
-        "B change 2 ready+deprovision; B arrive 3 b1 provision of binding; B answer 3 503 other-error of binding",
+        f"{BIND}{REMOVE}B arrive 2 r2 deprovision; B change 2 ready+deprovision; B arrive 3 b1 provision of binding; "
+        "B answer 3 503 other-error of binding",
         f"{MADE}; create B; remove I; send I; arrive I 2; arrive B 1",
     ),
     "a deletion that is put off": Rule(
-        BOUND + "P command cleaning/1; P claim cleaning/2/deprovision; P send r2 deprovision 2; "
-        "B arrive 3 r2 deprovision; B answer 3 422 concurrency-error",
+        f"{BOUND}P command cleaning/1; {REMOVE}B arrive 3 r2 deprovision; B answer 3 422 concurrency-error",
         f"{MADE}; create B; arrive B 1; work B part; issue B 1; end B done; take B 0; remove I; send I; arrive I 2",
     ),
     "credentials that are fetched": Rule(
-        ASYNC_BIND + "B arrive 4 b3 fetch of binding; B answer 4 200 of binding; P hear b3 200 @c1 of binding; "
+        f"{ASYNC_BIND}B arrive 4 b3 fetch of binding; B answer 4 200 of binding; P hear b3 200 @c1 of binding; "
         "P take 2 ready/2 @c1 of binding",
         f"{ASYNC_BOUND}; fetch B; take-fetched B 1 0",
         binding="async",
     ),
     "credentials that aren't fetched": Rule(
-        ASYNC_BIND + "P lose b3 of binding; P take 2 polling/2 of binding",
-        f"{ASYNC_BOUND}; timeout B",
-        binding="async",
+        ASYNC_BIND + "P lose b3 of binding; P take 2 polling/2 of binding", f"{ASYNC_BOUND}; timeout B", binding="async"
     ),
     "credentials that are lost on the way": Rule(
-        ASYNC_BIND + "B arrive 4 b3 fetch of binding; B answer 4 200 of binding; P lose b3 of binding; "
+        f"{ASYNC_BIND}B arrive 4 b3 fetch of binding; B answer 4 200 of binding; P lose b3 of binding; "
         "P take 2 polling/2 of binding",
         f"{ASYNC_BOUND}; fetch B; timeout B",
         binding="async",
     ),
     "credentials that another process reads": Rule(
-        BIND
-        + "B arrive 2 b1 provision of binding; B change 2 pending-provision of binding; B begin create of binding; "
-        "B2 look whole of binding; B2 credentials @c1 of binding; B2 change 0 ready @c1 of binding",
+        f"{BIND}B arrive 2 b1 provision of binding; B change 2 pending-provision of binding; "
+        "B begin create of binding; B2 look whole of binding; B2 credentials @c1 of binding; "
+        "B2 change 0 ready @c1 of binding",
         f"{MADE}; create B; arrive B 1; work B part; work B whole; issue B 1; crash B broker; end B done",
     ),
     "a Fetch that finds nothing": Rule(
@@ -399,17 +384,16 @@ RULES = {
         f"{MADE}; create B; arrive B 1; work B part; issue B 1; end B done; timeout B",
     ),
     "a binding whose deletion fails": Rule(
-        BOUND
-        + """P command cleaning/1 of binding; P claim cleaning/2/deprovision of binding
-                   P send b2 deprovision 2 of binding; B arrive 3 b2 deprovision of binding
-                   B change 3 ready+deprovision @c1 of binding; B look whole of binding; B begin delete of binding
-                   B end delete failed of binding; B look whole of binding; B change 3 ready @c1 of binding
-                   B answer 3 500 other-error of binding""",
+        f"{BOUND}P command cleaning/1 of binding; P claim cleaning/2/deprovision of binding; "
+        "P send b2 deprovision 2 of binding; B arrive 3 b2 deprovision of binding; "
+        "B change 3 ready+deprovision @c1 of binding; B look whole of binding; B begin delete of binding; "
+        "B end delete failed of binding; B look whole of binding; B change 3 ready @c1 of binding; "
+        "B answer 3 500 other-error of binding",
         f"{MADE}; create B; arrive B 1; work B part; issue B 1; end B done; take B 0; remove B; send B; arrive B 2; "
         "work B part; issue B 1; end B before",
     ),
     "a command without a journal": Rule(
-        MAKING + "P2 command cleaning/2 from polling/2; P claim cleaning/3/deprovision",
+        POLLING + "P2 command cleaning/2 from polling/2; P claim cleaning/3/deprovision",
         f"{BEGUN}; crash I platform; timeout I; expire I; send I",
         "async",
     ),
@@ -425,19 +409,17 @@ RULES = {
         CREATED + "B arrive 2 x provision attributes=5; B answer 2 409 other-error", MADE
     ),
     "another client's binding": Rule(
-        BOUND_BY_OTHERS
-        + """B arrive 6 x2 deprovision of binding; B change 6 ready+deprovision @c1 of binding; B look whole of binding
-             B delete of binding; B look absent of binding; B change 6 tombstone of binding; B answer 6 200 of binding
-             P claim cleaning/2/deprovision; P send r2 deprovision 2; B arrive 2 r2 deprovision
-             B change 2 ready+deprovision; B look whole; B delete; B look absent; B change 2 tombstone; B answer 2 200
-             P hear r2 200; P take 2 gone/2""",
+        f"{BOUND_BY_OTHERS}B arrive 6 x2 deprovision of binding; B change 6 ready+deprovision @c1 of binding; "
+        "B look whole of binding; B delete of binding; B look absent of binding; B change 6 tombstone of binding; "
+        f"B answer 6 200 of binding; {REMOVE}B arrive 2 r2 deprovision; B change 2 ready+deprovision; B look whole; "
+        "B delete; B look absent; B change 2 tombstone; B answer 2 200; P hear r2 200; P take 2 gone/2",
         f"{MADE}; remove I; send I; arrive I 2; work I part; work I absent; end I done; take I 1",
     ),
     "a Bind with other parameters": Rule(
         BOUND + "B arrive 3 x provision attributes=5 of binding; B answer 3 409 other-error of binding", BINDING_MADE
     ),
     "a creation with other parameters while work is pending": Rule(
-        PENDING + "B arrive 2 x provision attributes=5; B answer 2 409 other-error; B arrive 3 x provision; "
+        f"{PENDING}B arrive 2 x provision attributes=5; B answer 2 409 other-error; B arrive 3 x provision; "
         "B answer 3 503 other-error",
         "create I; arrive I 1",
     ),
@@ -458,9 +440,8 @@ RULES = {
         f"{MADE}; remove I; send I; arrive I 2; work I part; work I absent; end I done; take I 1",
     ),
     "an order with other attributes than before, after a creation that failed": Rule(
-        PENDING
-        + "B begin create; B end create failed; B look absent; B change 1 -; B answer 1 500 other-error; "
-        + "B arrive 2 x provision attributes=5; B answer 2 503 other-error",
+        f"{PENDING}B begin create; B end create failed; B look absent; B change 1 -; B answer 1 500 other-error; "
+        "B arrive 2 x provision attributes=5; B answer 2 503 other-error",
         "create I; arrive I 1; work I part; work I absent; end I before",
     ),
 }
@@ -563,9 +544,7 @@ UNJUDGED = {
         7,
     ),
     "of an instance that has a binding of another client": (
-        BOUND_BY_OTHERS
-        + "P claim cleaning/2/deprovision; P send r2 deprovision 2; B arrive 2 r2 deprovision; "
-        + "B answer 2 422 concurrency-error",
+        f"{BOUND_BY_OTHERS}{REMOVE}B arrive 2 r2 deprovision; B answer 2 422 concurrency-error",
         "another client has a binding of it",
         9,
     ),
@@ -597,14 +576,13 @@ UNJUDGED = {
         0,
     ),
     "an answer of nobody": (
-        "B arrive 9 x poll; P claim wanted/1/provision; P send r1 provision 1; P hear r1 400 other-error; "
-        "P take 1 gone/1",
+        f"B arrive 9 x poll; {SENT}P hear r1 400 other-error; P take 1 gone/1",
         "no journal of a broker has",
         2,
     ),
     "an id that returns": (REMOVED + "B arrive 3 r9 provision; B change 3 pending-provision !returned", "returned", 14),
     "a failed binding that the broker deletes": (
-        BIND + "B arrive 2 b1 provision of binding; B change 2 waiting of binding; B answer 2 202 of binding; "
+        f"{BIND}B arrive 2 b1 provision of binding; B change 2 waiting of binding; B answer 2 202 of binding; "
         "B change 0 failed of binding; B arrive 3 x deprovision; B change 3 failed+deprovision of binding",
         "has deleted a binding by itself",
         11,

@@ -8,14 +8,24 @@ from typing import Any, NamedTuple
 import pytest
 from audit.conftest import audited
 from audit.journals import (
+    ASKED,
+    BIND,
     BINDING,
     BOUND,
     BOUND_BY_OTHERS,
     CREATED,
+    DELETING,
+    EXPIRED,
+    GIVEN_UP,
     INSTANCE,
     OTHER,
+    PENDING,
     PLANS,
+    POLLING,
+    REMOVE,
     REMOVED,
+    REMOVING,
+    SENT,
     SERVICE,
     Journal,
     held_text,
@@ -61,25 +71,18 @@ def differing(story: str, shown: str, plan: str = "sync") -> Slip:
 
 HELD_READY, HELD_MAKING = (held_text(it, "sync", INSTANCE) for it in ("ready", "making"))
 HELD_READY_ASYNC, HELD_MAKING_ASYNC = (held_text(it, "async", INSTANCE) for it in ("ready", "making"))
-ASKED = "P claim wanted/1/provision; P send r1 provision 1; B arrive 1 r1 provision; "
 OF_THE_TABLES = "a request changes the row otherwise than the tables"
 # A worker has just ended the creation of an instance.
 STALE = "the request was decided on a row that there never was while it was carried out"
-ENDED = """P claim wanted/1/provision; P send r1 provision 1; B arrive 1 r1 provision; B change 1 pending-provision
-           B change 1 making; B answer 1 202; P hear r1 202; P take 1 polling/1; P claim polling/2/poll
-           P send r2 poll 2; B create; B look whole; B change 0 ready; """
-REMOVING_FAILS = (
-    CREATED
-    + """P claim cleaning/2/deprovision; P send r2 deprovision 2; B arrive 2 r2 deprovision
-         B change 2 ready+deprovision; B look whole visit=2; B2 look whole; B2 begin delete
-         B2 end delete failed; B2 look whole; B2 change 0 ready from ready+deprovision; """
-)
+ENDED = f"{POLLING}B create; B look whole; B change 0 ready; "
+REMOVING_FAILS = f"""{DELETING}B look whole visit=2; B2 look whole; B2 begin delete
+B2 end delete failed; B2 look whole; B2 change 0 ready from ready+deprovision; """
 ASKED7 = ASKED.replace("B arrive", "B7 arrive")
 """B7 and B8 have locks that can't be lost."""
 PROCESS = "000000000000420"
 SLIPS = {
     "an answer before the commit": slip(
-        ASKED + "B change 1 pending-provision; B create; B answer 1 201; B change 1 ready",
+        PENDING + "B create; B answer 1 201; B change 1 ready",
         "broker 6 | it is answered while its work is pending | no answer yet | 201",
     ),
     "an answer before the first commit": slip(
@@ -92,37 +95,29 @@ SLIPS = {
         f"broker 3 | work {INSTANCE} part",
     ),
     "an end without its work": skipped(
-        ASKED + "B change 1 pending-provision; B look absent; B change 1 ready; B answer 1 201",
-        f"broker 6 | end {INSTANCE} done",
+        PENDING + "B look absent; B change 1 ready; B answer 1 201", f"broker 6 | end {INSTANCE} done"
     ),
     "a binding of another client whose instance is being created": slip(
-        ASKED
-        + "B change 1 pending-provision; B arrive 2 x1 provision of binding; B change 2 pending-provision of binding",
+        PENDING + "B arrive 2 x1 provision of binding; B change 2 pending-provision of binding",
         f"broker 5 | {OF_THE_TABLES} | none, -, -",
     ),
     "a deletion beside a binding of another client": slip(
-        BOUND_BY_OTHERS
-        + "P claim cleaning/2/deprovision; P send r2 deprovision 2; B arrive 2 r2 deprovision; "
-        + "B change 2 ready+deprovision",
+        f"{BOUND_BY_OTHERS}{REMOVE}B arrive 2 r2 deprovision; B change 2 ready+deprovision",
         f"broker 23 | {OF_THE_TABLES} | ready, -, -",
     ),
     "a tombstone that is lost, of another client's binding": slip(
-        BOUND_BY_OTHERS
-        + """B arrive 6 x2 deprovision of binding; B change 6 ready+deprovision @c1 of binding; B look whole of binding
-             B delete of binding; B look absent of binding; B change 6 - of binding""",
+        f"{BOUND_BY_OTHERS}B arrive 6 x2 deprovision of binding; B change 6 ready+deprovision @c1 of binding; "
+        "B look whole of binding; B delete of binding; B look absent of binding; B change 6 - of binding",
         "broker 30 | no end of the pending work leaves this | another row",
     ),
     "end twice": slip(
-        ASKED
-        + "B change 1 pending-provision; B create; B look whole; B change 1 ready; B answer 1 201; "
-        + "B change 0 ready from pending-provision",
+        PENDING + "B create; B look whole; B change 1 ready; B answer 1 201; B change 0 ready from pending-provision",
         "broker 10 | the row isn't as its last change has left it",
     ),
     "a change that is committed in spite of its error": slip(
-        ASKED
-        + """B change 1 pending-provision; B create; B look whole; B change 1 ready !undone; B answer 1 500 other-error
-             P hear r1 500 other-error; P take 1 cleaning/1; P claim cleaning/2/deprovision; P send r2 deprovision 2
-             B arrive 2 r2 deprovision; B change 2 ready+deprovision""",
+        f"{PENDING}B create; B look whole; B change 1 ready !undone; B answer 1 500 other-error; "
+        f"P hear r1 500 other-error; P take 1 cleaning/1; {REMOVE}B arrive 2 r2 deprovision; "
+        "B change 2 ready+deprovision",
         "broker 12 | the row isn't as its last change has left it",
     ),
     "a part that is left behind a deletion": skipped(REMOVED + "B2 look part", f"broker 3 | work {INSTANCE} part"),
@@ -131,39 +126,32 @@ SLIPS = {
         f"broker 3 | work {INSTANCE} part",
     ),
     "a creation that is done once more after its end": skipped(
-        ASKED
-        + """B change 1 pending-provision; B look absent visit=1; B create visit=1; B look whole visit=1
-             B change 1 ready; B create visit=1; B answer 1 201""",
+        f"{PENDING}B look absent visit=1; B create visit=1; B look whole visit=1; B change 1 ready; B create visit=1; "
+        "B answer 1 201",
         f"broker 11 | work {INSTANCE} part",
     ),
     "a creation that comes after a deletion has ended": skipped(
-        ASKED
-        + """B change 1 pending-provision; B look absent visit=1; B2 create; B2 look whole
-             B2 change 0 ready from pending-provision; P lose r1; P take 1 cleaning/1; P claim cleaning/2/deprovision
-             P send r2 deprovision 2; B2 arrive 1 r2 deprovision; B2 change 1 ready+deprovision; B2 delete visit=1
-             B2 look absent visit=1; B2 change 1 tombstone; B2 answer 1 200; B create visit=1""",
+        f"{PENDING}B look absent visit=1; B2 create; B2 look whole; B2 change 0 ready from pending-provision; "
+        f"{GIVEN_UP}B2 arrive 1 r2 deprovision; B2 change 1 ready+deprovision; B2 delete visit=1; "
+        "B2 look absent visit=1; B2 change 1 tombstone; B2 answer 1 200; B create visit=1",
         f"broker 6 | work {INSTANCE} part",
     ),
     "a deletion that comes after its instance is ready again": skipped(
         REMOVING_FAILS + "B begin delete visit=2; B end delete done visit=2", f"broker 16 | work {INSTANCE} part"
     ),
     "an end that another worker's call has made wrong": skipped(
-        ASKED
-        + """B change 1 pending-provision; B create visit=1; B look whole visit=1; B2 look whole; B2 delete
-             B change 1 ready""",
+        PENDING + "B create visit=1; B look whole visit=1; B2 look whole; B2 delete; B change 1 ready",
         f"broker 8 | end {INSTANCE} done",
     ),
     "an operation that ends well without its resource": skipped(
-        ASKED + "B change 1 pending-provision; B change 1 making; B answer 1 202; B look absent; B change 0 ready",
+        PENDING + "B change 1 making; B answer 1 202; B look absent; B change 0 ready",
         f"broker 8 | finish {INSTANCE} ok",
         "async",
     ),
     "a record taken with an old attempt's answer": skipped(
-        CREATED
-        + """P command cleaning/1; P claim cleaning/2/deprovision; P send r2 deprovision 2; P lose r2
-             P take 2 cleaning/2; P claim cleaning/3/deprovision; P send r3 deprovision 3
-             B arrive 2 r2 deprovision; B change 2 ready+deprovision; B delete; B look absent; B change 2 tombstone
-             B answer 2 200; P take 3 gone/3""",
+        f"{CREATED}P command cleaning/1; {REMOVE}P lose r2; P take 2 cleaning/2; P claim cleaning/3/deprovision; "
+        "P send r3 deprovision 3; B arrive 2 r2 deprovision; B change 2 ready+deprovision; B delete; B look absent; "
+        "B change 2 tombstone; B answer 2 200; P take 3 gone/3",
         f"platform 13 | take {INSTANCE} 1",
     ),
     "a removed tombstone": slip(
@@ -176,9 +164,7 @@ SLIPS = {
         "work provision, tombstone -, answer -",
     ),
     "ready after a garbled 201": differing(
-        ASKED
-        + "B change 1 pending-provision; B create; B look whole; B change 1 ready; B answer 1 201; "
-        + "P hear r1 201 malformed; P take 1 ready/1",
+        PENDING + "B create; B look whole; B change 1 ready; B answer 1 201; P hear r1 201 malformed; P take 1 ready/1",
         f"platform 5 | garble {INSTANCE} 0 | state cleaning | state ready",
     ),
     "ready after a 500": differing(
@@ -194,65 +180,54 @@ SLIPS = {
         f"broker 13 | the request was decided on a row that there never was | {HELD_READY} | {HELD_MAKING}",
     ),
     "an answer that no broker gave": slip(
-        ASKED + "B change 1 pending-provision; B create; B look whole; P hear r1 400 other-error; P take 1 gone/1",
+        PENDING + "B create; B look whole; P hear r1 400 other-error; P take 1 gone/1",
         "platform 5 | the platform took an answer that no broker has given | - | 400-Other",
     ),
     "a deletion that is put off without need": differing(
-        CREATED + "P claim cleaning/2/deprovision; P send r2 deprovision 2; B arrive 2 r2 deprovision; "
-        "B answer 2 422 concurrency-error saw=ready",
+        REMOVING + "B answer 2 422 concurrency-error saw=ready",
         f"broker 13 | arrive {INSTANCE} 2 | answer - | answer 422-ConcurrencyError",
     ),
     "a deletion that is put off for a binding that has ended": differing(
-        BOUND
-        + """P claim cleaning/2/deprovision of binding; P send b2 deprovision 2 of binding
-             B arrive 3 b2 deprovision of binding; B change 3 ready+deprovision of binding; B delete of binding
-             B look absent of binding; B change 3 tombstone of binding; B answer 3 200 of binding
-             P hear b2 200 of binding; P take 2 gone/2 of binding; P claim cleaning/2/deprovision
-             P send r2 deprovision 2; B arrive 4 r2 deprovision; B answer 4 422 concurrency-error""",
+        f"{BOUND}P claim cleaning/2/deprovision of binding; P send b2 deprovision 2 of binding; "
+        "B arrive 3 b2 deprovision of binding; B change 3 ready+deprovision of binding; B delete of binding; "
+        "B look absent of binding; B change 3 tombstone of binding; B answer 3 200 of binding; "
+        f"P hear b2 200 of binding; P take 2 gone/2 of binding; {REMOVE}B arrive 4 r2 deprovision; "
+        "B answer 4 422 concurrency-error",
         f"broker 31 | arrive {INSTANCE} 2 | answer - | answer 422-ConcurrencyError",
     ),
     "a Poll that is put off without need": differing(
-        """P claim wanted/1/provision; P send r1 provision 1; B arrive 1 r1 provision; B change 1 pending-provision
-           B change 1 making; B answer 1 202; P hear r1 202; P take 1 polling/1; B create; B look whole
-           B change 0 ready; P claim polling/2/poll; P send r2 poll 2; B arrive 2 r2 poll
-           B answer 2 200 in-progress saw=ready""",
+        f"{PENDING}B change 1 making; B answer 1 202; P hear r1 202; P take 1 polling/1; B create; B look whole; "
+        "B change 0 ready; P claim polling/2/poll; P send r2 poll 2; B arrive 2 r2 poll; "
+        "B answer 2 200 in-progress saw=ready",
         f"broker 12 | arrive {INSTANCE} 2 | answer 200-succeeded | answer 200-in-progress",
         "async",
     ),
     "a deletion that hides that it was carried out": differing(
-        CREATED + "P claim cleaning/2/deprovision; P send r2 deprovision 2; B arrive 2 r2 deprovision; "
-        "B change 2 ready+deprovision; B delete; B look absent; B change 2 tombstone; B answer 2 422 concurrency-error",
+        DELETING + "B delete; B look absent; B change 2 tombstone; B answer 2 422 concurrency-error",
         f"broker 18 | end {INSTANCE} done | answer 200 | answer 422-ConcurrencyError",
     ),
     "the end of a creation over a deletion": slip(
-        CREATED + "P claim cleaning/2/deprovision; P send r2 deprovision 2; B arrive 2 r2 deprovision; "
-        "B change 2 ready+deprovision; B change 1 ready",
-        "broker 14 | a request changes the row that was answered before | no change",
+        DELETING + "B change 1 ready", "broker 14 | a request changes the row that was answered before | no change"
     ),
     "a request that ends the work of another": slip(
-        CREATED + "B arrive 2 r1 provision; P claim cleaning/2/deprovision; P send r2 deprovision 2; "
-        "B arrive 3 r2 deprovision; B change 3 ready+deprovision; B change 2 ready",
+        f"{CREATED}B arrive 2 r1 provision; {REMOVE}B arrive 3 r2 deprovision; B change 3 ready+deprovision; "
+        "B change 2 ready",
         "broker 15 | a provision ends the pending work of a deprovision | no change",
     ),
     "a Poll of another answer": differing(
-        """P claim wanted/1/provision; P send r1 provision 1; B arrive 1 r1 provision; B change 1 pending-provision
-           B change 1 making; B answer 1 202; P hear r1 202; P take 1 polling/1; P claim polling/2/poll
-           P send r2 poll 2; B arrive 2 r2 poll; B answer 2 200 succeeded""",
+        POLLING + "B arrive 2 r2 poll; B answer 2 200 succeeded",
         f"broker 7 | arrive {INSTANCE} 2 | answer 200-in-progress | answer 200-succeeded",
         "async",
     ),
     "a Poll of what was held before the commit of a change that another request has found": slip(
-        ENDED
-        + """P lose r2; P take 2 polling/2; P claim cleaning/3/deprovision; P send r3 deprovision 3
-             B arrive 3 r3 deprovision; B change 3 ready+deprovision; B arrive 2 r2 poll
-             B answer 2 200 in-progress saw=making""",
+        f"{ENDED}{EXPIRED}B arrive 3 r3 deprovision; B change 3 ready+deprovision; B arrive 2 r2 poll; "
+        "B answer 2 200 in-progress saw=making",
         f"broker 14 | {STALE} | | {HELD_MAKING_ASYNC}",
         "async",
     ),
     "a Poll of what was held before the commit of a change that another request has seen": slip(
-        ENDED
-        + """B arrive 2 r2 poll; B answer 2 200 succeeded saw=ready; P hear r2 200 succeeded; P take 2 ready/2
-             B arrive 3 r2 poll; B answer 3 200 in-progress saw=making""",
+        f"{ENDED}B arrive 2 r2 poll; B answer 2 200 succeeded saw=ready; P hear r2 200 succeeded; P take 2 ready/2; "
+        "B arrive 3 r2 poll; B answer 3 200 in-progress saw=making",
         f"broker 14 | {STALE} | {HELD_READY_ASYNC} | {HELD_MAKING_ASYNC}",
         "async",
     ),
@@ -262,10 +237,8 @@ SLIPS = {
         "async",
     ),
     "a Poll of what was held before a change that was committed, while another is still to be": slip(
-        ENDED
-        + """P lose r2; P take 2 polling/2; P claim cleaning/3/deprovision; P send r3 deprovision 3
-             B arrive 3 r3 deprovision; B change 3 ready+deprovision; B arrive 2 r2 poll committed=3
-             B answer 2 200 in-progress saw=making""",
+        f"{ENDED}{EXPIRED}B arrive 3 r3 deprovision; B change 3 ready+deprovision; B arrive 2 r2 poll committed=3; "
+        "B answer 2 200 in-progress saw=making",
         f"broker 14 | {STALE} | | {HELD_MAKING_ASYNC}",
         "async",
     ),
@@ -278,22 +251,18 @@ SLIPS = {
         "async",
     ),
     "two workers of one process at once": slip(
-        ASKED7
-        + """B7 change 1 pending-provision; B7 begin create visit=1; B7 begin look; B7 end look part
-             B7 end create done visit=1; B7 look whole visit=1; B7 change 1 ready; B7 answer 1 201""",
+        f"{ASKED7}B7 change 1 pending-provision; B7 begin create visit=1; B7 begin look; B7 end look part; "
+        "B7 end create done visit=1; B7 look whole visit=1; B7 change 1 ready; B7 answer 1 201",
         f"broker 5 | {TOGETHER} | create of {PROCESS}7 goes on | look of {PROCESS}7 begins",
     ),
     "two workers of two processes at once": slip(
-        ASKED7
-        + """B7 change 1 pending-provision; B7 begin look visit=1; B8 begin look; B7 end look absent visit=1
-             B7 create visit=1; B8 end look absent; B7 look whole visit=1; B7 change 1 ready; B7 answer 1 201""",
+        f"{ASKED7}B7 change 1 pending-provision; B7 begin look visit=1; B8 begin look; B7 end look absent visit=1; "
+        "B7 create visit=1; B8 end look absent; B7 look whole visit=1; B7 change 1 ready; B7 answer 1 201",
         f"broker 2 | {TOGETHER} | look of {PROCESS}7 goes on | look of {PROCESS}8 begins",
     ),
     "other credentials in the row": differing(
-        CREATED
-        + """P claim wanted/1/provision of binding; P send b1 provision 1 of binding; B arrive 2 b1 provision of binding
-             B change 2 pending-provision of binding; B create @c1 of binding; B look whole of binding
-             B change 2 ready @c2 of binding""",
+        f"{BIND}B arrive 2 b1 provision of binding; B change 2 pending-provision of binding; B create @c1 of binding; "
+        "B look whole of binding; B change 2 ready @c2 of binding",
         f"broker 18 | end {INSTANCE}/{BINDING} done | credentials 1 | credentials 2",
     ),
     "other credentials in the record": differing(
@@ -304,8 +273,7 @@ SLIPS = {
         BOUND + "P claim cleaning/2/deprovision", f"platform 10 | remove {INSTANCE}"
     ),
     "a Bind without its instance": skipped(
-        """P claim wanted/1/provision; P send r1 provision 1; B arrive 1 r1 provision
-           P claim wanted/1/provision of binding; P send b1 provision 1 of binding""",
+        ASKED + "P claim wanted/1/provision of binding; P send b1 provision 1 of binding",
         f"platform 4 | create {INSTANCE}/{BINDING}",
     ),
     "a record that goes back": slip(
@@ -361,16 +329,14 @@ SLIPS |= {
         f"platform 4 | {NOT_COME} | - | 201",
     ),
     "a timeout that is taken before the answer has come": slip(
-        "P claim wanted/1/provision; P send r1 provision 1; P take 1 cleaning/1; P hear r1 502 malformed; "
-        "B arrive 1 r1 provision",
+        SENT + "P take 1 cleaning/1; P hear r1 502 malformed; B arrive 1 r1 provision",
         f"platform 4 | {NOT_COME} | - | 502-malformed",
     ),
     "a timeout that is taken before a Fetch is answered": slip(
-        """P claim wanted/1/provision; P send r1 provision 1; B arrive 1 r1 provision; B change 1 pending-provision
-           B create; B look whole; B change 1 ready; B answer 1 201; P hear r1 201; P take 1 ready/1
-           P claim wanted/1/provision of binding; P send b1 provision 1 of binding; P lose b1 of binding
-           P take 1 cleaning/1 of binding; P claim cleaning/2/deprovision of binding; P send b2 fetch of binding
-           P take 2 cleaning/2 of binding; P lose b2 of binding""",
+        f"{PENDING}B create; B look whole; B change 1 ready; B answer 1 201; P hear r1 201; P take 1 ready/1; "
+        "P claim wanted/1/provision of binding; P send b1 provision 1 of binding; P lose b1 of binding; "
+        "P take 1 cleaning/1 of binding; P claim cleaning/2/deprovision of binding; P send b2 fetch of binding; "
+        "P take 2 cleaning/2 of binding; P lose b2 of binding",
         f"platform 12 | {NOT_COME} | - | lost",
     ),
     "an answer that is taken though it was lost": slip(
@@ -410,12 +376,8 @@ OURS, THEIRS = f"service {SERVICE}", f"service {OTHER}"
 BEGUN, KEPT = "than the request that began it", "what is held has another service, plan or attributes than before"
 WORK, RECORD = "the pending work isn't that of its request", "the record has another service or plan than the order"
 WORKED = "B look absent; B create; B look whole; "
-ALL_OTHER = ASKED + "B change 1 pending-provision plan=async; " + WORKED + "B change 1 ready plan=async; B answer 1 201"
-REMOVING = CREATED + "P claim cleaning/2/deprovision; P send r2 deprovision 2; B arrive 2 r2 deprovision; "
-BINDING_ASKED = (
-    CREATED
-    + "P claim wanted/1/provision of binding; P send b1 provision 1 of binding; B arrive 2 b1 provision of binding; "
-)
+ALL_OTHER = f"{ASKED}B change 1 pending-provision plan=async; {WORKED}B change 1 ready plan=async; B answer 1 201"
+BINDING_ASKED = f"{BIND}B arrive 2 b1 provision of binding; "
 SLIPS |= {
     "another plan in all texts": slip(ALL_OTHER, f"broker 3 | {BEGUN} | {ONE} | {TWO}"),
     "another service": slip(
@@ -431,20 +393,16 @@ SLIPS |= {
         "B arrive 1 x provision; B change 1 pending-provision plan=async", f"broker 3 | {BEGUN} | {ONE} | {TWO}"
     ),
     "another plan at the end": slip(
-        f"{ASKED}B change 1 pending-provision; {WORKED}B change 1 ready plan=async",
-        f"broker 10 | {KEPT} | {ONE} | {TWO}",
+        f"{PENDING}{WORKED}B change 1 ready plan=async", f"broker 10 | {KEPT} | {ONE} | {TWO}"
     ),
     "another service at the end": slip(
-        f"{ASKED}B change 1 pending-provision; {WORKED}B change 1 ready service=other",
-        f"broker 10 | {KEPT} | {OURS} | {THEIRS}",
+        f"{PENDING}{WORKED}B change 1 ready service=other", f"broker 10 | {KEPT} | {OURS} | {THEIRS}"
     ),
     "other attributes at the end": slip(
-        f"{ASKED}B change 1 pending-provision; {WORKED}B change 1 ready attributes=5",
-        f"broker 10 | {KEPT} | {NONE} | {FIVE}",
+        f"{PENDING}{WORKED}B change 1 ready attributes=5", f"broker 10 | {KEPT} | {NONE} | {FIVE}"
     ),
     "other attributes after an operation": slip(
-        ASKED
-        + "B change 1 pending-provision; B change 1 making; B create; B look whole; B change 0 ready attributes=5",
+        PENDING + "B change 1 making; B create; B look whole; B change 0 ready attributes=5",
         f"broker 9 | {KEPT} | {NONE} | {FIVE}",
         "async",
     ),
@@ -506,9 +464,8 @@ SLIPS |= {
         "broker 13 | the answer isn't the tables' | 200 | 409-Other",
     ),
     "a conflict that the platform takes": slip(
-        ASKED
-        + f"B change 1 pending-provision; {WORKED}B change 1 ready; B arrive 2 r1 provision attributes=5; "
-        + "B answer 2 409 other-error; P hear r1 409 other-error; P take 1 unsettled/1",
+        f"{PENDING}{WORKED}B change 1 ready; B arrive 2 r1 provision attributes=5; B answer 2 409 other-error; "
+        "P hear r1 409 other-error; P take 1 unsettled/1",
         "platform 5 | the platform took an answer that no broker has given | - | 409-Other",
     ),
 }
@@ -527,14 +484,14 @@ DISAGREE = {
         ],
     ),
     "gone with a row and a resource": (
-        ASKED + "B change 1 pending-provision; B create; B change 1 ready; P lose r1; P take 1 gone/1",
+        PENDING + "B create; B change 1 ready; P lose r1; P take 1 gone/1",
         [
             f"{INSTANCE}: the platform records gone, and the broker has the row ready, pending -",
             f"{INSTANCE}: the platform records gone, and the resource is whole",
         ],
     ),
     "gone with pending work": (
-        ASKED + "B change 1 pending-provision; P lose r1; P take 1 gone/1",
+        PENDING + "P lose r1; P take 1 gone/1",
         [f"{INSTANCE}: the platform records gone, and the broker has the row none, pending provision"],
     ),
     "other credentials": (

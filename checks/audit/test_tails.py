@@ -11,7 +11,7 @@ from typing import NamedTuple
 
 import pytest
 from audit.conftest import Audit
-from audit.journals import CREATED, INSTANCE, Journal
+from audit.journals import CREATED, EXPIRED, GIVEN_UP, INSTANCE, POLLING, REMOVE, SENT, Journal
 from osb_audit.judging import UNSHOWN
 from osb_audit.splitting import Splitting, split
 from osb_audit.tails import Doubts, doubts, joined
@@ -47,12 +47,12 @@ class Tail(NamedTuple):
 
 
 TAILS = {
-    "nothing shows a commit": Tail(READY + BATCH + DELETED, unshown=1),
-    "a batch whose last change wasn't committed": Tail(READY + BATCH + CLAIMED_AGAIN + DELETED, unshown=1),
+    "nothing shows a commit": Tail(f"{READY}{BATCH}{DELETED}", unshown=1),
+    "a batch whose last change wasn't committed": Tail(f"{READY}{BATCH}{CLAIMED_AGAIN}{DELETED}", unshown=1),
     "a batch whose first change wasn't committed": Tail(
         f"{READY}2 P claim cleaning/2/deprovision; P claim wanted/1/provision of binding; {CLAIMED_AGAIN}{DELETED}"
     ),
-    "a batch that was committed": Tail(READY + BATCH + TAKEN_OVER + DELETED, DELETED_BESIDE),
+    "a batch that was committed": Tail(f"{READY}{BATCH}{TAKEN_OVER}{DELETED}", DELETED_BESIDE),
     "a batch that was committed in part": Tail(
         f"{READY}{BATCH}{TAKEN_OVER}P2 claim wanted/1/provision from - of binding; P2 send b1 provision 1 of binding",
         f"{INSTANCE}: the record isn't as its last change has left it",
@@ -76,7 +76,7 @@ TAILS = {
     ),
     "a change that others had overtaken": Tail(
         f"{READY}{CLAIMED_AGAIN}2 P2 lose q2; 2 P2 take 2 cleaning/2; 2 P claim cleaning/2/deprovision from ready/1; "
-        f"2 P2 claim cleaning/3/deprovision from cleaning/2"
+        "2 P2 claim cleaning/3/deprovision from cleaning/2"
     ),
     "a change that others had overtaken, and that nothing follows": Tail(
         f"{READY}{CLAIMED_AGAIN}2 P2 lose q2; 2 P2 take 2 cleaning/2; 2 P claim cleaning/2/deprovision from ready/1"
@@ -87,26 +87,18 @@ TAILS = {
         f"{OTHER}: the record isn't as its last change has left it",
     ),
     "a change that is wrong itself": Tail(
-        f"{READY}P claim wanted/1/provision from ready/1", f"{INSTANCE}: no events of the platform lead to this record"
+        READY + "P claim wanted/1/provision from ready/1", f"{INSTANCE}: no events of the platform lead to this record"
     ),
     "several changes of a broker": Tail(
-        """P claim wanted/1/provision; P send r1 provision 1; B arrive 1 r1 provision; B change 1 pending-provision
-           B change 1 making; B answer 1 202; P hear r1 202; P take 1 polling/1; P claim polling/2/poll
-           P send r2 poll 2; P lose r2; P take 2 polling/2; P claim cleaning/3/deprovision; P send r3 deprovision 3
-           B create; B look whole; B arrive 3 r3 deprovision; B change 0 ready; B change 3 ready+deprovision
-           B2 look whole; B2 change 0 ready from making""",
+        f"{POLLING}{EXPIRED}B create; B look whole; B arrive 3 r3 deprovision; B change 0 ready; "
+        "B change 3 ready+deprovision; B2 look whole; B2 change 0 ready from making",
         plan="async",
     ),
     "an answer before its change": Tail(
-        """P claim wanted/1/provision; P send r1 provision 1; P lose r1; P take 1 cleaning/1
-           P claim cleaning/2/deprovision; P send r2 deprovision 2; B arrive 1 r2 deprovision
-           B answer 1 410 other-error; B change 1 tombstone""",
+        f"{SENT}{GIVEN_UP}B arrive 1 r2 deprovision; B answer 1 410 other-error; B change 1 tombstone",
         f"{INSTANCE}: it is answered before its change is written",
     ),
-    "an answer that is taken wrongly": Tail(
-        f"{READY}P claim cleaning/2/deprovision; P send r2 deprovision 2; P lose r2; P take 2 gone/2",
-        f"timeout {INSTANCE}",
-    ),
+    "an answer that is taken wrongly": Tail(f"{READY}{REMOVE}P lose r2; P take 2 gone/2", f"timeout {INSTANCE}"),
 }
 
 
