@@ -21,6 +21,8 @@ import sys
 import time
 from pathlib import Path
 
+import ledger
+
 TOP = Path(__file__).resolve().parent.parent
 SOURCES = ("src", "specs", "proofs")
 # What rt stores about a crate for its next proof.
@@ -32,14 +34,10 @@ LANES = max(1, min(3 * len(os.sched_getaffinity(0)) // 4, MEMORY // (5 << 30)))
 
 def crates_of(wanted: list[str]) -> dict[str, tuple[str, list[str]]]:
     """The wanted crates and all below them, lowest first: the line of each in crates.txt, and the crates in it."""
-    lines = [line.partition("#")[0].strip() for line in (TOP / "crates.txt").read_text().splitlines()]
-    rows = {line.partition(":")[0]: line for line in lines if line}
-    uses = {name: [it for it in row.partition(":")[2].split() if it in rows] for name, row in rows.items()}
-    needed = set(wanted)
-    order = [*graphlib.TopologicalSorter(uses).static_order()]
-    for name in reversed(order):
-        needed.update(uses[name] if name in needed else [])
-    return {name: (rows[name], uses[name]) for name in order if name in needed}
+    rows = ledger.rows_of(TOP)
+    needed = ledger.below(rows, wanted)
+    uses = {name: below for name, (_, below) in rows.items() if name in needed}
+    return {name: rows[name] for name in graphlib.TopologicalSorter(uses).static_order()}
 
 
 class NotBuilt(Exception):
@@ -78,13 +76,9 @@ class Build:
             found[name] = sum(it.lstat().st_size for it in files) + max(above, default=0)
         return found
 
-    def below(self, name: str) -> set[str]:
-        """The crate and all below it."""
-        return {name}.union(*(self.below(it) for it in self.crates[name][1]))
-
     def furnish(self, name: str) -> Path:
         """Makes the crate's work directory, and returns its folder there. The line of an archive says staticlib."""
-        workdir, names = self.workdirs / name, self.below(name)
+        workdir, names = self.workdirs / name, ledger.below(self.crates, [name])
         for it, part in [*((it, part) for it in names for part in (*SOURCES, "out/rlib")), (name, KEPT)]:
             source = TOP / "crates" / it / part
             if source.is_dir():

@@ -3,12 +3,12 @@
 from __future__ import annotations
 
 import json
-import subprocess
 import sys
 from collections.abc import Callable
 from pathlib import Path
 from typing import Any, NamedTuple
 
+import commands
 import pytest
 from audit.journals import Journal
 
@@ -35,8 +35,7 @@ Audit = Callable[..., Ran]
 
 def audited(*words: str) -> Ran:
     """Runs osb-audit with these arguments. The fixtures `replay` and `library` have to come first."""
-    line = [sys.executable, str(TOP / "programs" / "run.py"), "osb_audit", *words]
-    ran = subprocess.run(line, stdin=subprocess.DEVNULL, capture_output=True, text=True, timeout=SECONDS)
+    ran = commands.ran([sys.executable, TOP / "programs" / "run.py", "osb_audit", *words], seconds=SECONDS)
     return Ran(ran.returncode, ran.stdout, ran.stderr)
 
 

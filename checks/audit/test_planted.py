@@ -6,10 +6,10 @@ from __future__ import annotations
 
 import json
 import shlex
-import subprocess
 from pathlib import Path
 from typing import Any, NamedTuple
 
+import commands
 import pytest
 from audit.conftest import TOP, Audit, Ran
 from audit.running import ENVIRONMENT, Platform, serving
@@ -184,8 +184,7 @@ def built(slip: Slip, folder: Path, program: str = "osb-broker", file: str = SOU
     words = "-trimpath", "-ldflags=-w", "-tags", SHIPPED, "-overlay", str(folder / "overlay")
     line = [str(TOP / "scripts" / "go"), "build", *words, "-o", str(folder / program), f"./cmd/{program}"]
     with building():
-        ran = subprocess.run(line, stdin=subprocess.DEVNULL, capture_output=True, text=True)
-    assert ran.returncode == 0, ran.stderr
+        commands.printed(line)
     return folder / program
 
 
@@ -197,7 +196,7 @@ def test_planted_in_storm(audit: Audit, storm: Path, tmp_path: Path, name: str) 
     with serving(built(slip, tmp_path), tmp_path, at):
         words = "--url", f"http://{at}", "--journal", str(tmp_path / "journals"), "--instances", "6", "--seconds", "2"
         line = [str(storm), "broker", *words, "--request-seconds", "2", "--late-seconds", "3", "--seed", "1"]
-        done = subprocess.run(line, env=ENVIRONMENT, stdin=subprocess.DEVNULL, capture_output=True, text=True)
+        done = commands.ran(line, environment=ENVIRONMENT)
     assert done.returncode in statuses, done.stdout + done.stderr
     ran = audit(tmp_path / "journals", tmp_path / "journals" / "platform")
     assert ran.status == 1, ran

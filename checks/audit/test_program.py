@@ -7,11 +7,11 @@ import json
 import os
 import re
 import shlex
-import subprocess
 import time
 from collections.abc import Callable
 from pathlib import Path
 
+import commands
 import pytest
 from audit.conftest import TOP, Audit, Ran
 from audit.journals import BOUND, CREATED, INSTANCE, REMOVED, Journal
@@ -83,9 +83,9 @@ def test_report(audit: Audit, tmp_path: Path) -> None:
 
 def test_launcher_and_help(replay: Path, tmp_path: Path) -> None:
     journals_in(tmp_path / "journals", REMOVED)
-    ran = subprocess.run([TOP / "osb-audit", "journals"], cwd=tmp_path, capture_output=True, text=True)
+    ran = commands.ran([TOP / "osb-audit", "journals"], tmp_path)
     assert (ran.returncode, ran.stdout, ran.stderr) == (0, "1 instance, 14 events, 0 differences\n", "")
-    ran = subprocess.run([TOP / "osb-audit", "--help"], capture_output=True, text=True)
+    ran = commands.ran([TOP / "osb-audit", "--help"])
     assert (ran.returncode, ran.stderr) == (0, "") and ran.stdout.startswith("usage: osb-audit [-h] [--json]")
 
 
@@ -206,8 +206,7 @@ def test_room(audit: Audit, tmp_path: Path) -> None:
     assert ran == Ran(4, "", f"osb-audit: {room}: write failed: No such file or directory\n")
     room.mkdir()
     assert audit(broker, platform, options=options).status == 0 and list(room.iterdir()) == []
-    line = ["prlimit", "--fsize=0", str(TOP / "osb-audit"), *options, str(broker), str(platform)]
-    done = subprocess.run(line, stdin=subprocess.DEVNULL, capture_output=True, text=True)
+    done = commands.ran(["prlimit", "--fsize=0", TOP / "osb-audit", *options, broker, platform])
     assert (done.returncode, done.stdout) == (4, ""), done
     assert re.fullmatch(f"osb-audit: {room}/osb-audit-\\w+: write failed: File too large\n", done.stderr), done
     assert list(room.iterdir()) == []
@@ -467,7 +466,7 @@ def test_the_folder_of_a_storm(audit: Audit, tmp_path: Path) -> None:
 
 @pytest.mark.parametrize("options", [["--jobs", "0"], ["--jobs"], ["--fast"], [], ["--unjudged", "100.5", "journals"]])
 def test_rejected_arguments(options: list[str]) -> None:
-    ran = subprocess.run([TOP / "osb-audit", *options], capture_output=True, text=True)
+    ran = commands.ran([TOP / "osb-audit", *options])
     assert (ran.returncode, ran.stdout) == (2, "") and "\nosb-audit: error: " in ran.stderr
 
 

@@ -7,6 +7,7 @@ import signal
 import subprocess
 from pathlib import Path
 
+import commands
 import pytest
 from conform.login import ENVIRONMENT, WITH_SIGNALS
 from conform.small_broker import SmallBroker
@@ -20,8 +21,7 @@ DECIDED = "async-bind-during-provision"
 
 
 def conform(storm: Path, url: str, *arguments: str) -> subprocess.CompletedProcess[str]:
-    line = [str(storm), "conform", "--url", url, "--poll-seconds", "0.01", *arguments]
-    return subprocess.run(line, env=ENVIRONMENT, stdin=subprocess.DEVNULL, capture_output=True, text=True, timeout=60)
+    return commands.ran([storm, "conform", "--url", url, "--poll-seconds", "0.01", *arguments], environment=ENVIRONMENT)
 
 
 def test_broker_passes(storm: Path, served: str, tmp_path: Path) -> None:

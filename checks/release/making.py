@@ -3,10 +3,10 @@
 from __future__ import annotations
 
 import os
-import subprocess
 import sys
 from pathlib import Path
 
+from commands import printed
 from go.toolchain import TOP
 
 
@@ -14,7 +14,4 @@ def make(to: Path, checkout: Path = TOP) -> None:
     """Makes a release of a checkout in this folder."""
     kept = {name: it for name, it in os.environ.items() if name not in ("LIBOSB_FOLDER", "OSB_REPLAY", "LIBOSB")}
     line = [sys.executable, "-m", "release", "--to", str(to)]
-    ran = subprocess.run(
-        line, cwd=checkout, env=kept, stdin=subprocess.DEVNULL, capture_output=True, text=True, timeout=1800
-    )
-    assert ran.returncode == 0, ran.stdout + ran.stderr
+    printed(line, checkout, kept)

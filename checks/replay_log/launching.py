@@ -10,6 +10,7 @@ from pathlib import Path
 from typing import NamedTuple
 
 import pytest
+from commands import printed, ran
 from replay.running import TOP, Ran
 from waiting import until
 
@@ -100,18 +101,15 @@ def fails(ran: Ran, status: int, message: str) -> None:
 
 def states(pid: int) -> list[str]:
     """The states of the processes of a session, without those that have ended and wait for their parent."""
-    ran = subprocess.run(["ps", "-o", "stat=", "-s", str(pid)], capture_output=True, text=True, check=False)
-    return [it for it in ran.stdout.split() if not it.startswith("Z")]
+    return [it for it in ran(["ps", "-o", "stat=", "-s", pid]).stdout.split() if not it.startswith("Z")]
 
 
 def is_running(pid: int) -> bool:
-    ran = subprocess.run(["ps", "-o", "stat=", "-p", str(pid)], capture_output=True, text=True, check=False)
-    return ran.stdout.strip()[:1] not in ("", "Z")
+    return ran(["ps", "-o", "stat=", "-p", pid]).stdout.strip()[:1] not in ("", "Z")
 
 
 def parent(pid: int) -> int:
-    ran = subprocess.run(["ps", "-o", "ppid=", "-p", str(pid)], capture_output=True, text=True, check=True)
-    return int(ran.stdout)
+    return int(printed(["ps", "-o", "ppid=", "-p", pid]))
 
 
 def terminate(process: subprocess.Popen[bytes]) -> Ran:

@@ -8,6 +8,7 @@ import subprocess
 import time
 from pathlib import Path
 
+import commands
 import pytest
 from conform.auditing import audited
 from conform.login import WITH_SIGNALS
@@ -18,18 +19,13 @@ pytestmark = pytest.mark.slow
 SHORT = "--seconds", "12", "--settle-seconds", "60", "--instances", "60", "--late-seconds", "3", "--seed", "1"
 
 
+def command(storm: Path, broker: Path, platform: Path, *arguments: object) -> list[str]:
+    line = storm, "both", "--broker-program", broker, "--platform-program", platform, *arguments
+    return [str(it) for it in line]
+
+
 def both(storm: Path, broker: Path, platform: Path, *arguments: str) -> subprocess.CompletedProcess[str]:
-    line = [
-        str(storm),
-        "both",
-        "--broker-program",
-        str(broker),
-        "--platform-program",
-        str(platform),
-        *SHORT,
-        *arguments,
-    ]
-    return subprocess.run(line, stdin=subprocess.DEVNULL, capture_output=True, text=True, timeout=400)
+    return commands.ran(command(storm, broker, platform, *SHORT, *arguments), seconds=400)
 
 
 def script(path: Path, text: str) -> Path:
@@ -141,8 +137,7 @@ def broken_off(tmp_path: Path) -> tuple[Path, dict[str, str]]:
 def test_signal(storm: Path, broker: Path, platform: Path, replay: Path, tmp_path: Path, number: int) -> None:
     """After a signal both programs end, and nothing is left. Their journals are as the model says."""
     journal, environment = broken_off(tmp_path)
-    line = [*WITH_SIGNALS, str(storm), "both", "--broker-program", str(broker), "--platform-program", str(platform)]
-    line += ["--journal", str(journal)]
+    line = [*WITH_SIGNALS, *command(storm, broker, platform, "--journal", journal)]
     with subprocess.Popen(line, env=environment, stdout=subprocess.PIPE, text=True) as it:
         time.sleep(4)
         it.send_signal(number)
@@ -156,8 +151,6 @@ def test_signal(storm: Path, broker: Path, platform: Path, replay: Path, tmp_pat
 def test_killed(storm: Path, broker: Path, platform: Path, replay: Path, tmp_path: Path) -> None:
     """If osb-storm is killed, both programs end with it. Their journals are as the model says."""
     journal, environment = broken_off(tmp_path)
-    line = [str(storm), "both", "--broker-program", str(broker), "--platform-program", str(platform)]
-    line += ["--journal", str(journal)]
 
     def runs() -> bool:
         return subprocess.run(["pgrep", "-f", str(tmp_path)], stdout=subprocess.DEVNULL).returncode == 0
@@ -165,6 +158,7 @@ def test_killed(storm: Path, broker: Path, platform: Path, replay: Path, tmp_pat
     def has_arrived() -> bool:
         return any('"arrived"' in it.read_text() for it in journal.glob("broker/*.jsonl"))
 
+    line = command(storm, broker, platform, "--journal", journal)
     with subprocess.Popen(line, env=environment, stdout=subprocess.DEVNULL) as it:
         until(has_arrived)
         it.kill()
