@@ -30,13 +30,10 @@ const plans = `{"services": [{
 func brokerAt(t *testing.T, rules broker.Rules) string {
 	t.Helper()
 	ctx, top, silent := context.Background(), t.TempDir(), broker.Silent{}
-	store, err := sqlite.Open(ctx, filepath.Join(top, "store"), silent)
-	check(t, err)
+	store := diff.Value(sqlite.Open(ctx, filepath.Join(top, "store"), silent))(t)
 	t.Cleanup(func() { _ = store.Close() })
-	backend, err := folders.New(filepath.Join(top, "folders"))
-	check(t, err)
-	catalogue, err := broker.NewCatalogue([]byte(plans), true)
-	check(t, err)
+	backend := diff.Value(folders.New(filepath.Join(top, "folders")))(t)
+	catalogue := diff.Value(broker.NewCatalogue([]byte(plans), true))(t)
 	t.Cleanup(func() { expectNothing(t, filepath.Join(top, "folders")) })
 	return serve(t, broker.NewService(catalogue, store, backend, backend.Locks(), rules, silent))
 }
@@ -53,8 +50,7 @@ func serve(t *testing.T, service *broker.Service) string {
 		sweeper.Run(ctx, stop, 2, 10*time.Millisecond)
 	}()
 	t.Cleanup(func() { cancel(); <-swept })
-	users, err := broker.NewUsers(map[string][]string{"u": {"p"}})
-	check(t, err)
+	users := diff.Value(broker.NewUsers(map[string][]string{"u": {"p"}}))(t)
 	handler, err := broker.NewHandler(ctx, service, broker.Config{
 		Users: users, LongestBody: 1 << 20, AtOnce: 8, Touch: sweeper.Touch, Observer: silent,
 	})
@@ -68,8 +64,7 @@ func serve(t *testing.T, service *broker.Service) string {
 func expectNothing(t *testing.T, top string) {
 	t.Helper()
 	for _, pattern := range []string{"*", ".bindings/*"} {
-		names, err := filepath.Glob(filepath.Join(top, pattern))
-		check(t, err)
+		names := diff.Value(filepath.Glob(filepath.Join(top, pattern)))(t)
 		for _, name := range names {
 			if base := filepath.Base(name); pattern != "*" || base[0] != '.' {
 				t.Errorf("got %s left, want nothing", name)
@@ -90,8 +85,7 @@ func TestOurBroker(t *testing.T) {
 				RequestTime: 20 * time.Second, OperationTime: 20 * time.Second, Pause: 5 * time.Millisecond,
 			})
 			check(t, err)
-			report, err := r.Run(context.Background())
-			check(t, err)
+			report := diff.Value(r.Run(context.Background()))(t)
 			// Without the rule of the first Poll, an instance may exist before the Bind arrives.
 			isAsync := plan == "later" || plan == "make-later"
 			for _, result := range report.Results {

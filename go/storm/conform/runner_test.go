@@ -30,8 +30,7 @@ func TestEndedRun(t *testing.T) {
 					}
 				}
 				r := runnerFor(t, configFor(serve(t, m)))
-				report, err := r.Run(ctx)
-				check(t, err)
+				report := diff.Value(r.Run(ctx))(t)
 				if sent := atomic.LoadInt64(&count); sent != after || report.Ended == "" {
 					t.Errorf("got %d requests, want %d; the end: %q", sent, after, report.Ended)
 				}
@@ -443,8 +442,7 @@ func TestSeen(t *testing.T) {
 // secretsOf are the forms in which the passwords of a run may be returned, and what each begins with.
 func secretsOf(t *testing.T) (all []string) {
 	t.Helper()
-	quoted, err := json.Marshal(password)
-	check(t, err)
+	quoted := diff.Value(json.Marshal(password))(t)
 	for _, secret := range []string{password, password + "-wrong"} {
 		all = append(all, base64.StdEncoding.EncodeToString([]byte("u:" + secret))[:12])
 	}

@@ -17,8 +17,7 @@ func TestList(t *testing.T) {
 	if err := WriteList(&text, list); err != nil || text.String() != "12.3 answer-lost\n12/2.1 hang-up\n" {
 		t.Fatalf("got the error %v and the list %q, want two lines", err, text.String())
 	}
-	read, err := ReadList(strings.NewReader("# a comment\n\n" + text.String()))
-	check(t, err)
+	read := diff.Value(ReadList(strings.NewReader("# a comment\n\n" + text.String())))(t)
 	diff.Check(t, read, list, "the list")
 }
 

@@ -68,8 +68,7 @@ func between(t *testing.T, broker *counting, kind Kind, change func(*Config)) *P
 	t.Helper()
 	server := httptest.NewServer(broker)
 	t.Cleanup(server.Close)
-	at, err := url.Parse(server.URL)
-	check(t, err)
+	at := diff.Value(url.Parse(server.URL))(t)
 	config := Config{
 		Broker: at, Journal: NewJournal(), Source: ByList(1, []Entry{{Number{Place{1, 0}, 1}, kind}}),
 		RequestTime: requestTime, Late: late, AnswerTime: 5 * time.Second, Catalogue: []byte(`{"services": []}`),
@@ -78,8 +77,7 @@ func between(t *testing.T, broker *counting, kind Kind, change func(*Config)) *P
 	if change != nil {
 		change(&config)
 	}
-	p, err := Listen(config)
-	check(t, err)
+	p := diff.Value(Listen(config))(t)
 	t.Cleanup(p.Close)
 	return p
 }
@@ -341,8 +339,7 @@ func TestSeveralBrokers(t *testing.T) {
 	p := between(t, one, None, func(c *Config) {
 		server := httptest.NewServer(other)
 		t.Cleanup(server.Close)
-		at, err := url.Parse(server.URL)
-		check(t, err)
+		at := diff.Value(url.Parse(server.URL))(t)
 		c.Others, c.ForwardsOthers = []*url.URL{at}, true
 		c.Source = BySeed(1, 1, Weights{{Repeated, 1}})
 	})
@@ -427,12 +424,10 @@ func TestForwardsOthers(t *testing.T) {
 	})
 	others := []string{"/v2/service_instances/theirs", "/v2/x", "/v2/catalog"}
 	for _, path := range others {
-		sent, err := http.NewRequest(http.MethodGet, p.URL()+path, nil)
-		check(t, err)
+		sent := diff.Value(http.NewRequest(http.MethodGet, p.URL()+path, nil))(t)
 		sent.SetBasicAuth("platform", "secret")
 		sent.Header.Set("X-Broker-Api-Version", "2.17")
-		answer, err := http.DefaultTransport.RoundTrip(sent)
-		check(t, err)
+		answer := diff.Value(http.DefaultTransport.RoundTrip(sent))(t)
 		_ = answer.Body.Close()
 	}
 	if put(p, path).err == nil {
@@ -453,8 +448,7 @@ func TestForwardsOthers(t *testing.T) {
 func TestExpectContinue(t *testing.T) {
 	broker := &counting{}
 	p := between(t, broker, None, nil)
-	connection, err := net.Dial("tcp", strings.TrimPrefix(p.URL(), "http://"))
-	check(t, err)
+	connection := diff.Value(net.Dial("tcp", strings.TrimPrefix(p.URL(), "http://")))(t)
 	defer connection.Close()
 	_ = connection.SetDeadline(time.Now().Add(10 * time.Second))
 	head := "PUT " + path + " HTTP/1.1\r\nHost: x\r\nExpect: 100-continue\r\nContent-Length: 2\r\n\r\n"
@@ -471,8 +465,7 @@ func TestExpectContinue(t *testing.T) {
 	if _, err := io.WriteString(connection, "{}"); err != nil {
 		t.Fatal(err)
 	}
-	answer, err := http.ReadResponse(came, nil)
-	check(t, err)
+	answer := diff.Value(http.ReadResponse(came, nil))(t)
 	defer answer.Body.Close()
 	if whole, _, _ := broker.counts(); whole != 1 || broker.bodies[0] != "{}" || answer.StatusCode != 201 {
 		t.Errorf("got %d requests and the status %d, want 1 and 201", whole, answer.StatusCode)
@@ -482,8 +475,7 @@ func TestExpectContinue(t *testing.T) {
 // A connection on which nothing has arrived isn't a request that may still reach the broker.
 func TestSilentConnection(t *testing.T) {
 	p := between(t, &counting{}, None, nil)
-	connection, err := net.Dial("tcp", strings.TrimPrefix(p.URL(), "http://"))
-	check(t, err)
+	connection := diff.Value(net.Dial("tcp", strings.TrimPrefix(p.URL(), "http://")))(t)
 	defer connection.Close()
 	time.Sleep(50 * time.Millisecond)
 	diff.Equal(t, p.Pending(), 0, "pending")

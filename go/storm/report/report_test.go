@@ -94,8 +94,7 @@ func TestBreaches(t *testing.T) {
 	}
 	var got []string
 	for _, violation := range b.All() {
-		text, err := json.Marshal(violation.Numbers)
-		check(t, err)
+		text := diff.Value(json.Marshal(violation.Numbers))(t)
 		got = append(got, fmt.Sprint(violation.Name, " ", violation.Number, " ", violation.Count, " ", string(text)))
 	}
 	if wanted := []string{`a 1.1 4 ["1.1","1.2","10.3"]`, `b none 2 []`, `c none 2 ["2/1.1"]`}; !reflect.DeepEqual(got, wanted) {

@@ -46,8 +46,7 @@ func openFakes(t *testing.T, change func(*BothConfig)) *Both {
 	t.Helper()
 	config := fakes(t)
 	change(&config)
-	b, err := NewBoth(context.Background(), config)
-	check(t, err)
+	b := diff.Value(NewBoth(context.Background(), config))(t)
 	t.Cleanup(func() {
 		diff.NoError(t, b.Close(), "Close")
 		stormtest.Empty(t, config.Folder)
@@ -115,9 +114,7 @@ func TestUntried(t *testing.T) {
 		"instances that are ready were compared 0 times", "bindings that are gone were compared 0 times",
 		"no request had the fault hang-up", "the broker was killed 0 times and paused 0 times", "the platform was killed",
 	} {
-		if !strings.Contains(all, part) {
-			t.Errorf("got %[2]s, want %[1]q in it", part, all)
-		}
+		diff.Contains(t, all, part, "")
 	}
 	if strings.Contains(all, "crash points") {
 		t.Errorf("got %q, want no \"crash points\" in it", all)
@@ -175,9 +172,8 @@ func TestBothRejected(t *testing.T) {
 		t.Run(name, func(t *testing.T) {
 			config := fakes(t)
 			change(&config)
-			if _, err := NewBoth(context.Background(), config); err == nil {
-				t.Errorf("%s: got no error, want one", name)
-			}
+			_, err := NewBoth(context.Background(), config)
+			diff.Error(t, err, "%s", name)
 			stormtest.Empty(t, config.Folder)
 		})
 	}
@@ -454,8 +450,7 @@ func TestUnruly(t *testing.T) {
 	broker := &leaving{left: map[Key]int{}}
 	server := httptest.NewServer(broker)
 	defer server.Close()
-	plan, err := osb.IDOfText(goods.Later)
-	check(t, err)
+	plan := diff.Value(osb.IDOfText(goods.Later))(t)
 	made, states := 0, map[string]platform.State{
 		"cleaning": platform.Cleaning, "withdrawn": platform.Withdrawn, "gone": platform.Gone, "ordered": platform.Ordered,
 	}

@@ -24,8 +24,7 @@ import (
 func commandsOver(t *testing.T, script string) (c *commands, one Key, folder string) {
 	t.Helper()
 	folder = t.TempDir()
-	store, err := sqlite.Open(context.Background(), filepath.Join(folder, "store"))
-	check(t, err)
+	store := diff.Value(sqlite.Open(context.Background(), filepath.Join(folder, "store")))(t)
 	t.Cleanup(func() { _ = store.Close() })
 	book := book{
 		service: goods.Service, plan: func(Key) string { return goods.AtOnce }, store: store,

@@ -14,8 +14,7 @@ import (
 
 func listOf(t *testing.T, text string) []fault.Entry {
 	t.Helper()
-	list, err := fault.ReadList(strings.NewReader(text))
-	check(t, err)
+	list := diff.Value(fault.ReadList(strings.NewReader(text)))(t)
 	return list
 }
 

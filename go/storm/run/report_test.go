@@ -91,13 +91,9 @@ func TestNoSecrets(t *testing.T) {
 	login := base64.StdEncoding.EncodeToString([]byte("platform:" + password))
 	for name, text := range stormtest.Forms(t, got) {
 		for _, word := range []string{password, secret, login, fmt.Sprint(pin)} {
-			if strings.Contains(text, word) {
-				t.Errorf("%s: got %s in it, want it hidden", name, word)
-			}
+			diff.Lacks(t, text, word, "%s", name)
 		}
-		if !strings.Contains(text, report.Hidden) {
-			t.Errorf("%s: got no mark of what is left out, want one", name)
-		}
+		diff.Contains(t, text, report.Hidden, "%s", name)
 	}
 	var read map[string]any
 	if err := json.Unmarshal([]byte(stormtest.Forms(t, got)["JSON"]), &read); err != nil || len(read["lost"].([]any)) == 0 {
@@ -235,9 +231,7 @@ func TestUnmet(t *testing.T) {
 		if form == "JSON" {
 			wanted = "\"unmet_faults\": [\n    \"98/1.2 hang-up\",\n    \"99.1 answer-lost\"\n  ]"
 		}
-		if !strings.Contains(text, wanted) {
-			t.Errorf("%s: got %s, want %q", form, text, wanted)
-		}
+		diff.Contains(t, text, wanted, "%s", form)
 	}
 	for form, text := range stormtest.Forms(t, emptyReport()) {
 		if strings.Contains(text, "met no request") || form == "JSON" && !strings.Contains(text, `"unmet_faults": []`) {
@@ -317,9 +311,7 @@ func TestPictureOfCleanStorm(t *testing.T) {
 		"<h2>The storm</h2>", "<title>the broker is killed and started again</title>", "   FAULT: restart-after</title>",
 		"   FAULT: answer-lost</title>",
 	} {
-		if !strings.Contains(page, part) {
-			t.Errorf("the page: got no %q, want it", part)
-		}
+		diff.Contains(t, page, part, "the page")
 	}
 	diff.Equal(t, strings.Count(page, "<svg"), 1, "pictures")
 }
@@ -334,11 +326,9 @@ type journalLine struct {
 // linesOf returns the lines of all files of a folder, process by process.
 func linesOf(t *testing.T, folder string) (all []journalLine) {
 	t.Helper()
-	names, err := filepath.Glob(filepath.Join(folder, "platform-*.jsonl"))
-	check(t, err)
+	names := diff.Value(filepath.Glob(filepath.Join(folder, "platform-*.jsonl")))(t)
 	for _, name := range names {
-		file, err := os.Open(name)
-		check(t, err)
+		file := diff.Value(os.Open(name))(t)
 		defer file.Close()
 		for lines := bufio.NewScanner(file); lines.Scan(); {
 			var it journalLine

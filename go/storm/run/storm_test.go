@@ -37,16 +37,14 @@ func configFor(t *testing.T, url string) BrokerConfig {
 
 func opened(t *testing.T, config BrokerConfig) *Storm {
 	t.Helper()
-	storm, err := New(config)
-	check(t, err)
+	storm := diff.Value(New(config))(t)
 	return storm
 }
 
 func runStorm(t *testing.T, config BrokerConfig) *Report {
 	t.Helper()
 	storm := opened(t, config)
-	report, err := storm.Run(context.Background(), context.Background())
-	check(t, err)
+	report := diff.Value(storm.Run(context.Background(), context.Background()))(t)
 	return report
 }
 
@@ -259,8 +257,7 @@ func TestSecondSignal(t *testing.T) {
 		second()
 		first()
 	}()
-	report, err := storm.Run(running, deleting)
-	check(t, err)
+	report := diff.Value(storm.Run(running, deleting))(t)
 	listed := map[string]bool{}
 	for _, leftover := range report.Leftovers {
 		listed[strings.Trim(leftover.Instance+"_"+leftover.Binding, "_")] = true
@@ -344,9 +341,8 @@ func TestConfigRejected(t *testing.T) {
 		t.Run(name, func(t *testing.T) {
 			config := configFor(t, "http://127.0.0.1:1")
 			change(&config)
-			if _, err := New(config); err == nil {
-				t.Errorf("%s: got no error, want one", name)
-			}
+			_, err := New(config)
+			diff.Error(t, err, "%s", name)
 		})
 	}
 }
@@ -401,8 +397,7 @@ func TestLeftoversOnce(t *testing.T) {
 		m.create(Key{Instance: id})
 	}
 	names := func() (all []string) {
-		sight, err := l.Look(context.Background(), []Key{{Instance: "pre-none"}})
-		check(t, err)
+		sight := diff.Value(l.Look(context.Background(), []Key{{Instance: "pre-none"}}))(t)
 		for key, is := range sight.Of {
 			if is == Exists {
 				all = append(all, key.Instance)

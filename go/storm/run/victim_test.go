@@ -92,8 +92,7 @@ func TestVictimIsPaused(t *testing.T) {
 	}
 	defer v.kill()
 	state := func() string {
-		text, err := os.ReadFile("/proc/" + strings.TrimSpace(pidOf(v)) + "/stat")
-		check(t, err)
+		text := diff.Value(os.ReadFile("/proc/" + strings.TrimSpace(pidOf(v)) + "/stat"))(t)
 		return strings.Fields(string(text[strings.LastIndexByte(string(text), ')')+1:]))[0]
 	}
 	done := make(chan struct{})
@@ -213,8 +212,7 @@ func TestPausesAreWritten(t *testing.T) {
 		"../../../README.md": want, "../../../docs/storm.md": strings.Replace(want, "for ", "A pause lasts ", 1),
 	} {
 		t.Run(file, func(t *testing.T) {
-			text, err := os.ReadFile(file)
-			check(t, err)
+			text := diff.Value(os.ReadFile(file))(t)
 			if !strings.Contains(strings.Join(strings.Fields(string(text)), " ")+" ", want) {
 				t.Errorf("%s: got no %q, want it", file, want)
 			}

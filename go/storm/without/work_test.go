@@ -94,9 +94,8 @@ func TestBusyBinding(t *testing.T) {
 func newSlow(t *testing.T) (*slow, string) {
 	t.Helper()
 	state := t.TempDir()
-	of, err := folders.New(filepath.Join(state, "instances"))
-	check(t, err)
-	_, err = Slow(of, state)
+	of := diff.Value(folders.New(filepath.Join(state, "instances")))(t)
+	_, err := Slow(of, state)
 	check(t, err)
 	return &slow{Folders: of, state: state, pause: func(context.Context) error { return nil }}, state
 }
@@ -140,8 +139,7 @@ func TestFailures(t *testing.T) {
 				if err := test.call(ctx, request(test.key)); !errors.Is(err, errFails) {
 					t.Errorf("%s: got %[3]v of the call when pause %[2]d fails, want %[4]v", test.name, pause+1, err, errFails)
 				}
-				there, err := test.look(ctx, request(test.key))
-				check(t, err)
+				there := diff.Value(test.look(ctx, request(test.key)))(t)
 				diff.Equal(t, there, want, "%s: pause %d fails", test.name, pause+1)
 			}
 		})
@@ -171,8 +169,7 @@ func TestTogether(t *testing.T) {
 	check(t, s.Create(ctx, request(instance)))
 	within(binding)
 	check(t, s.DeleteBinding(ctx, request(binding)))
-	text, err := os.ReadFile(filepath.Join(state, "together"))
-	check(t, err)
+	text := diff.Value(os.ReadFile(filepath.Join(state, "together")))(t)
 	if want := instance.String() + "\n" + binding.String() + "\n"; string(text) != want {
 		t.Errorf("written down: got %q, want %q", text, want)
 	}
@@ -249,8 +246,7 @@ func write(t *testing.T, store broker.Store, key broker.Key, holding osb.Holding
 // wantHolding compares what is written with what has to be.
 func wantHolding(t *testing.T, store broker.Store, key broker.Key, want osb.Holding) {
 	t.Helper()
-	snapshot, err := store.Read(context.Background(), key)
-	check(t, err)
+	snapshot := diff.Value(store.Read(context.Background(), key))(t)
 	diff.Equal(t, snapshot.Holding, want, "%v: written", key)
 }
 
@@ -265,14 +261,11 @@ type site struct {
 func newSite(t *testing.T, part string, rules broker.Rules) *site {
 	t.Helper()
 	ctx, s := context.Background(), &site{t: t, top: t.TempDir()}
-	sold, err := folders.New(s.top)
-	check(t, err)
+	sold := diff.Value(folders.New(s.top))(t)
 	store, locks, err := Without(ctx, part, openEmpty(t), sold.Locks())
 	check(t, err)
-	read, err := broker.NewCatalogue(goods.Document(), true)
-	check(t, err)
-	users, err := broker.NewUsers(map[string][]string{"u": {"p"}})
-	check(t, err)
+	read := diff.Value(broker.NewCatalogue(goods.Document(), true))(t)
+	users := diff.Value(broker.NewUsers(map[string][]string{"u": {"p"}}))(t)
 	made := broker.NewService(read, store, sold, locks, rules, broker.Silent{})
 	s.store = store
 	s.handler, err = broker.NewHandler(ctx, made, broker.Config{

@@ -160,8 +160,7 @@ func texts(all report.Differences, key Key) string {
 
 func left(t *testing.T, s Sight, key Key) string {
 	t.Helper()
-	all, err := s.Left(context.Background(), usable{is: true})
-	check(t, err)
+	all := diff.Value(s.Left(context.Background(), usable{is: true}))(t)
 	return texts(all, key)
 }
 
@@ -319,8 +318,7 @@ func TestFolders(t *testing.T) {
 		{Instance: guid(1)}: Whole, {Instance: guid(2)}: Part, {Instance: guid(3)}: Whole, whole: Whole,
 		{Instance: guid(1), Binding: guid(6)}: Part,
 	}, Credentials: map[Key]json.RawMessage{whole: json.RawMessage(token)}}
-	there, err := (Folders{top}).Look(background, every)
-	check(t, err)
+	there := diff.Value((Folders{top}).Look(background, every))(t)
 	diff.Check(t, there, wanted, "what exists")
 	if there, err := (Folders{top + "/none"}).Look(background, every); err != nil || len(there.Of) > 0 {
 		t.Errorf("got the error %v and %v, want nothing", err, there)
@@ -396,21 +394,18 @@ func TestFile(t *testing.T) {
 	if all, err := File(path).Read(background); err != nil || len(all) > 0 {
 		t.Errorf("without tables: got %v %v, want none", all, err)
 	}
-	store, err := brokersqlite.Open(background, path, broker.Silent{})
-	check(t, err)
+	store := diff.Value(brokersqlite.Open(background, path, broker.Silent{}))(t)
 	defer store.Close()
 	wanted := map[Key]Row{
 		one: {Holding: row(t, "ready", plan)}, bound: {Holding: row(t, "ready", plan), Object: json.RawMessage(object)},
 	}
 	for key, row := range wanted {
-		numbered, err := BrokerKey(key)
-		check(t, err)
+		numbered := diff.Value(BrokerKey(key))(t)
 		entry := broker.Entry{Holding: row.Holding, Binding: row.Object}
 		step := func(broker.Snapshot) (*broker.Entry, error) { return &entry, nil }
 		check(t, store.Change(background, numbered, 0, step))
 	}
-	all, err := File(path).Read(background)
-	check(t, err)
+	all := diff.Value(File(path).Read(background))(t)
 	diff.Check(t, all, wanted, "the rows")
 }
 
@@ -421,15 +416,12 @@ func TestDatabases(t *testing.T) {
 	db, parsed := pgtest.DB(t, server), mustParse(t, server)
 	secret := []byte("the key of a test's passwords, long enough for that")
 	d := Databases{DB: db, Server: server, Secret: secret}
-	instance, err := BrokerKey(one)
-	check(t, err)
-	binding, err := BrokerKey(bound)
-	check(t, err)
+	instance := diff.Value(BrokerKey(one))(t)
+	binding := diff.Value(BrokerKey(bound))(t)
 	name, role, password := postgres.NameOf(instance), postgres.NameOf(binding), postgres.PasswordOf(secret, instance)
 	ours := func(id string) bool { return id == one.Instance }
 	look := func() map[Key]Existence {
-		there, err := d.Look(background, ours)
-		check(t, err)
+		there := diff.Value(d.Look(background, ours))(t)
 		return there.Of
 	}
 	given := func(change func(map[string]any)) json.RawMessage {
@@ -476,9 +468,8 @@ func TestDatabases(t *testing.T) {
 	if !works(same) {
 		t.Error("the credentials: got no access, want it")
 	}
-	if _, err := d.Works(background, bound, given(func(all map[string]any) { all["port"] = 1 })); err == nil {
-		t.Error("a server that is away: got no error, want one")
-	}
+	_, err := d.Works(background, bound, given(func(all map[string]any) { all["port"] = 1 }))
+	diff.Error(t, err, "a server that is away")
 	pgtest.Exec(t, db, "ALTER ROLE "+role+" NOLOGIN", "ALTER ROLE "+name+" PASSWORD 'other'")
 	if is, err := d.IsUsable(background, one, Record{}); works(same) || look()[bound] != Part || is || err != nil {
 		t.Errorf("without the right to log in: got %v %v, want a part that can't be used", look(), err)
@@ -495,8 +486,7 @@ func TestTables(t *testing.T) {
 		t.Errorf("without tables: got %v %v, want none", all, err)
 	}
 	ready := row(t, "ready", plan)
-	ofBinding, err := ready.BindingText()
-	check(t, err)
+	ofBinding := diff.Value(ready.BindingText())(t)
 	pgtest.Exec(t, db, "CREATE TABLE osb_holdings (id uuid, holding text)",
 		"CREATE TABLE osb_bindings (instance uuid, binding uuid, holding text, object text)",
 		fmt.Sprintf("INSERT INTO osb_holdings VALUES ('%s', '%s')", one.Instance, ready),
@@ -506,15 +496,13 @@ func TestTables(t *testing.T) {
 		one: {Holding: ready}, bound: {Holding: ready, Object: json.RawMessage(object)},
 		{Instance: one.Instance, Binding: one.Instance}: {Holding: ready},
 	}
-	all, err := (Tables{db}).Read(background)
-	check(t, err)
+	all := diff.Value((Tables{db}).Read(background))(t)
 	diff.Check(t, all, wanted, "the rows")
 }
 
 func mustParse(t *testing.T, address string) *url.URL {
 	t.Helper()
-	parsed, err := url.Parse(address)
-	check(t, err)
+	parsed := diff.Value(url.Parse(address))(t)
 	return parsed
 }
 

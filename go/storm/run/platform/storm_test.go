@@ -50,8 +50,7 @@ func runStorm(t *testing.T, config Config, wrong mistakes, isListed bool) *run.R
 	if isListed {
 		config.Commands = commandsOf(lists)
 	}
-	storm, err := Start(context.Background(), config)
-	check(t, err)
+	storm := diff.Value(Start(context.Background(), config))(t)
 	m := newModel(t, storm.URL(), wrong, config.RequestTime)
 	m.folder = lists
 	m.write()
@@ -291,16 +290,14 @@ func TestUntried(t *testing.T) {
 func TestEnded(t *testing.T) {
 	config := configFor(t)
 	config.WaitTime, config.Share = 100*time.Millisecond, 0
-	storm, err := Start(context.Background(), config)
-	check(t, err)
+	storm := diff.Value(Start(context.Background(), config))(t)
 	report := storm.Run(context.Background())
 	if report.IsClean() || !strings.HasPrefix(report.Ended, "no request about an instance came") {
 		t.Errorf("got\n%s\nwant an end because no request came", stormtest.Written(t, report.WriteText))
 	}
 	diff.NoError(t, storm.Close(), "")
 	config.WaitTime = time.Minute
-	storm, err = Start(context.Background(), config)
-	check(t, err)
+	storm = diff.Value(Start(context.Background(), config))(t)
 	m := newModel(t, storm.URL(), mistakes{}, unhurried)
 	body := map[string]any{
 		"service_id": goods.Service, "plan_id": goods.Later, "organization_guid": "o", "space_guid": "s",
@@ -321,8 +318,7 @@ func TestEnded(t *testing.T) {
 func TestAfterRun(t *testing.T) {
 	config := configFor(t)
 	config.Share, config.Time, config.SettleTime = 1, 50*time.Millisecond, 50*time.Millisecond
-	storm, err := Start(context.Background(), config)
-	check(t, err)
+	storm := diff.Value(Start(context.Background(), config))(t)
 	defer storm.Close()
 	m := newModel(t, storm.URL(), mistakes{}, config.RequestTime)
 	m.send(context.Background(), http.MethodGet, "/v2/service_instances/one/last_operation", nil)
@@ -345,8 +341,7 @@ func TestListIsSlow(t *testing.T) {
 	t.Parallel()
 	config, _ := orderingConfig(t, 1)
 	config.Commands.List, config.SettleTime = "sleep 0.5; "+config.Commands.List, time.Minute
-	storm, err := Start(context.Background(), config)
-	check(t, err)
+	storm := diff.Value(Start(context.Background(), config))(t)
 	defer storm.Close()
 	storm.restTime = 200 * time.Millisecond
 	if report := storm.Run(context.Background()); len(report.Failed) > 0 || !report.Converged || !report.IsClean() {
@@ -387,8 +382,7 @@ func TestBrokerFails(t *testing.T) {
 func TestListFails(t *testing.T) {
 	config := configFor(t)
 	config.Commands.List, config.WaitTime = "echo broken >&2; exit 3", 50*time.Millisecond
-	storm, err := Start(context.Background(), config)
-	check(t, err)
+	storm := diff.Value(Start(context.Background(), config))(t)
 	defer storm.Close()
 	report := storm.Run(context.Background())
 	if len(report.Failed) != 1 || !strings.Contains(report.Failed[0], "(broken)") {
@@ -441,9 +435,7 @@ func TestList(t *testing.T) {
 		t.Errorf("got\n%s\nwant instance 1 lost", stormtest.Written(t, report.WriteText))
 	}
 	for form, text := range stormtest.Forms(t, report) {
-		if !strings.Contains(text, "99.1 answer-lost") {
-			t.Errorf("%s: got %s, want 99.1 answer-lost", form, text)
-		}
+		diff.Contains(t, text, "99.1 answer-lost", "%s", form)
 	}
 	if text := stormtest.Written(t, report.WriteText); !strings.Contains(text, "1 fault of the list met no request: 99.1 answer-lost\n") {
 		t.Errorf("got %q, want %q in it", text, "1 fault of the list met no request: 99.1 answer-lost\n")
@@ -463,9 +455,8 @@ func TestConfigRejected(t *testing.T) {
 		t.Run(name, func(t *testing.T) {
 			config := configFor(t)
 			change(&config)
-			if _, err := Start(context.Background(), config); err == nil {
-				t.Errorf("%s: got no error, want one", name)
-			}
+			_, err := Start(context.Background(), config)
+			diff.Error(t, err, "%s", name)
 			stormtest.Empty(t, config.Folder)
 		})
 	}
@@ -473,8 +464,7 @@ func TestConfigRejected(t *testing.T) {
 
 // docs/storm.md has each rule, with its level and its section.
 func TestDocumented(t *testing.T) {
-	text, err := os.ReadFile("../../../../docs/storm.md")
-	check(t, err)
+	text := diff.Value(os.ReadFile("../../../../docs/storm.md"))(t)
 	cases := []conform.Case{mitigates, mitigatesBind, repeats}
 	for _, rule := range rules() {
 		cases = append(cases, rule.Case)
@@ -531,8 +521,7 @@ func orderingConfig(t *testing.T, count int, list ...string) (Config, string) {
 func runOrders(t *testing.T, ctx context.Context, config Config) (*run.Report, time.Duration) {
 	t.Helper()
 	begun := time.Now()
-	storm, err := Start(context.Background(), config)
-	check(t, err)
+	storm := diff.Value(Start(context.Background(), config))(t)
 	report := storm.Run(ctx)
 	diff.NoError(t, storm.Close(), "")
 	stormtest.Empty(t, config.Folder)
@@ -655,8 +644,7 @@ func TestOrderEnds(t *testing.T) {
 				t.Errorf("got an end after %v, want a clean report of a storm that has converged within 50 s:\n%s",
 					took, stormtest.Written(t, report.WriteText))
 			}
-			text, err := os.ReadFile(filepath.Join(folder, "child"))
-			check(t, err)
+			text := diff.Value(os.ReadFile(filepath.Join(folder, "child")))(t)
 			stormtest.Await(t, 5*time.Second, "the child of the order command ends", func() bool {
 				return !isRunning(string(bytes.TrimSpace(text)))
 			})
@@ -681,8 +669,7 @@ func TestJournal(t *testing.T) {
 	if err != nil || len(names) != 1 {
 		t.Fatalf("got the journals %v and the error %v, want one", names, err)
 	}
-	text, err := os.ReadFile(names[0])
-	check(t, err)
+	text := diff.Value(os.ReadFile(names[0]))(t)
 	counts, instances, open := map[string]int{}, map[string]bool{}, map[int]bool{}
 	var last string
 	for lines := bufio.NewScanner(bytes.NewReader(text)); lines.Scan(); {
@@ -883,8 +870,7 @@ func cancelOnce(path string, cancel func()) {
 // A further run waits until nobody else has its address, but not if it is ended.
 func TestStartAgain(t *testing.T) {
 	t.Parallel()
-	taken, err := net.Listen("tcp", "127.0.0.1:0")
-	check(t, err)
+	taken := diff.Value(net.Listen("tcp", "127.0.0.1:0"))(t)
 	config := configFor(t)
 	config.Address = taken.Addr().String()
 	ctx, cancel := context.WithCancel(context.Background())
@@ -895,8 +881,7 @@ func TestStartAgain(t *testing.T) {
 	}
 	timer := time.AfterFunc(lookEach, func() { _ = taken.Close() })
 	defer timer.Stop()
-	storm, err := startAgain(context.Background(), config)
-	check(t, err)
+	storm := diff.Value(startAgain(context.Background(), config))(t)
 	if err := storm.Close(); storm.URL() != "http://"+config.Address || err != nil {
 		t.Errorf("got the error %v and the URL %s, want the address %s", err, storm.URL(), config.Address)
 	}

@@ -19,8 +19,7 @@ import (
 
 func rows(t *testing.T, address, query string) string {
 	t.Helper()
-	db, err := open(address)
-	check(t, err)
+	db := diff.Value(open(address))(t)
 	defer db.Close()
 	var text string
 	if err := db.QueryRow(query).Scan(&text); err != nil {
@@ -50,8 +49,7 @@ func states(p *Postgres) (all string) {
 func TestPostgres(t *testing.T) {
 	pgtest.URL(t) // PostgreSQL is installed
 	ctx, folder := context.Background(), t.TempDir()
-	p, err := StartPostgres(ctx, openedTo(t, folder))
-	check(t, err)
+	p := diff.Value(StartPostgres(ctx, openedTo(t, folder)))(t)
 	url := p.URL("postgres")
 	check(t, execute(ctx, url, "CREATE TABLE kept (number integer)"))
 	for kills := 1; kills <= 2; kills++ {
@@ -96,8 +94,7 @@ func openedTo(t *testing.T, folder string) string {
 // A storm has a database of its own at a server. The sessions of its programs are ended, and no others. It is dropped.
 func TestDatabase(t *testing.T) {
 	server, ctx := pgtest.URL(t), context.Background()
-	d, err := Create(ctx, server, "storm_of_a_test")
-	check(t, err)
+	d := diff.Value(Create(ctx, server, "storm_of_a_test"))(t)
 	diff.Equal(t, rows(t, d.URL(), "SELECT current_database()"), "storm_of_a_test", "")
 	if isEnded, err := d.EndSession(ctx); isEnded || err != nil {
 		t.Errorf("got ended %v, %v, want false", isEnded, err)
@@ -126,8 +123,7 @@ func TestForPrograms(t *testing.T) {
 		"postgresql://u@h/d?password=p&dbname=e":    "postgresql://u@h/own?application_name=storm [PGPASSWORD=p]",
 	} {
 		t.Run(given, func(t *testing.T) {
-			at, err := In(given, "own")
-			check(t, err)
+			at := diff.Value(In(given, "own"))(t)
 			address, environment := (&Database{url: at}).ForPrograms()
 			diff.Equal(t, fmt.Sprint(address, " ", environment), wanted, "%s", given)
 		})
@@ -137,12 +133,10 @@ func TestForPrograms(t *testing.T) {
 // What isn't there is an error that says so, and leaves nothing.
 func TestNoServer(t *testing.T) {
 	ctx, folder := context.Background(), t.TempDir()
-	if _, err := Create(ctx, "postgresql://u@127.0.0.1:1/d", "x"); err == nil {
-		t.Error("a server that isn't there: got no error, want one")
-	}
-	if _, err := Create(ctx, "nowhere", "x"); err == nil {
-		t.Error("no server: got no error, want one")
-	}
+	_, err := Create(ctx, "postgresql://u@127.0.0.1:1/d", "x")
+	diff.Error(t, err, "a server that isn't there")
+	_, err = Create(ctx, "nowhere", "x")
+	diff.Error(t, err, "no server")
 	if _, err := StartHAProxy(ctx, folder, "not an address", nil); err == nil || !strings.Contains(err.Error(), "haproxy") {
 		t.Errorf("haproxy at no address: got %v, want an error that names it", err)
 	}
@@ -160,12 +154,10 @@ func TestHAProxy(t *testing.T) {
 		defer it.Close()
 		brokers, addresses = append(brokers, it), append(addresses, strings.TrimPrefix(it.URL, "http://"))
 	}
-	listener, err := net.Listen("tcp", "127.0.0.1:0")
-	check(t, err)
+	listener := diff.Value(net.Listen("tcp", "127.0.0.1:0"))(t)
 	at := listener.Addr().String()
 	_ = listener.Close()
-	proxy, err := StartHAProxy(context.Background(), t.TempDir(), at, addresses)
-	check(t, err)
+	proxy := diff.Value(StartHAProxy(context.Background(), t.TempDir(), at, addresses))(t)
 	defer proxy.Close()
 	said := func() string {
 		answer, err := http.Get("http://" + at)

@@ -55,9 +55,7 @@ func TestRowsMuch(t *testing.T) {
 func TestRunEnds(t *testing.T) {
 	ctx, cancel := context.WithTimeout(context.Background(), 50*time.Millisecond)
 	defer cancel()
-	if err := Run(ctx, "exec sleep 60"); err == nil {
-		t.Error("a command that was killed: got no error, want one")
-	}
+	diff.Error(t, Run(ctx, "exec sleep 60"), "a command that was killed")
 	begun := time.Now()
 	if err := Run(context.Background(), "sleep 20 & true"); err != nil || time.Since(begun) > 10*time.Second {
 		t.Errorf("got %v after %v, want no error within 10 s", err, time.Since(begun))
@@ -102,13 +100,10 @@ func TestKillsGroup(t *testing.T) {
 	pids := filepath.Join(t.TempDir(), "pids")
 	ctx, cancel := context.WithTimeout(context.Background(), time.Second)
 	defer cancel()
-	if _, err := Rows(ctx, "sleep 1000 & echo $! >"+pids+"; sleep 1000", 1); err == nil {
-		t.Error("a command that was killed: got no error, want one")
-	}
-	text, err := os.ReadFile(pids)
-	check(t, err)
-	pid, err := strconv.Atoi(strings.TrimSpace(string(text)))
-	check(t, err)
+	_, err := Rows(ctx, "sleep 1000 & echo $! >"+pids+"; sleep 1000", 1)
+	diff.Error(t, err, "a command that was killed")
+	text := diff.Value(os.ReadFile(pids))(t)
+	pid := diff.Value(strconv.Atoi(strings.TrimSpace(string(text))))(t)
 	t.Cleanup(func() {
 		if t.Failed() {
 			_ = syscall.Kill(pid, syscall.SIGKILL)
@@ -199,8 +194,7 @@ func TestStart(t *testing.T) {
 		long + "; echo; " + fitting:     {"", []string{strings.Repeat("0", mostKept-1)}},
 	} {
 		t.Run(command, func(t *testing.T) {
-			c, err := Start(command, "ONE=1", "OTHER=2")
-			check(t, err)
+			c := diff.Value(Start(command, "ONE=1", "OTHER=2"))(t)
 			awaitEnd(t, c)
 			begun, text := time.Now(), ""
 			if err := c.End(); err != nil {
@@ -237,8 +231,7 @@ time.sleep(1000)'`, // the command itself has left its group
 	} {
 		t.Run(name, func(t *testing.T) {
 			pids := filepath.Join(t.TempDir(), "pids")
-			c, err := Start(strings.ReplaceAll(command, "PIDS", pids))
-			check(t, err)
+			c := diff.Value(Start(strings.ReplaceAll(command, "PIDS", pids)))(t)
 			pid := pidIn(t, pids)
 			if name == "has ended" {
 				awaitEnd(t, c)
@@ -257,8 +250,7 @@ func pidIn(t *testing.T, path string) int {
 	t.Helper()
 	for until := time.Now().Add(10 * time.Second); time.Now().Before(until); time.Sleep(10 * time.Millisecond) {
 		if text, err := os.ReadFile(path); err == nil && strings.HasSuffix(string(text), "\n") {
-			pid, err := strconv.Atoi(strings.TrimSpace(string(text)))
-			check(t, err)
+			pid := diff.Value(strconv.Atoi(strings.TrimSpace(string(text))))(t)
 			return pid
 		}
 	}
