@@ -102,7 +102,9 @@ func TestShrink(t *testing.T) {
 			got, runs := emptyReport(), 0
 			ctx, cancel := context.WithCancel(context.Background())
 			defer cancel()
-			candidates := []Candidate{{List: listOf(t, test.first), Only: map[int]bool{1: true}}, {List: listOf(t, four), Only: map[int]bool{2: true}}}
+			candidates := []Candidate{
+				{List: listOf(t, test.first), Only: map[int]bool{1: true}}, {List: listOf(t, four), Only: map[int]bool{2: true}},
+			}
 			if test.first == "" {
 				candidates = candidates[1:]
 			}
