@@ -227,14 +227,14 @@ class EndWrittenAgain(Design):
         it = after.drivers[at]
         return after.put(at, it._replace(held_back=tx)) if it.stage.name == "End" and tx.effect else after
 
-    def decide(self, world: World, driver: Driver) -> Transaction:
-        return driver.held_back or super().decide(world, driver)
+    def decide(self, world: World, driver: Driver, may_begin: bool = True) -> Transaction:
+        return driver.held_back or super().decide(world, driver, may_begin)
 
 
 class EarlierAnswerWhilePending(Design):
     """The answer of an earlier end is given although its work is still pending."""
 
-    def decide(self, world: World, driver: Driver) -> Transaction:
+    def decide(self, world: World, driver: Driver, may_begin: bool = True) -> Transaction:
         if driver.owns and driver.stage.name == "End" and driver.stage.answer is not None:
             return Transaction(world.row, answering(driver.stage.answer))
-        return super().decide(world, driver)
+        return super().decide(world, driver, may_begin)

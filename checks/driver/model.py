@@ -76,9 +76,13 @@ class Transaction(NamedTuple):
 # ---- what each transaction does
 
 
-def begin(plan: Plan, row: Held, request: Request, locked: bool) -> Transaction:
-    """The first transaction of a request. If work is due and the driver has no lock, it writes nothing."""
+def begin(plan: Plan, row: Held, request: Request, locked: bool, may_begin: bool) -> Transaction:
+    """The first transaction of a request. If work is due and the driver has no lock, it writes nothing. What would begin
+    something that may not is put off.
+    """
     after, answer = model.begin(plan.mode, plan.first_poll, row, request)
+    if not may_begin and (answer is None or row.row is None and after.row is not None):
+        return Transaction(row, answering(model.BUSY[request.kind]), effect="put-off")
     if answer is not None:
         return Transaction(after, answering(answer), effect="arrive")
     return Transaction(after, working(request), True, "arrive") if locked else Transaction(row, AWAIT_LOCK)
@@ -119,10 +123,12 @@ def finish(row: Held, is_owner: bool, outcome: str) -> Transaction:
 
 
 @lru_cache(maxsize=None)
-def transaction(plan: Plan, stage: Stage, request: Request | None, row: Held, is_owner: bool) -> Transaction:
+def transaction(
+    plan: Plan, stage: Stage, request: Request | None, row: Held, is_owner: bool, may_begin: bool
+) -> Transaction:
     """The transaction of a driver at this stage. A take-up has no request."""
     if stage.name == "Begin":
-        return take_up(row) if request is None else begin(plan, row, request, stage.locked)
+        return take_up(row) if request is None else begin(plan, row, request, stage.locked, may_begin)
     if stage.name == "Unsure":
         return find_out(row, is_owner)
     assert stage.outcome is not None

@@ -1,6 +1,6 @@
 """The shortest way to a wrong world for each obligation that is left out, and why that world is wrong.
 
-All ways are of a synchronous plan, two drivers and one attempt.
+All ways are of a synchronous plan, two drivers and one attempt, and nothing is put off.
 """
 
 from __future__ import annotations

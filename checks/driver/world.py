@@ -108,7 +108,7 @@ def happen(
     network = Instance(plan.mode, True, plan.first_poll, held=held, worker=worker, resource=resource)
     if request is not None:
         network.sent = [request] * attempt
-    if event != "" and not network.happen(f"arrive {attempt}" if event == "arrive" else event):
+    if event != "" and not network.happen(f"{event} {attempt}" if event in ("arrive", "put-off") else event):
         return None
     return Event(network.held, network.worker, network.given[0] if network.given else None)
 
@@ -157,6 +157,8 @@ def transaction_words(tx: Transaction) -> str:
         return READ_WORDS[tx.stage.name]
     if tx.effect == "arrive":
         return "writes its work" if tx.takes_over else f"writes its answer {answer_words(tx.stage.answer)}"
+    if tx.effect == "put-off":
+        return f"is put off with {answer_words(tx.stage.answer)}"
     return f"writes '{tx.effect}'" if tx.effect else "writes its number"
 
 
@@ -168,8 +170,8 @@ Steps = Iterator[tuple[str, World]]
 class Design:
     """The steps of a world in which no part of the design is left out."""
 
-    def __init__(self, plan: Plan, attempts: int, drivers: int) -> None:
-        self.plan, self.attempts = plan, attempts
+    def __init__(self, plan: Plan, attempts: int, drivers: int, puts_off: bool = True) -> None:
+        self.plan, self.attempts, self.puts_off = plan, attempts, puts_off
         self.start = World((Driver(),) * drivers)
 
     def steps(self, world: World) -> Steps:
@@ -259,9 +261,14 @@ class Design:
 
     def transact(self, world: World, at: int, driver: Driver) -> Steps:
         yield from self.commit(world, at, driver, self.decide(world, driver))
+        tx = self.decide(world, driver, may_begin=not self.puts_off)
+        if tx.effect == "put-off":
+            yield from self.commit(world, at, driver, tx)
 
-    def decide(self, world: World, driver: Driver) -> Transaction:
-        return transaction(self.plan, driver.stage, world.request(driver), world.row, self.is_owner(driver))
+    def decide(self, world: World, driver: Driver, may_begin: bool = True) -> Transaction:
+        """What the transaction writes. Whether something may begin depends on what else it reads."""
+        request, is_owner = world.request(driver), self.is_owner(driver)
+        return transaction(self.plan, driver.stage, request, world.row, is_owner, may_begin)
 
     def is_owner(self, driver: Driver) -> bool:
         """What the comparison of the numbers says."""

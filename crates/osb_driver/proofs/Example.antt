@@ -10,6 +10,7 @@ use Rattle.osb_instance.specs.declared.outcome.WorkOutcome.TheVariants.{Done, Be
 use Rattle.osb_network.specs.declared.event.Event.{Event}
 use Rattle.osb_network.specs.declared.order.Order.{Order}
 use Rattle.osb_network.specs.declared.resource.Resource.TheVariants.{Whole}
+use Rattle.osb_driver.specs.declared.driver.Permit.{Permit}
 use Rattle.osb_driver.specs.declared.driver.Stage.{Stage}
 use Rattle.osb_driver.specs.declared.world.Commit.{Commit}
 use Rattle.osb_driver.specs.declared.world.Happening.{Happening}
@@ -26,14 +27,17 @@ an_order = record {
   attributes = no_attributes;
 }
 
+abbrev any : Permit
+any = record { begin = true; give_up = true }
+
 abbrev state_of : Option Recorded → Option State
 state_of None = None
 state_of (Some recorded) = Some recorded.row.state
 
 abbrev made : WorldState
 made = world_steps (empty_world an_order)
-    (Happening.Outside Event.Create ∷ Happening.Arrive 1 ∷ Happening.GetLock 0 ∷ Happening.Transact 0 Commit.Returned
-    ∷ Happening.Work Whole ∷ Happening.Worked Done ∷ Happening.Transact 0 Commit.Returned ∷ Happening.LoseLock
+    (Happening.Outside Event.Create ∷ Happening.Arrive 1 ∷ Happening.GetLock 0 ∷ Happening.Transact 0 any Commit.Returned
+    ∷ Happening.Work Whole ∷ Happening.Worked Done ∷ Happening.Transact 0 any Commit.Returned ∷ Happening.LoseLock
     ∷ Happening.Outside (Event.Take 0) ∷ [])
 
 pub made_ready : state_of made.cell.recorded ≡ Some State.Ready
@@ -46,9 +50,9 @@ made_whole = refl
 -- can't write what it has seen
 abbrev taken_over : WorldState
 taken_over = world_steps (empty_world an_order)
-    (Happening.Outside Event.Create ∷ Happening.Arrive 1 ∷ Happening.GetLock 0 ∷ Happening.Transact 0 Commit.Returned
-    ∷ Happening.Worked Before ∷ Happening.LoseLock ∷ Happening.TakeUp ∷ Happening.GetLock 1 ∷ Happening.Transact 1 Commit.Returned
-    ∷ Happening.Work Whole ∷ Happening.Transact 0 Commit.Returned ∷ Happening.Worked Done ∷ Happening.Transact 1 Commit.Returned ∷ [])
+    (Happening.Outside Event.Create ∷ Happening.Arrive 1 ∷ Happening.GetLock 0 ∷ Happening.Transact 0 any Commit.Returned
+    ∷ Happening.Worked Before ∷ Happening.LoseLock ∷ Happening.TakeUp ∷ Happening.GetLock 1 ∷ Happening.Transact 1 any Commit.Returned
+    ∷ Happening.Work Whole ∷ Happening.Transact 0 any Commit.Returned ∷ Happening.Worked Done ∷ Happening.Transact 1 any Commit.Returned ∷ [])
 
 pub first_is_over : (driver_at taken_over.drivers (Some 0)).stage ≡ Stage.Done
 first_is_over = refl
@@ -64,9 +68,9 @@ taken_whole = refl
 abbrev found_out : WorldState
 found_out = world_steps (empty_world an_order)
     (Happening.Outside Event.Create ∷ Happening.Arrive 1 ∷ Happening.GetLock 0
-    ∷ Happening.Transact 0 (Commit.Unsure true) ∷ Happening.Transact 0 Commit.Returned
-    ∷ Happening.Work Whole ∷ Happening.Worked Done ∷ Happening.Transact 0 (Commit.Unsure true)
-    ∷ Happening.Transact 0 Commit.Returned ∷ [])
+    ∷ Happening.Transact 0 any (Commit.Unsure true) ∷ Happening.Transact 0 any Commit.Returned
+    ∷ Happening.Work Whole ∷ Happening.Worked Done ∷ Happening.Transact 0 any (Commit.Unsure true)
+    ∷ Happening.Transact 0 any Commit.Returned ∷ [])
 
 pub found_answer : (driver_at found_out.drivers (Some 0)).stage ≡ Stage.Answer (empty 201)
 found_answer = refl

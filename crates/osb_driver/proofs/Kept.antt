@@ -1,7 +1,7 @@
 -- Whatever happens, the world stays the network's instance, and what happens is a run of the network.
 use Rattle.std.proofs.Common.{◌≡◌, ◌⊎◌, ℕ, ◌+◌, ◌-◌, Bool, true, false, inl, inr, refl, sym, ap, subst, ◌∙◌, arith}
 use Rattle.std.proofs.Common.{List, [], ◌∷◌, ◌++◌}
-use Rattle.std.specs.Prelude.{Option, Some, None, IfSome, ◌==◌, ◌&&◌, if◌then◌else◌, is_none, slice_get, slice_set, IsSomeAnd}
+use Rattle.std.specs.Prelude.{Option, Some, None, IfSome, ◌==◌, ◌&&◌, not, if◌then◌else◌, is_none, slice_get, slice_set, IsSomeAnd}
 use Rattle.std.proofs.lemmas.Bool.Decides.{nat_tests}
 use Rattle.osb_message.specs.declared.catalogue.Mode.{Mode}
 use Rattle.osb_message.specs.declared.messages.Answer.{Answer}
@@ -11,27 +11,28 @@ use Rattle.osb_instance.specs.declared.record.Sent.{Sent}
 use Rattle.osb_instance.specs.declared.work.Begun.{Begun}
 use Rattle.osb_instance.specs.declared.work.Begun.TheVariants.{Answered}
 use Rattle.osb_instance.specs.declared.work.Work.{Work}
-use Rattle.osb_instance.specs.Begin.{begun as begun_held, can_end, finished_held, given_up, is_operating, worked}
+use Rattle.osb_instance.specs.Begin.{begins, begun as begun_held, busy, can_end, finished_held, given_up, is_operating, worked}
 use Rattle.osb_instance.specs.Held.{Held}
 use Rattle.osb_network.specs.Cell.{Cell}
-use Rattle.osb_network.specs.Steps.{arrive, arrived, cell_step, cell_steps, can_finish, end as end_cell, ended, sent_as}
+use Rattle.osb_network.specs.Steps.{arrive, arrived, cell_step, cell_steps, can_finish, end as end_cell, ended, put_off, sent_as}
 use Rattle.osb_network.specs.Truth.{is_true_end, is_true_finish_of, is_under_way}
 use Rattle.osb_network.specs.declared.event.Event.{Event}
 use Rattle.osb_network.specs.declared.event.Given.{Given}
 use Rattle.osb_network.specs.declared.resource.Resource.{Resource}
-use Rattle.osb_driver.specs.Driver.{after, answer_of, end, finish, finish_by, first, first_by as first_tx, nothing, repeated}
-use Rattle.osb_driver.specs.Driver.{resume, take_up, take_up_by, unsure}
+use Rattle.osb_driver.specs.Driver.{after, answer_of, arrival, end, finish, finish_by, first, first_by as first_tx, nothing}
+use Rattle.osb_driver.specs.Driver.{at_stage, missed_at_once, repeated, resume, take_up, take_up_by, unsure}
 use Rattle.osb_driver.specs.declared.driver.Driver.{Driver}
 use Rattle.osb_driver.specs.declared.driver.Effect.{Effect}
+use Rattle.osb_driver.specs.declared.driver.Permit.{Permit}
 use Rattle.osb_driver.specs.declared.driver.Stage.{Stage}
 use Rattle.osb_driver.specs.declared.driver.Task.{Task}
 use Rattle.osb_driver.specs.declared.driver.Transaction.{Transaction}
 use Rattle.osb_driver.specs.declared.world.Commit.{Commit}
 use Rattle.osb_driver.specs.declared.world.Happening.{Happening}
 use Rattle.osb_driver.specs.World.{AreNumbered, Goes, IsAnswered, IsAtEnd, IsAtWork, IsGivenTo, IsSound}
-use Rattle.osb_driver.specs.World.{IsTidy, Knows, KnowsEnd, Side, StaysSound, WorldState, at_stage, begin_of, begun, come}
-use Rattle.osb_driver.specs.World.{driver_at, events_of, first_of, give_up, give_up_by, is_outside, is_owner, lock, lock_by}
-use Rattle.osb_driver.specs.World.{miss, miss_by, missed, operated_by, operated_step, or_over, over, side_of, transact}
+use Rattle.osb_driver.specs.World.{IsTidy, Knows, KnowsEnd, Side, StaysSound, WorldState, begin_of, begun, come}
+use Rattle.osb_driver.specs.World.{driver_at, events_of, first_of, give_up, give_up_by, is_outside, is_owner, lock}
+use Rattle.osb_driver.specs.World.{lock_by, miss, miss_by, operated_by, operated_step, or_over, over, side_of, transact}
 use Rattle.osb_driver.specs.World.{transacted, transaction_of, with_cell, with_stage, with_transaction, work_by, worked_by}
 use Rattle.osb_driver.specs.World.{worked_step, world_step, written}
 use Rattle.osb_driver.proofs.Busy.{answered_work, busy_same, due_pending, waiting_idle, worked_idle}
@@ -124,13 +125,13 @@ kept_lock s at d (Some l) is h = h
 kept_lock s at None None is h = h
 kept_lock s at (Some d) None is h = kept_lock_by s at d d.stage is h
 
-missed_quiet : (a : Option ℕ) → IsQuiet (missed a)
+missed_quiet : (a : Option ℕ) → IsQuiet (missed_at_once a)
 missed_quiet None = tt
 missed_quiet (Some n) = tt
 
 kept_miss_by : (s : WorldState) (at : ℕ) (d : Driver) (stage : Stage) → slice_get s.drivers at ≡ Some d → IsSound s
     → IsSound (miss_by s at d.attempt stage)
-kept_miss_by s at d Stage.TryLock is h = kept_stage s at d (missed d.attempt) is (missed_quiet d.attempt) h
+kept_miss_by s at d Stage.TryLock is h = kept_stage s at d (missed_at_once d.attempt) is (missed_quiet d.attempt) h
 kept_miss_by s at d Stage.AwaitLock is h = h
 kept_miss_by s at d (Stage.Begin locked) is h = h
 kept_miss_by s at d (Stage.Work task) is h = h
@@ -357,6 +358,23 @@ cell_is c None n sent after e found eq = cc
 cell_is c (Some k) n sent after e found eq =
     ap (λ (x : Option ℕ). cell_steps c (events_of Effect.Arrive x)) e ∙ (arrives c n sent found ∙ eq)
 
+-- the event of a request, by whether it is put off
+abbrev pub effect_of : Bool → Begun → Effect
+effect_of put_off (Answered a) = arrival put_off
+effect_of put_off (Begun.Work w) = Effect.Arrive
+
+pub arrived_is : (c : Cell) (a : Option ℕ) (n : ℕ) (sent : Sent) (x : Held) (b : Begun) → a ≡ Some n
+    → sent_as c.sent n ≡ Some sent → arrive c (Some sent) ≡ arrived c sent x b
+    → cell_steps c (events_of (effect_of false b) a) ≡ arrived c sent x b
+arrived_is c a n sent x (Answered y) e found eq = cell_is c a n sent (arrived c sent x (Answered y)) e found eq
+arrived_is c a n sent x (Begun.Work w) e found eq = cell_is c a n sent (arrived c sent x (Begun.Work w)) e found eq
+
+pub put_off_is : (c : Cell) (a : Option ℕ) (n : ℕ) (sent : Sent) → a ≡ Some n → sent_as c.sent n ≡ Some sent
+    → cell_steps c (events_of Effect.PutOff a) ≡ arrived c sent c.held (Answered (busy sent.request.kind))
+put_off_is c None n sent e found = cc
+put_off_is c (Some k) n sent e found =
+    ap (λ (x : Option ℕ). cell_steps c (events_of Effect.PutOff x)) e ∙ ap (put_off c) found
+
 -- the stage of a driver that doesn't know of its first transaction
 begin_if : (x : Bool) (locked : Bool) → x ≡ false → IsQuiet (if x then Stage.Unsure else Stage.Begin locked)
 begin_if true locked e = cc
@@ -372,14 +390,14 @@ begins_unsure : (a : Option ℕ) (n : ℕ) (locked : Bool) (tx : Transaction) �
 begins_unsure None n locked tx e t = cc
 begins_unsure (Some k) n locked tx e t = ap (λ (x : Bool). if x then Stage.Unsure else Stage.Begin locked) t
 
-kept_answered : (s : WorldState) (at : ℕ) (d : Driver) (locked : Bool) (n : ℕ) (sent : Sent) (x : Held) (a : Answer)
+kept_answered : (s : WorldState) (at : ℕ) (d : Driver) (locked put_off : Bool) (sent : Sent) (x : Held) (a : Answer)
     (stage : Stage)
-    → slice_get s.drivers at ≡ Some d → d.attempt ≡ Some n
+    → slice_get s.drivers at ≡ Some d
     → (is_under_way s.cell.held ≡ true → x ≡ s.cell.held) → x.work ≡ s.cell.held.work
-    → arrive s.cell (Some sent) ≡ arrived s.cell sent x (Answered a) → sent_as s.cell.sent n ≡ Some sent
+    → cell_steps s.cell (events_of (arrival put_off) d.attempt) ≡ arrived s.cell sent x (Answered a)
     → IsQuiet stage → GoesIn s
-    → IsSound (written (normal s) at d.attempt (first_tx locked s.cell.held sent.request x (Answered a)) stage)
-kept_answered s at d locked n sent x a stage is num same work eq found q g =
+    → IsSound (written (normal s) at d.attempt (first_tx locked put_off s.cell.held sent.request x (Answered a)) stage)
+kept_answered s at d locked put_off sent x a stage is same work eq q g =
     subst (λ (c : Cell). IsSound (record {
       cell = c;
       row = x;
@@ -387,16 +405,16 @@ kept_answered s at d locked n sent x a stage is num same work eq found q g =
       resource = s.cell.resource;
       holder = s.holder;
       drivers = slice_set s.drivers at (at_stage d.attempt stage);
-    })) (sym (cell_is s.cell d.attempt n sent (arrived s.cell sent x (Answered a)) num found eq))
+    })) (sym eq)
     (quiet_tx s (arrived s.cell sent x (Answered a)) at d stage x is refl refl q
     (answered_goes s.cell (driver_at s.drivers s.owner) (driver_at s.drivers s.holder) sent x a same work g))
 
-kept_pending : (s : WorldState) (at : ℕ) (d : Driver) (n : ℕ) (sent : Sent) (x : Held) (w : Work) (stage : Stage)
-    → slice_get s.drivers at ≡ Some d → d.attempt ≡ Some n → x.work ≡ Some sent.request
-    → arrive s.cell (Some sent) ≡ arrived s.cell sent x (Begun.Work w) → sent_as s.cell.sent n ≡ Some sent
+kept_pending : (s : WorldState) (at : ℕ) (d : Driver) (put_off : Bool) (sent : Sent) (x : Held) (w : Work) (stage : Stage)
+    → slice_get s.drivers at ≡ Some d → x.work ≡ Some sent.request
+    → cell_steps s.cell (events_of Effect.Arrive d.attempt) ≡ arrived s.cell sent x (Begun.Work w)
     → Knows (side_of (arrived s.cell sent x (Begun.Work w))) d.attempt stage → (IsAtEnd stage → ⊥)
-    → IsSound (written (normal s) at d.attempt (first_tx true s.cell.held sent.request x (Begun.Work w)) stage)
-kept_pending s at d n sent x w stage is num due eq found k ends =
+    → IsSound (written (normal s) at d.attempt (first_tx true put_off s.cell.held sent.request x (Begun.Work w)) stage)
+kept_pending s at d put_off sent x w stage is due eq k ends =
     subst (λ (c : Cell). IsSound (record {
       cell = c;
       row = x;
@@ -404,7 +422,7 @@ kept_pending s at d n sent x w stage is num due eq found k ends =
       resource = s.cell.resource;
       holder = s.holder;
       drivers = slice_set s.drivers at (at_stage d.attempt stage);
-    })) (sym (cell_is s.cell d.attempt n sent (arrived s.cell sent x (Begun.Work w)) num found eq))
+    })) (sym eq)
     (owned_tx s (arrived s.cell sent x (Begun.Work w)) at d stage x is refl refl k ends
     (by_work (Some sent.request) x due refl))
 
@@ -413,67 +431,90 @@ knows_unsure : (side : Side) (a : Option ℕ) (r : Request) → side.held.work �
 knows_unsure side a r e k =
     subst (λ (w : Option Request). IsSomeAnd w (λ q. IsAnswered side.worker a)) (sym e) k
 
-kept_first : (commit : Commit) (s : WorldState) (at : ℕ) (d : Driver) (locked : Bool) (n : ℕ) (sent : Sent) (x : Held)
-    (b : Begun)
+kept_first : (commit : Commit) (s : WorldState) (at : ℕ) (d : Driver) (locked put_off : Bool) (n : ℕ) (sent : Sent)
+    (x : Held) (b : Begun)
     → slice_get s.drivers at ≡ Some d → d.attempt ≡ Some n → sent.attempt ≡ n → is_owner s.owner at ≡ false
     → (is_under_way s.cell.held ≡ true → x ≡ s.cell.held)
     → ((y : Answer) → b ≡ Answered y → x.work ≡ s.cell.held.work)
     → ((w : Work) → b ≡ Begun.Work w → x.work ≡ Some sent.request)
-    → arrive s.cell (Some sent) ≡ arrived s.cell sent x b → sent_as s.cell.sent n ≡ Some sent
+    → cell_steps s.cell (events_of (effect_of put_off b) d.attempt) ≡ arrived s.cell sent x b
     → GoesIn s
     → IsSound (committed commit (normal s) at d.attempt (Stage.Begin locked)
-    (first_tx locked s.cell.held sent.request x b))
-kept_first commit s at d locked n sent x (Answered a) is num same_n o same work due eq found g =
-    let tx = first_tx locked s.cell.held sent.request x (Answered a) in
+    (first_tx locked put_off s.cell.held sent.request x b))
+kept_first commit s at d locked put_off n sent x (Answered a) is num same_n o same work due eq g =
+    let tx = first_tx locked put_off s.cell.held sent.request x (Answered a) in
     let q = begins_anew d.attempt locked tx refl in
     kept_commit commit (normal s) at d (Stage.Begin locked) tx is (normal_sound s g)
-    (kept_answered s at d locked n sent x a (Stage.Answer a) is num same (work a refl) eq found tt g)
-    (kept_answered s at d locked n sent x a _ is num same (work a refl) eq found q g)
+    (kept_answered s at d locked put_off sent x a (Stage.Answer a) is same (work a refl) eq tt g)
+    (kept_answered s at d locked put_off sent x a _ is same (work a refl) eq q g)
     (kept_stage (normal s) at d _ is q (normal_sound s g))
-kept_first commit s at d true n sent x (Begun.Work w) is num same_n o same work due eq found g =
-    let tx = first_tx true s.cell.held sent.request x (Begun.Work w) in
+kept_first commit s at d true put_off n sent x (Begun.Work w) is num same_n o same work due eq g =
+    let tx = first_tx true put_off s.cell.held sent.request x (Begun.Work w) in
     let c = arrived s.cell sent x (Begun.Work w) in
     let k = answers_of d.attempt n sent.attempt num same_n in
     let e = begins_unsure d.attempt n true tx num refl in
     kept_commit commit (normal s) at d (Stage.Begin true) tx is (normal_sound s g)
-    (kept_pending s at d n sent x w (Stage.Work (Task.Pending sent.request)) is num (due w refl) eq found (due w refl, k)
+    (kept_pending s at d put_off sent x w (Stage.Work (Task.Pending sent.request)) is (due w refl) eq (due w refl, k)
     (λ y. y))
     (subst (λ (y : Stage). IsSound (written (normal s) at d.attempt tx y)) (sym e)
-    (kept_pending s at d n sent x w Stage.Unsure is num (due w refl) eq found
+    (kept_pending s at d put_off sent x w Stage.Unsure is (due w refl) eq
     (knows_unsure (side_of c) d.attempt sent.request (due w refl) k) (λ y. y)))
     (subst (λ (y : Stage). IsSound (with_stage (normal s) at d.attempt y)) (sym e)
     (kept_other s at d Stage.Unsure is o (λ y. y) g))
-kept_first commit s at d false n sent x (Begun.Work w) is num same_n o same work due eq found g =
+kept_first commit s at d false put_off n sent x (Begun.Work w) is num same_n o same work due eq g =
     kept_nothing commit s at d (Stage.Begin false) Stage.AwaitLock is g
     (kept_stage (normal s) at d Stage.AwaitLock is tt (normal_sound s g))
     (kept_stage (normal s) at d _ is (begins_anew d.attempt false (nothing s.cell.held Stage.AwaitLock) refl)
     (normal_sound s g))
 
-kept_firsts : (commit : Commit) (s : WorldState) (at : ℕ) (d : Driver) (locked o : Bool) (n : ℕ) (sent : Sent)
+abbrev pub begun_now : WorldState → Request → Held × Begun
+begun_now s r = begun_held s.cell.order.mode s.cell.order.first_poll s.cell.held r s.cell.order.attributes
+
+abbrev pub begun_unless : Bool → WorldState → Request → Held × Begun
+begun_unless put_off s r = if put_off then (s.cell.held, Answered (busy r.kind)) else begun_now s r
+
+-- whether it is put off
+abbrev pub is_put_off : WorldState → Permit → Request → Bool
+is_put_off s may r = not may.begin && begins s.cell.order.mode s.cell.held r s.cell.order.attributes
+
+-- a request that is put off, and one that isn't
+kept_unless : (commit : Commit) (s : WorldState) (at : ℕ) (d : Driver) (locked put_off : Bool) (n : ℕ) (sent : Sent)
     → slice_get s.drivers at ≡ Some d → d.attempt ≡ Some n → sent_as s.cell.sent n ≡ Some sent → IsTidy s.cell.held
-    → AreNumbered s.cell → is_owner s.owner at ≡ o → GoesIn s
+    → AreNumbered s.cell → is_owner s.owner at ≡ false → GoesIn s
     → IsSound (committed commit (normal s) at d.attempt (Stage.Begin locked)
-    (first locked o s.cell.held sent.request
-    (begun_held s.cell.order.mode s.cell.order.first_poll s.cell.held sent.request s.cell.order.attributes)))
-kept_firsts commit s at d locked true n sent is num found held numbered o g =
-    kept_nothing commit s at d (Stage.Begin locked) Stage.Done is g
-    (kept_stage (normal s) at d Stage.Done is tt (normal_sound s g))
-    (kept_stage (normal s) at d _ is (begins_anew d.attempt locked (nothing s.cell.held Stage.Done) refl) (normal_sound s g))
-kept_firsts commit s at d locked false n sent is num found held numbered o g =
-    let b = begun_held s.cell.order.mode s.cell.order.first_poll s.cell.held sent.request s.cell.order.attributes in
-    kept_first commit s at d locked n sent b.0 b.1 is num (number_of s.cell n sent numbered found) o
+    (first locked false put_off s.cell.held sent.request (begun_unless put_off s sent.request)))
+kept_unless commit s at d locked true n sent is num found held numbered o g =
+    kept_first commit s at d locked true n sent s.cell.held (Answered (busy sent.request.kind)) is num
+    (number_of s.cell n sent numbered found) o (λ on. refl) (λ y e. refl) (λ w e. cc)
+    (put_off_is s.cell d.attempt n sent num found) g
+kept_unless commit s at d locked false n sent is num found held numbered o g =
+    let b = begun_now s sent.request in
+    kept_first commit s at d locked false n sent b.0 b.1 is num (number_of s.cell n sent numbered found) o
     (busy_same s.cell.order.mode s.cell.order.first_poll s.cell.held sent.request s.cell.order.attributes held)
     (answered_work s.cell.order.mode s.cell.order.first_poll s.cell.held sent.request s.cell.order.attributes)
     (due_pending s.cell.order.mode s.cell.order.first_poll s.cell.held sent.request s.cell.order.attributes)
-    refl found g
+    (arrived_is s.cell d.attempt n sent b.0 b.1 num found refl) g
 
-kept_sent : (commit : Commit) (s : WorldState) (at : ℕ) (d : Driver) (locked : Bool) (n : ℕ) (x : Option Sent)
+kept_firsts : (commit : Commit) (s : WorldState) (at : ℕ) (d : Driver) (locked o put_off : Bool) (n : ℕ) (sent : Sent)
+    → slice_get s.drivers at ≡ Some d → d.attempt ≡ Some n → sent_as s.cell.sent n ≡ Some sent → IsTidy s.cell.held
+    → AreNumbered s.cell → is_owner s.owner at ≡ o → GoesIn s
+    → IsSound (committed commit (normal s) at d.attempt (Stage.Begin locked)
+    (first locked o put_off s.cell.held sent.request (begun_unless put_off s sent.request)))
+kept_firsts commit s at d locked true put_off n sent is num found held numbered o g =
+    kept_nothing commit s at d (Stage.Begin locked) Stage.Done is g
+    (kept_stage (normal s) at d Stage.Done is tt (normal_sound s g))
+    (kept_stage (normal s) at d _ is (begins_anew d.attempt locked (nothing s.cell.held Stage.Done) refl) (normal_sound s g))
+kept_firsts commit s at d locked false put_off n sent is num found held numbered o g =
+    kept_unless commit s at d locked put_off n sent is num found held numbered o g
+
+kept_sent : (commit : Commit) (s : WorldState) (at : ℕ) (d : Driver) (may : Permit) (locked : Bool) (n : ℕ) (x : Option Sent)
     → slice_get s.drivers at ≡ Some d → d.attempt ≡ Some n → sent_as s.cell.sent n ≡ x → IsTidy s.cell.held
     → AreNumbered s.cell → GoesIn s
-    → IsSound (with_transaction (normal s) at d.attempt (Stage.Begin locked) commit (first_of (normal s) at locked x))
-kept_sent commit s at d locked n None is num found held numbered g = normal_sound s g
-kept_sent commit s at d locked n (Some sent) is num found held numbered g =
-    kept_firsts commit s at d locked (is_owner s.owner at) n sent is num found held numbered refl g
+    → IsSound (with_transaction (normal s) at d.attempt (Stage.Begin locked) commit (first_of (normal s) at may locked x))
+kept_sent commit s at d may locked n None is num found held numbered g = normal_sound s g
+kept_sent commit s at d may locked n (Some sent) is num found held numbered g =
+    kept_firsts commit s at d locked (is_owner s.owner at) (is_put_off s may sent.request) n sent is
+    num found held numbered refl g
 
 -- ---- the first transaction of a take-up
 
@@ -518,7 +559,7 @@ not_at_end task false e = e
 
 kept_take_up : (s : WorldState) (at : ℕ) (d : Driver) (lost : Bool) (w : Option Request) (o v : Bool)
     → slice_get s.drivers at ≡ Some d → d.attempt ≡ None → s.cell.held.work ≡ w → is_operating s.cell.held ≡ o
-    → s.cell.held.waiting ≡ v → IsTidy s.cell.held → GoesIn s
+    → (v ≡ true → s.cell.held.waiting ≡ true) → IsTidy s.cell.held → GoesIn s
     → IsSound (written (normal s) at d.attempt (take_up_by w o v s.cell.held)
     (if lost then Stage.Done else (take_up_by w o v s.cell.held).stage))
 kept_take_up s at d lost (Some r) o v is num e f x held g =
@@ -537,27 +578,33 @@ kept_take_up s at d lost None false true is num e f x held g =
       resource = s.cell.resource;
       holder = s.holder;
       drivers = slice_set s.drivers at (at_stage d.attempt (if lost then Stage.Done else Stage.Done));
-    })) (sym (gives_up s.cell x))
+    })) (sym (gives_up s.cell (x refl)))
     (quiet_tx s (with_given_up s.cell) at d (if lost then Stage.Done else Stage.Done) (given_up s.cell.held) is refl refl
     (quiet_if lost Stage.Done tt)
     (goes_held (side_of s.cell) (given_up s.cell.held) s.cell.given _ _
-    (λ on. absurd (no_waiting (waiting_idle s.cell.held held x on))) refl (given_same s.cell.given) g))
+    (λ on. absurd (no_waiting (waiting_idle s.cell.held held (x refl) on))) refl (given_same s.cell.given) g))
 kept_take_up s at d lost None false false is num e f x held g =
     quiet_tx s s.cell at d (if lost then Stage.Done else Stage.Done) s.cell.held is refl refl
     (quiet_if lost Stage.Done tt) g
 
-kept_begin : (commit : Commit) (s : WorldState) (at : ℕ) (d : Driver) (locked : Bool) (a : Option ℕ)
+and_first : (a b : Bool) → a && b ≡ true → a ≡ true
+and_first true b e = refl
+and_first false b e = cc
+
+kept_begin : (commit : Commit) (s : WorldState) (at : ℕ) (d : Driver) (may : Permit) (locked : Bool) (a : Option ℕ)
     → slice_get s.drivers at ≡ Some d → d.attempt ≡ a → IsTidy s.cell.held → AreNumbered s.cell → GoesIn s
-    → IsSound (with_transaction (normal s) at d.attempt (Stage.Begin locked) commit (begin_of (normal s) at a locked))
-kept_begin commit s at d locked (Some n) is num held numbered g =
-    kept_sent commit s at d locked n (sent_as s.cell.sent n) is num refl held numbered g
-kept_begin commit s at d locked None is num held numbered g =
-    let tx = take_up s.cell.held in
+    → IsSound (with_transaction (normal s) at d.attempt (Stage.Begin locked) commit (begin_of (normal s) at may a locked))
+kept_begin commit s at d may locked (Some n) is num held numbered g =
+    kept_sent commit s at d may locked n (sent_as s.cell.sent n) is num refl held numbered g
+kept_begin commit s at d may locked None is num held numbered g =
+    let tx = take_up may.give_up s.cell.held in
+    let v = s.cell.held.waiting && may.give_up in
+    let x : (v ≡ true → s.cell.held.waiting ≡ true) = (λ e. and_first s.cell.held.waiting may.give_up e) in
     let e = unsure_none d.attempt (Stage.Begin locked) tx num in
     kept_commit commit (normal s) at d (Stage.Begin locked) tx is (normal_sound s g)
-    (kept_take_up s at d false s.cell.held.work (is_operating s.cell.held) s.cell.held.waiting is num refl refl refl held g)
+    (kept_take_up s at d false s.cell.held.work (is_operating s.cell.held) v is num refl refl x held g)
     (subst (λ (y : Stage). IsSound (written (normal s) at d.attempt tx y)) (sym e)
-    (kept_take_up s at d true s.cell.held.work (is_operating s.cell.held) s.cell.held.waiting is num refl refl refl held g))
+    (kept_take_up s at d true s.cell.held.work (is_operating s.cell.held) v is num refl refl x held g))
     (subst (λ (y : Stage). IsSound (with_stage (normal s) at d.attempt y)) (sym e)
     (kept_stage (normal s) at d Stage.Done is tt (normal_sound s g)))
 
@@ -874,28 +921,28 @@ kept_finishes commit s at d ok true is st o g =
 
 -- ---- any transaction
 
-kept_transaction : (commit : Commit) (s : WorldState) (at : ℕ) (d : Driver) (stage : Stage)
+kept_transaction : (commit : Commit) (s : WorldState) (at : ℕ) (may : Permit) (d : Driver) (stage : Stage)
     → slice_get s.drivers at ≡ Some d → d.stage ≡ stage → IsTidy s.cell.held → AreNumbered s.cell → GoesIn s
-    → IsSound (with_transaction (normal s) at d.attempt stage commit (transaction_of (normal s) at d.attempt stage))
-kept_transaction commit s at d (Stage.Begin locked) is st held numbered g =
-    kept_begin commit s at d locked d.attempt is refl held numbered g
-kept_transaction commit s at d Stage.Unsure is st held numbered g =
+    → IsSound (with_transaction (normal s) at d.attempt stage commit (transaction_of (normal s) at may d.attempt stage))
+kept_transaction commit s at may d (Stage.Begin locked) is st held numbered g =
+    kept_begin commit s at d may locked d.attempt is refl held numbered g
+kept_transaction commit s at may d Stage.Unsure is st held numbered g =
     kept_resume commit s at d (is_owner s.owner at) s.cell.held.work is st refl refl g
-kept_transaction commit s at d (Stage.End out before) is st held numbered g =
+kept_transaction commit s at may d (Stage.End out before) is st held numbered g =
     kept_ends commit s at d out before (is_owner s.owner at) is st refl g
-kept_transaction commit s at d (Stage.Finish ok) is st held numbered g =
+kept_transaction commit s at may d (Stage.Finish ok) is st held numbered g =
     kept_finishes commit s at d ok (is_owner s.owner at) is st refl g
-kept_transaction commit s at d Stage.TryLock is st held numbered g = normal_sound s g
-kept_transaction commit s at d Stage.AwaitLock is st held numbered g = normal_sound s g
-kept_transaction commit s at d (Stage.Work task) is st held numbered g = normal_sound s g
-kept_transaction commit s at d (Stage.Answer answer) is st held numbered g = normal_sound s g
-kept_transaction commit s at d Stage.Done is st held numbered g = normal_sound s g
+kept_transaction commit s at may d Stage.TryLock is st held numbered g = normal_sound s g
+kept_transaction commit s at may d Stage.AwaitLock is st held numbered g = normal_sound s g
+kept_transaction commit s at may d (Stage.Work task) is st held numbered g = normal_sound s g
+kept_transaction commit s at may d (Stage.Answer answer) is st held numbered g = normal_sound s g
+kept_transaction commit s at may d Stage.Done is st held numbered g = normal_sound s g
 
-kept_transact : (commit : Commit) (s : WorldState) (at : ℕ) (d : Option Driver) → slice_get s.drivers at ≡ d
-    → IsTidy s.cell.held → AreNumbered s.cell → GoesIn s → IsSound (transact (normal s) at commit d)
-kept_transact commit s at None is held numbered g = normal_sound s g
-kept_transact commit s at (Some d) is held numbered g =
-    kept_transaction commit s at d d.stage is refl held numbered g
+kept_transact : (commit : Commit) (s : WorldState) (at : ℕ) (may : Permit) (d : Option Driver) → slice_get s.drivers at ≡ d
+    → IsTidy s.cell.held → AreNumbered s.cell → GoesIn s → IsSound (transact (normal s) at may commit d)
+kept_transact commit s at may None is held numbered g = normal_sound s g
+kept_transact commit s at may (Some d) is held numbered g =
+    kept_transaction commit s at may d d.stage is refl held numbered g
 
 -- ---- the work
 
@@ -1043,8 +1090,8 @@ kept_normal s Happening.TakeUp held num g = kept_begun (normal s) None (normal_s
 kept_normal s (Happening.GetLock at) held num g =
     kept_lock (normal s) at (slice_get s.drivers at) s.holder refl (normal_sound s g)
 kept_normal s (Happening.MissLock at) held num g = kept_miss (normal s) at (slice_get s.drivers at) refl (normal_sound s g)
-kept_normal s (Happening.Transact at commit) held num g =
-    kept_transact commit s at (slice_get s.drivers at) refl held num g
+kept_normal s (Happening.Transact at may commit) held num g =
+    kept_transact commit s at may (slice_get s.drivers at) refl held num g
 kept_normal s (Happening.Work t) held num g = kept_work s t (driver_at s.drivers s.holder).stage refl g
 kept_normal s (Happening.Worked out) held num g = kept_worked_step s out s.holder refl g
 kept_normal s (Happening.Finished ok) held num g = kept_operated_step s ok s.holder refl g

@@ -10,6 +10,7 @@ use Rattle.osb_network.specs.declared.event.Event.{Event}
 use Rattle.osb_network.specs.declared.resource.Resource.{Resource}
 use Rattle.osb_driver.specs.Driver.{unsure}
 use Rattle.osb_driver.specs.declared.driver.Driver.{Driver}
+use Rattle.osb_driver.specs.declared.driver.Permit.{Permit}
 use Rattle.osb_driver.specs.declared.driver.Stage.{Stage}
 use Rattle.osb_driver.specs.declared.driver.Task.{Task}
 use Rattle.osb_driver.specs.declared.driver.Transaction.{Transaction}
@@ -77,10 +78,11 @@ transaction_run : (commit : Commit) (s : WorldState) (at : ℕ) (a : Option ℕ)
 transaction_run commit s at a stage None = no_run s.cell
 transaction_run commit s at a stage (Some tx) = commit_run commit s at a tx (unsure a stage tx)
 
-transact_run : (commit : Commit) (s : WorldState) (at : ℕ) (d : Option Driver) → IsRun s.cell (transact s at commit d).cell
-transact_run commit s at None = no_run s.cell
-transact_run commit s at (Some d) =
-    transaction_run commit s at d.attempt d.stage (transaction_of s at d.attempt d.stage)
+transact_run : (commit : Commit) (s : WorldState) (at : ℕ) (may : Permit) (d : Option Driver)
+    → IsRun s.cell (transact s at may commit d).cell
+transact_run commit s at may None = no_run s.cell
+transact_run commit s at may (Some d) =
+    transaction_run commit s at d.attempt d.stage (transaction_of s at may d.attempt d.stage)
 
 work_run : (s : WorldState) (t : Resource) (stage : Stage) → IsRun s.cell (work_by s t stage).cell
 work_run s t (Stage.Work task) = one_run s.cell (Event.Work t)
@@ -155,7 +157,7 @@ are_runs s (Happening.Arrive n) = come_run s n (sent_as s.cell.sent n)
 are_runs s Happening.TakeUp = no_run s.cell
 are_runs s (Happening.GetLock at) = lock_run s at (slice_get s.drivers at) s.holder
 are_runs s (Happening.MissLock at) = miss_run s at (slice_get s.drivers at)
-are_runs s (Happening.Transact at commit) = transact_run commit s at (slice_get s.drivers at)
+are_runs s (Happening.Transact at may commit) = transact_run commit s at may (slice_get s.drivers at)
 are_runs s (Happening.Work t) = work_run s t (driver_at s.drivers s.holder).stage
 are_runs s (Happening.Worked out) = worked_step_run s out s.holder
 are_runs s (Happening.Finished ok) = operated_step_run s ok s.holder

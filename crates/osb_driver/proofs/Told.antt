@@ -7,19 +7,20 @@ use Rattle.osb_instance.specs.declared.outcome.WorkOutcome.{WorkOutcome}
 use Rattle.osb_instance.specs.declared.record.Sent.{Sent}
 use Rattle.osb_instance.specs.declared.work.Begun.{Begun}
 use Rattle.osb_instance.specs.declared.work.Begun.TheVariants.{Answered}
-use Rattle.osb_instance.specs.Begin.{begun as begun_held, is_operating, worked}
+use Rattle.osb_instance.specs.Begin.{busy, is_operating, worked}
 use Rattle.osb_instance.specs.Held.{Held}
 use Rattle.osb_network.specs.Cell.{Cell}
 use Rattle.osb_network.specs.Steps.{arrive, arrived, cell_steps, sent_as}
 use Rattle.osb_network.specs.declared.event.Event.{Event}
 use Rattle.osb_driver.specs.Driver.{end, finish, finish_by, first, first_by as first_tx, resume}
 use Rattle.osb_driver.specs.declared.driver.Driver.{Driver}
+use Rattle.osb_driver.specs.declared.driver.Permit.{Permit}
 use Rattle.osb_driver.specs.declared.driver.Stage.{Stage}
 use Rattle.osb_driver.specs.World.{AreGiven, AreNumbered, IsGiven, IsGivenBy}
-use Rattle.osb_driver.specs.World.{Knows, KnowsEnd, WorldState, begin_of, first_of, is_owner, side_of}
+use Rattle.osb_driver.specs.World.{Knows, KnowsEnd, WorldState, begin_of, events_of, first_of, is_owner, side_of}
 use Rattle.osb_driver.specs.World.{transaction_of}
-use Rattle.osb_driver.proofs.Kept.{cell_is, end_is, end_tx, ended_given, is_normal, normal, number_of, owner_is}
-use Rattle.osb_driver.proofs.Kept.{owner_knows, GoesIn}
+use Rattle.osb_driver.proofs.Kept.{arrived_is, begun_now, begun_unless, effect_of, end_is, end_tx, ended_given, is_normal, is_put_off}
+use Rattle.osb_driver.proofs.Kept.{normal, number_of, owner_is, owner_knows, put_off_is, GoesIn}
 use Rattle.osb_driver.proofs.Moves.{can_end_so}
 
 done_given : (b c : Cell) (a : Option ℕ) → IsGiven b c a Stage.Done
@@ -31,33 +32,37 @@ given_at : (c : Cell) (n : ℕ) (sent : Sent) (x : Held) (a : Answer) → sent.a
     → (arrived c sent x (Answered a)).given ≡ c.given ++ record { attempt = n; answer = a } ∷ []
 given_at c n sent x a e = ap (λ (k : ℕ). c.given ++ record { attempt = k; answer = a } ∷ []) e
 
-first_given : (c : Cell) (n : ℕ) (sent : Sent) (locked : Bool) (x : Held) (b : Begun) → sent.attempt ≡ n
-    → sent_as c.sent n ≡ Some sent → arrive c (Some sent) ≡ arrived c sent x b
-    → IsGivenBy c (Some n) (first_tx locked c.held sent.request x b)
-first_given c n sent locked x (Answered a) num found eq =
-    inl (ap (λ (y : Cell). y.given) (cell_is c (Some n) n sent (arrived c sent x (Answered a)) refl found eq)
-    ∙ given_at c n sent x a num)
-first_given c n sent true x (Begun.Work w) num found eq = tt
-first_given c n sent false x (Begun.Work w) num found eq = tt
+first_given : (c : Cell) (n : ℕ) (sent : Sent) (locked put_off : Bool) (x : Held) (b : Begun) → sent.attempt ≡ n
+    → cell_steps c (events_of (effect_of put_off b) (Some n)) ≡ arrived c sent x b
+    → IsGivenBy c (Some n) (first_tx locked put_off c.held sent.request x b)
+first_given c n sent locked put_off x (Answered a) num eq =
+    inl (ap (λ (y : Cell). y.given) eq ∙ given_at c n sent x a num)
+first_given c n sent true put_off x (Begun.Work w) num eq = tt
+first_given c n sent false put_off x (Begun.Work w) num eq = tt
 
-begun_given : (s : WorldState) (locked o : Bool) (n : ℕ) (sent : Sent) → sent_as s.cell.sent n ≡ Some sent
+begun_given : (s : WorldState) (locked o put_off : Bool) (n : ℕ) (sent : Sent) → sent_as s.cell.sent n ≡ Some sent
     → AreNumbered s.cell
-    → IsGivenBy s.cell (Some n) (first locked o s.cell.held sent.request
-    (begun_held s.cell.order.mode s.cell.order.first_poll s.cell.held sent.request s.cell.order.attributes))
-begun_given s locked true n sent found num = tt
-begun_given s locked false n sent found num =
-    let b = begun_held s.cell.order.mode s.cell.order.first_poll s.cell.held sent.request s.cell.order.attributes in
-    first_given s.cell n sent locked b.0 b.1 (number_of s.cell n sent num found) found refl
+    → IsGivenBy s.cell (Some n)
+    (first locked o put_off s.cell.held sent.request (begun_unless put_off s sent.request))
+begun_given s locked true put_off n sent found num = tt
+begun_given s locked false true n sent found num =
+    first_given s.cell n sent locked true s.cell.held (Answered (busy sent.request.kind)) (number_of s.cell n sent num found)
+    (put_off_is s.cell (Some n) n sent refl found)
+begun_given s locked false false n sent found num =
+    let b = begun_now s sent.request in
+    first_given s.cell n sent locked false b.0 b.1 (number_of s.cell n sent num found)
+    (arrived_is s.cell (Some n) n sent b.0 b.1 refl found refl)
 
-sent_given : (s : WorldState) (at : ℕ) (locked : Bool) (n : ℕ) (x : Option Sent) → sent_as s.cell.sent n ≡ x
-    → AreNumbered s.cell → IfSome (first_of (normal s) at locked x) (IsGivenBy s.cell (Some n))
-sent_given s at locked n None found num = tt
-sent_given s at locked n (Some sent) found num = begun_given s locked (is_owner s.owner at) n sent found num
+sent_given : (s : WorldState) (at : ℕ) (may : Permit) (locked : Bool) (n : ℕ) (x : Option Sent) → sent_as s.cell.sent n ≡ x
+    → AreNumbered s.cell → IfSome (first_of (normal s) at may locked x) (IsGivenBy s.cell (Some n))
+sent_given s at may locked n None found num = tt
+sent_given s at may locked n (Some sent) found num =
+    begun_given s locked (is_owner s.owner at) (is_put_off s may sent.request) n sent found num
 
-begin_given : (s : WorldState) (at : ℕ) (a : Option ℕ) (locked : Bool) → AreNumbered s.cell
-    → IfSome (begin_of (normal s) at a locked) (IsGivenBy s.cell a)
-begin_given s at None locked num = tt
-begin_given s at (Some n) locked num = sent_given s at locked n (sent_as s.cell.sent n) refl num
+begin_given : (s : WorldState) (at : ℕ) (may : Permit) (a : Option ℕ) (locked : Bool) → AreNumbered s.cell
+    → IfSome (begin_of (normal s) at may a locked) (IsGivenBy s.cell a)
+begin_given s at may None locked num = tt
+begin_given s at may (Some n) locked num = sent_given s at may locked n (sent_as s.cell.sent n) refl num
 
 resume_given : (c : Cell) (a : Option ℕ) (o : Bool) (x : Held) (w : Option Request) → IsGivenBy c a (resume o x w)
 resume_given c None false x w = tt
@@ -102,26 +107,26 @@ finishes_given : (c : Cell) (a : Option ℕ) (o : Bool) (x : Held) (ok : Bool) �
 finishes_given c a false x ok = done_given c c a
 finishes_given c a true x ok = finish_given c a (is_operating x) x ok
 
-transaction_given : (s : WorldState) (at : ℕ) (d : Driver) (stage : Stage) → slice_get s.drivers at ≡ Some d
+transaction_given : (s : WorldState) (at : ℕ) (may : Permit) (d : Driver) (stage : Stage) → slice_get s.drivers at ≡ Some d
     → d.stage ≡ stage → AreNumbered s.cell → GoesIn s
-    → IfSome (transaction_of (normal s) at d.attempt stage) (IsGivenBy s.cell d.attempt)
-transaction_given s at d (Stage.Begin locked) is st num g = begin_given s at d.attempt locked num
-transaction_given s at d Stage.Unsure is st num g =
+    → IfSome (transaction_of (normal s) at may d.attempt stage) (IsGivenBy s.cell d.attempt)
+transaction_given s at may d (Stage.Begin locked) is st num g = begin_given s at may d.attempt locked num
+transaction_given s at may d Stage.Unsure is st num g =
     resume_given s.cell d.attempt (is_owner s.owner at) s.cell.held s.cell.held.work
-transaction_given s at d (Stage.End out before) is st num g =
+transaction_given s at may d (Stage.End out before) is st num g =
     ends_given s at d out before (is_owner s.owner at) is st refl g
-transaction_given s at d (Stage.Finish ok) is st num g =
+transaction_given s at may d (Stage.Finish ok) is st num g =
     finishes_given s.cell d.attempt (is_owner s.owner at) s.cell.held ok
-transaction_given s at d Stage.TryLock is st num g = tt
-transaction_given s at d Stage.AwaitLock is st num g = tt
-transaction_given s at d (Stage.Work task) is st num g = tt
-transaction_given s at d (Stage.Answer answer) is st num g = tt
-transaction_given s at d Stage.Done is st num g = tt
+transaction_given s at may d Stage.TryLock is st num g = tt
+transaction_given s at may d Stage.AwaitLock is st num g = tt
+transaction_given s at may d (Stage.Work task) is st num g = tt
+transaction_given s at may d (Stage.Answer answer) is st num g = tt
+transaction_given s at may d Stage.Done is st num g = tt
 
-abbrev IsGivenAt : WorldState → ℕ → Driver → Type 0
-IsGivenAt s at d = IfSome (transaction_of s at d.attempt d.stage) (IsGivenBy s.cell d.attempt)
+abbrev IsGivenAt : WorldState → ℕ → Permit → Driver → Type 0
+IsGivenAt s at may d = IfSome (transaction_of s at may d.attempt d.stage) (IsGivenBy s.cell d.attempt)
 
 pub are_given : AreGiven
-are_given s at d is num sound =
-    subst (λ (x : WorldState). IsGivenAt x at d) (is_normal s sound.row sound.resource)
-    (transaction_given s at d d.stage is refl num sound.goes)
+are_given s at may d is num sound =
+    subst (λ (x : WorldState). IsGivenAt x at may d) (is_normal s sound.row sound.resource)
+    (transaction_given s at may d d.stage is refl num sound.goes)

@@ -3,7 +3,7 @@ use Rattle.std.specs.Prelude.{◌≡◌, ⊤, ℕ, ◌+◌, Bool, true, false, �
 use Rattle.std.specs.Prelude.{Option, Some, None, IfSome, List, [], ◌∷◌, ◌++◌, ◌⊎◌, IsSomeAnd}
 use Rattle.osb_message.specs.declared.catalogue.Mode.{Mode}
 use Rattle.osb_message.specs.declared.messages.Request.{Request}
-use Rattle.osb_instance.specs.Begin.{is_operating, begun as begun_held}
+use Rattle.osb_instance.specs.Begin.{is_operating}
 use Rattle.osb_instance.specs.Held.{Held, nothing_held}
 use Rattle.osb_instance.specs.declared.outcome.WorkOutcome.{WorkOutcome}
 use Rattle.osb_network.specs.Agreement.{Agrees}
@@ -17,9 +17,10 @@ use Rattle.osb_network.specs.declared.resource.Resource.{Resource}
 use Rattle.osb_network.specs.declared.resource.Resource.TheVariants.{Absent}
 use Rattle.osb_network.specs.declared.event.Given.{Given}
 use Rattle.osb_message.specs.declared.messages.Answer.{Answer}
-use Rattle.osb_driver.specs.Driver.{end, finish, first, resume, take_up, unsure}
+use Rattle.osb_driver.specs.Driver.{at_stage, end, finish, first_as, missed_at_once, resume, take_up, unsure}
 use Rattle.osb_driver.specs.declared.driver.Driver.{Driver}
 use Rattle.osb_driver.specs.declared.driver.Effect.{Effect}
+use Rattle.osb_driver.specs.declared.driver.Permit.{Permit}
 use Rattle.osb_driver.specs.declared.driver.Stage.{Stage}
 use Rattle.osb_driver.specs.declared.driver.Task.{Task}
 use Rattle.osb_driver.specs.declared.driver.Transaction.{Transaction}
@@ -148,10 +149,6 @@ IsRun before after = (events : List Event) × (after ≡ cell_steps before event
 
 -- ---- steps
 
--- a driver in a stage
-abbrev pub at_stage : Option ℕ → Stage → Driver
-at_stage attempt stage = record { attempt = attempt; stage = stage }
-
 abbrev pub with_stage : WorldState → ℕ → Option ℕ → Stage → WorldState
 with_stage world at attempt stage = record world { drivers = slice_set world.drivers at (at_stage attempt stage) }
 
@@ -160,6 +157,8 @@ abbrev pub events_of : Effect → Option ℕ → List Event
 events_of Effect.Nothing attempt = []
 events_of Effect.Arrive None = []
 events_of Effect.Arrive (Some attempt) = Event.Arrive attempt ∷ []
+events_of Effect.PutOff None = []
+events_of Effect.PutOff (Some attempt) = Event.PutOff attempt ∷ []
 events_of (Effect.End outcome) attempt = Event.End outcome ∷ []
 events_of (Effect.Finish ok) attempt = Event.Finish ok ∷ []
 events_of Effect.GiveUpWaiting attempt = Event.GiveUpWaiting ∷ []
@@ -194,25 +193,28 @@ is_owner None at = false
 is_owner (Some owner) at = owner == at
 
 -- the first transaction of a driver of a request that was sent
-abbrev pub first_of : WorldState → ℕ → Bool → Option Sent → Option Transaction
-first_of world at locked None = None
-first_of world at locked (Some sent) =
-    Some (first locked (is_owner world.owner at) world.row sent.request
-    (begun_held world.cell.order.mode world.cell.order.first_poll world.row sent.request world.cell.order.attributes))
+abbrev pub first_of : WorldState → ℕ → Permit → Bool → Option Sent → Option Transaction
+first_of world at permit locked None = None
+first_of world at permit locked (Some sent) =
+    Some (first_as locked (is_owner world.owner at) permit.begin world.cell.order.mode world.cell.order.first_poll world.row
+    sent.request world.cell.order.attributes)
 
 -- the first transaction of a driver
-abbrev pub begin_of : WorldState → ℕ → Option ℕ → Bool → Option Transaction
-begin_of world at None locked = Some (take_up world.row)
-begin_of world at (Some attempt) locked = first_of world at locked (sent_as world.cell.sent attempt)
+abbrev pub begin_of : WorldState → ℕ → Permit → Option ℕ → Bool → Option Transaction
+begin_of world at permit None locked = Some (take_up permit.give_up world.row)
+begin_of world at permit (Some attempt) locked =
+    first_of world at permit locked (sent_as world.cell.sent attempt)
 
 -- the transaction of a driver at a stage
-abbrev pub transaction_of : WorldState → ℕ → Option ℕ → Stage → Option Transaction
-transaction_of world at attempt (Stage.Begin locked) = begin_of world at attempt locked
-transaction_of world at attempt Stage.Unsure = Some (resume (is_owner world.owner at) world.row world.row.work)
-transaction_of world at attempt (Stage.End outcome before) =
+abbrev pub transaction_of : WorldState → ℕ → Permit → Option ℕ → Stage → Option Transaction
+transaction_of world at permit attempt (Stage.Begin locked) = begin_of world at permit attempt locked
+transaction_of world at permit attempt Stage.Unsure =
+    Some (resume (is_owner world.owner at) world.row world.row.work)
+transaction_of world at permit attempt (Stage.End outcome before) =
     Some (end attempt (is_owner world.owner at) world.cell.order.mode world.row outcome before world.row.work)
-transaction_of world at attempt (Stage.Finish ok) = Some (finish (is_owner world.owner at) world.row ok)
-transaction_of world at attempt stage = None
+transaction_of world at permit attempt (Stage.Finish ok) =
+    Some (finish (is_owner world.owner at) world.row ok)
+transaction_of world at permit attempt stage = None
 
 -- ---- what happens
 
@@ -250,13 +252,8 @@ lock world at driver (Some holder) = world
 lock world at None None = world
 lock world at (Some driver) None = lock_by world at driver.attempt driver.stage
 
--- without the lock a take-up is over, and a request may still be answered
-abbrev pub missed : Option ℕ → Stage
-missed None = Stage.Done
-missed (Some attempt) = Stage.Begin false
-
 abbrev pub miss_by : WorldState → ℕ → Option ℕ → Stage → WorldState
-miss_by world at attempt Stage.TryLock = with_stage world at attempt (missed attempt)
+miss_by world at attempt Stage.TryLock = with_stage world at attempt (missed_at_once attempt)
 miss_by world at attempt stage = world
 
 abbrev pub miss : WorldState → ℕ → Option Driver → WorldState
@@ -268,11 +265,11 @@ with_transaction world at attempt stage commit None = world
 with_transaction world at attempt stage commit (Some tx) =
     transacted commit world at attempt tx (unsure attempt stage tx)
 
-abbrev pub transact : WorldState → ℕ → Commit → Option Driver → WorldState
-transact world at commit None = world
-transact world at commit (Some driver) =
+abbrev pub transact : WorldState → ℕ → Permit → Commit → Option Driver → WorldState
+transact world at permit commit None = world
+transact world at permit commit (Some driver) =
     with_transaction world at driver.attempt driver.stage commit
-    (transaction_of world at driver.attempt driver.stage)
+    (transaction_of world at permit driver.attempt driver.stage)
 
 -- the work of the driver that has the lock
 abbrev pub is_at_work : Stage → Bool
@@ -325,7 +322,8 @@ world_step world (Happening.Arrive attempt) = come world attempt (sent_as world.
 world_step world Happening.TakeUp = begun world None
 world_step world (Happening.GetLock at) = lock world at (slice_get world.drivers at) world.holder
 world_step world (Happening.MissLock at) = miss world at (slice_get world.drivers at)
-world_step world (Happening.Transact at commit) = transact world at commit (slice_get world.drivers at)
+world_step world (Happening.Transact at permit commit) =
+    transact world at permit commit (slice_get world.drivers at)
 world_step world (Happening.Work resource) =
     work_by world resource (driver_at world.drivers world.holder).stage
 world_step world (Happening.Worked outcome) = worked_step world outcome world.holder
@@ -371,9 +369,9 @@ IsGivenBy cell attempt tx = IsGiven cell (cell_steps cell (events_of tx.effect a
 -- by each transaction of each driver
 abbrev pub AreGiven : Type 0
 AreGiven =
-    (world : WorldState) (at : ℕ) (driver : Driver) → slice_get world.drivers at ≡ Some driver
+    (world : WorldState) (at : ℕ) (permit : Permit) (driver : Driver) → slice_get world.drivers at ≡ Some driver
     → AreNumbered world.cell → IsSound world
-    → IfSome (transaction_of world at driver.attempt driver.stage) (IsGivenBy world.cell driver.attempt)
+    → IfSome (transaction_of world at permit driver.attempt driver.stage) (IsGivenBy world.cell driver.attempt)
 
 -- whatever has happened to an instance, the world is the network's instance, which has come by events of the network; so
 -- platform, row and resource agree

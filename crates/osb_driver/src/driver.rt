@@ -1,7 +1,8 @@
 //! What a driver does next: pure decisions over the row that its transaction reads.
-ghost use Rattle.std.specs.Prelude.{◌≡◌};
+ghost use Rattle.std.specs.Prelude.{◌≡◌, ◌&&◌, not};
 ghost use Rattle.osb_driver.specs.Driver as spec;
-ghost use Rattle.osb_instance.specs.Begin.{begun};
+ghost use Rattle.osb_driver.specs.Driver.{at_stage};
+ghost use Rattle.osb_instance.specs.Begin.{begins, begun_if};
 
 use osb_instance::{Begun, Digest, Holding, WorkOutcome};
 use osb_message::{Answer, Mode, Request};
@@ -55,6 +56,15 @@ pub enum Stage {
     Done,
 }
 
+/// What a transaction may do, by what else it reads, and by the clock.
+#[derive(Clone, Copy, Debug, PartialEq, Eq)]
+pub struct Permit {
+    /// Whether something may begin, as at [`Holding::begin_if`].
+    pub begin: bool,
+    /// Whether an instance has waited too long for its first Poll.
+    pub give_up: bool,
+}
+
 /// The event of the network that a transaction is, once it is committed.
 #[derive(Clone, Copy, Debug, PartialEq, Eq)]
 pub enum Effect {
@@ -62,6 +72,8 @@ pub enum Effect {
     Nothing,
     /// The request arrives.
     Arrive,
+    /// The request arrives and is put off: it is answered as if work were pending.
+    PutOff,
     /// The pending work ends.
     End(WorkOutcome),
     /// The operation that runs ends. The value is whether it succeeded.
@@ -106,14 +118,15 @@ fn nothing(row: Holding, stage: Stage) -> Transaction
 }
 
 // A request is answered at once.
-fn answered(row: Holding, answer: Answer) -> Transaction
-    ensures tx { result ≡ spec.answered row answer }
+fn answered(row: Holding, answer: Answer, put_off: bool) -> Transaction
+    ensures tx { result ≡ spec.answered row answer put_off }
 {
+    let effect = if put_off { Effect::PutOff } else { Effect::Arrive };
     Transaction {
         row,
         takes_over: false,
         stage: Stage::Answer { answer },
-        effect: Effect::Arrive,
+        effect,
     }
 }
 
@@ -131,28 +144,97 @@ fn taken_over(row: Holding, task: Task) -> Transaction
 }
 
 impl Driver {
+    /// Returns the driver of the request of this attempt, or with `None` that of a take-up.
+    pub fn new(attempt: Option<u64>) -> Driver
+        ensures driver { result ≡ at_stage attempt Stage.TryLock }
+    {
+        Driver {
+            attempt,
+            stage: Stage::TryLock,
+        }
+    }
+
+    /// Returns the driver once it has the lock. At a stage that asks for no lock, nothing changes.
+    pub fn locked(self) -> Driver
+        ensures driver { result ≡ at_stage self.attempt (spec.locked self.stage) }
+    {
+        let stage = match self.stage {
+            Stage::TryLock | Stage::AwaitLock => Stage::Begin { locked: true },
+            stage => stage,
+        };
+        Driver { stage, ..self }
+    }
+
+    /// Returns the driver that hasn't got the lock: at once, or after it has waited. Without the lock, a request may
+    /// still be answered, and a take-up is done. At a stage that asks for no lock, nothing changes.
+    pub fn missed(self) -> Driver
+        ensures driver { result ≡ at_stage self.attempt (spec.missed self.attempt self.stage) }
+    {
+        let stage = match self.stage {
+            Stage::TryLock if self.attempt.is_some() => Stage::Begin { locked: false },
+            Stage::TryLock | Stage::AwaitLock => Stage::Done,
+            stage => stage,
+        };
+        Driver { stage, ..self }
+    }
+
+    /// Returns the driver once a look at the resource has shown how its pending work ended. If it has none, nothing
+    /// changes.
+    pub fn worked(self, outcome: WorkOutcome) -> Driver
+        ensures driver { result ≡ at_stage self.attempt (spec.worked_by outcome self.stage) }
+    {
+        let stage = match self.stage {
+            Stage::Work {
+                task: Task::Pending(_),
+            } => Stage::End {
+                outcome,
+                before: None,
+            },
+            stage => stage,
+        };
+        Driver { stage, ..self }
+    }
+
+    /// Returns the driver once a look at the resource has shown how its operation ended: `ok` is whether it succeeded. If
+    /// it has none, nothing changes.
+    pub fn finished(self, ok: bool) -> Driver
+        ensures driver { result ≡ at_stage self.attempt (spec.finished ok self.stage) }
+    {
+        let stage = match self.stage {
+            Stage::Work {
+                task: Task::Operation,
+            } => Stage::Finish { ok },
+            stage => stage,
+        };
+        Driver { stage, ..self }
+    }
+
     /// Returns the first transaction of a request, by the row that it reads. If work is due, its request is pending
     /// under the driver's number then; without the lock, nothing is written, since the lock comes first.
     ///
     /// `is_owner` is whether the row has the driver's number. No row has it before the driver has written it, so the
-    /// driver is done if it has. `mode`, `first_poll` and `attributes` are those of [`Holding::begin`].
+    /// driver is done if it has. The rest is as in [`Holding::begin_if`]: unless something may begin (`may_begin`), a
+    /// request that would begin something is put off.
     pub fn first(
         locked: bool,
         is_owner: bool,
+        may_begin: bool,
         mode: Option<Mode>,
         first_poll: bool,
         row: Holding,
         request: &Request,
         attributes: Digest,
     ) -> Transaction
-        ensures tx { result ≡ spec.first locked is_owner row request.now (begun mode first_poll row request.now attributes) }
+        ensures tx { result ≡ spec.first locked is_owner (not may_begin && begins mode row request.now attributes) row
+            request.now (begun_if may_begin mode first_poll row request.now attributes) }
     {
         if is_owner {
             return nothing(row, Stage::Done);
         }
-        let (after, begun) = row.begin(mode, first_poll, request, attributes);
+        let put_off = !may_begin && row.begins(mode, request, attributes);
+        let (after, begun) = row.begin_if(mode, first_poll, request, attributes, may_begin);
         match begun {
-            Begun::Answered(answer) => answered(after, answer),
+            Begun::Answered(answer) => answered(after, answer, put_off),
             Begun::Work(_) => {
                 if !locked {
                     return nothing(row, Stage::AwaitLock);
@@ -169,9 +251,9 @@ impl Driver {
     }
 
     /// Returns the first transaction of a take-up, by the row that it reads: pending work or the operation that runs is
-    /// the driver's then, or the wait for the first Poll is given up.
-    pub fn take_up(row: Holding) -> Transaction
-        ensures tx { result ≡ spec.take_up row }
+    /// the driver's then, or the wait for the first Poll is given up, if that may be.
+    pub fn take_up(row: Holding, may_give_up: bool) -> Transaction
+        ensures tx { result ≡ spec.take_up may_give_up row }
     {
         if let Some(request) = row.work() {
             return taken_over(row, Task::Pending(request));
@@ -180,13 +262,13 @@ impl Driver {
             return taken_over(row, Task::Operation);
         }
         match row.give_up_waiting() {
-            Ok(after) => Transaction {
+            Ok(after) if may_give_up => Transaction {
                 row: after,
                 takes_over: false,
                 stage: Stage::Done,
                 effect: Effect::GiveUpWaiting,
             },
-            Err(_) => nothing(row, Stage::Done),
+            _ => nothing(row, Stage::Done),
         }
     }
 
@@ -262,6 +344,50 @@ impl Driver {
                 effect: Effect::Finish(ok),
             },
             _ => nothing(row, Stage::Done),
+        }
+    }
+
+    /// Returns the transaction of this driver by the row that it reads; `None` at a stage that has none. `is_owner` is
+    /// whether the row has the driver's number. The rest is as in [`Driver::first`], of the driver's own request; a
+    /// take-up needs none of it but the mode.
+    pub fn transaction(
+        &self,
+        is_owner: bool,
+        permit: Permit,
+        mode: Option<Mode>,
+        first_poll: bool,
+        row: Holding,
+        request: &Request,
+        attributes: Digest,
+    ) -> Option<Transaction>
+        ensures tx { result ≡ spec.transaction self.now.attempt self.now.stage is_owner permit mode first_poll row
+            request.now attributes }
+    {
+        match self.stage {
+            Stage::Begin { locked } => Some(match self.attempt {
+                None => Driver::take_up(row, permit.give_up),
+                Some(_) => Driver::first(
+                    locked,
+                    is_owner,
+                    permit.begin,
+                    mode,
+                    first_poll,
+                    row,
+                    request,
+                    attributes,
+                ),
+            }),
+            Stage::Unsure => Some(Driver::resume(is_owner, row)),
+            Stage::End { outcome, before } => Some(Driver::end(
+                self.attempt,
+                is_owner,
+                mode,
+                row,
+                outcome,
+                before,
+            )),
+            Stage::Finish { ok } => Some(Driver::finish(is_owner, row, ok)),
+            _ => None,
         }
     }
 

@@ -7,6 +7,6 @@ mod driver;
 mod laws;
 mod world;
 
-pub use driver::{Driver, Effect, Stage, Task, Transaction};
+pub use driver::{Driver, Effect, Permit, Stage, Task, Transaction};
 pub use laws::refines;
 pub use world::{Commit, Happening};

@@ -1,4 +1,5 @@
 //! What can happen to a broker: the words of `specs/World.antt`.
+use crate::Permit;
 use osb_instance::WorkOutcome;
 use osb_network::{Event, Resource};
 
@@ -45,6 +46,8 @@ pub enum Happening {
     Transact {
         /// The place of the driver.
         at: usize,
+        /// What the transaction may do.
+        permit: Permit,
         /// How the transaction goes.
         commit: Commit,
     },
