@@ -16,7 +16,7 @@ use Rattle.osb_network.proofs.Agreements.{agrees}
 use Rattle.osb_network.proofs.Kept.{kept_steps, possible_empty}
 use Rattle.osb_network.proofs.Numbers.{sent_numbered}
 use Rattle.osb_driver.specs.declared.world.Happening.{Happening}
-use Rattle.osb_driver.specs.World.{AlwaysAgrees, IsRun, IsSound, IsTidy, WorldState, empty_world, world_step, world_steps}
+use Rattle.osb_driver.specs.World.{AlwaysAgrees, IsRun, IsSound, IsTidy, WorldState, empty_world, happened, world_step, world_steps}
 use Rattle.osb_driver.proofs.Kept.{stays_sound}
 use Rattle.osb_driver.proofs.Runs.{are_runs}
 
@@ -47,18 +47,22 @@ tidy_with c (Some rec) h = record {
 }
 
 -- a world that can come about
-record CanBe (s : WorldState) : Type 0 where
-  sound : IsSound s
-  possible : IsPossible s.cell
+pub record CanBe (s : WorldState) : Type 0 where
+  pub sound : IsSound s
+  pub possible : IsPossible s.cell
+
+-- each happening is a run
+run_of : (s : WorldState) (h : Happening) → IsRun s.cell (world_step s h).cell
+run_of s h = (happened s h, are_runs s h)
 
 by_run : (c n : Cell) → IsRun c n → IsPossible c → IsPossible n
 by_run c n run h = subst IsPossible (sym run.1) (kept_steps c run.0 h)
 
-can_step : (s : WorldState) (h : Happening) → CanBe s → CanBe (world_step s h)
+pub can_step : (s : WorldState) (h : Happening) → CanBe s → CanBe (world_step s h)
 can_step s h can = record {
   sound = stays_sound s h (subst IsTidy (sym can.sound.row) (tidy_with s.cell s.cell.recorded can.possible))
       (sent_numbered s.cell can.possible) can.sound;
-  possible = by_run s.cell (world_step s h).cell (are_runs s h) can.possible;
+  possible = by_run s.cell (world_step s h).cell (run_of s h) can.possible;
 }
 
 can_steps : (s : WorldState) (hs : List Happening) → CanBe s → CanBe (world_steps s hs)
@@ -72,7 +76,7 @@ empty_sound o = record {
   goes = record { owned = tt; works = λ w. absurd w; apart = λ e w. w };
 }
 
-can_begin : (o : Order) → CanBe (empty_world o)
+pub can_begin : (o : Order) → CanBe (empty_world o)
 can_begin o = record {
   sound = empty_sound o;
   possible = possible_empty o;
@@ -89,7 +93,7 @@ joined a b c p q =
 runs_through : (c : Cell) (s : WorldState) (hs : List Happening) → IsRun c s.cell → IsRun c (world_steps s hs).cell
 runs_through c s [] run = run
 runs_through c s (h ∷ hs) run =
-    runs_through c (world_step s h) hs (joined c s.cell (world_step s h).cell run (are_runs s h))
+    runs_through c (world_step s h) hs (joined c s.cell (world_step s h).cell run (run_of s h))
 
 agrees_in : (s : WorldState) → CanBe s → Agrees (record s.cell { held = s.row; resource = s.resource })
 agrees_in s can =

@@ -332,7 +332,34 @@ world_step world (Happening.GiveUp at) = give_up world at (slice_get world.drive
 world_step world Happening.LoseLock = record world { holder = None }
 world_step world Happening.ForgetNumber = record world { owner = None }
 
--- one after the other
+-- ---- the events of the network
+
+abbrev pub committed_events : Commit → List Event → List Event
+committed_events Commit.Returned events = events
+committed_events Commit.Failed events = []
+committed_events (Commit.Unsure true) events = events
+committed_events (Commit.Unsure false) events = []
+
+abbrev pub transaction_events : Commit → Option ℕ → Option Transaction → List Event
+transaction_events commit attempt None = []
+transaction_events commit attempt (Some tx) = committed_events commit (events_of tx.effect attempt)
+
+abbrev pub driver_events : WorldState → ℕ → Permit → Commit → Option Driver → List Event
+driver_events world at permit commit None = []
+driver_events world at permit commit (Some driver) =
+    transaction_events commit driver.attempt (transaction_of world at permit driver.attempt driver.stage)
+
+-- what a happening is in the network: none or one of its events
+abbrev pub happened : WorldState → Happening → List Event
+happened world (Happening.Outside event) = if is_outside event then event ∷ [] else []
+happened world (Happening.Transact at permit commit) =
+    driver_events world at permit commit (slice_get world.drivers at)
+happened world (Happening.Work resource) =
+    if is_at_work (driver_at world.drivers world.holder).stage then Event.Work resource ∷ [] else []
+happened world happening = []
+
+-- ---- one after the other
+
 abbrev pub world_steps : WorldState → List Happening → WorldState
 world_steps world [] = world
 world_steps world (happening ∷ more) = world_steps (world_step world happening) more
@@ -350,9 +377,11 @@ StaysSound =
     (world : WorldState) (happening : Happening) → IsTidy world.row → AreNumbered world.cell → IsSound world
     → IsSound (world_step world happening)
 
--- what happens is a run of the network
+-- what happens is a run of the network: by none or one of its events
 abbrev pub AreRuns : Type 0
-AreRuns = (world : WorldState) (happening : Happening) → IsRun world.cell (world_step world happening).cell
+AreRuns =
+    (world : WorldState) (happening : Happening)
+    → (world_step world happening).cell ≡ cell_steps world.cell (happened world happening)
 
 -- an answer that a driver comes to is the one that the network has given to its request: in this event, or in the one of
 -- which the driver didn't know whether it was committed
