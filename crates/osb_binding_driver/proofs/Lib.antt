@@ -1,0 +1,3 @@
+pub mod Lives
+pub mod Steps
+pub mod Always
