@@ -1,2 +1,3 @@
 pub mod Driver
 pub mod World
+pub mod Worker

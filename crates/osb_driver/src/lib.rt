@@ -5,8 +5,10 @@
 
 mod driver;
 mod laws;
+mod worker;
 mod world;
 
 pub use driver::{Driver, Effect, Permit, Stage, Task, Transaction};
 pub use laws::refines;
+pub use worker::{Call, Look, Worker, WorkerStage};
 pub use world::{Commit, Happening};
