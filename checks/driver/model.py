@@ -77,8 +77,8 @@ class Transaction(NamedTuple):
 
 
 def begin(plan: Plan, row: Held, request: Request, locked: bool, may_begin: bool) -> Transaction:
-    """The first transaction of a request. If work is due and the driver has no lock, it writes nothing. What would begin
-    something that may not is put off.
+    """The first transaction of a request. If work is due and the driver has no lock, it writes nothing. A request that
+    would begin something that may not begin is put off.
     """
     after, answer = model.begin(plan.mode, plan.first_poll, row, request)
     if not may_begin and (answer is None or row.row is None and after.row is not None):
