@@ -102,16 +102,17 @@ class Packages:
     def test(
         self, *these: str, tags: str = "", options: tuple[str, ...] = (), race: bool = False, **environment: str
     ) -> None:
-        """Compiles the packages, and then links and runs their tests, which must pass in 20 minutes. None may be
-        skipped, but those of PostgreSQL if OSB_TEST_POSTGRESQL is empty. Nothing is linked for a debugger. `go vet`
-        looks at all tests by itself: test_vet. `race` has them run with the race detector, if WHOLE.
+        """Compiles the packages, and then links and runs their tests, which must pass within an hour: on a busy machine
+        with the race detector, one took 17 minutes. None may be skipped, but those of PostgreSQL if OSB_TEST_POSTGRESQL
+        is empty. Nothing is linked for a debugger. `go vet` looks at all tests by itself: test_vet. `race` has them run
+        with the race detector, if WHOLE.
         """
         race = race and WHOLE
         self._compile(*these, flags=_flags(tags, race), race=race)
         self._test(*options, *these, tags=tags, race=race, **environment)
 
     def _test(self, *line: str, tags: str, race: bool, **environment: str) -> None:
-        how = ["-v", "-count=1", "-timeout", "20m", "-vet=off", "-ldflags=-w"]
+        how = ["-v", "-count=1", "-timeout", "60m", "-vet=off", "-ldflags=-w"]
         told = self._run("test", *how, *line, GOFLAGS=_flags(tags, race), **environment)
         assert environment.get("OSB_TEST_POSTGRESQL") == "" or SKIPPED.findall(told) == []
 
