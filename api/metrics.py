@@ -1,10 +1,14 @@
-"""The metrics of both programs, as docs/operating.md lists them: api/generate.py writes their help and their labels."""
+"""The metrics of both programs. Their table is in docs/operating.md. Their help, their labels and
+the dashboards follow from it: api/generate.py writes these.
+"""
 from __future__ import annotations
 
 import json
 import re
 from pathlib import Path
-from typing import NamedTuple
+from typing import Any, NamedTuple
+
+from api.text import written
 
 TOP = Path(__file__).resolve().parent.parent
 PAGE = "docs/operating.md"
@@ -22,6 +26,280 @@ class Metric(NamedTuple):
         """What it is, without the marks of Markdown."""
         text = re.sub(r"\[([^]]*)\]\([^)]*\)", r"\1", self.means).replace("`", "")
         return f"{text[0].upper()}{text[1:]}."
+
+
+class Panel:
+    """A panel of a dashboard. In a query, `{}` stands for the chosen jobs, and `[rate]` for the interval of a rate. If
+    there is a limit, a line is drawn there.
+    """
+
+    def __init__(
+        self, title: str, about: str, unit: str, *queries: tuple[str, str], limit: float | None = None
+    ) -> None:
+        self.title, self.about, self.unit, self.queries, self.limit = title, about, unit, queries, limit
+
+    def drawn(self, number: int) -> dict[str, Any]:
+        """The panel as Grafana takes it, in its place: three stand beside each other."""
+        defaults: dict[str, Any] = {"unit": self.unit, "min": 0}
+        if self.limit is not None:
+            steps = [{"color": "green", "value": None}, {"color": "red", "value": self.limit}]
+            defaults["thresholds"] = {"mode": "absolute", "steps": steps}
+            defaults["custom"] = {"thresholdsStyle": {"mode": "line"}}
+        place = {"h": 8, "w": 8, "x": number % 3 * 8, "y": number // 3 * 8}
+        return {
+            "id": number + 1,
+            "type": "timeseries",
+            "title": self.title,
+            "description": self.about,
+            "datasource": SOURCE,
+            "gridPos": place,
+            "fieldConfig": {"defaults": defaults, "overrides": []},
+            "targets": [
+                {"refId": chr(ord("A") + row), "expr": whole(query), "legendFormat": legend}
+                for row, (query, legend) in enumerate(self.queries)
+            ],
+        }
+
+
+SOURCE = {"type": "prometheus", "uid": "${datasource}"}
+JOBS = 'job=~"$job"'
+
+PANELS = {
+    "osb-broker": [
+        Panel(
+            "Store",
+            "0: the store can't be read. See docs/operating.md: the database is away.",
+            "short",
+            ("min by (instance) (osb_broker_store_up{})", "{{instance}}"),
+        ),
+        Panel(
+            "Oldest unfinished",
+            "Work that doesn't end. Look if it is over 900 seconds.",
+            "s",
+            ("max(osb_broker_oldest_unfinished_seconds{})", "oldest"),
+            limit=900,
+        ),
+        Panel(
+            "Unfinished",
+            "Instances and bindings. Every broker of a store counts the same.",
+            "short",
+            ("max(osb_broker_pending{})", "pending"),
+            ("max(osb_broker_operating{})", "operating"),
+            ("max(osb_broker_waiting{})", "waiting for the first Poll"),
+        ),
+        Panel(
+            "Requests by status",
+            "Answers per second.",
+            "reqps",
+            ("sum by (status) (rate(osb_broker_requests_total{}[rate]))", "{{status}}"),
+        ),
+        Panel(
+            "Share of 5xx",
+            "Of all answers. Look if it is over 0.01 for 10 minutes.",
+            "percentunit",
+            (
+                '(sum(rate(osb_broker_requests_total{status=~"5.."}[rate])) or vector(0)) '
+                "/ sum(rate(osb_broker_requests_total{}[rate]))",
+                "5xx",
+            ),
+            limit=0.01,
+        ),
+        Panel(
+            "Time to answer, 99th percentile",
+            "By route.",
+            "s",
+            (
+                "histogram_quantile(0.99, sum by (le, route) (rate(osb_broker_request_seconds_bucket{}[rate])))",
+                "{{route}}",
+            ),
+        ),
+        Panel(
+            "Failures by event",
+            "The log has each event with its reason.",
+            "short",
+            ("sum by (event) (increase(osb_broker_failures_total{}[rate]))", "{{event}}"),
+        ),
+        Panel(
+            "Failed calls of the backend",
+            "`lock`: the server of the databases is away, or its connections are taken.",
+            "short",
+            ("sum by (call) (increase(osb_broker_backend_errors_total{}[rate]))", "{{call}}"),
+        ),
+        Panel(
+            "Ended operations",
+            "By result.",
+            "short",
+            ("sum by (result) (increase(osb_broker_operations_total{}[rate]))", "{{result}}"),
+        ),
+        Panel(
+            "Failed logins",
+            "Answers of 401 per second.",
+            "reqps",
+            ('sum(rate(osb_broker_requests_total{status="401"}[rate]))', "401"),
+            limit=1,
+        ),
+        Panel(
+            "Connections of clients",
+            "By process. --connections is 800 by default.",
+            "short",
+            ("osb_broker_connections{}", "{{instance}}"),
+            limit=640,
+        ),
+        Panel(
+            "Open files",
+            "Share of the limit.",
+            "percentunit",
+            ("process_open_fds{} / process_max_fds{}", "{{instance}}"),
+            limit=0.8,
+        ),
+        Panel(
+            "Memory",
+            "Resident, by process.",
+            "bytes",
+            ("process_resident_memory_bytes{}", "{{instance}}"),
+        ),
+        Panel(
+            "Tombstones",
+            "Ids that are never used again.",
+            "short",
+            ("max(osb_broker_tombstones{})", "tombstones"),
+        ),
+        Panel(
+            "Lines that were dropped or lost",
+            "Of the log, because nobody has read them; of the journal, because they could not be written.",
+            "short",
+            ("sum by (instance) (increase(osb_broker_log_lines_dropped_total{}[rate]))", "{{instance}}"),
+            ("sum by (instance) (increase(osb_broker_journal_lines_lost_total{}[rate]))", "{{instance}}, journal"),
+        ),
+        Panel(
+            "Changes in a commit",
+            "On average, with SQLite.",
+            "short",
+            (
+                "sum(rate(osb_broker_commit_changes_sum{}[rate])) / sum(rate(osb_broker_commit_changes_count{}[rate]))",
+                "changes",
+            ),
+        ),
+    ],
+    "osb-platform": [
+        Panel(
+            "Store",
+            "0: the store can't be read. See docs/operating.md: the database is away.",
+            "short",
+            ("min by (instance) (osb_platform_store_up{})", "{{instance}}"),
+        ),
+        Panel(
+            "Oldest due",
+            "For how long the oldest order is due that isn't carried out. Look if it is over 300 seconds.",
+            "s",
+            ("max(osb_platform_oldest_due_seconds{})", "oldest"),
+            limit=300,
+        ),
+        Panel(
+            "Unsettled",
+            "Waits for a person.",
+            "short",
+            ("max(osb_platform_unsettled{})", "unsettled"),
+            limit=1,
+        ),
+        Panel(
+            "Records by state",
+            "Every process of a store counts the same.",
+            "short",
+            ("sum by (state) (max by (broker, kind, state) (osb_platform_records{}))", "{{state}}"),
+        ),
+        Panel(
+            "Being deleted, by broker",
+            "What stays here is rejected by the broker.",
+            "short",
+            (
+                'sum by (broker) (max by (broker, kind, state) (osb_platform_records{state=~"cleaning.*"}))',
+                "{{broker}}",
+            ),
+        ),
+        Panel(
+            "Oldest unsettled",
+            "0 if there is none.",
+            "s",
+            ("max(osb_platform_oldest_unsettled_seconds{})", "oldest"),
+        ),
+        Panel(
+            "Requests by broker and status",
+            "Answers per second. `lost`: no answer was taken.",
+            "reqps",
+            ("sum by (broker, status) (rate(osb_platform_requests_total{}[rate]))", "{{broker}} {{status}}"),
+        ),
+        Panel(
+            "Rejections",
+            "Answers of 400 or more.",
+            "short",
+            (
+                "sum by (broker, status, error) (increase(osb_platform_rejections_total{}[rate]))",
+                "{{broker}} {{status}} {{error}}",
+            ),
+        ),
+        Panel(
+            "Time to answer, 99th percentile",
+            "By kind of request.",
+            "s",
+            (
+                "histogram_quantile(0.99, sum by (le, kind) (rate(osb_platform_request_seconds_bucket{}[rate])))",
+                "{{kind}}",
+            ),
+        ),
+        Panel(
+            "Failures by event",
+            "broker_unreached, broker_refuses and other_store stop all requests to that broker.",
+            "short",
+            ("sum by (event) (increase(osb_platform_failures_total{}[rate]))", "{{event}}"),
+        ),
+        Panel(
+            "Requests in flight",
+            "By worker. --at-once is 16 by default.",
+            "short",
+            ("osb_platform_in_flight{}", "{{instance}}"),
+        ),
+        Panel(
+            "Leases lost",
+            "A worker was paused for longer than its lease.",
+            "short",
+            ("sum by (instance) (increase(osb_platform_leases_lost_total{}[rate]))", "{{instance}}"),
+        ),
+        Panel(
+            "Orphans",
+            "Answers to last deletions at brokers without tombstones.",
+            "short",
+            ("sum by (result) (increase(osb_platform_orphans_total{}[rate]))", "{{result}}"),
+        ),
+        Panel(
+            "Open files",
+            "Share of the limit.",
+            "percentunit",
+            ("process_open_fds{} / process_max_fds{}", "{{instance}}"),
+            limit=0.8,
+        ),
+        Panel(
+            "Memory",
+            "Resident, by process.",
+            "bytes",
+            ("process_resident_memory_bytes{}", "{{instance}}"),
+        ),
+        Panel(
+            "Lines that were dropped or lost",
+            "Of the log, because nobody has read them; of the journal, because they could not be written.",
+            "short",
+            ("sum by (instance) (increase(osb_platform_log_lines_dropped_total{}[rate]))", "{{instance}}"),
+            ("sum by (instance) (increase(osb_platform_journal_lines_lost_total{}[rate]))", "{{instance}}, journal"),
+        ),
+    ],
+}
+
+
+def whole(query: str) -> str:
+    """The query with the selector of the jobs, and with the interval of its rates."""
+    query = re.sub(r"\b(\w+)\{\}", rf"\1{{{JOBS}}}", query)
+    query = re.sub(r"\b(\w+)\{(?!job=)", rf"\1{{{JOBS}, ", query)
+    return query.replace("[rate]", "[$__rate_interval]")
 
 
 def listed(program: str) -> list[Metric]:
@@ -56,3 +334,33 @@ def go_table(program: str) -> str:
             "",
         ]
     )
+
+
+def dashboard(program: str) -> str:
+    """The dashboard of the program, for Grafana."""
+    first = listed(program)[0].name.split("_")[1]
+    job = {
+        "name": "job",
+        "label": "Job",
+        "type": "query",
+        "datasource": SOURCE,
+        "query": f"label_values(osb_{first}_store_up, job)",
+        "includeAll": True,
+        "multi": True,
+        "allValue": ".*",
+        "refresh": 2,
+    }
+    source = {"name": "datasource", "label": "Prometheus", "type": "datasource", "query": "prometheus"}
+    found = {
+        "uid": program,
+        "title": program,
+        "tags": ["open-service-broker"],
+        "schemaVersion": 37,
+        "version": 1,
+        "editable": True,
+        "refresh": "30s",
+        "time": {"from": "now-6h", "to": "now"},
+        "templating": {"list": [source, job]},
+        "panels": [panel.drawn(number) for number, panel in enumerate(PANELS[program])],
+    }
+    return written(found) + "\n"
