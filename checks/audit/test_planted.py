@@ -112,7 +112,7 @@ unless the broker is killed. By the third, each is, and the storm may find one t
 
 
 EAGER = Slip(
-    '\t\tpoint("claim-next").at()\n',
+    '\t\tcrash.At("claim-next")\n',
     """
         if made.send != nil {
             early, id := made.send.out, osb.ID{}

@@ -11,7 +11,6 @@ import (
 	"sync"
 	"time"
 
-	"pippinterm/internal/crash"
 	"pippinterm/osb"
 )
 
@@ -573,19 +572,6 @@ var Points = []string{
 	"fetch-next",    // a Poll was answered succeeded, and the Fetch isn't sent yet
 	"take-next",     // an answer, or a timeout, is in the record, and nothing is committed yet
 	"take-written",  // it is committed
-}
-
-// A point is one of Points.
-type point string
-
-// at is between two things that have to happen in an order.
-func (p point) at() {
-	crash.At(string(p))
-}
-
-// soon is the middle of what is done next.
-func (p point) soon() {
-	crash.Soon(string(p))
 }
 
 // CheckPoint returns an error that names all Points if the program has crash points and OSB_CRASH_AT names none of

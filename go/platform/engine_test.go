@@ -5,10 +5,6 @@ import (
 	"encoding/json"
 	"errors"
 	"fmt"
-	"os"
-	"path/filepath"
-	"regexp"
-	"sort"
 	"strings"
 	"sync"
 	"sync/atomic"
@@ -515,34 +511,6 @@ func TestWait(t *testing.T) {
 	p.first = time.Hour
 	if share = 0; p.wait(0, 0) != 120*time.Second {
 		t.Errorf("the first wait: got %v, want the longest", p.wait(0, 0))
-	}
-}
-
-// The list has each point that the sources have, and no other.
-func TestPoints(t *testing.T) {
-	named := regexp.MustCompile(`\bpoint\("([a-z-]+)"\)\.(?:at|soon)\(\)`)
-	files, err := filepath.Glob("*.go")
-	check(t, err)
-	called := map[string]bool{}
-	for _, file := range files {
-		source, err := os.ReadFile(file)
-		check(t, err)
-		if strings.HasSuffix(file, "_test.go") {
-			continue
-		}
-		for _, match := range named.FindAllStringSubmatch(string(source), -1) {
-			called[match[1]] = true
-		}
-	}
-	var found []string
-	for broker := range called {
-		found = append(found, broker)
-	}
-	listed := append([]string(nil), Points...)
-	sort.Strings(found)
-	sort.Strings(listed)
-	if strings.Join(found, " ") != strings.Join(listed, " ") {
-		t.Errorf("the list: got %v, want what the sources have: %v", listed, found)
 	}
 }
 

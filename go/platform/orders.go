@@ -23,6 +23,7 @@ import (
 	"strings"
 	"time"
 
+	"pippinterm/internal/crash"
 	"pippinterm/osb"
 )
 
@@ -105,13 +106,13 @@ func (o *Orders) change(ctx context.Context, key Key, step func(time.Time, Snaps
 			return nil, err
 		}
 		after = change.Entry
-		point("order-next").at()
+		crash.At("order-next")
 		return change, nil
 	})
 	if err != nil {
 		return Entry{}, unknown(key, err)
 	}
-	point("order-written").at()
+	crash.At("order-written")
 	return after, nil
 }
 
@@ -311,7 +312,7 @@ func (o *Orders) insert(ctx context.Context, order Order, check func(Snapshot) e
 		if err := check(snapshot); err != nil {
 			return err
 		}
-		point("order-next").at()
+		crash.At("order-next")
 		return nil
 	})
 	switch {
@@ -323,7 +324,7 @@ func (o *Orders) insert(ctx context.Context, order Order, check func(Snapshot) e
 	case err != nil:
 		return Entry{}, unknownInstance(order.Names.Instance, err)
 	}
-	point("order-written").at()
+	crash.At("order-written")
 	return entry, nil
 }
 

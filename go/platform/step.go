@@ -8,6 +8,7 @@ import (
 	"sort"
 	"time"
 
+	"pippinterm/internal/crash"
 	"pippinterm/osb"
 )
 
@@ -39,7 +40,7 @@ func (e *Engine) claim(
 		}
 		spare.besides(now, snapshot.Entry, made, decisions)
 		decisions[snapshot.Key] = *made
-		point("claim-next").at()
+		crash.At("claim-next")
 		return made.change(), nil
 	})
 	found.err, found.claimed = err, len(rows)
@@ -47,7 +48,7 @@ func (e *Engine) claim(
 		found.sendings = inDoubt(decisions, most, err)
 		return found
 	}
-	point("claim-written").at()
+	crash.At("claim-written")
 	for _, row := range rows {
 		made, isMade := decisions[row.Key]
 		e.stepFailed(row.Key, either(row.Err, made.err))
@@ -154,7 +155,7 @@ func (e *Engine) hear(ctx context.Context, s *sending) hearing {
 		if osb.DecidePoll(s.out.Entry.Record.State(), heard.Answer) != osb.StateReady {
 			return heard
 		}
-		point("fetch-next").at()
+		crash.At("fetch-next")
 		fetch := *s
 		fetch.out.IsFetch, fetch.attempt = true, 0
 		fetched := e.send(ctx, &fetch, "fetch")
@@ -196,7 +197,7 @@ func (e *Engine) send(ctx context.Context, s *sending, kind string) Incoming {
 	if err != nil {
 		return Incoming{Lost: err}
 	}
-	point("send-next").at()
+	crash.At("send-next")
 	if !e.client.Clock().Before(s.out.Until) {
 		return Incoming{Lost: errLate}
 	}
@@ -205,7 +206,7 @@ func (e *Engine) send(ctx context.Context, s *sending, kind string) Incoming {
 		RequestID: s.out.RequestID, Broker: s.out.Entry.Broker, Key: s.out.Entry.Key, Kind: kind, Attempt: s.attempt,
 	}
 	e.observer.OnRequest(told)
-	point("send-running").soon()
+	crash.Soon("send-running")
 	in := e.client.Exchange(ctx, s.out)
 	told.Status, told.Lost, told.RetryAfter, told.Duration = in.Status, brief(in.Lost), in.RetryAfter, in.Duration
 	told.Error, told.Description = textOf(in.Details.Error), textOf(in.Details.Description)
@@ -227,7 +228,7 @@ func (e *Engine) take(ctx context.Context, s sending, heard hearing) (entry *Ent
 			return nil, err
 		}
 		entry = &change.Entry
-		point("take-next").at()
+		crash.At("take-next")
 		return change, nil
 	}
 	until := e.client.Clock().Add(e.Exchange + e.Margin)
@@ -243,7 +244,7 @@ func (e *Engine) take(ctx context.Context, s sending, heard hearing) (entry *Ent
 			entry = maybe
 		}
 		if !e.health.wrote(entry != nil, err) {
-			point("take-written").at()
+			crash.At("take-written")
 			return entry, at, nil
 		}
 		if entry != nil {

@@ -91,20 +91,52 @@ func pointsIn(file *ast.File) (found []string, unknown []token.Pos) {
 	return found, unknown
 }
 
-// The list has each point that the programs reach, and no other. Those of the platform are platform.Points.
-func TestPoints(t *testing.T) {
-	isCalled, set := map[string]bool{}, token.NewFileSet()
-	err := filepath.WalkDir("../..", func(path string, entry fs.DirEntry, err error) error {
-		if path == "../../platform" {
+// listOf returns the texts of the lists that files declare under a name.
+func listOf(files []*ast.File, name string) (found []string) {
+	for _, file := range files {
+		ast.Inspect(file, func(node ast.Node) bool {
+			variable, isVariable := node.(*ast.ValueSpec)
+			if !isVariable || variable.Names[0].Name != name || len(variable.Values) != 1 {
+				return true
+			}
+			list, isList := variable.Values[0].(*ast.CompositeLit)
+			if !isList {
+				return true
+			}
+			for _, element := range list.Elts {
+				if text, isText := textOf(element); isText {
+					found = append(found, text)
+				}
+			}
+			return false
+		})
+	}
+	return found
+}
+
+const everything, platform = "../..", "../../platform"
+
+// sources are the files of a folder and of the folders below it, except those of tests and one of these folders.
+func sources(t *testing.T, set *token.FileSet, folder, except string) (files []*ast.File) {
+	err := filepath.WalkDir(folder, func(path string, entry fs.DirEntry, err error) error {
+		if path == except {
 			return filepath.SkipDir
 		}
 		if err != nil || entry.IsDir() || !strings.HasSuffix(path, ".go") || strings.HasSuffix(path, "_test.go") {
 			return err
 		}
 		file, err := parser.ParseFile(set, path, nil, 0)
-		if err != nil {
-			return err
-		}
+		files = append(files, file)
+		return err
+	})
+	diff.Must(t, err)
+	return files
+}
+
+// checkCalls checks that files call each point of a list, and no other.
+func checkCalls(t *testing.T, set *token.FileSet, files []*ast.File, listed []string) {
+	isCalled := map[string]bool{}
+	for _, file := range files {
 		found, unknown := pointsIn(file)
 		for _, at := range unknown {
 			t.Errorf("%v: got a call whose point isn't known, want a text", set.Position(at))
@@ -112,15 +144,38 @@ func TestPoints(t *testing.T) {
 		for _, point := range found {
 			isCalled[point] = true
 		}
-		return nil
-	})
-	diff.Must(t, err)
+	}
 	var got []string
 	for point := range isCalled {
 		got = append(got, point)
 	}
 	sort.Strings(got)
-	want := append([]string(nil), points...)
+	want := append([]string(nil), listed...)
 	sort.Strings(want)
 	diff.Equal(t, strings.Join(got, " "), strings.Join(want, " "), "the sources")
+}
+
+// The list has each point that the programs reach, and no other. Those of the platform are in a list of their own.
+func TestPoints(t *testing.T) {
+	set := token.NewFileSet()
+	checkCalls(t, set, sources(t, set, everything, platform), points)
+}
+
+// The package platform calls each point of platform.Points. Neither this package nor those below it call another point.
+// The test reads the list from the sources, because internal/ may not import platform.
+func TestPlatformPoints(t *testing.T) {
+	set := token.NewFileSet()
+	files := sources(t, set, platform, "")
+	var own []*ast.File
+	for _, file := range files {
+		if file.Name.Name == "platform" {
+			own = append(own, file)
+		}
+	}
+	listed := listOf(own, "Points")
+	if len(listed) == 0 {
+		t.Fatal("got no list platform.Points, want one")
+	}
+	checkCalls(t, set, own, listed)
+	checkCalls(t, set, files, listed)
 }

@@ -228,14 +228,14 @@ func (r *rotation) ofRow(ctx context.Context, row platform.Entry) error {
 		if failed != nil || !isChanged {
 			return nil, nil
 		}
-		reach("order-next")
+		crash.At("order-next")
 		return &platform.Change{Entry: e}, nil
 	})
 	if err != nil {
 		return err
 	}
 	if isChanged {
-		reach("order-written")
+		crash.At("order-written")
 	}
 	r.count(&r.done.Credentials, isChanged,
 		"the credentials of the binding "+row.Names.Instance+"/"+row.Names.Binding, failed)
@@ -269,11 +269,6 @@ func (r *rotation) report() error {
 		named, more = named[:mostNamed], fmt.Sprintf(" and %d more", len(r.unopened)-mostNamed)
 	}
 	return fmt.Errorf("%w: %s%s", ErrUnopened, strings.Join(named, ", "), more)
-}
-
-// reach is at one of platform.Points.
-func reach(point string) {
-	crash.At(point)
 }
 
 // ErrOldPasswords reports that a store has the fingerprint of version 0.3, which sealed the passwords of brokers under
