@@ -445,8 +445,8 @@ type spare struct {
 func (r *run) spare() *spare {
 	names, known := r.sites.names()
 	found := &spare{all: mostBeside(r.AtOnce), to: map[string]int{}}
-	for _, goal := range r.beside {
-		found.all -= goal
+	for _, count := range r.beside {
+		found.all -= count
 	}
 	for _, name := range names {
 		share := mostBeside(r.AtOnce)

@@ -149,24 +149,24 @@ func (r *rotation) passwords(ctx context.Context) error {
 	if err != nil {
 		return err
 	}
-	for _, sold := range brokers {
-		if sold.Password == nil {
+	for _, broker := range brokers {
+		if broker.Password == nil {
 			continue
 		}
 		isChanged, failed := false, error(nil)
-		err := r.store.ChangeBroker(ctx, sold.Name, func(broker platform.Broker) (*platform.Broker, error) {
-			broker.Password, isChanged, failed = r.again(broker.Password, platform.PasswordContext(broker))
+		err := r.store.ChangeBroker(ctx, broker.Name, func(current platform.Broker) (*platform.Broker, error) {
+			current.Password, isChanged, failed = r.again(current.Password, platform.PasswordContext(current))
 			if failed != nil || !isChanged {
 				return nil, nil
 			}
-			return &broker, nil
+			return &current, nil
 		})
 		switch {
 		case errors.Is(err, platform.ErrUnknown): // dropped meanwhile
 		case err != nil:
 			return err
 		default:
-			r.count(&r.done.Passwords, isChanged, "the password of the broker "+sold.Name, failed)
+			r.count(&r.done.Passwords, isChanged, "the password of the broker "+broker.Name, failed)
 		}
 	}
 	return nil
@@ -404,17 +404,17 @@ func (v *Vault) renewPasswords(ctx context.Context, store platform.Store, all *R
 		return err
 	}
 	all.Unopened = nil
-	for _, sold := range brokers {
+	for _, broker := range brokers {
 		var outcome *[]platform.Broker
-		err := store.ChangeBroker(ctx, sold.Name, func(broker platform.Broker) (*platform.Broker, error) {
+		err := store.ChangeBroker(ctx, broker.Name, func(current platform.Broker) (*platform.Broker, error) {
 			var sealed []byte
 			var err error
-			sealed, outcome, err = v.renewPassword(broker, all)
+			sealed, outcome, err = v.renewPassword(current, all)
 			if err != nil || sealed == nil {
 				return nil, err
 			}
-			broker.Password = sealed
-			return &broker, nil
+			current.Password = sealed
+			return &current, nil
 		})
 		if errors.Is(err, platform.ErrUnknown) { // dropped meanwhile
 			continue
@@ -423,7 +423,7 @@ func (v *Vault) renewPasswords(ctx context.Context, store platform.Store, all *R
 			return err
 		}
 		if outcome != nil {
-			*outcome = append(*outcome, sold)
+			*outcome = append(*outcome, broker)
 		}
 	}
 	return nil
