@@ -196,16 +196,16 @@ func (j *Journal) see(line *answerLine, saw sight, isBinding bool) error {
 
 // startLine are the members of the line started.
 type startLine struct {
-	Version        string  `json:"version"`
-	FirstPoll      bool    `json:"first_poll"`
-	WaitForPoll    float64 `json:"wait_for_poll"`    // in seconds
-	IDsReturnAfter float64 `json:"ids_return_after"` // in seconds, or 0 for never
-	LocksCanBeLost bool    `json:"locks_can_be_lost"`
-	Plans          []plan  `json:"plans"`
+	Version        string      `json:"version"`
+	FirstPoll      bool        `json:"first_poll"`
+	WaitForPoll    float64     `json:"wait_for_poll"`    // in seconds
+	IDsReturnAfter float64     `json:"ids_return_after"` // in seconds, or 0 for never
+	LocksCanBeLost bool        `json:"locks_can_be_lost"`
+	Plans          []startPlan `json:"plans"`
 }
 
-// A plan is one of the catalogue, with its ids as texts and as numbers.
-type plan struct {
+// A startPlan is a plan of the catalogue in the line started, with its ids as texts and as numbers.
+type startPlan struct {
 	Service       string `json:"service"`
 	Plan          string `json:"plan"`
 	ServiceNumber osb.ID `json:"service_number"`
@@ -230,7 +230,7 @@ func StartMembers(version string, document []byte, rules broker.Rules, locksCanB
 	}, nil
 }
 
-func plansOf(document []byte) (plans []plan, err error) {
+func plansOf(document []byte) (plans []startPlan, err error) {
 	var catalogue struct {
 		Services []struct {
 			ID    string
@@ -249,12 +249,12 @@ func plansOf(document []byte) (plans []plan, err error) {
 		return nil, err
 	}
 	for _, service := range catalogue.Services {
-		for _, sold := range service.Plans {
-			made := plan{Service: service.ID, Plan: sold.ID}
+		for _, plan := range service.Plans {
+			made := startPlan{Service: service.ID, Plan: plan.ID}
 			if made.ServiceNumber, err = osb.IDOfText(service.ID); err != nil {
 				return nil, err
 			}
-			if made.PlanNumber, err = osb.IDOfText(sold.ID); err != nil {
+			if made.PlanNumber, err = osb.IDOfText(plan.ID); err != nil {
 				return nil, err
 			}
 			if made.IsRetrievable, err = osb.BindingsRetrievable(document, made.ServiceNumber); err != nil {

@@ -406,14 +406,14 @@ func Plans(document []byte) ([]Plan, error) {
 	}
 	var plans []Plan
 	for _, service := range read.Services {
-		for _, sold := range service.Plans {
-			plan := Plan{ServiceID: service.ID, ID: sold.ID, Service: service.Name, Name: sold.Name}
-			ids, err := numbersOf(service.ID, sold.ID)
+		for _, plan := range service.Plans {
+			found := Plan{ServiceID: service.ID, ID: plan.ID, Service: service.Name, Name: plan.Name}
+			ids, err := numbersOf(service.ID, plan.ID)
 			if err != nil {
 				return nil, err
 			}
-			plan.IsBindable = bindable[ids]
-			plans = append(plans, plan)
+			found.IsBindable = bindable[ids]
+			plans = append(plans, found)
 		}
 	}
 	return plans, nil
