@@ -247,7 +247,7 @@ func TestAnswersOfAJournal(t *testing.T) {
 	l, journal := newLone(t), &scribe{}
 	l.handler.Journal = journal
 	one := instances + "i"
-	for _, it := range []struct {
+	for _, test := range []struct {
 		method, target, body string
 		blindness            error
 		want                 osb.Answer
@@ -261,12 +261,12 @@ func TestAnswersOfAJournal(t *testing.T) {
 		{"PUT", instances + "k", bodyOf(later, ""), nil, osb.Answer{Status: 422, Body: osb.BodyAsyncRequired}, ""},
 		{"PUT", instances + "l", bodyOf(now, ""), errScripted, osb.Answer{Status: 500, Body: osb.BodyOtherError}, ""},
 	} {
-		t.Run(it.method+" "+it.target, func(t *testing.T) {
-			l.backend.there, l.backend.blindness = none, it.blindness
-			l.expect(t, int(it.want.Status), it.method, it.target, it.body)
+		t.Run(test.method+" "+test.target, func(t *testing.T) {
+			l.backend.there, l.backend.blindness = none, test.blindness
+			l.expect(t, int(test.want.Status), test.method, test.target, test.body)
 			given := journal.given[len(journal.given)-1]
-			if given.Answer != it.want || string(given.Binding) != it.object {
-				t.Errorf("got %+v with %s, want %+v with %s", given.Answer, given.Binding, it.want, it.object)
+			if given.Answer != test.want || string(given.Binding) != test.object {
+				t.Errorf("got %+v with %s, want %+v with %s", given.Answer, given.Binding, test.want, test.object)
 			}
 		})
 	}

@@ -367,8 +367,8 @@ func CheckURL(text string, allowHTTP bool) error {
 // printable are the characters of a URL: those of ASCII but the space and the control characters.
 var printable = func() string {
 	var all []byte
-	for it := byte('!'); it <= '~'; it++ {
-		all = append(all, it)
+	for character := byte('!'); character <= '~'; character++ {
+		all = append(all, character)
 	}
 	return string(all)
 }()

@@ -86,19 +86,19 @@ type Run struct {
 // Findings returns the differences of some kinds, each instance or binding once, with their lives.
 func (r Run) Findings(found []Difference, kinds ...Kind) []Finding {
 	all, at := []Finding{}, map[Key]int{}
-	for _, it := range found {
-		switch known, is := at[it.Key]; {
-		case !it.Kind.IsOneOf(kinds...):
-		case is && !strings.Contains(all[known].What, it.What):
-			all[known].What += "; " + it.What
+	for _, difference := range found {
+		switch known, is := at[difference.Key]; {
+		case !difference.Kind.IsOneOf(kinds...):
+		case is && !strings.Contains(all[known].What, difference.What):
+			all[known].What += "; " + difference.What
 		case !is:
 			number := "?"
-			if place, is := r.Place(it.Key.Instance, it.Key.Binding); is {
+			if place, is := r.Place(difference.Key.Instance, difference.Key.Binding); is {
 				number = place.String()
 			}
-			at[it.Key] = len(all)
-			life := LifeOf(it.Key, r.Exchanges, r.Events, r.Hide)
-			all = append(all, Finding{number, it.Key.Instance, it.Key.Binding, it.What, life})
+			at[difference.Key] = len(all)
+			life := LifeOf(difference.Key, r.Exchanges, r.Events, r.Hide)
+			all = append(all, Finding{number, difference.Key.Instance, difference.Key.Binding, difference.What, life})
 		}
 	}
 	return all
