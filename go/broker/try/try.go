@@ -387,14 +387,14 @@ func (p Plan) String() string { return fmt.Sprintf("plan %s of service %s", p.Na
 //
 // Errors: those of osb.BindingModes; if the document isn't JSON.
 func Plans(document []byte) ([]Plan, error) {
-	type named struct {
+	type entry struct {
 		ID   string `json:"id"`
 		Name string `json:"name"`
 	}
 	var read struct {
 		Services []struct {
-			named
-			Plans []named `json:"plans"`
+			entry
+			Plans []entry `json:"plans"`
 		} `json:"services"`
 	}
 	if err := json.Unmarshal(document, &read); err != nil {

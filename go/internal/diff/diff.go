@@ -30,7 +30,7 @@ func Check(t testing.TB, got, want any, format string, arguments ...any) {
 func Equal[T comparable](t testing.TB, got, want T, format string, arguments ...any) {
 	t.Helper()
 	if got != want {
-		t.Errorf("%s%s", said(format, arguments), shown(got, want))
+		t.Errorf("%s%s", prefix(format, arguments), difference(got, want))
 	}
 }
 
@@ -38,20 +38,20 @@ func Equal[T comparable](t testing.TB, got, want T, format string, arguments ...
 func ErrorIs(t testing.TB, err, want error, format string, arguments ...any) {
 	t.Helper()
 	if !errors.Is(err, want) {
-		t.Errorf("%sgot the error %v, want %v", said(format, arguments), err, want)
+		t.Errorf("%sgot the error %v, want %v", prefix(format, arguments), err, want)
 	}
 }
 
-// said is what was compared, before a message.
-func said(format string, arguments []any) string {
+// prefix says what was compared, before a message.
+func prefix(format string, arguments []any) string {
 	if format == "" {
 		return ""
 	}
 	return fmt.Sprintf(format, arguments...) + ": "
 }
 
-// shown are two values. Of texts with several lines it has those that differ.
-func shown(got, want any) string {
+// difference has two values. Of texts with several lines it has those that differ.
+func difference(got, want any) string {
 	text := fmt.Sprint(got, want)
 	switch isText := reflect.TypeOf(got).Kind() == reflect.String; {
 	case isText && strings.Contains(text, "\n"):
@@ -66,7 +66,7 @@ func shown(got, want any) string {
 func NoError(t testing.TB, err error, format string, arguments ...any) {
 	t.Helper()
 	if err != nil {
-		t.Errorf("%sgot the error %v, want none", said(format, arguments), err)
+		t.Errorf("%sgot the error %v, want none", prefix(format, arguments), err)
 	}
 }
 
@@ -74,7 +74,7 @@ func NoError(t testing.TB, err error, format string, arguments ...any) {
 func Error(t testing.TB, err error, format string, arguments ...any) {
 	t.Helper()
 	if err == nil {
-		t.Errorf("%sgot no error, want one", said(format, arguments))
+		t.Errorf("%sgot no error, want one", prefix(format, arguments))
 	}
 }
 
@@ -82,7 +82,7 @@ func Error(t testing.TB, err error, format string, arguments ...any) {
 func Contains(t testing.TB, text, part, format string, arguments ...any) {
 	t.Helper()
 	if !strings.Contains(text, part) {
-		t.Errorf("%sgot %q, want %q in it", said(format, arguments), text, part)
+		t.Errorf("%sgot %q, want %q in it", prefix(format, arguments), text, part)
 	}
 }
 
@@ -90,7 +90,7 @@ func Contains(t testing.TB, text, part, format string, arguments ...any) {
 func Lacks(t testing.TB, text, part, format string, arguments ...any) {
 	t.Helper()
 	if strings.Contains(text, part) {
-		t.Errorf("%sgot %q, want no %q in it", said(format, arguments), text, part)
+		t.Errorf("%sgot %q, want no %q in it", prefix(format, arguments), text, part)
 	}
 }
 

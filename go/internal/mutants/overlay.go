@@ -65,16 +65,16 @@ const (
 	reachVariable  = "OSB_MUTANTS_REACHED" // the file to which the IDs of those are added that a process reaches
 )
 
-// A rewritten is a file with all its mutants. Each has a function of its own in the function that it is of.
-type rewritten struct {
+// A mutatedFile is a file with all its mutants. Each has a function of its own in the function that it is of.
+type mutatedFile struct {
 	text []byte
 	at   map[int]int // where the function of a mutant begins, by ID
 	ends map[int]int
 }
 
 // rewrite returns the text of a file with these mutants of it.
-func rewrite(p *pkg, file *source, mutants []mutant) *rewritten {
-	r := &rewritten{at: make(map[int]int), ends: make(map[int]int)}
+func rewrite(p *pkg, file *source, mutants []mutant) *mutatedFile {
+	r := &mutatedFile{at: make(map[int]int), ends: make(map[int]int)}
 	done := 0 // what the text has of the file
 	functions(file, func(_ string, f *ast.FuncDecl) {
 		begin, end := p.offset(f.Body.Lbrace)+1, p.offset(f.Body.Rbrace)
@@ -95,10 +95,10 @@ func rewrite(p *pkg, file *source, mutants []mutant) *rewritten {
 	return r
 }
 
-func (r *rewritten) add(text string) { r.text = append(r.text, text...) }
+func (r *mutatedFile) add(text string) { r.text = append(r.text, text...) }
 
 // body adds the case of one mutant.
-func (r *rewritten) body(p *pkg, file *source, f *ast.FuncDecl, m mutant) {
+func (r *mutatedFile) body(p *pkg, file *source, f *ast.FuncDecl, m mutant) {
 	begin, end := p.offset(f.Body.Lbrace)+1, p.offset(f.Body.Rbrace)
 	r.add("case " + strconv.Itoa(m.ID) + ":\n")
 	r.at[m.ID] = len(r.text)
@@ -119,7 +119,7 @@ func (r *rewritten) body(p *pkg, file *source, f *ast.FuncDecl, m mutant) {
 }
 
 // original adds the function's own body, which says which mutants are reached.
-func (r *rewritten) original(p *pkg, file *source, f *ast.FuncDecl, these []mutant) {
+func (r *mutatedFile) original(p *pkg, file *source, f *ast.FuncDecl, these []mutant) {
 	at := make(map[int]string) // what is inserted, by where
 	for _, mutant := range these {
 		at[statement(p, f.Body, mutant.Start)] += "mutantAt(" + strconv.Itoa(mutant.ID) + "); "
@@ -192,7 +192,7 @@ func compiling(p *pkg, mutants []mutant) (good []mutant, bad map[int]error, err 
 	bad = make(map[int]error)
 	set := token.NewFileSet()
 	var trees []*ast.File
-	written := make(map[string]*rewritten)
+	written := make(map[string]*mutatedFile)
 	for _, file := range p.sources {
 		r := rewrite(p, file, of(file, mutants))
 		tree, err := parser.ParseFile(set, file.path, r.text, parser.SkipObjectResolution)
@@ -228,7 +228,7 @@ func compiling(p *pkg, mutants []mutant) (good []mutant, bad map[int]error, err 
 }
 
 // mutantAt returns the mutant whose function has this offset in it, or 0.
-func (r *rewritten) mutantAt(offset int) int {
+func (r *mutatedFile) mutantAt(offset int) int {
 	for id, at := range r.at {
 		if at <= offset && offset < r.ends[id] {
 			return id

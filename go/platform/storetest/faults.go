@@ -120,7 +120,7 @@ func (f *faulty) again(failed string, want outcome) {
 
 // call makes the call.
 func (f *faulty) call(store platform.Store) (came outcome) {
-	came.err = f.of.call(store, func(it any) { came.seen = append(came.seen, f.shown(it)) })
+	came.err = f.of.call(store, func(it any) { came.seen = append(came.seen, f.text(it)) })
 	came.left = f.rows()
 	return came
 }
@@ -205,7 +205,7 @@ func (f *faulty) rows() (texts []string) {
 	for _, entry := range entries {
 		life, err := f.beside.Life(background, entry.Key)
 		check(f.t, err)
-		texts = append(texts, f.shown(entry)+describe(life))
+		texts = append(texts, f.text(entry)+describe(life))
 	}
 	all, err := f.beside.Brokers(background)
 	check(f.t, err)
@@ -221,8 +221,8 @@ func (f *faulty) rows() (texts []string) {
 	return append(texts, fingerprint)
 }
 
-// shown is a text, without when a row is due if that doesn't count.
-func (f *faulty) shown(it any) string {
+// text describes a value, without when a row is due if that doesn't count.
+func (f *faulty) text(it any) string {
 	if entry, isEntry := it.(*platform.Entry); isEntry && entry != nil {
 		it = *entry
 	}

@@ -34,32 +34,32 @@ func Without(
 	case "":
 		return store, locks, nil
 	case "available":
-		return changed{store, bindsAnyway}, locks, nil
+		return stepStore{store, bindsAnyway}, locks, nil
 	case "held":
-		return changed{store, ignoreBindings}, locks, nil
+		return stepStore{store, ignoreBindings}, locks, nil
 	case "tombstones":
-		return changed{store, forgetEnds}, locks, nil
+		return stepStore{store, forgetEnds}, locks, nil
 	case "work":
-		return changed{store, newDiary().step}, locks, nil
+		return stepStore{store, newDiary().step}, locks, nil
 	case "busy":
-		return changed{store, ignoreWork}, locks, nil
+		return stepStore{store, ignoreWork}, locks, nil
 	case "locks":
 		return store, withoutLocks{}, nil
 	case "broker":
 		err := failUnfinished(ctx, store)
-		return changed{changed{idleStore{store}, newDiary().step}, forgetEnds}, withoutLocks{}, err
+		return stepStore{stepStore{idleStore{store}, newDiary().step}, forgetEnds}, withoutLocks{}, err
 	}
 	return nil, nil, fmt.Errorf("storm: a broker can't run without %q", part)
 }
 
-// changed is a store whose transactions have another step.
-type changed struct {
+// A stepStore is a store whose transactions have another step.
+type stepStore struct {
 	broker.NamedStore
 	step func(key broker.Key, step broker.Step, snapshot broker.Snapshot) (*broker.Entry, error)
 }
 
 // Change has the other step decide what is written.
-func (s changed) Change(ctx context.Context, key broker.Key, fence int64, step broker.Step) error {
+func (s stepStore) Change(ctx context.Context, key broker.Key, fence int64, step broker.Step) error {
 	return s.NamedStore.Change(ctx, key, fence, func(snapshot broker.Snapshot) (*broker.Entry, error) {
 		return s.step(key, step, snapshot)
 	})
