@@ -138,7 +138,7 @@ type exchange struct {
 	Exchange
 	request *http.Request
 	header  http.Header // of the answer
-	path    path        // once the request is read
+	path    path        // once the request is admitted
 	arrived time.Time
 }
 
@@ -184,7 +184,7 @@ func (h *Handler) answer(x *exchange) reply {
 	if refused, ok := h.admit(x); !ok {
 		return refused
 	}
-	if osb.AsksForCatalogue("", x.request.RequestURI) {
+	if x.path = pathOf(x.request.RequestURI); x.path.isCatalogue {
 		return h.catalogue(x)
 	}
 	if h.isForAnother(x.request) {

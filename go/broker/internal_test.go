@@ -276,3 +276,45 @@ func TestFewestFailuresFirst(t *testing.T) {
 	}
 	diff.Equal(t, len(s.failing), 0, "keys that wait")
 }
+
+// pathOf decides as the library does, of each target that the library takes.
+func TestPathOf(t *testing.T) {
+	parts := []string{
+		"/", "?", "i", "%2f", "/v2/catalog", "/v2/service_instances/", "/service_bindings/", "/last_operation", "http://h",
+		"service_bindings",
+	}
+	seen := map[path]bool{}
+	check := func(target string) {
+		got := pathOf(target)
+		if want := osb.AsksForCatalogue("", target); got.isCatalogue != want {
+			t.Errorf("%s: got %+v, want isCatalogue %t", target, got, want)
+		}
+		_, err := osb.ReceiveRequest("", 0, "", target, nil)
+		isInstance := !errors.Is(err, osb.ErrRefusedTarget)
+		_, err = osb.ReceiveBindingRequest("", 0, "", target, nil)
+		isBinding := !errors.Is(err, osb.ErrRefusedTarget)
+		if (isInstance || isBinding) && (got.isBinding != isBinding || isInstance == isBinding) {
+			t.Errorf("%s: got %+v, want isBinding %t, and isInstance %t", target, got, isBinding, isInstance)
+		}
+		if isInstance || isBinding || got.isCatalogue {
+			seen[got] = true
+		}
+	}
+	var build func(target string, more int)
+	build = func(target string, more int) {
+		check(target)
+		if more == 0 {
+			return
+		}
+		for _, part := range parts {
+			build(target+part, more-1)
+		}
+	}
+	build("", 4)
+	for _, front := range []string{"", "/", "HTTP://v2", "https://v2/", "http:///", "x", "/v2/service_instances"} {
+		build(front+"/v2/service_instances/", 4)
+	}
+	if len(seen) != 5 {
+		t.Errorf("got the paths %v, want each of 5", seen)
+	}
+}

@@ -169,13 +169,9 @@ var stopping = []byte(`{"description":"The broker is being stopped. Send the req
 
 // read reads what a request asks, and judges what the plan asks of it.
 func (h *Handler) read(x *exchange, body []byte) (visit Visit, err error) {
-	x.path = pathOf(x.request.RequestURI)
-	err = osb.ErrRefusedTarget
 	if x.path.isBinding {
 		visit, err = h.readBinding(x, body)
-	}
-	if errors.Is(err, osb.ErrRefusedTarget) { // an instance may have that name
-		x.path.isBinding = false
+	} else {
 		visit, err = h.readInstance(x, body)
 	}
 	if err != nil {
@@ -188,13 +184,22 @@ func (h *Handler) read(x *exchange, body []byte) (visit Visit, err error) {
 	return visit, nil
 }
 
-// A path is what the handler knows of the path of a request, beside what the library reads there.
-type path struct{ isBinding, isLastOperation bool }
+// A path is what the path of a target asks for: the catalogue, a binding, or else an instance. If a target asks for none
+// of them, the library rejects the target as an instance's and as a binding's.
+type path struct{ isCatalogue, isBinding, isLastOperation bool }
 
+// pathOf decides what the path of a target asks for. It agrees with the library on each target that the library takes,
+// since neither an id there nor the host of a URL has a slash.
 func pathOf(target string) path {
 	text, _, _ := strings.Cut(target, "?")
-	text = strings.TrimRight(text, "/")
-	return path{strings.Contains(text, "/service_bindings"), strings.HasSuffix(text, "/last_operation")}
+	_, names, isBelow := strings.Cut(text, "/v2/service_instances/")
+	if !isBelow {
+		return path{isCatalogue: osb.AsksForCatalogue("", target)}
+	}
+	return path{
+		isBinding:       strings.Contains(names, "/service_bindings/"),
+		isLastOperation: strings.HasSuffix(strings.TrimRight(text, "/"), "/last_operation"),
+	}
 }
 
 // route is the route of a request that was rejected, although there is its target with this method.
