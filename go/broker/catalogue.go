@@ -17,13 +17,14 @@ type Catalogue struct {
 	store       string // the id of the store, or empty
 	document    []byte
 	returning   []byte // the document of a broker whose ids return
-	instances   map[plan]osb.Mode
-	bindings    map[plan]osb.Mode
-	versions    map[plan]string
+	instances   map[planIDs]osb.Mode
+	bindings    map[planIDs]osb.Mode
+	versions    map[planIDs]string
 	retrievable map[osb.ID]bool // services whose bindings can be fetched
 }
 
-type plan struct{ service, plan osb.ID }
+// planIDs are the ids of a plan and its service.
+type planIDs struct{ service, plan osb.ID }
 
 // NewCatalogue reads a document as osb.CheckCatalogue does. If sellsBindings is false, no service may be bindable.
 //
@@ -68,29 +69,29 @@ func (c *Catalogue) readRest(document []byte) (err error) {
 	return checkMembers(document)
 }
 
-func versionsOf(document []byte, modes map[plan]osb.Mode) (map[plan]string, error) {
-	versions := map[plan]string{}
-	for mode := range modes {
-		version, err := osb.PlanVersion(document, mode.service, mode.plan)
+func versionsOf(document []byte, modes map[planIDs]osb.Mode) (map[planIDs]string, error) {
+	versions := map[planIDs]string{}
+	for ids := range modes {
+		version, err := osb.PlanVersion(document, ids.service, ids.plan)
 		switch {
 		case errors.Is(err, osb.ErrNoPlanVersion):
 		case err != nil:
 			return nil, err
 		default:
-			versions[mode] = version
+			versions[ids] = version
 		}
 	}
 	return versions, nil
 }
 
-func modesOf(plans []osb.Plan) map[plan]osb.Mode {
-	modes := map[plan]osb.Mode{}
-	for _, sold := range plans {
+func modesOf(plans []osb.Plan) map[planIDs]osb.Mode {
+	modes := map[planIDs]osb.Mode{}
+	for _, plan := range plans {
 		mode := osb.ModeSync
-		if sold.IsAsynchronous {
+		if plan.IsAsynchronous {
 			mode = osb.ModeAsync
 		}
-		modes[plan{sold.Service, sold.Plan}] = mode
+		modes[planIDs{plan.Service, plan.Plan}] = mode
 	}
 	return modes
 }
@@ -115,7 +116,7 @@ func (c *Catalogue) Document() []byte { return c.document }
 
 // mode is how a plan works: for an instance, or for a binding. It is osb.ModeNone if the plan isn't sold, or isn't
 // bindable.
-func (c *Catalogue) mode(isBinding bool, of plan) osb.Mode {
+func (c *Catalogue) mode(isBinding bool, of planIDs) osb.Mode {
 	modes := c.instances
 	if isBinding {
 		modes = c.bindings
@@ -134,9 +135,9 @@ func (c *Catalogue) fits(key Key, holding osb.Holding) bool {
 	}
 	mode := osb.ModeNone
 	if row, isHeld := holding.Row(); isHeld {
-		mode = c.mode(key.IsBinding, plan{row.Service, row.Plan})
+		mode = c.mode(key.IsBinding, planIDs{row.Service, row.Plan})
 	} else if isPending {
-		mode = c.mode(key.IsBinding, plan{work.Service, work.Plan})
+		mode = c.mode(key.IsBinding, planIDs{work.Service, work.Plan})
 	}
 	return holding.Fits(mode)
 }

@@ -332,7 +332,7 @@ func (h *Handler) mayWork(visit Visit) bool {
 	if visit.IsFetch {
 		return false
 	}
-	of := plan{visit.Asked.Service, visit.Asked.Plan}
+	of := planIDs{visit.Asked.Service, visit.Asked.Plan}
 	work := osb.WorkOf(visit.Asked.Kind, h.service.catalogue.mode(visit.Key.IsBinding, of))
 	return work == osb.WorkMake || work == osb.WorkDelete
 }

@@ -235,7 +235,7 @@ func (h *Handler) readInstance(x *exchange, body []byte) (visit Visit, err error
 	if visit.Attributes, err = osb.AttributesDigest(body); err != nil {
 		return visit, err
 	}
-	if err := h.conflict(plan{visit.Asked.Service, visit.Asked.Plan}, body); err != nil {
+	if err := h.conflict(planIDs{visit.Asked.Service, visit.Asked.Plan}, body); err != nil {
 		return visit, err
 	}
 	return h.creation(x, visit, body, Request{ServiceID: received.Names.Service, PlanID: received.Names.Plan})
@@ -246,7 +246,7 @@ var routes = map[osb.Kind]string{
 }
 
 // conflict judges the maintenance_info of a Provision.
-func (h *Handler) conflict(of plan, body []byte) error {
+func (h *Handler) conflict(of planIDs, body []byte) error {
 	version, hasVersion := h.service.catalogue.versions[of]
 	if !hasVersion {
 		return nil

@@ -283,7 +283,7 @@ func (s *Service) do(ctx context.Context, lock Lock, key Key, due pending, isSur
 	if err != nil {
 		return response, err
 	}
-	mode := s.catalogue.mode(key.IsBinding, plan{work.Service, work.Plan})
+	mode := s.catalogue.mode(key.IsBinding, planIDs{work.Service, work.Plan})
 	done, err := s.worker.do(lock.Context(ctx), osb.WorkOf(work.Kind, mode), request)
 	if err != nil {
 		return response, err
@@ -311,7 +311,7 @@ func (s *Service) end(
 		}
 		crash.At("end-next")
 		entry := snapshot.Entry
-		mode := s.catalogue.mode(key.IsBinding, plan{pending.Service, pending.Plan})
+		mode := s.catalogue.mode(key.IsBinding, planIDs{pending.Service, pending.Plan})
 		holding, answer, err := snapshot.Holding.End(mode, done.outcome)
 		if err != nil {
 			return nil, err
@@ -425,7 +425,7 @@ func (s *Service) begin(snapshot Snapshot, visit Visit) (next *Entry, given begi
 func (s *Service) beginHolding(
 	snapshot Snapshot, visit Visit, request osb.Request,
 ) (holding osb.Holding, happened osb.Begun, isBound bool, err error) {
-	mode := s.catalogue.mode(visit.Key.IsBinding, plan{request.Service, request.Plan})
+	mode := s.catalogue.mode(visit.Key.IsBinding, planIDs{request.Service, request.Plan})
 	rules := osb.Rules{FirstPoll: s.rules.FirstPoll, Attributes: visit.Attributes}
 	if visit.Key.IsBinding {
 		instance, err := visit.instance(snapshot)
