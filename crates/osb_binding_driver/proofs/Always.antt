@@ -159,12 +159,21 @@ instance_right s w remove work goes works here (inr step) can =
         instance = here;
         bindings = can.bindings;
       };
-      run = (ServiceEvent.Instance step.0 ∷ [], (after, (record {
-        rules = refl;
-        instance = step.1
-            ∙ λ j. let_happen s.service.instance (of_instance (goes j) (works j) s.service.instance step.0);
-        bindings = λ id. refl;
-      }, refl)));
+      run = (
+        ServiceEvent.Instance step.0 ∷ [],
+        (
+          after,
+          (
+            record {
+              rules = refl;
+              instance = step.1
+                  ∙ λ j. let_happen s.service.instance (of_instance (goes j) (works j) s.service.instance step.0);
+              bindings = λ id. refl;
+            },
+            refl,
+          ),
+        ),
+      );
     }
 
 instance_steps : (s : ServiceWorld) (h : Happening) → CanBeService s → IsRight s (instance_step s h)
@@ -207,7 +216,7 @@ binding_right s id b n k e found eq here there can =
     let m = s.service.bindings in
     let new = map.insert m id n in
     let here_is = get_here m id n ∙ ap Some eq
-        ∙ sym (ap (option_map (λ (c : BindingCell). after_event s c e)) found) in
+    ∙ sym (ap (option_map (λ (c : BindingCell). after_event s c e)) found) in
     record {
       can = record {
         service = each_after fine s.service.rules s.service.instance (map.get m) (map.get new) id (create_of s) (work_of s)
@@ -216,18 +225,27 @@ binding_right s id b n k e found eq here there can =
         instance = can.instance;
         bindings = IsFit_at m s.bindings id n k can.bindings here there;
       };
-      run = (ServiceEvent.Binding id e ∷ [], ((with_binding s id n k).service, (record {
-        rules = refl;
-        instance = refl;
-        bindings = λ q. ⊎_elim
-            (λ same. subst (λ (z : ℕ). map.get new z ≡ binding_by s.service (ServiceEvent.Binding id e) z) (sym same)
-            (here_is ∙ sym (ap (λ (x : Bool). if x then binding_after s.service e (map.get m id) else map.get m id)
-            (same_key id))))
-            (λ apart. get_other m id n q apart
-            ∙ sym (ap (λ (x : Bool). if x then binding_after s.service e (map.get m id) else map.get m q)
-            (other_key q id apart)))
-            (cases_eq q id);
-      }, refl)));
+      run = (
+        ServiceEvent.Binding id e ∷ [],
+        (
+          (with_binding s id n k).service,
+          (
+            record {
+              rules = refl;
+              instance = refl;
+              bindings = λ q. ⊎_elim
+                  (λ same. subst (λ (z : ℕ). map.get new z ≡ binding_by s.service (ServiceEvent.Binding id e) z) (sym same)
+                  (here_is ∙ sym (ap (λ (x : Bool). if x then binding_after s.service e (map.get m id) else map.get m id)
+                  (same_key id))))
+                  (λ apart. get_other m id n q apart
+                  ∙ sym (ap (λ (x : Bool). if x then binding_after s.service e (map.get m id) else map.get m q)
+                  (other_key q id apart)))
+                  (cases_eq q id);
+            },
+            refl,
+          ),
+        ),
+      );
     }
 
 -- nothing has happened to the binding, but to what the broker has of it
@@ -236,12 +254,12 @@ place_right : (s : ServiceWorld) (id : ℕ) (b n : BindingCell) (k : Place) → 
 place_right s id b n k found eq here there can =
     let m = s.service.bindings in
     let pointwise : ((q : ℕ) → map.get (map.insert m id n) q ≡ map.get m q) = λ q. ⊎_elim
-        (λ same. subst (λ (z : ℕ). map.get (map.insert m id n) z ≡ map.get m z) (sym same)
-        (get_here m id n ∙ ap Some eq ∙ sym found))
-        (λ apart. get_other m id n q apart) (cases_eq q id) in
+    (λ same. subst (λ (z : ℕ). map.get (map.insert m id n) z ≡ map.get m z) (sym same)
+    (get_here m id n ∙ ap Some eq ∙ sym found))
+    (λ apart. get_other m id n q apart) (cases_eq q id) in
     let as_before = map.same_map nat_cmp_total map.nat_cmp-IsAntisymmetric (map.insert m id n) m pointwise in
     let like = ap (λ (x : map.FinMap nat_cmp BindingCell).
-        record { rules = s.service.rules; instance = s.service.instance; bindings = x }) as_before in
+    record { rules = s.service.rules; instance = s.service.instance; bindings = x }) as_before in
     record {
       can = record {
         service = subst (λ (x : map.FinMap nat_cmp BindingCell). IsService s.service.rules s.service.instance (map.get x))
@@ -339,7 +357,7 @@ order_right s order None found can =
     let new = map.insert m id b in
     let event = ServiceEvent.Order order in
     let here_is = get_here m id b
-        ∙ sym (ap (λ (x : Option BindingCell). Some (ordered s.service order x)) found) in
+    ∙ sym (ap (λ (x : Option BindingCell). Some (ordered s.service order x)) found) in
     record {
       can = record {
         service = one_more fine s.service.rules s.service.instance (map.get m) (map.get new) id b
@@ -351,18 +369,27 @@ order_right s order None found can =
         bindings = IsFit_at m s.bindings id b empty_place can.bindings
             (can_begin (life_order s.service.instance.order order)) refl;
       };
-      run = (event ∷ [], ((with_binding s id b empty_place).service, (record {
-        rules = refl;
-        instance = refl;
-        bindings = λ q. ⊎_elim
-            (λ same. subst (λ (z : ℕ). map.get new z ≡ binding_by s.service event z) (sym same)
-            (here_is ∙ sym (ap (λ (x : Bool). if x then Some (ordered s.service order (map.get m id)) else map.get m id)
-            (same_key id))))
-            (λ apart. get_other m id b q apart
-            ∙ sym (ap (λ (x : Bool). if x then Some (ordered s.service order (map.get m id)) else map.get m q)
-            (other_key q id apart)))
-            (cases_eq q id);
-      }, refl)));
+      run = (
+        event ∷ [],
+        (
+          (with_binding s id b empty_place).service,
+          (
+            record {
+              rules = refl;
+              instance = refl;
+              bindings = λ q. ⊎_elim
+                  (λ same. subst (λ (z : ℕ). map.get new z ≡ binding_by s.service event z) (sym same)
+                  (here_is ∙ sym (ap (λ (x : Bool). if x then Some (ordered s.service order (map.get m id)) else map.get m id)
+                  (same_key id))))
+                  (λ apart. get_other m id b q apart
+                  ∙ sym (ap (λ (x : Bool). if x then Some (ordered s.service order (map.get m id)) else map.get m q)
+                  (other_key q id apart)))
+                  (cases_eq q id);
+            },
+            refl,
+          ),
+        ),
+      );
     }
 
 -- ---- whatever happens

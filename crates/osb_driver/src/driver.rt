@@ -121,7 +121,11 @@ fn nothing(row: Holding, stage: Stage) -> Transaction
 fn answered(row: Holding, answer: Answer, put_off: bool) -> Transaction
     ensures tx { result ≡ spec.answered row answer put_off }
 {
-    let effect = if put_off { Effect::PutOff } else { Effect::Arrive };
+    let effect = if put_off {
+        Effect::PutOff
+    } else {
+        Effect::Arrive
+    };
     Transaction {
         row,
         takes_over: false,
