@@ -61,8 +61,8 @@ func (c *Catalogue) readRest(document []byte) (err error) {
 		return err
 	}
 	c.retrievable = map[osb.ID]bool{}
-	for binding := range c.bindings {
-		if c.retrievable[binding.service], err = osb.BindingsRetrievable(document, binding.service); err != nil {
+	for ids := range c.bindings {
+		if c.retrievable[ids.service], err = osb.BindingsRetrievable(document, ids.service); err != nil {
 			return err
 		}
 	}
