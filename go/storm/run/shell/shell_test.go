@@ -257,5 +257,3 @@ func pidIn(t *testing.T, path string) int {
 	t.Fatal("the command: got no id of it in time, want one")
 	return 0
 }
-
-var check = diff.Must
