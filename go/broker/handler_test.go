@@ -282,11 +282,14 @@ func TestAllow(t *testing.T) {
 	for path, want := range map[string]string{
 		"i":                                     "PUT, DELETE",
 		"service_bindings":                      "PUT, DELETE",
+		"last_operation":                        "PUT, DELETE",
 		"i/last_operation":                      "GET",
+		"last_operation/last_operation":         "GET",
 		"i/service_bindings/b":                  "GET, PUT, DELETE",
 		"i/service_bindings/b?a=/service":       "GET, PUT, DELETE",
 		"i/service_bindings/b/last_operation":   "GET",
 		"service_bindings/service_bindings/b":   "GET, PUT, DELETE",
+		"i/service_bindings/last_operation":     "GET, PUT, DELETE",
 		"i/service_bindings/b/last_operation?a": "GET",
 	} {
 		t.Run(path, func(t *testing.T) {
@@ -706,6 +709,7 @@ func TestRoutesOfRejectedRequests(t *testing.T) {
 		{"DELETE", "i/service_bindings/b?service_id=" + long, "", "unbind"},
 		{"GET", "i/service_bindings/b/last_operation?plan_id=", "", "poll-binding"},
 		{"GET", "i/service_bindings/" + long, "", "fetch-binding"},
+		{"GET", long + "/service_bindings/last_operation", "", "fetch-binding"},
 		{"POST", "i/service_bindings/b", "", "other"},
 	} {
 		t.Run(test.method+" "+test.target, func(t *testing.T) {

@@ -289,12 +289,16 @@ func TestPathOf(t *testing.T) {
 		if want := osb.AsksForCatalogue("", target); got.isCatalogue != want {
 			t.Errorf("%s: got %+v, want isCatalogue %t", target, got, want)
 		}
-		_, err := osb.ReceiveRequest("", 0, "", target, nil)
-		isInstance := !errors.Is(err, osb.ErrRefusedTarget)
-		_, err = osb.ReceiveBindingRequest("", 0, "", target, nil)
-		isBinding := !errors.Is(err, osb.ErrRefusedTarget)
+		_, ofInstance := osb.ReceiveRequest("", 0, "PUT", target, nil)
+		isInstance := !errors.Is(ofInstance, osb.ErrRefusedTarget)
+		_, ofBinding := osb.ReceiveBindingRequest("", 0, "PUT", target, nil)
+		isBinding := !errors.Is(ofBinding, osb.ErrRefusedTarget)
 		if (isInstance || isBinding) && (got.isBinding != isBinding || isInstance == isBinding) {
 			t.Errorf("%s: got %+v, want isBinding %t, and isInstance %t", target, got, isBinding, isInstance)
+		}
+		isLastOperation := errors.Is(ofInstance, osb.ErrRefusedMethod) || errors.Is(ofBinding, osb.ErrRefusedMethod)
+		if (isInstance || isBinding) && got.isLastOperation != isLastOperation {
+			t.Errorf("%s: got %+v, want isLastOperation %t", target, got, isLastOperation)
 		}
 		if isInstance || isBinding || got.isCatalogue {
 			seen[got] = true

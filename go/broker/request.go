@@ -196,10 +196,13 @@ func pathOf(target string) path {
 	if !isBelow {
 		return path{isCatalogue: osb.AsksForCatalogue("", target)}
 	}
-	return path{
-		isBinding:       strings.Contains(names, "/service_bindings/"),
-		isLastOperation: strings.HasSuffix(strings.TrimRight(text, "/"), "/last_operation"),
+	const bindings = "service_bindings/"
+	_, rest, _ := strings.Cut(names, "/") // beyond the instance's id, which may be service_bindings or last_operation
+	isBinding := strings.HasPrefix(rest, bindings)
+	if isBinding {
+		_, rest, _ = strings.Cut(rest[len(bindings):], "/")
 	}
+	return path{isBinding: isBinding, isLastOperation: strings.TrimSuffix(rest, "/") == "last_operation"}
 }
 
 // route is the route of a request that was rejected, although there is its target with this method.
