@@ -45,9 +45,9 @@ type Ordering int
 const (
 	ByState Ordering = iota // State, Since, Key
 	ByTime                  // Since, Key
-	// ByKey is the order of Key, which never changes. If a list is read in pages, each behind the one before, a row that
-	// fits the filter all the while is on one page, whatever changes. In the other orders, a row that moves to another
-	// state between two pages may be on none, or on two.
+	// ByKey is the order of Key, which never changes. If a list is read in pages, each behind the one before, a row
+	// that fits the filter all the while is on one page, whatever changes. In the other orders, a row that moves to
+	// another state between two pages may be on none, or on two.
 	ByKey
 )
 
@@ -60,9 +60,9 @@ type Filter struct {
 	Prefix   string  // only rows whose number, as a GUID, begins so
 	First    *osb.ID // only the tries of the order with this first id; Entry.Chain has those of a row
 	Order    Ordering
-	Latest   bool   // in the opposite order
-	After    *Place // only rows behind this place, in the order in which they are listed
-	Most     int    // as many at most; 0 for all
+	Latest   bool      // in the opposite order
+	After    *Position // only rows behind this position, in the order in which they are listed
+	Most     int       // as many at most; 0 for all
 	// IsBrief leaves out what the orders were sent with (Order.Body), and credentials. A body may have 256 KiB.
 	IsBrief bool
 }
@@ -78,8 +78,8 @@ func (e Entry) Chain() Filter {
 	return chain
 }
 
-// A Place is one in a list. Of a Filter's After only what its Order has counts.
-type Place struct {
+// A Position is where a row stands in a list. Of a Filter's After only what its Order has counts.
+type Position struct {
 	State State
 	Since time.Time
 	Key   Key
@@ -138,8 +138,8 @@ type Store interface {
 	// Reading locks nothing. A row that can't be read is one of them (Entry.Unreadable).
 	List(ctx context.Context, filter Filter) ([]Entry, error)
 
-	// Places returns the places of the rows that List returns. Those of all rows take little memory.
-	Places(ctx context.Context, filter Filter) ([]Place, error)
+	// Positions returns the positions of the rows that List returns. Those of all rows take little memory.
+	Positions(ctx context.Context, filter Filter) ([]Position, error)
 
 	// Life returns the stays of a row that have ended, in their order.
 	Life(ctx context.Context, key Key) ([]Stay, error)
@@ -147,7 +147,8 @@ type Store interface {
 	// Counts counts the rows of each broker, kind and state. They come in any order.
 	Counts(ctx context.Context) ([]Count, error)
 
-	// InFlight returns the rows that are leased, those of the earliest Lease.Until first, with those that can't be read.
+	// InFlight returns the rows that are leased, those of the earliest Lease.Until first, with those that can't be
+	// read.
 	InFlight(ctx context.Context, most int) ([]Entry, error)
 
 	// NextDue returns when the next row is due that nobody has leased and whose broker is one of these, and the Store's
@@ -287,8 +288,8 @@ type Reason struct {
 
 // OrderTexts are members of an order, and EntryTexts members of an Entry, that every Store keeps in the same way: as a
 // text in the column that the tag names. With omitempty, the column is NULL if the text is empty. A store reads and
-// writes them by Columns. If its tables lack a column, the store adds the column when it is opened, and each row that is
-// there has an empty text.
+// writes them by Columns. If its tables lack a column, the store adds the column when it is opened, and each row that
+// is there has an empty text.
 type OrderTexts struct {
 	Organization string `json:"organization"` // organization_guid of a Provision, not empty
 	Space        string `json:"space"`        // space_guid of a Provision, not empty
@@ -494,23 +495,23 @@ func noID(text string) error {
 //
 // Errors: those of the Store; that of call, which ends the walk.
 func Walk(ctx context.Context, store Store, filter Filter, atOnce int, call func([]Entry) error) error {
-	places, err := store.Places(ctx, filter)
-	for len(places) > 0 && err == nil {
+	positions, err := store.Positions(ctx, filter)
+	for len(positions) > 0 && err == nil {
 		count := atOnce
-		if count > len(places) {
-			count = len(places)
+		if count > len(positions) {
+			count = len(positions)
 		}
-		err = walkOver(ctx, store, filter, places[:count], call)
-		places = places[count:]
+		err = walkOver(ctx, store, filter, positions[:count], call)
+		positions = positions[count:]
 	}
 	return err
 }
 
-// walkOver calls with the rows at these places that the filter still chooses.
-func walkOver(ctx context.Context, store Store, filter Filter, places []Place, call func([]Entry) error) error {
-	keys := make([]Key, len(places))
-	for at := range places {
-		keys[at] = places[at].Key
+// walkOver calls with the rows at these positions that the filter still chooses.
+func walkOver(ctx context.Context, store Store, filter Filter, positions []Position, call func([]Entry) error) error {
+	keys := make([]Key, len(positions))
+	for at := range positions {
+		keys[at] = positions[at].Key
 	}
 	rows, err := store.ReadAll(ctx, keys)
 	if err != nil {

@@ -368,8 +368,8 @@ func TestWalk(t *testing.T) {
 	}
 }
 
-// The columns are those of the tables of version 0.3. An empty text of an order is written as it is, and one of an entry
-// is NULL. A store reads into the texts themselves.
+// The columns are those of the tables of version 0.3. An empty text of an order is written as it is, and one of an
+// entry is NULL. A store reads into the texts themselves.
 func TestColumns(t *testing.T) {
 	ofOrder, ofEntry := ColumnNames()
 	if got, want := fmt.Sprint(ofOrder, ofEntry), "[organization space] [dashboard because]"; got != want {
@@ -424,7 +424,8 @@ func TestChain(t *testing.T) {
 	}
 }
 
-// The stays before the one of a row that was read are those that had ended by then, also if further ones have ended since.
+// The stays before the one of a row that was read are those that had ended by then, also if further ones have ended
+// since.
 func TestBefore(t *testing.T) {
 	at := time.Date(2026, 1, 2, 3, 4, 5, 0, time.UTC)
 	ended := []Stay{{Ordered, at}, {Wanted, at.Add(time.Second)}, {Ready, at.Add(time.Minute)}}
@@ -792,12 +793,12 @@ func (m *memory) ReadAll(_ context.Context, keys []Key) (found []Entry, err erro
 	return found, nil
 }
 
-func (m *memory) Places(ctx context.Context, filter Filter) (places []Place, err error) {
+func (m *memory) Positions(ctx context.Context, filter Filter) (positions []Position, err error) {
 	rows, err := m.List(ctx, filter)
 	for _, e := range rows {
-		places = append(places, Place{State: e.State, Since: e.Since, Key: e.Key})
+		positions = append(positions, Position{State: e.State, Since: e.Since, Key: e.Key})
 	}
-	return places, err
+	return positions, err
 }
 
 func (m *memory) Life(_ context.Context, key Key) ([]Stay, error) {

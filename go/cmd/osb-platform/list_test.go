@@ -64,9 +64,9 @@ func (m moving) List(ctx context.Context, filter platform.Filter) ([]platform.En
 	return m.Store.List(ctx, filter)
 }
 
-func (m moving) Places(ctx context.Context, filter platform.Filter) ([]platform.Place, error) {
+func (m moving) Positions(ctx context.Context, filter platform.Filter) ([]platform.Position, error) {
 	defer m.move()
-	return m.Store.Places(ctx, filter)
+	return m.Store.Positions(ctx, filter)
 }
 
 func (m moving) ReadAll(ctx context.Context, keys []platform.Key) ([]platform.Entry, error) {
@@ -74,7 +74,8 @@ func (m moving) ReadAll(ctx context.Context, keys []platform.Key) ([]platform.En
 	return m.Store.ReadAll(ctx, keys)
 }
 
-// While instances change to other states, before and behind the place up to which they are listed, each is listed once.
+// While instances change to other states, before and behind the position up to which they are listed, each is listed
+// once.
 func TestListWhileRowsMove(t *testing.T) {
 	const count = 2*readAtOnce + 20
 	over(t, newRows(t, count), func(ctx context.Context, in platform.Store) error {
@@ -325,8 +326,8 @@ func TestRejectedPassword(t *testing.T) {
 	p.stop()
 }
 
-// A row whose record can't be read is listed and shown with the reason, and hides no other row. A command that waits for
-// it fails.
+// A row whose record can't be read is listed and shown with the reason, and hides no other row. A command that waits
+// for it fails.
 func TestUnreadableRow(t *testing.T) {
 	store := newStore(t)
 	over(t, store, func(ctx context.Context, in platform.Store) error {

@@ -307,8 +307,8 @@ func TestBadLists(t *testing.T) {
 	r.callAs(writing, "GET", "/v1/records", "").want(403, "forbidden")
 }
 
-// Between two pages, rows change to another state, behind and before the place of the page. A list by number has each
-// row on one page all the same, and so has a list of the rows in a state of those that stay in it.
+// Between two pages, rows change to another state, behind and before the position of the page. A list by number has
+// each row on one page all the same, and so has a list of the rows in a state of those that stay in it.
 func TestListsWhileRowsChange(t *testing.T) {
 	r := newRig(t)
 	ids := map[string]int{}

@@ -63,8 +63,8 @@ type Order string
 
 const (
 	// ByNumber is the order of numbers, which never change. So a record that fits the query from the first page to the
-	// last is on exactly one page. In the other orders, a record that changes its state between two pages may be on none,
-	// or on two.
+	// last is on exactly one page. In the other orders, a record that changes its state between two pages may be on
+	// none, or on two.
 	ByNumber Order = "number"
 	ByState  Order = "state" // by state, the time of that, and number
 	Newest   Order = "newest"
@@ -79,8 +79,8 @@ type Query struct {
 	Broker string   // or empty for all
 	Prefix string   // only those whose number begins with it; hyphens don't count
 	First  string   // only the tries of the order with this first id
-	// Unreadable is whether only records are wanted that can't be read. A page may have fewer then, or none: go on while
-	// it has a Next.
+	// Unreadable is whether only records are wanted that can't be read. A page may have fewer then, or none: go on
+	// while it has a Next.
 	Unreadable bool
 	Order      Order // or empty for ByNumber
 	Latest     bool  // whether the order ByState is turned round
@@ -209,9 +209,9 @@ func (r *reader) withLife(ctx context.Context, e platform.Entry, most int) (Reco
 
 // A selection is what a Query asks the store for.
 type selection struct {
-	// The filter says in which order the rows are read, and behind which place.
+	// The filter says in which order the rows are read, and behind which position.
 	filter platform.Filter
-	isBack bool // the page is read from its end: against its order, and the rows before a place
+	isBack bool // the page is read from its end: against its order, and the rows before a position
 	limit  int  // rows of the page
 }
 
@@ -272,7 +272,7 @@ func (r *reader) filter(ctx context.Context, query Query) (platform.Filter, erro
 }
 
 // link writes the cursors of a page, by whether there are more rows in the direction in which it was read. In the other
-// direction there are more if it was read from a place.
+// direction there are more if it was read from a position.
 func (l *List) link(s selection, entries []platform.Entry, isMore bool) (err error) {
 	hasNext, hasPrevious := isMore, s.filter.After != nil
 	if s.isBack {
@@ -359,7 +359,7 @@ func (q Query) choosePage(s *selection) (err error) {
 		return malformedError("give one of after, before and last")
 	}
 	if cursor := q.After + q.Before; cursor != "" {
-		if s.filter.After, err = placeOf(cursor, s.filter.Order); err != nil {
+		if s.filter.After, err = positionOf(cursor, s.filter.Order); err != nil {
 			return malformedError(err.Error())
 		}
 	}
@@ -391,8 +391,8 @@ func Prefix(text string) (prefix string, isPrefix bool) {
 	return prefix, true
 }
 
-// A written place, as it stands in a cursor. By key it is a key alone.
-type writtenPlace struct {
+// A written position, as it stands in a cursor. By key it is a key alone.
+type writtenPosition struct {
 	State    platform.State `json:"s,omitempty"`
 	Since    *time.Time     `json:"t,omitempty"`
 	Instance *osb.ID        `json:"i"`
@@ -401,39 +401,39 @@ type writtenPlace struct {
 
 var errCursor = errors.New("the cursor isn't one that this API has answered in this order")
 
-// cursorOf is the place of a row in an order, as a text that stands in a URL as it is.
+// cursorOf is the position of a row in an order, as a text that stands in a URL as it is.
 func cursorOf(e platform.Entry, order platform.Ordering) (string, error) {
-	place := writtenPlace{Instance: &e.Key.Instance}
+	position := writtenPosition{Instance: &e.Key.Instance}
 	if order != platform.ByKey {
 		since := e.Since.UTC()
-		place.State, place.Since = e.State, &since
+		position.State, position.Since = e.State, &since
 	}
 	if e.Key.IsBinding {
-		place.Binding = &e.Key.Binding
+		position.Binding = &e.Key.Binding
 	}
-	text, err := json.Marshal(place)
+	text, err := json.Marshal(position)
 	return base64.RawURLEncoding.EncodeToString(text), err
 }
 
-// placeOf is the place that a cursor names in an order.
-func placeOf(cursor string, order platform.Ordering) (*platform.Place, error) {
-	var written writtenPlace
+// positionOf is the position that a cursor names in an order.
+func positionOf(cursor string, order platform.Ordering) (*platform.Position, error) {
+	var written writtenPosition
 	text, err := base64.RawURLEncoding.DecodeString(cursor)
 	if err != nil || json.Unmarshal(text, &written) != nil || written.Instance == nil {
 		return nil, errCursor
 	}
-	place := &platform.Place{State: written.State, Key: platform.InstanceKey(*written.Instance)}
+	position := &platform.Position{State: written.State, Key: platform.InstanceKey(*written.Instance)}
 	if written.Since != nil {
-		place.Since = *written.Since
+		position.Since = *written.Since
 	}
 	isByKey := written.State == "" && written.Since == nil
 	if isByKey != (order == platform.ByKey) || !isByKey && (written.Since == nil || !isState(written.State)) {
 		return nil, errCursor
 	}
 	if written.Binding != nil {
-		place.Key = platform.BindingKey(*written.Instance, *written.Binding)
+		position.Key = platform.BindingKey(*written.Instance, *written.Binding)
 	}
-	return place, nil
+	return position, nil
 }
 
 var allStates = []platform.State{

@@ -1,7 +1,7 @@
 // Package page shows to a browser what the API of osb-platform answers about instances, bindings and brokers: how many
 // are in each state, what waits for a person, what is in flight and at which worker, and the life of each as a line of
 // its states with their times. It only reads, needs no JavaScript, and loads nothing from elsewhere. Its own script
-// keeps the focus and the place as it refreshes the page.
+// keeps the focus and the scroll position as it refreshes the page.
 //
 // The page reads through api.Reader alone, as the handler of the API does. It reaches no store, and imports no other
 // package of the platform. So it shows nothing that the API doesn't answer.
@@ -314,10 +314,10 @@ func (h *handler) wait(turn time.Duration) {
 var errNoPage = errors.New("there is no such page")
 
 const (
-	inFlight    = "in-flight" // in the place of a state: what has a request in flight
+	inFlight    = "in-flight" // in place of a state: what has a request in flight
 	longestFind = 255         // bytes
-	// longestPlace is how many bytes a cursor of the API has at most. One of this program's has fewer than 300.
-	longestPlace = 1000
+	// longestCursor is how many bytes a cursor of the API has at most. One of this program's has fewer than 300.
+	longestCursor = 1000
 )
 
 // states are all states, in the order in which they are shown.
@@ -340,10 +340,10 @@ type target struct {
 	find     string    // what numbers begin with, or a whole id; if it isn't empty, no state counts
 	bindings bool      // bindings, and not instances
 	order    api.Order // of orders; Newest is empty here
-	after    string    // the page that begins behind this place, which is a cursor of the API
-	before   string    // the page that ends before this place
+	after    string    // the page that begins behind this cursor of the API
+	before   string    // the page that ends before this cursor
 	isLast   bool      // the last page
-	skipped  int       // how many rows come before the place, as the page with the link says
+	skipped  int       // how many rows come before the cursor, as the page with the link says
 	isStill  bool      // whether the page stays as it is, and isn't refreshed of itself
 }
 
@@ -370,13 +370,13 @@ func readAsked(query url.Values) (target, error) {
 			return a, errNoPage
 		}
 	}
-	places := 0
+	starts := 0
 	for _, isSet := range []bool{a.after != "", a.before != "", a.isLast} {
 		if isSet {
-			places++
+			starts++
 		}
 	}
-	if places > 1 {
+	if starts > 1 {
 		return a, errNoPage
 	}
 	return a, nil
@@ -406,9 +406,9 @@ func (a *target) take(name, value string) (err error) {
 			return errNoPage
 		}
 	case "after":
-		a.after, err = placeOf(value)
+		a.after, err = readCursor(value)
 	case "before":
-		a.before, err = placeOf(value)
+		a.before, err = readCursor(value)
 	case "page":
 		a.isLast = value == "last"
 		if !a.isLast {
@@ -434,9 +434,9 @@ func isState(text string) bool {
 	return false
 }
 
-// placeOf reads a place. Only the API knows what it says.
-func placeOf(text string) (string, error) {
-	if text == "" || len(text) > longestPlace {
+// readCursor reads a cursor. Only the API knows what it says.
+func readCursor(text string) (string, error) {
+	if text == "" || len(text) > longestCursor {
 		return "", errNoPage
 	}
 	return text, nil

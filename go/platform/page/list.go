@@ -264,8 +264,8 @@ func (l look) leaf(a target, of []string, total int) (leaf, error) {
 	return leaf{List: found, skipped: skipped, hasPrevious: true, hasNext: !a.isLast}, nil
 }
 
-// page_ asks for the rows in these states by time and key, from the place that is asked for. Errors: errNoPage if that
-// is no place.
+// page_ asks for the rows in these states by time and key, from the cursor that is asked for. Errors: errNoPage if that
+// is none.
 func (l look) page_(a target, of []string) (api.List, error) {
 	query := api.Query{
 		Kind: api.Instances, States: of, Order: a.order, Life: spans + 1, Limit: size,

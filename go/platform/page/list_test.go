@@ -403,7 +403,7 @@ func (f *fake) InFlight(_ context.Context, most int) (found []platform.Entry, er
 	return found, f.err
 }
 
-func less(order platform.Ordering, a, b platform.Place) bool {
+func less(order platform.Ordering, a, b platform.Position) bool {
 	if a.State != b.State && order == platform.ByState {
 		return a.State < b.State
 	}
@@ -413,16 +413,16 @@ func less(order platform.Ordering, a, b platform.Place) bool {
 	return a.Key.String() < b.Key.String()
 }
 
-// comesBefore is whether a place comes before another one in the order of a filter.
-func comesBefore(filter platform.Filter, a, b platform.Place) bool {
+// comesBefore is whether a position comes before another one in the order of a filter.
+func comesBefore(filter platform.Filter, a, b platform.Position) bool {
 	if filter.Latest {
 		a, b = b, a
 	}
 	return less(filter.Order, a, b)
 }
 
-func placeIn(e platform.Entry) platform.Place {
-	return platform.Place{State: e.State, Since: e.Since, Key: e.Key}
+func positionIn(e platform.Entry) platform.Position {
+	return platform.Position{State: e.State, Since: e.Since, Key: e.Key}
 }
 
 func (f *fake) List(_ context.Context, filter platform.Filter) (found []platform.Entry, err error) {
@@ -431,7 +431,7 @@ func (f *fake) List(_ context.Context, filter platform.Filter) (found []platform
 			found = append(found, e)
 		}
 	}
-	sort.Slice(found, func(a, b int) bool { return comesBefore(filter, placeIn(found[a]), placeIn(found[b])) })
+	sort.Slice(found, func(a, b int) bool { return comesBefore(filter, positionIn(found[a]), positionIn(found[b])) })
 	if filter.Most > 0 && len(found) > filter.Most {
 		found = found[:filter.Most]
 	}
@@ -447,5 +447,5 @@ func isChosen(filter platform.Filter, e platform.Entry) bool {
 		(filter.Instance == nil || e.Key.IsBinding && *filter.Instance == e.Key.Instance) &&
 		(filter.First == nil || *filter.First == e.First) &&
 		strings.HasPrefix(e.Key.ID().String(), filter.Prefix) &&
-		(filter.After == nil || comesBefore(filter, *filter.After, placeIn(e)))
+		(filter.After == nil || comesBefore(filter, *filter.After, positionIn(e)))
 }

@@ -23,7 +23,7 @@ import (
 
 const (
 	workers = 3    // that run at once, each with a store of its own
-	places  = 16   // of each: so many exchanges run at once
+	slots   = 16   // of each: so many exchanges run at once
 	stepped = 1000 // rows, as often as they are due; the others rest
 )
 
@@ -35,7 +35,7 @@ func BenchmarkSteps(b *testing.B) {
 	for _, rows := range []int{stepped, 100 * stepped} {
 		url, stores := fill(b, rows), []platform.Store{}
 		for n := 0; n < workers; n++ {
-			store, err := postgres.Open(background, url, places+1)
+			store, err := postgres.Open(background, url, slots+1)
 			check(b, err)
 			defer store.Close()
 			stores = append(stores, store)
@@ -45,7 +45,7 @@ func BenchmarkSteps(b *testing.B) {
 }
 
 // BenchmarkTransactions has three workers do the transactions of steps alone: a claim of as many rows as there are free
-// places, and a change for each. A row that is polled keeps its state, and a row that changes has two stays.
+// slots, and a change for each. A row that is polled keeps its state, and a row that changes has two stays.
 func BenchmarkTransactions(b *testing.B) {
 	for _, kind := range []string{"polled", "changed"} {
 		for _, rows := range []int{stepped, 100 * stepped} {
@@ -60,7 +60,7 @@ func benchmark(b *testing.B, rows int, isChanged bool) {
 	b.ResetTimer()
 	var all sync.WaitGroup
 	for n := 0; n < workers; n++ {
-		store, err := postgres.Open(background, url, places+1)
+		store, err := postgres.Open(background, url, slots+1)
 		check(b, err)
 		defer store.Close()
 		all.Add(1)
@@ -132,8 +132,8 @@ func pollingRecord(b *testing.B) osb.Record {
 
 // stepAll steps rows until no step is left.
 func stepAll(b *testing.B, store platform.Store, worker string, left *int64, isChanged bool) {
-	free := make(chan struct{}, places)
-	for n := 0; n < places; n++ {
+	free := make(chan struct{}, slots)
+	for n := 0; n < slots; n++ {
 		free <- struct{}{}
 	}
 	var running sync.WaitGroup

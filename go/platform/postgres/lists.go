@@ -213,13 +213,13 @@ func (s *Store) List(ctx context.Context, filter platform.Filter) ([]platform.En
 	return s.entries(ctx, query, parameters...)
 }
 
-// Places returns the places of the rows that List returns, as platform.Store says.
-func (s *Store) Places(ctx context.Context, filter platform.Filter) ([]platform.Place, error) {
+// Positions returns the positions of the rows that List returns, as platform.Store says.
+func (s *Store) Positions(ctx context.Context, filter platform.Filter) ([]platform.Position, error) {
 	query, parameters := listing(filter, "NULL", "state, since, id, binding")
 	if query == "" {
 		return nil, nil
 	}
-	return within(ctx, s, func(*call) (found []platform.Place, err error) {
+	return within(ctx, s, func(*call) (found []platform.Position, err error) {
 		rows, err := s.db.QueryContext(ctx, query, parameters...)
 		err = each(rows, err, func(rows *sql.Rows) error {
 			var it row
@@ -229,7 +229,7 @@ func (s *Store) Places(ctx context.Context, filter platform.Filter) ([]platform.
 				return err
 			}
 			key, err := it.key()
-			found = append(found, platform.Place{State: platform.State(state), Since: timeOf(since), Key: key})
+			found = append(found, platform.Position{State: platform.State(state), Since: timeOf(since), Key: key})
 			return err
 		})
 		return found, err
@@ -335,9 +335,9 @@ func partOf(
 	}
 	columns := columnsOf(filter, isBinding)
 	if filter.After != nil {
-		place := placeOf(filter, isBinding)
+		position := positionOf(filter, isBinding)
 		where.and("("+strings.Join(columns, ", ")+")"+behind(filter, isBinding)+
-			"($"+strings.Repeat(", $", len(place)-1)+")", place...)
+			"($"+strings.Repeat(", $", len(position)-1)+")", position...)
 	}
 	return "(SELECT " + line + " AS line, state, since, id, " + binding + " AS binding FROM " + table +
 		" AS t WHERE " + strings.Join(where.texts, " AND ") + orderBy(filter, columns...)
@@ -367,7 +367,7 @@ func orderBy(filter platform.Filter, columns ...string) string {
 	return " ORDER BY " + strings.Join(columns, ", ")
 }
 
-// behind compares a row with the place of a filter. In the opposite order, an instance comes behind its bindings.
+// behind compares a row with the position of a filter. In the opposite order, an instance comes behind its bindings.
 func behind(filter platform.Filter, isBinding bool) string {
 	switch {
 	case !filter.Latest:
@@ -378,23 +378,23 @@ func behind(filter platform.Filter, isBinding bool) string {
 	return " < "
 }
 
-// placeOf are the values of columnsOf at the place of a filter. An instance comes before its bindings.
-func placeOf(filter platform.Filter, isBinding bool) (place []any) {
+// positionOf are the values of columnsOf at the position of a filter. An instance comes before its bindings.
+func positionOf(filter platform.Filter, isBinding bool) (position []any) {
 	at := *filter.After
 	if filter.Order == platform.ByState {
-		place = append(place, string(at.State))
+		position = append(position, string(at.State))
 	}
 	if filter.Order != platform.ByKey {
-		place = append(place, secondsOf(at.Since))
+		position = append(position, secondsOf(at.Since))
 	}
-	place = append(place, at.Key.Instance.String())
+	position = append(position, at.Key.Instance.String())
 	switch {
 	case isBinding && at.Key.IsBinding:
-		place = append(place, at.Key.Binding.String())
+		position = append(position, at.Key.Binding.String())
 	case isBinding:
-		place = append(place, "")
+		position = append(position, "")
 	}
-	return place
+	return position
 }
 
 // isOddOrder is whether padded isn't made for the database's order of texts: ICU can compare digits by the value of the

@@ -169,8 +169,8 @@ func (r *row) key() (key platform.Key, err error) {
 	return key, nil
 }
 
-// readTexts reads the columns that have ids, an object or a record: all that can be read. The error is that of the first
-// one that can't.
+// readTexts reads the columns that have ids, an object or a record: all that can be read. The error is that of the
+// first one that can't.
 func (r *row) readTexts(entry *platform.Entry) (failed error) {
 	var ids names
 	for _, test := range []struct {
@@ -219,7 +219,7 @@ func entryOf(text []byte) (platform.Entry, error) {
 }
 
 // shownOf is entryOf for whoever only shows the row: if it can't be read, the entry says so. An error is left only if
-// the row has no key, without which it has no place among others.
+// the row has no key, without which it has no position among others.
 func shownOf(text []byte) (platform.Entry, error) {
 	it, err := readRow(text)
 	if err != nil {

@@ -54,7 +54,7 @@ func TestARightLives(t *testing.T) {
 	}
 }
 
-// A time is read as it was written, to the microsecond, and a place in a list finds its row again.
+// A time is read as it was written, to the microsecond, and a position in a list finds its row again.
 func TestTimes(t *testing.T) {
 	random := rand.New(rand.NewSource(1))
 	for n := 0; n < 10000; n++ {

@@ -20,22 +20,22 @@ var states = []platform.State{
 type view[T any] struct {
 	instance, binding string
 	read              func([]driver.Value) (T, error)
-	place             func(T) platform.Place
+	position          func(T) platform.Position
 }
 
 var (
 	wholeRow = view[platform.Entry]{
 		instance: instanceRow, binding: bindingRow, read: shownOf,
-		place: func(e platform.Entry) platform.Place {
-			return platform.Place{State: e.State, Since: e.Since, Key: e.Key}
+		position: func(e platform.Entry) platform.Position {
+			return platform.Position{State: e.State, Since: e.Since, Key: e.Key}
 		},
 	}
 	briefRow = view[platform.Entry]{
-		instance: brief(instanceRow), binding: brief(bindingRow), read: shownOf, place: wholeRow.place,
+		instance: brief(instanceRow), binding: brief(bindingRow), read: shownOf, position: wholeRow.position,
 	}
-	onlyPlace = view[platform.Place]{
-		instance: "id, NULL, state, since", binding: "instance, id, state, since", read: placeOf,
-		place: func(at platform.Place) platform.Place { return at },
+	onlyPosition = view[platform.Position]{
+		instance: "id, NULL, state, since", binding: "instance, id, state, since", read: positionOf,
+		position: func(at platform.Position) platform.Position { return at },
 	}
 )
 
@@ -44,9 +44,9 @@ func brief(columns string) string {
 	return strings.NewReplacer("further", "''", "credentials", "NULL").Replace(columns)
 }
 
-func placeOf(values []driver.Value) (platform.Place, error) {
+func positionOf(values []driver.Value) (platform.Position, error) {
 	r := &row{values: values}
-	at := platform.Place{Key: r.key(), State: platform.State(r.text("")), Since: r.at()}
+	at := platform.Position{Key: r.key(), State: platform.State(r.text("")), Since: r.at()}
 	return at, r.err
 }
 
@@ -58,10 +58,10 @@ func (s *Store) List(ctx context.Context, filter platform.Filter) ([]platform.En
 	return listOf(ctx, s, filter, wholeRow)
 }
 
-// Places returns the places of the rows that List returns. If the filter has nothing but states and a broker, it reads
-// indexes alone.
-func (s *Store) Places(ctx context.Context, filter platform.Filter) ([]platform.Place, error) {
-	return listOf(ctx, s, filter, onlyPlace)
+// Positions returns the positions of the rows that List returns. If the filter has nothing but states and a broker, it
+// reads indexes alone.
+func (s *Store) Positions(ctx context.Context, filter platform.Filter) ([]platform.Position, error) {
+	return listOf(ctx, s, filter, onlyPosition)
 }
 
 func listOf[T any](ctx context.Context, s *Store, filter platform.Filter, of view[T]) ([]T, error) {
@@ -140,7 +140,7 @@ func (l *listing[T]) merge() {
 		if l.filter.Latest {
 			one, other = other, one
 		}
-		a, b := l.view.place(l.found[one]), l.view.place(l.found[other])
+		a, b := l.view.position(l.found[one]), l.view.position(l.found[other])
 		if !a.Since.Equal(b.Since) {
 			return a.Since.Before(b.Since)
 		}
@@ -169,8 +169,8 @@ func (l *listing[T]) in(state platform.State, most int) error {
 const fewRows = 5000
 
 // byKey reads the rows by their keys. If few rows have the states and the broker of the filter, an index finds them,
-// and they are sorted. Else the rows are read in the order of their keys, and those that don't fit are passed over. So all
-// pages together read each row once.
+// and they are sorted. Else the rows are read in the order of their keys, and those that don't fit are passed over. So
+// all pages together read each row once.
 func (l *listing[T]) byKey() error {
 	filter, chosen := l.filter, &selection{}
 	count, err := l.countOf(filter)
@@ -332,7 +332,7 @@ func withoutIndex(is bool) string {
 	return ""
 }
 
-// of adds the conditions of a filter, except for those on states and the place. isUnindexed is whether no index of
+// of adds the conditions of a filter, except for those on states and the position. isUnindexed is whether no index of
 // brokers is used.
 func (s *selection) of(filter platform.Filter, isUnindexed bool) {
 	if filter.Broker != "" {
@@ -350,25 +350,25 @@ func (s *selection) of(filter platform.Filter, isUnindexed bool) {
 	}
 }
 
-// after adds that a row comes behind the place of a filter, by the columns of its order. An instance comes before its
-// bindings, and in the opposite order behind them.
+// after adds that a row comes behind the position of a filter, by the columns of its order. An instance comes before
+// its bindings, and in the opposite order behind them.
 func (s *selection) after(filter platform.Filter, columns string) {
-	place, isBinding := *filter.After, strings.HasSuffix(columns, "instance, id")
+	position, isBinding := *filter.After, strings.HasSuffix(columns, "instance, id")
 	var values []driver.Value
 	if strings.HasPrefix(columns, "since") {
-		since := seconds(place.Since)
+		since := seconds(position.Since)
 		if since == nil {
 			since = -never
 		}
 		values = append(values, since)
 	}
-	values = append(values, place.Key.Instance.String())
+	values = append(values, position.Key.Instance.String())
 	if isBinding {
-		values = append(values, bindingOf(place.Key))
+		values = append(values, bindingOf(position.Key))
 	}
 	is := " > "
 	switch {
-	case filter.Latest && !isBinding && place.Key.IsBinding:
+	case filter.Latest && !isBinding && position.Key.IsBinding:
 		is = " <= "
 	case filter.Latest:
 		is = " < "
@@ -426,7 +426,7 @@ func statesOf(filter platform.Filter) (of []platform.State) {
 	return of
 }
 
-// isBehind is whether rows in a state may come behind the place of a filter.
+// isBehind is whether rows in a state may come behind the position of a filter.
 func isBehind(filter platform.Filter, state platform.State) bool {
 	switch {
 	case filter.After == nil || filter.Order == platform.ByTime:

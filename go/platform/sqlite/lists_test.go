@@ -89,7 +89,7 @@ func TestReadingLocksNothing(t *testing.T) {
 	}
 }
 
-// A row that can't be read hides no other one. One without a time or an id has no place in a list.
+// A row that can't be read hides no other one. One without a time or an id has no position in a list.
 func TestUnreadableRows(t *testing.T) {
 	path := filepath.Join(t.TempDir(), "store")
 	s := withBroker(t, open(t, path))
@@ -294,7 +294,8 @@ func (m *meter) statements(t *testing.T) (count int64) {
 }
 
 // What a step of an engine takes if none shares its claim with another: what many steps take more than few. Each step
-// changes the state twice, which fires the trigger that counts the rows of a state. So 8 statements are 10 with triggers.
+// changes the state twice, which fires the trigger that counts the rows of a state. So 8 statements are 10 with
+// triggers.
 func TestAStepOfAnEngine(t *testing.T) {
 	s, m := openMetered(t)
 	withBroker(t, s)
@@ -316,8 +317,8 @@ func TestAStepOfAnEngine(t *testing.T) {
 		}
 	}
 	for rows, duration := range took {
-		// No two claims are in one transaction, because each follows the answer to the one before. The end of a step may
-		// be in that of the next claim, so only the last end is one more.
+		// No two claims are in one transaction, because each follows the answer to the one before. The end of a step
+		// may be in that of the next claim, so only the last end is one more.
 		if got := duration[1]; got < int64(rows)+1 {
 			t.Errorf("got %d transactions for %d steps, want at least one for each and one more", got, rows)
 		}

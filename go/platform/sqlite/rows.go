@@ -338,17 +338,17 @@ func entryOf(values []driver.Value) (entry platform.Entry, err error) {
 	return entry, err
 }
 
-// sinceColumn is the place of since in instanceRow and bindingRow.
+// sinceColumn is the position of since in instanceRow and bindingRow.
 var sinceColumn = 2 + len(orderColumns) + 1
 
 // shownOf is entryOf for whoever only shows the row: if it can't be read, the entry says so. An error is left only if
-// the key or since can't be read, without which the row has no place among others.
+// the key or since can't be read, without which the row has no position among others.
 func shownOf(values []driver.Value) (platform.Entry, error) {
-	place := &row{values: []driver.Value{values[0], values[1], values[sinceColumn]}}
-	place.key()
-	place.at()
+	position := &row{values: []driver.Value{values[0], values[1], values[sinceColumn]}}
+	position.key()
+	position.at()
 	entry, err := entryOf(values)
-	if err != nil && place.err == nil {
+	if err != nil && position.err == nil {
 		entry.Unreadable, err = err.Error(), nil
 	}
 	return entry, err
@@ -504,8 +504,8 @@ func recountRow(isBinding string) string {
 		countRow(isBinding) + "END"
 }
 
-// What becomes of the rows of 0.2. Times get whole milliseconds, as all that are written: a place in a list finds its
-// row again. Of a row that is gone, only the last deletion was due. No worker goes on with one that is withdrawn.
+// What becomes of the rows of 0.2. Times get whole milliseconds, as all that are written: a position in a list finds
+// its row again. Of a row that is gone, only the last deletion was due. No worker goes on with one that is withdrawn.
 var changes = []string{
 	"UPDATE osb_instances SET since = round(since * 1000) / 1000.0, has_last = state = 'gone' AND due IS NOT NULL, " +
 		"due = CASE WHEN state = 'withdrawn' THEN NULL ELSE round(due * 1000) / 1000.0 END, " +
@@ -577,8 +577,8 @@ const (
 	countOfFirst = 15
 )
 
-// schemaOf returns the number of the tables, and the statements that add the columns that they lack. Another program may
-// have a table of the same name: the columns tell them apart.
+// schemaOf returns the number of the tables, and the statements that add the columns that they lack. Another program
+// may have a table of the same name: the columns tell them apart.
 func schemaOf(ctx context.Context, conn *sqlitefile.Conn) (found int64, missing []string, err error) {
 	columns, others := int64(0), int64(0)
 	err = sqlitefile.Patiently(ctx, func() error {

@@ -199,15 +199,15 @@ func TestMigration(t *testing.T) {
 func TestMigratedRowsAreUsed(t *testing.T) {
 	path := old(t)
 	s := open(t, path)
-	var place *platform.Place
+	var position *platform.Position
 	for n := 0; n < 12; n++ {
-		rows, err := s.List(background, platform.Filter{After: place, Most: 1})
+		rows, err := s.List(background, platform.Filter{After: position, Most: 1})
 		if err != nil || len(rows) != 1 {
 			t.Fatalf("row %d: got %v, %v, want 1", n, rows, err)
 		}
-		place = &platform.Place{State: rows[0].State, Since: rows[0].Since, Key: rows[0].Key}
+		position = &platform.Position{State: rows[0].State, Since: rows[0].Since, Key: rows[0].Key}
 	}
-	if rows, err := s.List(background, platform.Filter{After: place, Most: 1}); err != nil || len(rows) != 0 {
+	if rows, err := s.List(background, platform.Filter{After: position, Most: 1}); err != nil || len(rows) != 0 {
 		t.Errorf("behind the last: got %v, %v, want none", rows, err)
 	}
 	executeIn(t, path, "UPDATE osb_instances SET due = due - 1e9, leased_until = leased_until - 1e9")
@@ -479,8 +479,8 @@ func TestQueriesUseIndexes(t *testing.T) {
 	filters := []platform.Filter{
 		{}, {Most: 5}, {Broker: "one", Most: 5}, {Instance: &first}, {First: &first}, {Prefix: "0001"},
 		{Prefix: "1", Broker: "x"},
-		{Most: 5, After: &platform.Place{State: platform.Ready, Since: at(1), Key: keyOf(1)}},
-		{Most: 5, Broker: "one", After: &platform.Place{State: platform.Ready, Since: at(1), Key: keyOf(1)}},
+		{Most: 5, After: &platform.Position{State: platform.Ready, Since: at(1), Key: keyOf(1)}},
+		{Most: 5, Broker: "one", After: &platform.Position{State: platform.Ready, Since: at(1), Key: keyOf(1)}},
 	}
 	for _, filter := range filters {
 		filter.Latest = true

@@ -308,8 +308,8 @@ var faultyCalls = []faultyCall{
 	{"List of the ready bindings of an instance", lists(ofBindings(platform.Ready)), false, false},
 	{"List by key", lists(platform.Filter{Order: platform.ByKey, States: []platform.State{platform.Polling}}), false, false},
 	{"List backwards", lists(platform.Filter{Latest: true, Most: 2}), false, false},
-	{"Places", func(store platform.Store, see func(any)) error {
-		return saw(see)(store.Places(background, platform.Filter{}))
+	{"Positions", func(store platform.Store, see func(any)) error {
+		return saw(see)(store.Positions(background, platform.Filter{}))
 	}, false, false},
 	{"ReadAll", func(store platform.Store, see func(any)) error {
 		return saw(see)(store.ReadAll(background, []platform.Key{instance(1), binding(3, 4), instance(3)}))

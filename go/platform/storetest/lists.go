@@ -131,13 +131,13 @@ func wantListed(t *testing.T, store platform.Store, filter platform.Filter, want
 	wantKeys(t, fmt.Sprintf("%+v", filter), got, want...)
 	wantBrief(t, store, filter, got)
 	inPages(t, store, filter, want)
-	places, err := store.Places(background, filter)
-	if err != nil || len(places) != len(got) {
-		t.Fatalf("%+v: got %d places, %v, want %d", filter, len(places), err, len(got))
+	positions, err := store.Positions(background, filter)
+	if err != nil || len(positions) != len(got) {
+		t.Fatalf("%+v: got %d positions, %v, want %d", filter, len(positions), err, len(got))
 	}
 	for at, entry := range got {
-		if want := (platform.Place{State: entry.State, Since: entry.Since, Key: entry.Key}); places[at] != want {
-			t.Errorf("%+v: the place: got %+v, want %+v", filter, places[at], want)
+		if want := (platform.Position{State: entry.State, Since: entry.Since, Key: entry.Key}); positions[at] != want {
+			t.Errorf("%+v: the position: got %+v, want %+v", filter, positions[at], want)
 		}
 	}
 }
@@ -178,12 +178,12 @@ func inPages(t *testing.T, store platform.Store, filter platform.Filter, want []
 			break
 		}
 		last := page[len(page)-1]
-		filter.After = &platform.Place{State: last.State, Since: last.Since, Key: last.Key}
+		filter.After = &platform.Position{State: last.State, Since: last.Since, Key: last.Key}
 	}
 	wantKeys(t, fmt.Sprintf("in pages, %+v", filter), all, want...)
 }
 
-// A place needs no row, and a step writes times that a place finds again.
+// A position needs no row, and a step writes times that a position finds again.
 func testPages(t *testing.T, open opener) {
 	store := openStore(t, open)
 	for n := 0; n < 7; n++ {
@@ -205,7 +205,7 @@ func testPages(t *testing.T, open opener) {
 		keys = append(keys, entry.Key)
 	}
 	inPages(t, store, platform.Filter{}, keys)
-	for place, want := range map[platform.Place]int{
+	for position, want := range map[platform.Position]int{
 		{State: "", Since: past(0), Key: instance(0)}:                0,
 		{State: platform.Gone, Since: future(0), Key: instance(9)}:   0,
 		{State: platform.Ready, Since: past(0), Key: instance(0)}:    7,
@@ -213,17 +213,17 @@ func testPages(t *testing.T, open opener) {
 		{State: platform.Ordered, Since: future(0)}:                  7,
 		{State: platform.Ordered, Since: all[2].Since, Key: keys[2]}: 3,
 	} {
-		place := place
-		rows, err := store.List(background, platform.Filter{After: &place})
+		position := position
+		rows, err := store.List(background, platform.Filter{After: &position})
 		check(t, err)
-		wantKeys(t, fmt.Sprintf("after %+v", place), rows, keys[want:]...)
-		before := want // the row at a place isn't behind it in either order
-		if want > 0 && keys[want-1] == place.Key {
+		wantKeys(t, fmt.Sprintf("after %+v", position), rows, keys[want:]...)
+		before := want // the row at a position isn't behind it in either order
+		if want > 0 && keys[want-1] == position.Key {
 			before--
 		}
-		rows, err = store.List(background, platform.Filter{After: &place, Latest: true})
+		rows, err = store.List(background, platform.Filter{After: &position, Latest: true})
 		check(t, err)
-		wantKeys(t, fmt.Sprintf("before %+v", place), rows, backwards(keys[:before])...)
+		wantKeys(t, fmt.Sprintf("before %+v", position), rows, backwards(keys[:before])...)
 	}
 }
 
@@ -238,9 +238,9 @@ func (m moving) List(ctx context.Context, filter platform.Filter) ([]platform.En
 	return m.Store.List(ctx, filter)
 }
 
-func (m moving) Places(ctx context.Context, filter platform.Filter) ([]platform.Place, error) {
+func (m moving) Positions(ctx context.Context, filter platform.Filter) ([]platform.Position, error) {
 	defer m.move()
-	return m.Store.Places(ctx, filter)
+	return m.Store.Positions(ctx, filter)
 }
 
 func (m moving) ReadAll(ctx context.Context, keys []platform.Key) ([]platform.Entry, error) {
@@ -259,7 +259,7 @@ func testListsWhileRowsMove(t *testing.T, open opener) {
 	}
 	moves, moved := 0, map[platform.Key]bool{}
 	store := moving{openStore(t, open), func() {
-		for n := 0; n < 7; n++ { // here and there in the list, to a place before or behind
+		for n := 0; n < 7; n++ { // here and there in the list, to a position before or behind
 			key := instance(moves * 11 % count)
 			change(t, other, key, func(it *platform.Change) {
 				it.Entry.State, it.Entry.Since = states[moves%5], past(-moves)
@@ -292,7 +292,7 @@ func testListsWhileRowsMove(t *testing.T, open opener) {
 			check(t, err)
 			for _, row := range rows {
 				seen[row.Key]++
-				filter.After = &platform.Place{Key: row.Key}
+				filter.After = &platform.Position{Key: row.Key}
 			}
 		}
 		wantOnce(t, fmt.Sprintf("pages, %+v", filter), seen, before, moved, len(filter.States) != 1)
@@ -539,8 +539,8 @@ func testOnly(t *testing.T, open opener) {
 	again()
 }
 
-// TestUnreadable tests that rows that can't be read hide no other ones. The function spoil makes the record of a row one
-// that can't be read. The store is empty at first, and the caller closes it.
+// TestUnreadable tests that rows that can't be read hide no other ones. The function spoil makes the record of a row
+// one that can't be read. The store is empty at first, and the caller closes it.
 func TestUnreadable(t *testing.T, store platform.Store, spoil func(t *testing.T, key platform.Key)) {
 	rows := []platform.Entry{
 		due(in(t, instance(1), platform.Polling), past(1)), due(in(t, instance(2), platform.Polling), past(2)),
@@ -603,8 +603,8 @@ func wantShown(t *testing.T, store platform.Store, rows []platform.Entry, spoile
 	}
 }
 
-// wantNotStepped claims rows that are due. Those that can't be read, and the bindings of such an instance, have an error
-// and are due later, and nothing of them is written.
+// wantNotStepped claims rows that are due. Those that can't be read, and the bindings of such an instance, have an
+// error and are due later, and nothing of them is written.
 func wantNotStepped(t *testing.T, store platform.Store, rows []platform.Entry, spoiled map[platform.Key]bool) {
 	t.Helper()
 	stepped := map[platform.Key]bool{}

@@ -55,7 +55,8 @@ type Rotation struct{ Credentials, Passwords int }
 // the store are those with both keys, of which the first seals.
 //
 // Errors: ErrSameKey, ErrStoreKey, ErrRotating, ErrOldPasswords and ErrWorkers, and then nothing has changed;
-// ErrUnopened, and then everything else is sealed again, and the store still waits for the end of the rotation; those of the Store.
+// ErrUnopened, and then everything else is sealed again, and the store still waits for the end of the rotation; those
+// of the Store.
 func (v *Vault) Rotate(ctx context.Context, store platform.Store) (Rotation, error) {
 	mark, err := v.begin(ctx, store)
 	if err != nil {
@@ -189,7 +190,7 @@ func (r *rotation) credentials(ctx context.Context) error {
 			return nil
 		}
 		last := rows[len(rows)-1]
-		filter.After = &platform.Place{State: last.State, Since: last.Since, Key: last.Key}
+		filter.After = &platform.Position{State: last.State, Since: last.Since, Key: last.Key}
 	}
 }
 
@@ -275,8 +276,8 @@ func (r *rotation) report() error {
 // the names of the brokers alone.
 var ErrOldPasswords = errors.New("the passwords in the store are encrypted as version 0.3 did it")
 
-// ErrWrittenBack reports that a store has the fingerprint of version 0.3, and a password that was sealed since: somebody
-// has written the fingerprint back, so that old passwords are accepted again.
+// ErrWrittenBack reports that a store has the fingerprint of version 0.3, and a password that was sealed since:
+// somebody has written the fingerprint back, so that old passwords are accepted again.
 var ErrWrittenBack = errors.New("somebody has written the fingerprint of version 0.3 back into the store")
 
 // formerContext is the context under which version 0.3 sealed the password of a broker.
@@ -301,8 +302,8 @@ const renewals = 10
 //
 // A Renew that has ended in the middle is finished by the next one. Any number of processes may call it at once.
 //
-// Errors: ErrStoreKey and ErrRotating, as Fits; ErrWorkers and ErrWrittenBack, and then nothing has changed; those of the
-// Store.
+// Errors: ErrStoreKey and ErrRotating, as Fits; ErrWorkers and ErrWrittenBack, and then nothing has changed; those of
+// the Store.
 func (v *Vault) Renew(ctx context.Context, store platform.Store) (all Renewal, err error) {
 	for n := 0; n < renewals; n++ {
 		written, err := store.Fingerprint(ctx, v.Fingerprint())
@@ -429,8 +430,8 @@ func (v *Vault) renewPasswords(ctx context.Context, store platform.Store, all *R
 	return nil
 }
 
-// renewPassword is the password of a broker sealed again, by the key that has sealed it, or nil if it stays. The broker is one
-// of outcome, or of none if there is nothing to do.
+// renewPassword is the password of a broker sealed again, by the key that has sealed it, or nil if it stays. The broker
+// is one of outcome, or of none if there is nothing to do.
 func (v *Vault) renewPassword(broker platform.Broker, all *Renewal) (sealed []byte, outcome *[]platform.Broker, err error) {
 	if broker.Password == nil {
 		return nil, nil, nil
