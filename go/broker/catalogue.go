@@ -96,9 +96,9 @@ func modesOf(plans []osb.Plan) map[planIDs]osb.Mode {
 	return modes
 }
 
-// OfStore returns the catalogue of a broker over the store with this id (NamedStore.ID): its document names the store in
-// the member x-osb-store, and so does each answer of a Handler, in the header StoreHeader. A platform that knows it takes
-// no answer of a broker over another store.
+// OfStore returns the catalogue of a broker over the store with this id (NamedStore.ID): its document names the store
+// in the member x-osb-store, and so does each answer of a Handler, in the header StoreHeader. A platform that knows it
+// takes no answer of a broker over another store.
 //
 // Errors: the id is no text that a header can have.
 func (c *Catalogue) OfStore(id string) (*Catalogue, error) {
@@ -127,7 +127,7 @@ func (c *Catalogue) mode(isBinding bool, of planIDs) osb.Mode {
 	return osb.ModeNone
 }
 
-// fits is whether a holding is possible under this key with these plans.
+// fits reports whether a holding is possible under this key with these plans.
 func (c *Catalogue) fits(key Key, holding osb.Holding) bool {
 	work, isPending := holding.Work()
 	if isPending && work.ID != key.ID() {
@@ -221,7 +221,7 @@ func nameIn(of map[string]json.RawMessage) string {
 	return strconv.Quote(name)
 }
 
-// reads is whether a value has the form of a variable of Go. null has none.
+// reads reports whether a value has the form of a variable of Go. null has none.
 func reads(value json.RawMessage, into any) bool {
 	return !bytes.Equal(bytes.TrimSpace(value), []byte("null")) && json.Unmarshal(value, into) == nil
 }
@@ -297,9 +297,9 @@ func notServed(why string) member {
 	}
 }
 
-// StoreHeader is the header of each answer that names the store of the broker, as net/http writes it. A request may name
-// the store for which it is, in the same header. storeMember is the member of the catalogue that names the store. All are
-// this project's choice.
+// StoreHeader is the header of each answer that names the store of the broker, as net/http writes it. A request may
+// name the store for which it is, in the same header. storeMember is the member of the catalogue that names the store.
+// All are this project's choice.
 const (
 	StoreHeader = "X-Osb-Store"
 	storeMember = "x-osb-store"

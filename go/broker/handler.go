@@ -215,7 +215,7 @@ func (h *Handler) answer(x *exchange) reply {
 	return h.carryOut(x, visit)
 }
 
-// isForAnother is whether a request names another store: it is meant for a broker over that one.
+// isForAnother reports whether a request names another store: it is meant for a broker over that one.
 func (h *Handler) isForAnother(r *http.Request) bool {
 	for _, name := range r.Header[StoreHeader] {
 		if h.store != nil && name != h.store[0] {
@@ -327,7 +327,8 @@ func (h *Handler) handle(ctx context.Context, x *exchange, visit Visit) (respons
 	return response, h.write(x, response, h.sentence(visit, response))
 }
 
-// mayWork is whether a request may do work before it is answered: the creations and deletions of synchronous plans.
+// mayWork reports whether a request may do work before it is answered: the creations and deletions of synchronous
+// plans.
 func (h *Handler) mayWork(visit Visit) bool {
 	if visit.IsFetch {
 		return false

@@ -56,7 +56,7 @@ func (g *gate) tryLock(ctx context.Context, key Key) (lock Lock, err error) {
 	return lock, err
 }
 
-// enter returns whether a call may try, and whether it is the only one that does.
+// enter reports whether a call may try, and whether it is the only one that does.
 func (g *gate) enter() (isProbe, ok bool) {
 	g.turn.Lock()
 	defer g.turn.Unlock()

@@ -694,7 +694,7 @@ var sold = []osb.Plan{
 	{Service: id("a0"), Plan: id("c3")}, {Service: id("a0"), Plan: id("c4")},
 }
 
-// isCredentials is whether the object of a binding has the credentials that work.
+// isCredentials reports whether the object of a binding has the credentials that work.
 func (s *shelf) isCredentials(key broker.Key, object []byte) bool {
 	s.turn.Lock()
 	defer s.turn.Unlock()

@@ -15,7 +15,8 @@ type Observer interface {
 	OnFailure(Failure)
 	// OnCallFailure is called after each call of the backend or of the Locks that fails, also if the same call is
 	// repeated. The name is look, create, delete, look-binding, create-binding, delete-binding or credentials, as for a
-	// command, or sync or lock. A creation that the backend rejects hasn't failed, nor has a lock that somebody else has.
+	// command, or sync or lock. A creation that the backend rejects hasn't failed, nor has a lock that somebody else
+	// has.
 	OnCallFailure(call string)
 	// OnCommit is called after each commit of a store that writes several changes together, with their number.
 	OnCommit(changes int)
@@ -63,7 +64,7 @@ type Failure struct {
 	Key       Key    // what it is about, if IsNamed is true
 	IsNamed   bool
 	Err       error
-	// IsRejection is whether the backend has rejected a creation (Rejection), so that nothing is wrong with the broker.
+	// IsRejection is true if the backend has rejected a creation (Rejection): nothing is wrong with the broker.
 	IsRejection bool
 }
 

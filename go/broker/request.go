@@ -111,7 +111,7 @@ func (n Names) of(key Key) Names {
 	return n
 }
 
-// namesAnother returns whether a request names another id than the one that is held under its key.
+// namesAnother reports whether a request names another id than the one that is held under its key.
 func (a Visit) namesAnother(held Entry) (bool, error) {
 	if !held.Holding.IsHeld() {
 		return false, nil
@@ -129,7 +129,7 @@ func (a Visit) instance(snapshot Snapshot) (osb.Holding, error) {
 	return snapshot.Instance.Holding, nil
 }
 
-// differ returns whether the names aren't those with which an entry was created.
+// differ reports whether the names aren't those with which an entry was created.
 func (n Names) differ(key Key, entry Entry) (bool, error) {
 	if bytes.HasPrefix(entry.Request, n.head()) {
 		return false, nil
@@ -184,8 +184,8 @@ func (h *Handler) read(x *exchange, body []byte) (visit Visit, err error) {
 	return visit, nil
 }
 
-// A path is what the path of a target asks for: the catalogue, a binding, or else an instance. If a target asks for none
-// of them, the library rejects the target as an instance's and as a binding's.
+// A path is what the path of a target asks for: the catalogue, a binding, or else an instance. If a target asks for
+// none of them, the library rejects the target as an instance's and as a binding's.
 type path struct{ isCatalogue, isBinding, isLastOperation bool }
 
 // pathOf decides what the path of a target asks for. It agrees with the library on each target that the library takes,
@@ -396,7 +396,7 @@ func reasonIn(body []byte) string {
 	return *details.Description
 }
 
-// isOwnCode is whether a code is the backend's own: the others are the standard's, by which a platform decides.
+// isOwnCode reports whether a code is the backend's own: the others are the standard's, by which a platform decides.
 func isOwnCode(code string) bool {
 	return code != "" && code != "AsyncRequired" && code != "ConcurrencyError"
 }

@@ -156,7 +156,7 @@ func isAmong(text string, all []string) bool {
 	return false
 }
 
-// isDeletion is whether what is held is being deleted.
+// isDeletion reports whether what is held is being deleted.
 func isDeletion(held broker.Entry) bool {
 	if work, isPending := held.Holding.Work(); isPending {
 		return work.Kind == osb.KindDeprovision

@@ -54,8 +54,8 @@ func (r Rules) renewal(snapshot Snapshot, visit Visit) *Entry {
 	return &snapshot.Entry
 }
 
-// isLate is whether the broker has kept a request for too long. It is asked while the row is locked, or after it was
-// read.
+// isLate reports whether the broker has kept a request for too long. It is asked while the row is locked, or after it
+// was read.
 func (s *Service) isLate(visit Visit) bool {
 	return s.rules.IDsReturnAfter != 0 && !visit.Arrived.IsZero() && time.Since(visit.Arrived) > s.stay
 }

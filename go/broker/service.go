@@ -34,7 +34,7 @@ type Service struct {
 
 // Rules are this project's choice (docs/instance.md).
 type Rules struct {
-	// FirstPoll is whether the creation of an asynchronous plan begins only once its last operation was polled. Any
+	// FirstPoll has the creation of an asynchronous plan begin only once its last operation was polled. Any
 	// platform whose 202 is lost then has nothing that it doesn't know of.
 	FirstPoll bool
 	// WaitForPoll is how long a creation waits for its first Poll before it has failed.

@@ -31,7 +31,7 @@ type Entry struct {
 	Life int64
 }
 
-// IsUnfinished is whether somebody has to go on: work is pending, or the row is making, deleting or waiting.
+// IsUnfinished reports whether somebody has to go on: work is pending, or the row is making, deleting or waiting.
 func (e Entry) IsUnfinished() bool {
 	if _, isPending := e.Holding.Work(); isPending {
 		return true
@@ -48,7 +48,7 @@ type Snapshot struct {
 	EndedAgo time.Duration
 	// Instance is the entry of a binding's instance. For an instance it is the zero Entry.
 	Instance Entry
-	// AnyBinding returns whether a binding of an instance is held (osb.Holding.IsHeld). It may be called until the
+	// AnyBinding reports whether a binding of an instance is held (osb.Holding.IsHeld). It may be called until the
 	// transaction ends. For a binding it is nil.
 	AnyBinding func() (bool, error)
 }
@@ -113,7 +113,8 @@ type Locks interface {
 	Lock(ctx context.Context, key Key) (Lock, error)
 	// TryLock returns nil if somebody else has the lock.
 	TryLock(ctx context.Context, key Key) (Lock, error)
-	// CanBeLost is whether a lock may end while its worker goes on, as that of a session does if the server ends it.
+	// CanBeLost reports whether a lock may end while its worker goes on, as that of a session does if the server ends
+	// it.
 	CanBeLost() bool
 }
 
@@ -197,7 +198,7 @@ type NamedStore interface {
 	// ID returns the id of the store: a random GUID that the first call makes up, and that stays for good. So the
 	// answers of a broker say of which store they are (Catalogue.OfStore).
 	ID(ctx context.Context) (string, error)
-	// Tie calls tie while nobody else can be in a Tie of this store. isUsed is whether a backend keeps the store's
+	// Tie calls tie while nobody else can be in a Tie of this store. isUsed is true if a backend keeps the store's
 	// name, or the store has rows. The rows of a store whose name begins with UntiedBefore don't count. If tie returns
 	// nil, the store notes for good that a backend keeps its name.
 	Tie(ctx context.Context, tie func(isUsed bool) error) error

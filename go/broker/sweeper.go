@@ -273,7 +273,7 @@ type slots struct {
 
 func newSlots(workers int) *slots { return &slots{workers: workers, slow: map[*run]bool{}} }
 
-// isFree returns whether a run may begin of a key whose last work failed, or of another key.
+// isFree reports whether a run may begin of a key whose last work failed, or of another key.
 func (p *slots) isFree(isFailing bool) bool {
 	if isFailing {
 		return p.failing < mostFailing(p.workers) && p.beside < mostBeside(p.workers)
@@ -281,7 +281,7 @@ func (p *slots) isFree(isFailing bool) bool {
 	return p.usual < p.workers
 }
 
-// isFreeForOld returns whether a run may begin of a key that was unfinished at the start, and whether as if it had
+// isFreeForOld reports whether a run may begin of a key that was unfinished at the start, and whether as if it had
 // failed.
 func (p *slots) isFreeForOld() (isFree, asFailing bool) {
 	if p.workers < 2 {

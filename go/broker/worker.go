@@ -27,7 +27,7 @@ type result struct {
 	rejected    *Rejection      // why a creation was refused
 }
 
-// isDone is whether what was asked for is the case.
+// isDone reports whether what was asked for is the case.
 func (r result) isDone() bool { return r.outcome == osb.OutcomeDone }
 
 // do does pending work. An operation of an asynchronous plan only has to be sure to go on: operate does it, once its

@@ -8,10 +8,10 @@ import "C"
 import "encoding/json"
 
 // A platform keeps a Record of each binding, and a broker keeps a Holding, beside those of the instance. A Bind is a
-// KindProvision, an Unbind a KindDeprovision, and the Poll of a binding's last operation a KindPoll. The ID of a request
-// is the binding's, and the mode is that of binding at the plan. Every call serves for bindings too, but Create, Answer
-// and Begin have CreateBinding, AnswerBinding and BeginBinding in their place. A binding's text is BindingText's:
-// MarshalJSON, UnmarshalJSON, Value and Scan write and read an instance's.
+// KindProvision, an Unbind a KindDeprovision, and the Poll of a binding's last operation a KindPoll. The ID of a
+// request is the binding's, and the mode is that of binding at the plan. Every call serves for bindings too, but
+// Create, Answer and Begin have CreateBinding, AnswerBinding and BeginBinding in their place. A binding's text is
+// BindingText's: MarshalJSON, UnmarshalJSON, Value and Scan write and read an instance's.
 
 // CreateBinding is a new binding of the instance that r is the record of: wanted, with the instance's service and plan,
 // and its Bind, which is then in flight with the number 1. Read r, locked, in the transaction that writes the binding's
@@ -313,8 +313,8 @@ func BindingModes(document []byte) ([]Plan, error) {
 	})
 }
 
-// BindingsRetrievable is whether a catalogue's document says by bindings_retrievable of a service that its bindings can
-// be fetched (section Catalog Management). AnswerBinding asks for it.
+// BindingsRetrievable reports whether a catalogue's document says by bindings_retrievable of a service that its
+// bindings can be fetched (section Catalog Management). AnswerBinding asks for it.
 //
 // Errors: ErrMemory.
 func BindingsRetrievable(document []byte, service ID) (bool, error) {

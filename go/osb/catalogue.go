@@ -75,8 +75,8 @@ func ServedCatalogue(document []byte) ([]byte, error) {
 	})
 }
 
-// AsksForCatalogue is whether a target asks for the catalogue: the path is the prefix and /v2/catalog, or stands for
-// that as in ReceiveRequest (section Catalog Management). It is false too if the prefix isn't UTF-8.
+// AsksForCatalogue reports whether a target asks for the catalogue: the path is the prefix and /v2/catalog, or stands
+// for that as in ReceiveRequest (section Catalog Management). It is false too if the prefix isn't UTF-8.
 func AsksForCatalogue(prefix, target string) bool {
 	before, line := []byte(prefix), []byte(target)
 	return bool(C.osb_asks_for_catalogue(pointer(before), size(before), pointer(line), size(line)))
@@ -114,9 +114,9 @@ type Details struct {
 	// it back in its Polls.
 	Operation *string
 	Metadata  json.RawMessage // in the form of Parts
-	// InstanceUsable is whether the instance can be used after an update or a deletion that failed.
+	// InstanceUsable says whether the instance can be used after an update or a deletion that failed.
 	InstanceUsable *bool
-	// UpdateRepeatable is whether an update that failed may be sent again.
+	// UpdateRepeatable says whether an update that failed may be sent again.
 	UpdateRepeatable *bool
 }
 

@@ -21,7 +21,7 @@ type Digest [32]byte
 
 // The Rules of a Provision: whether the broker has the rule of the first Poll, and the digest of its attributes.
 type Rules struct {
-	// FirstPoll is whether an asynchronous plan's instance is made only once it was polled.
+	// FirstPoll has the instance of an asynchronous plan made only once it was polled.
 	FirstPoll bool
 	// Attributes is the digest of what a Provision asks for, as AttributesDigest returns it. For other requests it
 	// doesn't count.
@@ -47,15 +47,15 @@ func (h Holding) Row() (BrokerRow, bool) { return h.row, h.hasRow }
 // Work is the request whose work is pending, and whether there is one.
 func (h Holding) Work() (Request, bool) { return h.work, h.hasWork }
 
-// HasTombstone is whether the instance has ended: none with this id is ever made again.
+// HasTombstone reports whether the instance has ended: none with this id is ever made again.
 func (h Holding) HasTombstone() bool { return h.hasTombstone }
 
 // Attributes is the digest of the attributes of row and work.
 func (h Holding) Attributes() Digest { return h.attributes }
 
-// Fits is whether the holding is possible at a plan of the mode, that of the row's plan, or if there is no row that of
-// the pending request's. A program asks it of each holding of its database: at another mode End would forget what was
-// made.
+// Fits reports whether the holding is possible at a plan of the mode, that of the row's plan, or if there is no row
+// that of the pending request's. A program asks it of each holding of its database: at another mode End would forget
+// what was made.
 func (h Holding) Fits(mode Mode) bool {
 	holding := h.c()
 	return bool(C.osb_holding_fits(&holding, C.uint8_t(mode)))
@@ -106,15 +106,15 @@ func (d Digest) c() (to [32]C.uint8_t) {
 	return to
 }
 
-// IsHeld is whether there is a row, or work is pending. It is true also of a holding that no call gives, so that
+// IsHeld reports whether there is a row, or work is pending. It is true also of a holding that no call gives, so that
 // nothing begins then. While a binding is held, the deletion of its instance doesn't begin.
 func (h Holding) IsHeld() bool {
 	holding := h.c()
 	return bool(C.osb_holding_is_held(&holding))
 }
 
-// IsThere is whether the row is ready, with this service and plan, and no work is pending. BeginBinding asks this of
-// the instance's holding.
+// IsThere reports whether the row is ready, with this service and plan, and no work is pending. BeginBinding asks this
+// of the instance's holding.
 func (h Holding) IsThere(service, plan ID) bool {
 	holding := h.c()
 	return bool(C.osb_holding_is_there(&holding, service.c(), plan.c()))

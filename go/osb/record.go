@@ -117,7 +117,7 @@ func (r Record) Remove() (Record, error) {
 	return r.next(&record, C.osb_record_remove(&record))
 }
 
-// RemoveIf has an instance deleted that may have bindings, as Remove does. allGone is whether each binding of the
+// RemoveIf has an instance deleted that may have bindings, as Remove does. allGone is true if each binding of the
 // instance that is recorded is gone, as IsGone returns it. Read it in the transaction that writes the record, with the
 // record locked. RemoveIf waits for no binding and removes none: do that first.
 //
@@ -127,13 +127,13 @@ func (r Record) RemoveIf(allGone bool) (Record, error) {
 	return r.next(&record, C.osb_record_remove_if(&record, C.bool(allGone)))
 }
 
-// IsReady is whether ready is recorded. A binding of an instance is created only then.
+// IsReady reports whether ready is recorded. A binding of an instance is created only then.
 func (r Record) IsReady() bool {
 	record := r.c()
 	return bool(C.osb_record_is_ready(&record))
 }
 
-// IsGone is whether gone is recorded. An instance is removed only once each of its bindings is gone.
+// IsGone reports whether gone is recorded. An instance is removed only once each of its bindings is gone.
 func (r Record) IsGone() bool {
 	record := r.c()
 	return bool(C.osb_record_is_gone(&record))

@@ -45,8 +45,8 @@ func Open(options Options) (*Writer, error) {
 	return journalfile.Open(options)
 }
 
-// New returns a journal that writes to a writer. isDoubtful is whether a Change of the store that fails with an error
-// may have been committed.
+// New returns a journal that writes to a writer. isDoubtful reports whether a Change of the store that fails with an
+// error may have been committed.
 func New(to *Writer, isDoubtful func(error) bool) *Journal {
 	return &Journal{to: to, isDoubtful: isDoubtful}
 }

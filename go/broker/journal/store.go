@@ -54,7 +54,7 @@ func (s store) Change(ctx context.Context, key broker.Key, fence int64, step bro
 	return err
 }
 
-// isAnother is whether a change changes the holding. Otherwise it only has the age of a tombstone start again.
+// isAnother reports whether a change changes the holding. Otherwise it only has the age of a tombstone start again.
 func isAnother(before, after broker.Entry) bool {
 	return before.Holding != after.Holding || before.Life != after.Life
 }

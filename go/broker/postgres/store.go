@@ -326,7 +326,8 @@ UPDATE osb_bindings SET ended = clock_timestamp() WHERE ended IS NULL AND NOT he
 CREATE TABLE IF NOT EXISTS osb_identity (one boolean PRIMARY KEY DEFAULT true CHECK (one), id text NOT NULL);
 `
 
-// isCurrent is whether nothing is missing: all that is missing is added in one transaction, and this table is the last.
+// isCurrent asks whether nothing is missing: all that is missing is added in one transaction, and this table is the
+// last.
 const isCurrent = "SELECT to_regclass('osb_identity') IS NOT NULL"
 
 // tablesLock is the number of an advisory lock for brokers that create the tables at the same time: IF NOT EXISTS is no

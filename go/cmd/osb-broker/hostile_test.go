@@ -449,7 +449,7 @@ const longestTaken = 4096 // the length of a body that the broker takes
 func isNamed(m message) bool { return !m.isCatalogue }
 func isLater(m message) bool { return m.instance == "later" }
 
-// takesQuery is whether the parameter accepts_incomplete is judged: a Fetch has none.
+// takesQuery reports whether the parameter accepts_incomplete is judged: a Fetch has none.
 func takesQuery(m message) bool { return isNamed(m) && (m.method != "GET" || m.isPoll) }
 
 // eachBehind are lists of one line: each text behind the name of a header.
@@ -661,7 +661,7 @@ func isAmong(status int, statuses []int) bool {
 	return false
 }
 
-// isRejection is whether a body is that of a rejection.
+// isRejection reports whether a body is that of a rejection.
 func isRejection(body string) bool {
 	var read struct{ Error, Description string }
 	return json.Unmarshal([]byte(body), &read) == nil && read.Error != "" && read.Description != ""

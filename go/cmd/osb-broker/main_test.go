@@ -541,7 +541,7 @@ func TestWarningOfShortPasswords(t *testing.T) {
 	diff.Lacks(t, string(out), "0123456789", "the log")
 }
 
-// hasEvent is whether a log has a line with this event.
+// hasEvent reports whether a log has a line with this event.
 func hasEvent(log []byte, name string) bool {
 	for _, line := range strings.Split(string(log), "\n") {
 		var read struct{ Event string }

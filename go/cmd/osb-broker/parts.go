@@ -289,7 +289,7 @@ func away(what string, err error) error {
 	return cli.Unavailable(err)
 }
 
-// isOfNetwork returns whether a connection failed before the server has answered.
+// isOfNetwork reports whether a connection failed before the server has answered.
 func isOfNetwork(err error) bool {
 	var failed *net.OpError
 	return errors.As(err, &failed)

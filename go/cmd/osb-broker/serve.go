@@ -286,7 +286,7 @@ func (s *settings) atOnce() int { return s.threads + broker.MostRuns(s.workers) 
 // that a silent server of the locks leaves some, which answer at once.
 func (s *settings) locksAtOnce() int { return (s.threads + 1) / 2 }
 
-// isLoopback is whether only this machine reaches an address.
+// isLoopback reports whether only this machine reaches an address.
 func isLoopback(address net.Addr) bool {
 	tcp, ok := address.(*net.TCPAddr)
 	return ok && tcp.IP.IsLoopback()
@@ -421,7 +421,7 @@ func (r *running) withJournal(catalogue *broker.Catalogue) (serviceParts, error)
 	return serviceParts{store: to.Store(with.store), backend: to.Backend(with.backend), journal: to}, nil
 }
 
-// isDoubtful is whether a change that has failed with an error may have been committed.
+// isDoubtful reports whether a change that has failed with an error may have been committed.
 func isDoubtful(err error) bool {
 	return errors.Is(err, pg.ErrUnknownCommit) || errors.Is(err, sqlitefile.ErrUnknownCommit)
 }

@@ -338,7 +338,7 @@ func (r *tryReport) writeStop() {
 	r.total.IsStopped = true
 }
 
-// isClean is whether all was tried, succeeded and is deleted.
+// isClean reports whether all was tried, succeeded and is deleted.
 func (r *tryReport) isClean() bool {
 	return r.total.Failed == 0 && !r.total.IsStopped && len(r.total.Left) == 0
 }

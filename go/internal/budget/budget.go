@@ -97,7 +97,7 @@ func (b *Budget) serve() {
 	b.waiting = left
 }
 
-// mayHave returns whether a user may have this amount more: all that the user has then is at most what is left free.
+// mayHave reports whether a user may have this amount more: all that the user has then is at most what is left free.
 func (b *Budget) mayHave(user string, amount int) bool {
 	free, has := b.total-b.taken-amount, b.of[user]
 	return free >= 0 && (has == 0 || has+amount <= free)

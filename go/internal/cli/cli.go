@@ -205,7 +205,7 @@ func hideMemory() error {
 	return nil
 }
 
-// IsOpen returns whether accounts other than the owner can write to a folder, and the permissions of the folder. If it
+// IsOpen reports whether accounts other than the owner can write to a folder, and the permissions of the folder. If it
 // can't be read, it isn't open.
 func IsOpen(folder string) (mode fs.FileMode, isOpen bool) {
 	about, err := os.Stat(folder)

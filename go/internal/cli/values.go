@@ -68,9 +68,9 @@ func Address(to *string, standard string) pflag.Value {
 	return Text(to, "host:port", parseAddress)
 }
 
-// Networks returns the value of a flag that may be given several times: each time it is an IP address, or a network such
-// as 10.1.0.0/16, which is added to *to. If the text is anything else, or the network of all addresses, Set returns an
-// error and leaves *to unchanged.
+// Networks returns the value of a flag that may be given several times: each time it is an IP address, or a network
+// such as 10.1.0.0/16, which is added to *to. If the text is anything else, or the network of all addresses, Set
+// returns an error and leaves *to unchanged.
 func Networks(to *[]netip.Prefix) pflag.Value {
 	show := func(all []netip.Prefix) string {
 		return strings.Trim(strings.Join(strings.Fields(fmt.Sprint(all)), ","), "[]")
@@ -108,7 +108,7 @@ func CheckPlace(text string) error {
 	return nil
 }
 
-// isScheme is whether a text has the form of a scheme (RFC 3986, section 3.1).
+// isScheme reports whether a text has the form of a scheme (RFC 3986, section 3.1).
 func isScheme(text string) bool {
 	for at, character := range text {
 		isLetter := character >= 'a' && character <= 'z' || character >= 'A' && character <= 'Z'
@@ -175,8 +175,8 @@ func isPort(text string) bool {
 	return err == nil
 }
 
-// JournalFlags adds the options of a journal (docs/journal.md): where it is, and after how many MiB it goes on in another
-// file.
+// JournalFlags adds the options of a journal (docs/journal.md): where it is, and after how many MiB it goes on in
+// another file.
 func JournalFlags(flags *pflag.FlagSet, path *string, size *int) {
 	flags.StringVar(path, "journal", "",
 		"write a journal of all changes, requests and answers, which osb-audit reads: to a `file`, or to new files of a "+

@@ -60,7 +60,7 @@ func pointsOf(file *ast.File, argument ast.Expr) (found []string) {
 	return found
 }
 
-// isCall is whether a call is one of At or Soon.
+// isCall reports whether a call is one of At or Soon.
 func isCall(call *ast.CallExpr) bool {
 	function, isSelector := call.Fun.(*ast.SelectorExpr)
 	if !isSelector || function.Sel.Name != "At" && function.Sel.Name != "Soon" {

@@ -33,7 +33,7 @@ func newLocks(t *testing.T, path string) *Locks {
 	return locks
 }
 
-// isFree returns whether the lock of a key is free.
+// isFree reports whether the lock of a key is free.
 func isFree(t *testing.T, locks *Locks, key string) bool {
 	t.Helper()
 	lock := diff.Value(locks.TryLock(key))(t)

@@ -135,7 +135,7 @@ func (c *conn) Read(p []byte) (int, error) {
 	return 0, nil
 }
 
-// isCut returns whether an error of reading cuts the head that net/http waits for: the time for the request is over, or
+// isCut reports whether an error of reading cuts the head that net/http waits for: the time for the request is over, or
 // the client has closed its side of the connection. While a request is served, net/http doesn't wait for a head. It
 // reads ahead in another goroutine then, and ends that by a deadline in the past.
 func (c *conn) isCut(err error) bool {

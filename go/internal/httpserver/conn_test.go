@@ -243,7 +243,7 @@ func from(t *testing.T, address string, listener *Listener) client {
 	return clientOf(t, connection)
 }
 
-// isClosed returns whether a connection is closed without an answer.
+// isClosed reports whether a connection is closed without an answer.
 func (c client) isClosed() bool {
 	_, err := c.Read(make([]byte, 1))
 	return err != nil && !isTimeout(err)

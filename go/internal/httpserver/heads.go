@@ -50,10 +50,10 @@ type head struct {
 	length      uint64
 }
 
-// isInside returns whether the head of a request has begun and hasn't ended.
+// isInside reports whether the head of a request has begun and hasn't ended.
 func (h *heads) isInside() bool { return h.state == requestLine || h.state == headerLines }
 
-// hasBegun returns whether a byte of a head has arrived.
+// hasBegun reports whether a byte of a head has arrived.
 func (h *heads) hasBegun() bool { return h.state != between || h.ended > 0 }
 
 // read follows the bytes in p, and returns how many bytes of p are left for net/http. It removes empty lines before a

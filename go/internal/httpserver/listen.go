@@ -258,7 +258,7 @@ func newAddresses(most int) *addresses {
 	return &addresses{most: most, of: make(map[netip.Prefix]usage)}
 }
 
-// take counts one more of an address, unless it has all that it may have. isNews is whether that has to be reported: it
+// take counts one more of an address, unless it has all that it may have. isNews is true if that has to be reported: it
 // wasn't since the address had at most half.
 func (a *addresses) take(address netip.Prefix) (isTaken, isNews bool) {
 	a.mutex.Lock()
@@ -298,7 +298,7 @@ func (l *Listener) take(address netip.Prefix) bool {
 	return isTaken
 }
 
-// trusts returns whether an address is that of a trusted proxy.
+// trusts reports whether an address is that of a trusted proxy.
 func (l *Listener) trusts(address netip.Addr) bool {
 	for _, proxy := range l.options.TrustedProxies {
 		if proxy.Contains(address) {

@@ -91,7 +91,7 @@ func (s Server) Serve(ctx context.Context) error {
 	return cut
 }
 
-// isClosed returns whether an error of a server is that it was stopped: as a whole, or only its Listener.
+// isClosed reports whether an error of a server is that it was stopped: as a whole, or only its Listener.
 func isClosed(err error) bool {
 	return errors.Is(err, http.ErrServerClosed) || errors.Is(err, net.ErrClosed)
 }

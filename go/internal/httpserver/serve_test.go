@@ -613,7 +613,7 @@ func dial(t *testing.T, listener *Listener) client {
 	return clientOf(t, connection)
 }
 
-// takes returns whether a connection to an address is taken.
+// takes reports whether a connection to an address is taken.
 func takes(address string) bool {
 	connection, err := net.DialTimeout("tcp", address, limit)
 	if err == nil {

@@ -134,7 +134,7 @@ func (c *conn) shakeHands() error {
 const plainAnswer = "HTTP/1.0 400 Bad Request\r\nContent-Type: text/plain; charset=utf-8\r\nConnection: close\r\n\r\n" +
 	"This port expects HTTPS.\n"
 
-// isHTTP returns whether these first bytes of a connection are those of a request line. A record of TLS doesn't begin
+// isHTTP reports whether these first bytes of a connection are those of a request line. A record of TLS doesn't begin
 // with a letter.
 func isHTTP(first [5]byte) bool {
 	for _, b := range first {
@@ -145,7 +145,7 @@ func isHTTP(first [5]byte) bool {
 	return true
 }
 
-// isNoise returns whether a handshake failed as it does if a probe opens a connection and sends nothing.
+// isNoise reports whether a handshake failed as it does if a probe opens a connection and sends nothing.
 func isNoise(err error) bool {
 	var network *net.OpError
 	return err == io.EOF || isTimeout(err) || errors.As(err, &network) && network.Op != "remote error"

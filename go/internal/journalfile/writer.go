@@ -218,7 +218,7 @@ func (w *Writer) lose(err error) int64 {
 	return at
 }
 
-// count counts a line that was lost, unless the journal is closed. isNew is whether the line before wasn't lost.
+// count counts a line that was lost, unless the journal is closed. isNew is true if the line before wasn't lost.
 func (w *Writer) count() (at int64, isNew bool) {
 	w.mutex.Lock()
 	defer w.mutex.Unlock()

@@ -69,7 +69,7 @@ func functions(file *source, call func(name string, f *ast.FuncDecl)) {
 	}
 }
 
-// recovers returns whether a body calls recover, but in a function of its own.
+// recovers reports whether a body calls recover, but in a function of its own.
 func recovers(body *ast.BlockStmt) (found bool) {
 	ast.Inspect(body, func(n ast.Node) bool {
 		if call, is := n.(*ast.CallExpr); is {
@@ -251,7 +251,7 @@ func (f *finder) statements(list []ast.Stmt) {
 	}
 }
 
-// isCrashPoint returns whether a statement is a crash point, which does nothing in these builds.
+// isCrashPoint reports whether a statement is a crash point, which does nothing in these builds.
 func isCrashPoint(s ast.Stmt) bool {
 	statement, isExpression := s.(*ast.ExprStmt)
 	if !isExpression {
@@ -281,7 +281,7 @@ func isDroppable(s ast.Stmt) bool {
 	return false
 }
 
-// ends returns whether nothing after a statement is run.
+// ends reports whether nothing after a statement is run.
 func ends(s ast.Stmt) bool {
 	switch s.(type) {
 	case *ast.ReturnStmt, *ast.BranchStmt:

@@ -164,7 +164,7 @@ func statement(p *pkg, body *ast.BlockStmt, offset int) int {
 	return found
 }
 
-// isOfCases returns whether a block has the cases of a switch or a select.
+// isOfCases reports whether a block has the cases of a switch or a select.
 func isOfCases(block *ast.BlockStmt) bool {
 	if len(block.List) == 0 {
 		return false

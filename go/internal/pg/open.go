@@ -253,12 +253,12 @@ func text(column driver.Value) string {
 var ErrBadAddress = errors.New(
 	"the URL of the PostgreSQL server can't be read. Write it as postgresql://user@host:port/database")
 
-// IsAddress returns whether a text is the URL of a PostgreSQL server, and not the path of a file.
+// IsAddress reports whether a text is the URL of a PostgreSQL server, and not the path of a file.
 func IsAddress(text string) bool {
 	return strings.HasPrefix(text, "postgresql://") || strings.HasPrefix(text, "postgres://")
 }
 
-// HasPassword returns whether a password stands in a URL. On a command line everybody who lists processes can read it.
+// HasPassword reports whether a password stands in a URL. On a command line everybody who lists processes can read it.
 //
 // Errors: ErrBadAddress.
 func HasPassword(address string) (bool, error) {
@@ -305,7 +305,7 @@ func first(texts ...string) string {
 	return ""
 }
 
-// isLocal is whether a host is this machine, to which no connection needs TLS.
+// isLocal reports whether a host is this machine, to which no connection needs TLS.
 func isLocal(host string) bool {
 	ip := net.ParseIP(host)
 	return host == "localhost" || strings.HasPrefix(host, "/") || ip != nil && ip.IsLoopback()

@@ -182,7 +182,7 @@ var (
 	ErrNotDurable = errors.New("synchronous_commit is off, so a commit might not outlive a power cut")
 )
 
-// IsCode returns whether an error is the server's, with one of these codes.
+// IsCode reports whether an error is the server's, with one of these codes.
 func IsCode(err error, codes ...string) bool {
 	var failed *pq.Error
 	if !errors.As(err, &failed) {
@@ -196,17 +196,17 @@ func IsCode(err error, codes ...string) bool {
 	return false
 }
 
-// IsConflict returns whether the server has undone a transaction because of another one, so that it can be tried again.
+// IsConflict reports whether the server has undone a transaction because of another one, so that it can be tried again.
 func IsConflict(err error) bool { return IsCode(err, SerializationFailure, DeadlockDetected) }
 
-// IsLost returns whether an error says that the connection is gone. The server may still run the last statement.
+// IsLost reports whether an error says that the connection is gone. The server may still run the last statement.
 func IsLost(err error) bool {
 	var failed *net.OpError
 	return errors.Is(err, driver.ErrBadConn) || errors.Is(err, io.EOF) || errors.Is(err, io.ErrUnexpectedEOF) ||
 		errors.As(err, &failed)
 }
 
-// IsAway returns whether an error says that the server can't be used now, and may be back soon: the connection failed,
+// IsAway reports whether an error says that the server can't be used now, and may be back soon: the connection failed,
 // or the server starts, stops, is a standby, has no connection, memory or disk space left, or didn't carry a statement
 // out in time.
 func IsAway(err error) bool {
@@ -245,7 +245,7 @@ var remedies = map[pq.ErrorCode]string{
 	UndefinedObject:       "Correct the parameters of the URL",
 }
 
-// Remedy returns whether an error of a connection or a server lasts until somebody changes the configuration, the role
+// Remedy reports whether an error of a connection or a server lasts until somebody changes the configuration, the role
 // or the database, and what to do about it. It returns "" if the text of the error says that. Every other error may be
 // over soon: the server can't be reached, starts or stops, or has no connection left. (Which errors last is this
 // project's choice.)

@@ -24,7 +24,7 @@ var ErrBusy = errors.New("another process has the file")
 // transaction was written.
 var ErrBroken = errors.New("the transaction was broken off")
 
-// MayPass returns whether an error may be over later, without a change by an operator: another process has kept the
+// MayPass reports whether an error may be over later, without a change by an operator: another process has kept the
 // file, or the disk is full.
 func MayPass(err error) bool {
 	var failed sqlite3.Error
@@ -157,8 +157,8 @@ func (c *Conn) Each(query string, values []driver.Value, call func(row []driver.
 	return each(rows, len(rows.Columns()), call)
 }
 
-// InTransaction is whether a transaction has begun and hasn't ended. SQLite ends some by itself, for example if the
-// disk is full.
+// InTransaction reports whether a transaction has begun and hasn't ended. SQLite ends some by itself, for example if
+// the disk is full.
 func (c *Conn) InTransaction() bool { return !c.sqlite.AutoCommit() }
 
 // Transaction commits what do writes, and nothing if do fails or panics. Nobody else writes meanwhile. It is for a
@@ -328,7 +328,7 @@ func Patiently(ctx context.Context, call func() error) error {
 	}
 }
 
-// isInTheWay is whether a call has failed because of another process.
+// isInTheWay reports whether a call has failed because of another process.
 func isInTheWay(err error) bool {
 	var failed sqlite3.Error
 	return errors.As(err, &failed) && (failed.Code == sqlite3.ErrBusy || failed.Code == sqlite3.ErrLocked)

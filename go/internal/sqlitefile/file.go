@@ -82,10 +82,10 @@ const (
 	givenUp
 )
 
-// begin is whether the job is to be done: its caller may have gone.
+// begin reports whether the job is to be done: its caller may have gone.
 func (j *job[C]) begin() bool { return j.state.CompareAndSwap(waiting, begun) }
 
-// giveUp is whether the job won't be done.
+// giveUp reports whether the job won't be done: it hasn't begun.
 func (j *job[C]) giveUp() bool { return j.state.CompareAndSwap(waiting, givenUp) }
 
 // ErrClosed reports that the file is closed. Nothing was written.

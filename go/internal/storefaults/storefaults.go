@@ -84,10 +84,10 @@ func (c *Countdown) fails(text string) bool {
 	return true
 }
 
-// IsBegin returns whether a statement begins a transaction: if it fails, it may be tried again.
+// IsBegin reports whether a statement begins a transaction: if it fails, it may be tried again.
 func IsBegin(statement string) bool { return strings.HasPrefix(statement, "BEGIN") }
 
-// IsCommit returns whether a statement commits what others have written.
+// IsCommit reports whether a statement commits what others have written.
 func IsCommit(statement string) bool { return strings.HasPrefix(statement, "COMMIT") }
 
 // A Proxy stands between the connections of a client and a PostgreSQL server. Each statement of a client may be the one
@@ -160,7 +160,7 @@ func (p *Proxy) Hang(is bool) {
 	p.resumes.Broadcast()
 }
 
-// IsUsed is whether a client has sent anything.
+// IsUsed reports whether a client has sent anything.
 func (p *Proxy) IsUsed() bool {
 	p.mutex.Lock()
 	defer p.mutex.Unlock()

@@ -109,7 +109,7 @@ type Options struct {
 	State string
 	// Limit is how long each run may take. Zero stands for DefaultLimit.
 	Limit time.Duration
-	// Existing is whether State was used before. Then New creates nothing, and fails if the file .locks doesn't exist,
+	// Existing says that State was used before. Then New creates nothing, and fails if the file .locks doesn't exist,
 	// for example because a disk isn't mounted.
 	Existing bool
 }
@@ -370,7 +370,7 @@ func (p *program) capabilities(ctx context.Context) (found capable, err error) {
 	return found, &CallError{Program: p.path, Call: call, Err: err, MayPass: !isLasting && mayPass(err)}
 }
 
-// mayPass returns whether the error of a run that hasn't ended by itself may be over later.
+// mayPass reports whether the error of a run that hasn't ended by itself may be over later.
 func mayPass(err error) bool {
 	var number syscall.Errno
 	if !errors.As(err, &number) {

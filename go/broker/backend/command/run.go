@@ -332,7 +332,7 @@ func (e exit) read(into result, isCreation bool) error {
 	return e.failure("")
 }
 
-// isLasting returns whether a run whose result can't be used ends so again: the program can't be run, or it has
+// isLasting reports whether a run whose result can't be used ends so again: the program can't be run, or it has
 // succeeded and reported something wrong.
 func (e exit) isLasting() bool {
 	status := e.exit.ExitStatus()

@@ -10,7 +10,7 @@ import (
 	"syscall"
 )
 
-// exists returns whether a path exists. It doesn't follow a symbolic link. If nobody can tell, it fails.
+// exists reports whether a path exists. It doesn't follow a symbolic link. If nobody can tell, it fails.
 func exists(path string) (bool, error) {
 	var found syscall.Stat_t
 	err := syscall.Lstat(path, &found)

@@ -401,7 +401,7 @@ func (f *Folders) writeOwner(store string) (err error) {
 	return nil
 }
 
-// hasFolders returns whether the top contains the folder, or the part, of an instance.
+// hasFolders reports whether the top contains the folder, or the part, of an instance.
 func (f *Folders) hasFolders() (bool, error) {
 	found, err := os.ReadDir(f.top)
 	if err != nil {

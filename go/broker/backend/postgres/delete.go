@@ -531,7 +531,7 @@ func (d *Databases) sessionIn(ctx context.Context, database string, parameters m
 	return db, nil
 }
 
-// isShut returns whether a database has let nobody in: it has too many connections, doesn't accept any, or lacks the
+// isShut reports whether a database has let nobody in: it has too many connections, doesn't accept any, or lacks the
 // right to connect. The server names the routine that judges all of these.
 func isShut(err error) bool {
 	var failed *pq.Error

@@ -312,7 +312,8 @@ func TestWhatDependsOnIt(t *testing.T) {
 	pgtest.Exec(t, r.customer(other.request.Key), "SELECT FROM kept")
 }
 
-// What a binding's role owns in another customer's database goes too. It becomes nobody's, and not the other customer's.
+// What a binding's role owns in another customer's database goes too. It becomes nobody's, and not the other
+// customer's.
 func TestWhatABindingOwnsElsewhere(t *testing.T) {
 	r := newRig(t)
 	d := r.open()
@@ -653,7 +654,7 @@ func (l looking) call() error { _, err := l(); return err }
 
 func nothing() error { return nil }
 
-// isDispensable returns whether nothing depends on a statement: a lock ends with its session too, and whoever is in the
+// isDispensable reports whether nothing depends on a statement: a lock ends with its session too, and whoever is in the
 // way is ended by the next try.
 func isDispensable(statement string) bool {
 	return strings.Contains(statement, "pg_advisory_unlock") || strings.Contains(statement, "pg_blocking_pids")

@@ -59,7 +59,7 @@ func (l locks) take(ctx context.Context, key broker.Key, statement string) (brok
 	}
 }
 
-// attempt takes the lock on one session. If that fails, wasIdle is whether there was a session.
+// attempt takes the lock on one session. If that fails, wasIdle is true if there was a session.
 func (l locks) attempt(
 	ctx context.Context, key broker.Key, statement string,
 ) (taken broker.Lock, wasIdle bool, err error) {

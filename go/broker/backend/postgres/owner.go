@@ -252,7 +252,7 @@ func (r rekeying) roles(tx *sql.Tx) (found []labelledRole, err error) {
 	return found, rows.Err()
 }
 
-// opens is whether the role logs in with the password of the old key.
+// opens reports whether the role logs in with the password of the old key.
 func (r rekeying) opens(tx *sql.Tx, key broker.Key) (bool, error) {
 	own, err := ownParameters(r.ctx, tx)
 	if err != nil {

@@ -49,7 +49,7 @@ func Name(number int) string {
 	return "many"
 }
 
-// IsSmall returns whether a number is small. No test asks.
+// IsSmall reports whether a number is small. No test asks.
 func IsSmall(number int) bool { return number < 10 == true }
 
 // Stop has only a crash point, which isn't changed.
