@@ -19,9 +19,9 @@ const (
 	longestMetadata = 64 << 10
 )
 
-// A hearing is the result of an exchange: of a Poll that a Fetch followed, the answer to the Poll and the object of
-// the Fetch.
-type hearing struct {
+// An exchangeResult is the result of an exchange: of a Poll that a Fetch followed, the answer to the Poll and the
+// object of the Fetch.
+type exchangeResult struct {
 	Incoming
 	kind   string // of the request whose reason counts
 	sealed []byte // the object of a binding, sealed, or nil
@@ -31,15 +31,15 @@ type hearing struct {
 
 // takeAnswer is what is written once a request was answered, or wasn't. It is nil if nothing is to be written, because
 // another worker has given the request up, an operator has abandoned the row, or the request wasn't recorded.
-func takeAnswer(now time.Time, snapshot Snapshot, s sending, heard hearing) (*Change, error) {
+func takeAnswer(now time.Time, snapshot Snapshot, s sending, result exchangeResult) (*Change, error) {
 	e, t := snapshot.Entry, s.terms
 	if s.isLast() {
-		return takenLast(now, e, s, heard), nil
+		return takeLastAnswer(now, e, s, result), nil
 	}
 	if !e.IsSent || e.State == Abandoned || s.unsure != nil && !s.hasLeased(e) {
 		return nil, nil
 	}
-	record, err := e.recordAfter(s, heard)
+	record, err := e.recordAfter(s, result)
 	if errors.Is(err, osb.ErrNotInFlight) {
 		return nil, nil
 	}
@@ -47,15 +47,15 @@ func takeAnswer(now time.Time, snapshot Snapshot, s sending, heard hearing) (*Ch
 		return nil, err
 	}
 	read := e.State
-	e.come(now, record)
+	e.enter(now, record)
 	e.Lease = Lease{}
-	e.keep(heard, s)
-	e.Last = reasonOf(now, heard)
+	e.keep(result, s)
+	e.Last = reasonOf(now, result)
 	if isFailedCreation(read, e.State) {
-		e.Failure, e.Passing, e.After = e.Last, heard.isPassing(), atMostAnHour(heard.RetryAfter)
+		e.Failure, e.Passing, e.After = e.Last, result.isPassing(), atMostAnHour(result.RetryAfter)
 	}
-	e.schedule(now, s, heard.RetryAfter)
-	e.putOff(s, heard.Incoming)
+	e.schedule(now, s, result.RetryAfter)
+	e.putOff(s, result.Incoming)
 	change := &Change{Entry: e, WakeInstance: e.Key.IsBinding && e.State == Gone}
 	if e.State == Gone {
 		change.Next, err = nextTry(now, e, snapshot.Instance, t)
@@ -65,38 +65,38 @@ func takeAnswer(now time.Time, snapshot Snapshot, s sending, heard hearing) (*Ch
 
 // recordAfter is the record after the answer to a request, or after a timeout. A binding is ready only with its
 // credentials.
-func (e *Entry) recordAfter(s sending, heard hearing) (osb.Record, error) {
-	if heard.Lost != nil {
+func (e *Entry) recordAfter(s sending, result exchangeResult) (osb.Record, error) {
+	if result.Lost != nil {
 		return e.Record.Timeout(s.attempt)
 	}
 	if !e.Key.IsBinding {
-		return e.Record.Answer(s.attempt, heard.Answer)
+		return e.Record.Answer(s.attempt, result.Answer)
 	}
-	record, err := e.Record.AnswerBinding(s.attempt, heard.Answer, s.terms.isRetrievable)
-	if err == nil && record.IsReady() && heard.sealed == nil {
+	record, err := e.Record.AnswerBinding(s.attempt, result.Answer, s.terms.isRetrievable)
+	if err == nil && record.IsReady() && result.sealed == nil {
 		return e.Record.Timeout(s.attempt)
 	}
 	return record, err
 }
 
 // keep keeps what an answer says besides.
-func (e *Entry) keep(heard hearing, s sending) {
+func (e *Entry) keep(result exchangeResult, s sending) {
 	if e.Key.IsBinding && e.State == Ready {
-		e.Credentials = heard.sealed
+		e.Credentials = result.sealed
 	}
-	if heard.Lost != nil {
+	if result.Lost != nil {
 		return
 	}
 	if isPolled(e.State) && s.out.Request.Kind != osb.KindPoll {
-		e.Operation = storable(heard.Operation)
+		e.Operation = storable(result.Operation)
 	}
 	if s.out.Request.Kind == osb.KindProvision {
-		if url := storable(heard.Details.DashboardURL); url != nil && len(*url) <= longestURL {
+		if url := storable(result.Details.DashboardURL); url != nil && len(*url) <= longestURL {
 			e.Dashboard = *url
 		}
 	}
-	if heard.Metadata != nil && len(heard.Metadata) <= longestMetadata {
-		e.Metadata = append(json.RawMessage(nil), heard.Metadata...)
+	if result.Metadata != nil && len(result.Metadata) <= longestMetadata {
+		e.Metadata = append(json.RawMessage(nil), result.Metadata...)
 	}
 }
 
@@ -116,7 +116,7 @@ func isFailedCreation(before, after State) bool {
 // schedule is when the next step is due after an exchange, and whether one deletion more follows.
 func (e *Entry) schedule(now time.Time, s sending, named time.Duration) {
 	t := s.terms
-	if e.Unchanged++; hasComeOn(s.before, e.State) {
+	if e.Unchanged++; hasProgressed(s.before, e.State) {
 		e.Unchanged = 0
 	}
 	switch e.State {
@@ -197,7 +197,7 @@ var ofGateways = map[int]bool{
 
 // isPassing is whether a creation that has failed so may succeed later: no answer arrived, or none that is surely the
 // broker's, or it was an error of the broker, or too much was asked of it.
-func (h hearing) isPassing() bool {
+func (h exchangeResult) isPassing() bool {
 	status := int(h.Answer.Status)
 	switch {
 	case h.isUnsealed:
@@ -241,34 +241,34 @@ func judgeLast(in Incoming) (shown aftermath, isOver bool) {
 	return nothingLeft, false
 }
 
-// takenLast is what is written after a last deletion, or nil if another worker has leased the row since.
-func takenLast(now time.Time, e Entry, s sending, heard hearing) *Change {
+// takeLastAnswer is what is written after a last deletion, or nil if another worker has leased the row since.
+func takeLastAnswer(now time.Time, e Entry, s sending, result exchangeResult) *Change {
 	if e.State != Gone || !s.hasLeased(e) {
 		return nil
 	}
-	e.Lease, e.Last = Lease{}, reasonOf(now, heard)
-	if _, isOver := judgeLast(heard.Incoming); isOver {
+	e.Lease, e.Last = Lease{}, reasonOf(now, result)
+	if _, isOver := judgeLast(result.Incoming); isOver {
 		e.HasLast, e.Due, e.DueSince, e.Unchanged = false, time.Time{}, time.Time{}, 0
 		return &Change{Entry: e}
 	}
 	e.Unchanged++
-	e.Due = now.Add(s.terms.pace.wait(e.Unchanged, heard.RetryAfter))
-	e.putOff(s, heard.Incoming)
+	e.Due = now.Add(s.terms.pace.wait(e.Unchanged, result.RetryAfter))
+	e.putOff(s, result.Incoming)
 	return &Change{Entry: e}
 }
 
 // ---- reasons
 
 // reasonOf is what was said last.
-func reasonOf(now time.Time, heard hearing) Reason {
+func reasonOf(now time.Time, result exchangeResult) Reason {
 	reason := Reason{
-		At: now, Kind: heard.kind, Status: heard.Status,
-		Error: textOf(heard.Details.Error), Description: textOf(heard.Details.Description),
+		At: now, Kind: result.kind, Status: result.Status,
+		Error: textOf(result.Details.Error), Description: textOf(result.Details.Description),
 	}
 	switch {
-	case heard.Lost != nil:
-		reason.Lost = atMost(heard.Lost.Error())
-	case heard.Status >= 200 && heard.Status <= 202 && heard.Answer.Body == osb.BodyMalformed:
+	case result.Lost != nil:
+		reason.Lost = atMost(result.Lost.Error())
+	case result.Status >= 200 && result.Status <= 202 && result.Answer.Body == osb.BodyMalformed:
 		reason.Lost = "its body can't be read"
 	}
 	return reason

@@ -31,24 +31,24 @@ func newTrial(t *testing.T, row Entry, terms terms) trial {
 	return trial{row: got.entry, sent: *got.send, terms: terms}
 }
 
-// hear is what a Client reads of an answer.
-func (it trial) hear(status int, body string) hearing {
-	heard := hearing{kind: kindOf(it.sent.out.Request.Kind, it.row.Key)}
-	heard.Incoming = (&reply{status, []byte(body)}).incoming(it.sent.out)
-	if heard.Binding != nil {
-		heard.sealed = append([]byte("sealed "), heard.Binding...)
+// answer returns what a Client reads of an answer.
+func (it trial) answer(status int, body string) exchangeResult {
+	result := exchangeResult{kind: kindOf(it.sent.out.Request.Kind, it.row.Key)}
+	result.Incoming = (&reply{status, []byte(body)}).incoming(it.sent.out)
+	if result.Binding != nil {
+		result.sealed = append([]byte("sealed "), result.Binding...)
 	}
-	return heard
+	return result
 }
 
-func (it trial) take(t *testing.T, heard hearing) *Change {
+func (it trial) take(t *testing.T, result exchangeResult) *Change {
 	t.Helper()
 	snapshot := Snapshot{Entry: it.row}
 	if it.row.Key.IsBinding {
 		instance := rowIn(anInstance, Ready)
 		snapshot.Instance = &instance
 	}
-	change, err := takeAnswer(at(11), snapshot, it.sent, heard)
+	change, err := takeAnswer(at(11), snapshot, it.sent, result)
 	check(t, err)
 	return change
 }
@@ -132,7 +132,7 @@ func TestTaken(t *testing.T) {
 	for _, row := range takenRows {
 		t.Run(row.name, func(t *testing.T) {
 			try := newTrial(t, row.row, plain())
-			change := try.take(t, try.hear(row.status, row.body))
+			change := try.take(t, try.answer(row.status, row.body))
 			e := change.Entry
 			want := at(11 + row.due)
 			if row.due == rest {
@@ -164,7 +164,7 @@ func TestTakenLost(t *testing.T) {
 	} {
 		for _, key := range []Key{anInstance, aBinding} {
 			try := newTrial(t, rowIn(key, state), plain())
-			e := try.take(t, hearing{kind: "kind", Incoming: Incoming{Lost: errors.New("cut")}}).Entry
+			e := try.take(t, exchangeResult{kind: "kind", Incoming: Incoming{Lost: errors.New("cut")}}).Entry
 			if e.State != want || e.Passing != (state == Ordered) || e.Last.Lost != "cut" {
 				t.Errorf("from %s: got %s, passing %v, %+v, want %s and \"cut\"", state, e.State, e.Passing, e.Last, want)
 			}
@@ -175,14 +175,14 @@ func TestTakenLost(t *testing.T) {
 // Nothing is written of a request that another worker has given up, or of a row that was abandoned.
 func TestTakenByAnother(t *testing.T) {
 	try := newTrial(t, rowIn(anInstance, Ordered), plain())
-	heard := try.hear(201, `{}`)
+	result := try.answer(201, `{}`)
 	later := decide(at(101), Snapshot{Entry: try.row}, true, plain()).entry
 	abandoned := with(try.row, func(e *Entry) { e.State = Abandoned })
 	for name, row := range map[string]Entry{
 		"given up": later, "abandoned": abandoned, "unsent": rowIn(anInstance, Ordered),
 	} {
 		t.Run(name, func(t *testing.T) {
-			if change, err := takeAnswer(at(102), Snapshot{Entry: row}, try.sent, heard); change != nil || err != nil {
+			if change, err := takeAnswer(at(102), Snapshot{Entry: row}, try.sent, result); change != nil || err != nil {
 				t.Errorf("got the change %v and the error %v, want neither", change, err)
 			}
 		})
@@ -194,7 +194,7 @@ func TestTakenByAnother(t *testing.T) {
 func TestTakenInDoubt(t *testing.T) {
 	try := newTrial(t, rowIn(anInstance, Ordered), plain())
 	try.sent.unsure = errors.New("the connection broke")
-	lost := hearing{kind: "provision", Incoming: Incoming{Lost: errUnsure}}
+	lost := exchangeResult{kind: "provision", Incoming: Incoming{Lost: errUnsure}}
 	if e := try.take(t, lost).Entry; e.State != Cleaning || e.Lease != (Lease{}) {
 		t.Errorf("got %s and %v, want %s and %v", e.State, e.Lease, Cleaning, (Lease{}))
 	}
@@ -223,13 +223,13 @@ func TestTakenAndRemoved(t *testing.T) {
 		t.Run(fmt.Sprint(test.row.State, " ", test.status), func(t *testing.T) {
 			try := newTrial(t, test.row, wait())
 			remove(&try.row)
-			if e := try.take(t, try.hear(test.status, test.body)).Entry; !e.Due.Equal(at(11)) {
+			if e := try.take(t, try.answer(test.status, test.body)).Entry; !e.Due.Equal(at(11)) {
 				t.Errorf("%d: got %s due %v, want it due at once", test.status, e.State, e.Due)
 			}
 		})
 	}
 	try := newTrial(t, rowIn(anInstance, Ordered), wait())
-	if e := try.take(t, try.hear(409, `{}`)).Entry; !e.Rests() {
+	if e := try.take(t, try.answer(409, `{}`)).Entry; !e.Rests() {
 		t.Errorf("unsettled: got it due %v, want it at rest", e.Due)
 	}
 }
@@ -237,22 +237,22 @@ func TestTakenAndRemoved(t *testing.T) {
 // A deletion is due once the hold is over, and polling ends at the time for which it may go on.
 func TestTakenDue(t *testing.T) {
 	try := newTrial(t, rowIn(anInstance, Ordered), usualTerms())
-	if e := try.take(t, try.hear(500, `{}`)).Entry; !e.Due.Equal(at(10 + 60 + 300)) {
+	if e := try.take(t, try.answer(500, `{}`)).Entry; !e.Due.Equal(at(10 + 60 + 300)) {
 		t.Errorf("the deletion: got it due %v, want it after the hold", e.Due)
 	}
 	short := plain()
 	short.longestPoll = 12 * time.Second
 	try = newTrial(t, rowIn(anInstance, Polling), short)
-	if e := try.take(t, try.hear(200, `{"state": "in progress"}`)).Entry; !e.Due.Equal(at(12)) {
+	if e := try.take(t, try.answer(200, `{"state": "in progress"}`)).Entry; !e.Due.Equal(at(12)) {
 		t.Errorf("the end of the polling: got it due %v, want it at its end", e.Due)
 	}
 	try = newTrial(t, rowIn(anInstance, CleaningPolling), short)
-	if e := try.take(t, try.hear(500, `{}`)).Entry; !e.Due.Equal(at(12)) {
+	if e := try.take(t, try.answer(500, `{}`)).Entry; !e.Due.Equal(at(12)) {
 		t.Errorf("the end of the polling of the deletion: got it due %v, want it at its end", e.Due)
 	}
 	for unchanged, want := range []int{4, 8, 16, 32, 64, 120, 120} {
 		try := newTrial(t, with(rowIn(anInstance, Cleaning), func(e *Entry) { e.Unchanged = unchanged }), plain())
-		if e := try.take(t, try.hear(500, `{}`)).Entry; !e.Due.Equal(at(11 + want)) {
+		if e := try.take(t, try.answer(500, `{}`)).Entry; !e.Due.Equal(at(11 + want)) {
 			t.Errorf("after %d: got it due %v, want it %v later", unchanged, e.Due, want)
 		}
 	}
@@ -266,14 +266,14 @@ func TestEveryAnswer(t *testing.T) {
 			try := newTrial(t, rowIn(key, state), plain())
 			for status := 100; status < 620; status++ {
 				for _, body := range bodies {
-					heard := try.hear(status, body)
-					e := try.take(t, heard).Entry
+					result := try.answer(status, body)
+					e := try.take(t, result).Entry
 					want, err := try.row.Record.Timeout(try.sent.attempt)
-					if heard.Lost == nil && (state != Polling || !key.IsBinding || e.State != Polling) {
-						want, err = try.row.Record.AnswerBinding(try.sent.attempt, heard.Answer, true)
+					if result.Lost == nil && (state != Polling || !key.IsBinding || e.State != Polling) {
+						want, err = try.row.Record.AnswerBinding(try.sent.attempt, result.Answer, true)
 					}
 					must(err)
-					if key.IsBinding && want.IsReady() && heard.sealed == nil {
+					if key.IsBinding && want.IsReady() && result.sealed == nil {
 						t.Errorf("%s, %d %s: got it ready without credentials, want them", state, status, body)
 					}
 					if e.Record != want || e.State != StateOf(want) {
@@ -305,7 +305,7 @@ func TestKindOf(t *testing.T) {
 // A binding is ready only with its credentials, and a 202 to a Bind is cleaned up if nobody can fetch them.
 func TestTakenCredentials(t *testing.T) {
 	try := newTrial(t, rowIn(aBinding, Polling), plain())
-	succeeded := try.hear(200, `{"state": "succeeded"}`)
+	succeeded := try.answer(200, `{"state": "succeeded"}`)
 	if e := try.take(t, succeeded).Entry; e.State != Polling || e.Credentials != nil {
 		t.Errorf("without a Fetch: got %s and %q, want %s and none", e.State, e.Credentials, Polling)
 	}
@@ -314,7 +314,7 @@ func TestTakenCredentials(t *testing.T) {
 		t.Errorf("with a Fetch: got %s and %q, want %s and \"those of the Fetch\"", e.State, e.Credentials, Ready)
 	}
 	try = newTrial(t, rowIn(aBinding, Ordered), plain())
-	created := try.hear(201, `{"credentials": {}}`)
+	created := try.answer(201, `{"credentials": {}}`)
 	created.sealed = nil
 	if e := try.take(t, created).Entry; e.State != Cleaning {
 		t.Errorf("a 201 whose credentials can't be encrypted: got %s, want %s", e.State, Cleaning)
@@ -322,7 +322,7 @@ func TestTakenCredentials(t *testing.T) {
 	unfetchable := plain()
 	unfetchable.isRetrievable = false
 	try = newTrial(t, rowIn(aBinding, Ordered), unfetchable)
-	if e := try.take(t, try.hear(202, `{}`)).Entry; e.State != Cleaning {
+	if e := try.take(t, try.answer(202, `{}`)).Entry; e.State != Cleaning {
 		t.Errorf("a 202 whose credentials can't be fetched: got %s, want %s", e.State, Cleaning)
 	}
 }
@@ -330,9 +330,9 @@ func TestTakenCredentials(t *testing.T) {
 // What a broker says of a pace, an operation, a dashboard and metadata is kept.
 func TestTakenKept(t *testing.T) {
 	try := newTrial(t, rowIn(anInstance, Ordered), plain())
-	heard := try.hear(202, `{"operation": "task 1", "dashboard_url": "https://d.example", "metadata": {"labels": {}}}`)
-	heard.RetryAfter = 70 * time.Second
-	e := try.take(t, heard).Entry
+	result := try.answer(202, `{"operation": "task 1", "dashboard_url": "https://d.example", "metadata": {"labels": {}}}`)
+	result.RetryAfter = 70 * time.Second
+	e := try.take(t, result).Entry
 	if e.Operation == nil || *e.Operation != "task 1" || e.Dashboard != "https://d.example" || e.Metadata == nil {
 		t.Errorf("got %+v, want its operation, dashboard and metadata", e)
 	}
@@ -340,11 +340,11 @@ func TestTakenKept(t *testing.T) {
 		t.Errorf("got it due %v, polled since %v, want it after Retry-After, since now", e.Due, e.PolledSince)
 	}
 	polled := newTrial(t, with(e, func(e *Entry) { e.Due = at(9) }), plain())
-	kept := polled.take(t, polled.hear(200, `{"state": "in progress", "operation": "task 2"}`)).Entry
+	kept := polled.take(t, polled.answer(200, `{"state": "in progress", "operation": "task 2"}`)).Entry
 	if *kept.Operation != "task 1" || kept.Dashboard != "https://d.example" || !kept.PolledSince.Equal(at(11)) {
 		t.Errorf("got %+v, want the first operation and dashboard", kept)
 	}
-	if done := polled.take(t, polled.hear(200, `{"state": "succeeded"}`)).Entry; done.Operation != nil {
+	if done := polled.take(t, polled.answer(200, `{"state": "succeeded"}`)).Entry; done.Operation != nil {
 		t.Errorf("after the operation: got %q, want none", *done.Operation)
 	}
 }
@@ -352,9 +352,9 @@ func TestTakenKept(t *testing.T) {
 // A long Retry-After counts for an hour, and a long description for its front.
 func TestTakenBounds(t *testing.T) {
 	try := newTrial(t, rowIn(anInstance, Cleaning), plain())
-	heard := try.hear(500, `{"error": "E", "description": "`+strings.Repeat("é", 2000)+`"}`)
-	heard.RetryAfter = 1000 * time.Hour
-	e := try.take(t, heard).Entry
+	result := try.answer(500, `{"error": "E", "description": "`+strings.Repeat("é", 2000)+`"}`)
+	result.RetryAfter = 1000 * time.Hour
+	e := try.take(t, result).Entry
 	if !e.Due.Equal(at(11+3600)) || e.Last.Description != strings.Repeat("é", 500) || e.Last.Error != "E" {
 		t.Errorf("got it due %v, %d bytes of %q, want it in an hour, and 500 letters", e.Due, len(e.Last.Description),
 			e.Last.Error)
@@ -364,11 +364,11 @@ func TestTakenBounds(t *testing.T) {
 // A text with a NUL isn't kept: not every database has it.
 func TestNUL(t *testing.T) {
 	try := newTrial(t, rowIn(anInstance, Ordered), plain())
-	heard := try.hear(202, `{"operation": "a\u0000b", "dashboard_url": "https://d.example/\u0000"}`)
-	if heard.Operation == nil || heard.Details.DashboardURL == nil {
+	result := try.answer(202, `{"operation": "a\u0000b", "dashboard_url": "https://d.example/\u0000"}`)
+	if result.Operation == nil || result.Details.DashboardURL == nil {
 		t.Fatal("the answer: got no operation or dashboard, want both")
 	}
-	if e := try.take(t, heard).Entry; e.State != Polling || e.Operation != nil || e.Dashboard != "" {
+	if e := try.take(t, result).Entry; e.State != Polling || e.Operation != nil || e.Dashboard != "" {
 		t.Errorf("got %s, the operation %v and the dashboard %q, want polling and neither",
 			e.State, e.Operation, e.Dashboard)
 	}
@@ -379,15 +379,15 @@ func TestTakenHasLast(t *testing.T) {
 	for _, key := range []Key{anInstance, aBinding} {
 		row := with(rowIn(key, Cleaning), func(e *Entry) { e.SentUntil = at(-1000) })
 		try := newTrial(t, row, usualTerms())
-		if e := try.take(t, try.hear(410, `{}`)).Entry; !e.HasLast || !e.Due.Equal(at(11+300)) {
+		if e := try.take(t, try.answer(410, `{}`)).Entry; !e.HasLast || !e.Due.Equal(at(11+300)) {
 			t.Errorf("%v: got last %v, due %v, want one after the hold", key, e.HasLast, e.Due)
 		}
 		try = newTrial(t, rowIn(key, Ordered), usualTerms()) // it may leave until 60 seconds later
-		if e := try.take(t, try.hear(400, `{}`)).Entry; !e.HasLast || !e.Due.Equal(at(10+60+300)) {
+		if e := try.take(t, try.answer(400, `{}`)).Entry; !e.HasLast || !e.Due.Equal(at(10+60+300)) {
 			t.Errorf("%v: got last %v, due %v, want one after the hold", key, e.HasLast, e.Due)
 		}
 		try = newTrial(t, row, plain())
-		if e := try.take(t, try.hear(410, `{}`)).Entry; e.HasLast || !e.Rests() {
+		if e := try.take(t, try.answer(410, `{}`)).Entry; e.HasLast || !e.Rests() {
 			t.Errorf("%v: at a broker with tombstones: got last %v, due %v, want none", key, e.HasLast, e.Due)
 		}
 	}
@@ -417,9 +417,9 @@ func TestTakenLast(t *testing.T) {
 		for status, want := range want {
 			row := longGone(key)
 			try := newTrial(t, row, usualTerms())
-			heard := try.hear(status, `{}`)
-			shown, isOver := judgeLast(heard.Incoming)
-			e := try.take(t, heard).Entry
+			result := try.answer(status, `{}`)
+			shown, isOver := judgeLast(result.Incoming)
+			e := try.take(t, result).Entry
 			if shown != want.shown || isOver != want.isOver || e.HasLast == want.isOver || e.Rests() != want.isOver {
 				t.Errorf("%d: got %v, %v, %v, due %v; want %v", status, shown, isOver, e.HasLast, e.Due, want)
 			}
@@ -429,12 +429,12 @@ func TestTakenLast(t *testing.T) {
 		}
 	}
 	try := newTrial(t, longGone(anInstance), usualTerms())
-	lost := hearing{Incoming: Incoming{Lost: errors.New("cut")}}
+	lost := exchangeResult{Incoming: Incoming{Lost: errors.New("cut")}}
 	if e := try.take(t, lost).Entry; !e.HasLast || !e.Due.Equal(at(11+4)) {
 		t.Errorf("no answer: got last %v, due %v, want one more soon", e.HasLast, e.Due)
 	}
 	try.row.Lease.Until = try.row.Lease.Until.Add(time.Second)
-	if change := try.take(t, try.hear(410, `{}`)); change != nil {
+	if change := try.take(t, try.answer(410, `{}`)); change != nil {
 		t.Errorf("another worker's lease: got %v, want no change", change)
 	}
 }
@@ -460,7 +460,7 @@ func TestNextTry(t *testing.T) {
 		} {
 			t.Run(fmt.Sprintf("%s, binding %v", test.name, key.IsBinding), func(t *testing.T) {
 				try := newTrial(t, test.row, plain())
-				next := try.take(t, try.hear(410, `{}`)).Next
+				next := try.take(t, try.answer(410, `{}`)).Next
 				if test.due == rest || next == nil {
 					if test.due != rest || next != nil {
 						t.Errorf("got %+v, want no next try", next)
@@ -504,7 +504,7 @@ func TestNextTryOfUnsettled(t *testing.T) {
 	for _, key := range []Key{anInstance, aBinding} {
 		row := with(rowIn(key, Unsettled), func(e *Entry) { e.Passing = true })
 		try := newTrial(t, row, plain())
-		if next := try.take(t, try.hear(200, `{}`)).Next; next == nil {
+		if next := try.take(t, try.answer(200, `{}`)).Next; next == nil {
 			t.Errorf("%v: got no next try, want one", key)
 		}
 	}
@@ -517,7 +517,7 @@ func TestNextTryOfBinding(t *testing.T) {
 		for _, removal := range []Removal{NotRemoved, Removed, RemovedWhole} {
 			try := newTrial(t, failedTry(aBinding), plain())
 			instance := with(rowIn(anInstance, state), func(e *Entry) { e.Removal = removal })
-			change, err := takeAnswer(at(11), Snapshot{Entry: try.row, Instance: &instance}, try.sent, try.hear(200, `{}`))
+			change, err := takeAnswer(at(11), Snapshot{Entry: try.row, Instance: &instance}, try.sent, try.answer(200, `{}`))
 			check(t, err)
 			if isWanted := state == Ready && removal == NotRemoved; isWanted != (change.Next != nil) {
 				t.Errorf("the instance in %s, removal %d: got the next %+v, want one exactly if it is ready", state, removal,
@@ -532,7 +532,7 @@ func TestNextTryOfBinding(t *testing.T) {
 	}
 	diff.Equal(t, count, 3*len(everyState), "tried")
 	try := newTrial(t, failedTry(aBinding), plain())
-	change, err := takeAnswer(at(11), Snapshot{Entry: try.row}, try.sent, try.hear(200, `{}`))
+	change, err := takeAnswer(at(11), Snapshot{Entry: try.row}, try.sent, try.answer(200, `{}`))
 	if err != nil || change.Next != nil {
 		t.Errorf("without a row of the instance: got %+v, %v, want no next try", change.Next, err)
 	}
@@ -544,7 +544,7 @@ func TestUnsealedIsNotPassing(t *testing.T) {
 		t.Run(name, func(t *testing.T) {
 			try := newTrial(t, rowIn(aBinding, Ordered), plain())
 			engine := NewEngine(newMemory(time.Now), nil, vault, Options{}, Silent{})
-			e := try.take(t, engine.seal(try.sent, try.hear(201, credentials))).Entry
+			e := try.take(t, engine.seal(try.sent, try.answer(201, credentials))).Entry
 			if e.State != Cleaning || e.Passing || e.Failure == (Reason{}) {
 				t.Errorf("got %s, passing %v, %+v, want it in cleaning with a failure that lasts", e.State, e.Passing,
 					e.Failure)
@@ -563,7 +563,7 @@ var errFull = errors.New("the disk is full")
 // A claim that failed isn't taken for the next claim of the same row in the same millisecond: nothing is written of its
 // request while that of the next one is in flight.
 func TestTakenInDoubtOfTheSameMillisecond(t *testing.T) {
-	lost := hearing{kind: "provision", Incoming: Incoming{Lost: errUnsure}}
+	lost := exchangeResult{kind: "provision", Incoming: Incoming{Lost: errUnsure}}
 	gone := with(rowIn(anInstance, Gone), func(e *Entry) { e.HasLast, e.Due = true, at(9) })
 	for _, row := range []Entry{rowIn(anInstance, Ordered), rowIn(aBinding, Ordered), gone} {
 		terms := plain()
@@ -611,7 +611,7 @@ func TestAnswerInDoubt(t *testing.T) {
 				defer p.store.mu.Unlock()
 				p.store.rows[anInstance] = with(p.store.rows[anInstance], func(e *Entry) { e.State, e.Lease = Abandoned, Lease{} })
 			}
-			entry, _, err := p.engine.take(background, try.sent, try.hear(201, `{}`))
+			entry, _, err := p.engine.take(background, try.sent, try.answer(201, `{}`))
 			check(t, err)
 			if got := entry != nil; got != test.isWritten || got && entry.State != test.want || tries.Load() != 2 {
 				t.Errorf("got %+v after %d tries, want %s after 2", entry, tries.Load(), test.want)

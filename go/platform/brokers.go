@@ -134,8 +134,8 @@ func (b *Broker) AcceptStore(id string) error {
 	return nil
 }
 
-// StoreOf is the store that a catalogue names in its member x-osb-store, or empty if it names none, by an id that can be
-// used.
+// StoreOf is the store that a catalogue names in its member x-osb-store, or empty if it names none, by an id that can
+// be used.
 func StoreOf(document json.RawMessage) string {
 	var read struct {
 		Store any `json:"x-osb-store"`
@@ -248,8 +248,8 @@ func (o *Orders) set(broker *Broker, change func(*Broker) error, password []byte
 	return o.finish(broker, password, hasPassword, strings.TrimRight(broker.URL, "/") != url)
 }
 
-// sealPassword is the password of a broker whose URL or user changes. If somebody has changed these in the store, it is sealed
-// for those that the broker gets back.
+// sealPassword is the password of a broker whose URL or user changes. If somebody has changed these in the store, it is
+// sealed for those that the broker gets back.
 func (o *Orders) sealPassword(before, after Broker) ([]byte, error) {
 	if o.vault == nil {
 		return nil, fault(Conflict, "the password of the broker %s is encrypted for its URL and its user: give the "+

@@ -217,8 +217,8 @@ func TestRunUnreachable(t *testing.T) {
 	p.until("the next try", func() bool { return p.countIn(Ready) == 2 })
 }
 
-// An answer over another store costs what is in flight. Nothing more is sent until the catalogue is that of the recorded
-// store. An answer of a proxy that the broker can't be reached says nothing about the store.
+// An answer over another store costs what is in flight. Nothing more is sent until the catalogue is that of the
+// recorded store. An answer of a proxy that the broker can't be reached says nothing about the store.
 func TestRunAtAnotherStore(t *testing.T) {
 	another := Broker{Name: "shelf", Store: "one"}.CheckStore([]string{"two"})
 	for _, status := range []int{200, 410, 502} {
@@ -372,9 +372,9 @@ func TestCatalogueBesideSetBroker(t *testing.T) {
 		move := func(b *Broker) error { b.URL = "https://there"; return nil }
 		check(t, p.orders.SetBroker(background, name, move, nil))
 	}
-	sites := newSites(background, p.engine, &sync.WaitGroup{})
-	defer sites.stop()
-	diff.ErrorIs(t, sites.keep(background, asked, json.RawMessage(sold), Reason{}), errChanged, "")
+	registry := newRegistry(background, p.engine, &sync.WaitGroup{})
+	defer registry.stop()
+	diff.ErrorIs(t, registry.keep(background, asked, json.RawMessage(sold), Reason{}), errChanged, "")
 	if got := p.brokerNamed("shelf"); got.URL != "https://there" || got.Catalogue != nil {
 		t.Errorf("got %+v, want the new URL and no catalogue", got)
 	}
@@ -384,14 +384,14 @@ func TestCatalogueBesideSetBroker(t *testing.T) {
 // isn't written twice, and one that is offered again after another one is written again.
 func TestCatalogueThatIsOfferedAgain(t *testing.T) {
 	p := newPlant(t, Options{})
-	sites := newSites(background, p.engine, &sync.WaitGroup{})
-	defer sites.stop()
-	check(t, sites.keep(background, p.brokerNamed("shelf"), json.RawMessage(sold), Reason{}))
+	registry := newRegistry(background, p.engine, &sync.WaitGroup{})
+	defer registry.stop()
+	check(t, registry.keep(background, p.brokerNamed("shelf"), json.RawMessage(sold), Reason{}))
 	asked := p.brokerNamed("shelf")
 	other := strings.ReplaceAll(sold, `"bindable": true`, `"bindable": false`)
 	before := asked
 	for n, document := range []string{other, other, sold} {
-		check(t, sites.keep(background, asked, json.RawMessage(document), Reason{}))
+		check(t, registry.keep(background, asked, json.RawMessage(document), Reason{}))
 		got := p.brokerNamed("shelf")
 		if string(got.Catalogue) != document {
 			t.Errorf("answer %d: got the catalogue %s, want %s", n, got.Catalogue, document)
@@ -463,7 +463,7 @@ func TestTerms(t *testing.T) {
 		check(t, err)
 		return catalogue
 	}
-	s := &sites{Engine: NewEngine(nil, nil, nil, Options{Hold: time.Hour}, Silent{})}
+	s := &registry{Engine: NewEngine(nil, nil, nil, Options{Hold: time.Hour}, Silent{})}
 	order := func(plan string) Entry {
 		_, service, err := namedID("s")
 		check(t, err)
@@ -500,7 +500,7 @@ func TestTerms(t *testing.T) {
 // A catalogue that couldn't be written isn't used: otherwise nobody would write it later, and nobody know why.
 func TestCatalogueThatIsNotKept(t *testing.T) {
 	p := newPlant(t, Options{})
-	s := newSites(background, p.engine, &sync.WaitGroup{})
+	s := newRegistry(background, p.engine, &sync.WaitGroup{})
 	broker := p.brokerNamed("shelf")
 	p.store.setAway(ErrAway)
 	if _, status, err := s.catalogue(background, broker); !errors.Is(err, ErrAway) {
@@ -521,7 +521,7 @@ func TestCatalogueThatIsNotKept(t *testing.T) {
 // What a broker has answered isn't written if the broker was dropped meanwhile.
 func TestCatalogueOfABrokerThatIsDropped(t *testing.T) {
 	p := newPlant(t, Options{})
-	s := newSites(background, p.engine, &sync.WaitGroup{})
+	s := newRegistry(background, p.engine, &sync.WaitGroup{})
 	broker := p.brokerNamed("shelf")
 	check(t, p.orders.DropBroker(background, "shelf"))
 	if err := s.keep(background, broker, []byte(sold), Reason{}); err != errChanged {
@@ -557,7 +557,7 @@ func TestIsAskedAlike(t *testing.T) {
 func TestDecideWithoutAllGone(t *testing.T) {
 	catalogue, err := ReadCatalogue([]byte(sold))
 	check(t, err)
-	s := &sites{Engine: NewEngine(nil, nil, nil, Options{}, Silent{}), byName: map[string]*site{"shelf": {catalogue: catalogue}}}
+	s := &registry{Engine: NewEngine(nil, nil, nil, Options{}, Silent{}), byName: map[string]*knownBroker{"shelf": {catalogue: catalogue}}}
 	snapshot := Snapshot{Entry: with(rowIn(anInstance, Ready), func(e *Entry) { e.Broker, e.Removal = "shelf", Removed })}
 	for _, wanted := range []error{errStore, nil} {
 		snapshot.AllGone = func() (bool, error) { return true, wanted }
@@ -572,8 +572,8 @@ func TestBrokersThatAreNotRead(t *testing.T) {
 	p := newPlant(t, Options{})
 	p.engine.Look = time.Hour
 	var group sync.WaitGroup
-	s := newSites(background, p.engine, &group)
-	s.byName["shelf"] = &site{broker: p.brokerNamed("shelf"), catalogue: &Catalogue{}, cancel: func() {}}
+	s := newRegistry(background, p.engine, &group)
+	s.byName["shelf"] = &knownBroker{broker: p.brokerNamed("shelf"), catalogue: &Catalogue{}, cancel: func() {}}
 	p.store.setAway(ErrAway)
 	s.watch()
 	p.until("a failure", func() bool { return p.hasFailed("store_failed") == 1 })

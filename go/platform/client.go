@@ -36,16 +36,18 @@ type Incoming struct {
 	JournalTime string
 }
 
-// ErrUnreachable reports that there is no connection to a broker, so nothing was sent. The next request would fail, too.
+// ErrUnreachable reports that there is no connection to a broker, so nothing was sent. The next request would fail,
+// too.
 var ErrUnreachable = errors.New("the broker can't be reached")
 
 // A Client sends requests. Any number of goroutines use it.
 type Client interface {
 	// Exchange sends one request and waits for the whole answer, or until its Until. It never sends a request twice,
-	// and follows no redirect. It takes no answer that Broker.CheckStore rejects. Lost is ErrUnreachable (by errors.Is) if there is no connection.
+	// and follows no redirect. It takes no answer that Broker.CheckStore rejects. Lost is ErrUnreachable (by errors.Is)
+	// if there is no connection.
 	Exchange(ctx context.Context, out Outgoing) Incoming
-	// Catalogue asks for the catalogue of a broker. It takes none that Broker.CheckCatalogue rejects. An error is why it
-	// couldn't be fetched; status is the answer's, or 0.
+	// Catalogue asks for the catalogue of a broker. It takes none that Broker.CheckCatalogue rejects. An error is why
+	// it couldn't be fetched; status is the answer's, or 0.
 	Catalogue(ctx context.Context, broker Broker) (document json.RawMessage, status int, err error)
 	// Clock is the time on a clock that is never set, and that goes on while the machine is suspended.
 	Clock() time.Time
@@ -73,8 +75,8 @@ type Observer interface {
 	OnChange(key Key, before, after State)
 	// OnFailure is called if something went wrong that an operator has to know.
 	OnFailure(Failure)
-	// OnOrphan is called after an answer to the last deletion of a row that is gone (docs/platform-guide.md). isFound is
-	// whether the broker had what was recorded as gone. If not, nobody knows whether the broker has it.
+	// OnOrphan is called after an answer to the last deletion of a row that is gone (docs/platform-guide.md). isFound
+	// is whether the broker had what was recorded as gone. If not, nobody knows whether the broker has it.
 	OnOrphan(key Key, status int, isFound bool)
 	// OnCatalogue is called once a broker has answered its catalogue, so that its orders go on.
 	OnCatalogue(broker string)

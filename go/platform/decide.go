@@ -30,7 +30,7 @@ type sending struct {
 	since   time.Time // since when the row is due
 	terms   terms
 	unsure  error // why nobody knows whether the row was written, or nil: then nothing is sent
-	// isBeside is whether it takes a place beside the usual ones.
+	// isBeside is whether it takes a slot beside the usual ones.
 	isBeside bool
 }
 
@@ -85,7 +85,7 @@ func decideOf(now time.Time, snapshot Snapshot, allGone bool, t terms) decision 
 	e := snapshot.Entry
 	switch {
 	case e.State == Withdrawn || e.State == Abandoned:
-		return resting(e, e.State)
+		return restUntilAsked(e, e.State)
 	case !e.IsSent:
 		return decideOrder(now, e, snapshot.Instance, t)
 	case e.State == Gone:
@@ -94,13 +94,13 @@ func decideOf(now time.Time, snapshot Snapshot, allGone bool, t terms) decision 
 	return decideRecord(now, e, allGone, t)
 }
 
-func resting(e Entry, before State) decision {
+func restUntilAsked(e Entry, before State) decision {
 	e.Due, e.DueSince, e.Unchanged = time.Time{}, time.Time{}, 0
 	return decision{entry: e, before: before}
 }
 
-// holding is the decision of a row whose deletion isn't sent before a time.
-func holding(until time.Time, e Entry, before State) decision {
+// holdUntil is the decision of a row whose deletion isn't sent before a time.
+func holdUntil(until time.Time, e Entry, before State) decision {
 	e.Due, e.DueSince = until, time.Time{}
 	return decision{entry: e, before: before}
 }
@@ -111,8 +111,8 @@ func restStuck(now time.Time, e Entry, err error, t terms) decision {
 	return decision{entry: e, before: e.State, err: err}
 }
 
-// waiting is the decision of a row that waits for another one.
-func waiting(now time.Time, e Entry, before State, t terms) decision {
+// waitForOther is the decision of a row that waits for another one.
+func waitForOther(now time.Time, e Entry, before State, t terms) decision {
 	e.Unchanged++
 	e.Due = now.Add(t.pace.wait(e.Unchanged, 0))
 	return decision{entry: e, before: before}
@@ -122,17 +122,17 @@ func waiting(now time.Time, e Entry, before State, t terms) decision {
 func decideOrder(now time.Time, e Entry, instance *Entry, t terms) decision {
 	if e.Removal != NotRemoved || e.Key.IsBinding && !mayBeReady(instance) {
 		e.State, e.Since = Withdrawn, now
-		return resting(e, Ordered)
+		return restUntilAsked(e, Ordered)
 	}
 	if e.Key.IsBinding && instance.State != Ready {
-		return waiting(now, e, Ordered, t)
+		return waitForOther(now, e, Ordered, t)
 	}
 	record, sent, err := createRecord(e, instance, t)
 	if err != nil {
 		return restStuck(now, e, err, t)
 	}
 	e.IsSent, e.SentUntil, e.Unchanged = true, now.Add(t.exchange), 0
-	e.come(now, record)
+	e.enter(now, record)
 	return leaseFor(now, e, Ordered, sent, t)
 }
 
@@ -161,10 +161,10 @@ func mayBeReady(instance *Entry) bool {
 func decideGone(now time.Time, e Entry, t terms) decision {
 	if !e.HasLast || t.hold == 0 {
 		e.HasLast = false
-		return resting(e, Gone)
+		return restUntilAsked(e, Gone)
 	}
 	if until := e.lastDue(t); now.Before(until) {
-		return holding(until, e, Gone)
+		return holdUntil(until, e, Gone)
 	}
 	return leaseFor(now, e, Gone, osb.Sent{Request: osb.Request{
 		Kind: osb.KindDeprovision, AcceptsIncomplete: true,
@@ -179,17 +179,17 @@ func decideRecord(now time.Time, e Entry, allGone bool, t terms) decision {
 	if err != nil {
 		return restStuck(now, read, err, t)
 	}
-	if hasComeOn(read.State, e.State) {
+	if hasProgressed(read.State, e.State) {
 		e.Unchanged = 0
 	}
 	if e.State == Ready || e.State == Unsettled {
 		if isBound {
-			return waiting(now, e, read.State, t)
+			return waitForOther(now, e, read.State, t)
 		}
-		return resting(e, read.State)
+		return restUntilAsked(e, read.State)
 	}
 	if until := e.heldUntil(t); now.Before(until) {
-		return holding(until, e, read.State)
+		return holdUntil(until, e, read.State)
 	}
 	record, sent, err := e.Record.Send(e.Key.ID())
 	if err != nil {
@@ -226,7 +226,7 @@ func (e *Entry) bringUp(now time.Time, allGone bool, t terms) (isBound bool, err
 		}
 		switch isBound = errors.Is(err, osb.ErrBound); {
 		case err == nil:
-			e.come(now, record)
+			e.enter(now, record)
 		case !isBound:
 			return false, err
 		}
@@ -261,7 +261,7 @@ func (e *Entry) giveUp(now time.Time) error {
 	if e.State == Wanted {
 		e.Failure, e.Passing, e.After = e.Last, true, 0
 	}
-	e.come(now, record)
+	e.enter(now, record)
 	return nil
 }
 
@@ -278,12 +278,12 @@ func (e *Entry) expire(now time.Time, t terms) error {
 	if err != nil {
 		return err
 	}
-	e.come(now, record)
+	e.enter(now, record)
 	return nil
 }
 
-// come changes the row to the state of a record. What goes with the state that was left is forgotten.
-func (e *Entry) come(now time.Time, record osb.Record) {
+// enter changes the row to the state of a record. What goes with the state that was left is forgotten.
+func (e *Entry) enter(now time.Time, record osb.Record) {
 	e.Record = record
 	state := StateOf(record)
 	if state != e.State {
@@ -311,8 +311,8 @@ func (e *Entry) heldUntil(t terms) time.Time {
 // lastDue is when the last deletion of a row that is gone is due: once the hold has passed again.
 func (e *Entry) lastDue(t terms) time.Time { return later(e.Since, e.SentUntil).Add(t.hold) }
 
-// hasComeOn is whether a row has made progress. A deletion may begin and fail again and again: neither is progress.
-func hasComeOn(before, after State) bool {
+// hasProgressed is whether a row has made progress. A deletion may begin and fail again and again: neither is progress.
+func hasProgressed(before, after State) bool {
 	return before != after && !(isDeleting(before) && isDeleting(after))
 }
 

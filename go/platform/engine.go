@@ -98,36 +98,36 @@ func (e *Engine) Ready() error { return e.health.failing() }
 
 // Run steps what is due until stop is closed, and returns nil once what was in flight is answered and written, which
 // takes as long as its leases at most. If ctx is done, it returns the error of ctx, and what was in flight is left to
-// the next worker. A store that is away, or a broker that isn't reached, is waited for. The caller is the Only worker of
-// its name, and has called Free before. If it loses that right, it closes stop.
+// the next worker. A store that is away, or a broker that isn't reached, is waited for. The caller is the Only worker
+// of its name, and has called Free before. If it loses that right, it closes stop.
 func (e *Engine) Run(ctx context.Context, stop <-chan struct{}) error {
 	working, cancel := context.WithCancel(ctx)
 	r := newRun(working, e)
 	defer r.wait()
 	defer cancel()
-	r.sites.watch()
+	r.registry.watch()
 	if err := r.loop(ctx, stop); err != nil {
 		return err
 	}
-	r.sites.stop()
+	r.registry.stop()
 	return r.settle(ctx, cancel)
 }
 
 // A run is one call of Run or RunOnce. All of its goroutines have ended once wait has returned.
 type run struct {
 	*Engine
-	ctx   context.Context
-	group sync.WaitGroup
-	sites *sites
+	ctx      context.Context
+	group    sync.WaitGroup
+	registry *registry
 	// inFlight are the requests that aren't answered yet, in all and of each broker. running are these, those that are
 	// beside, and those whose answers are being written: at most twice as many as may be in flight, so that one
 	// transaction of the Store can have the answers to some and the requests that follow.
 	inFlight, running int
 	busy              map[string]int  // only brokers that have requests in flight
-	beside            map[string]int  // of each broker, the requests in flight that take no usual place
+	beside            map[string]int  // of each broker, the requests in flight that take no usual slot
 	silent            map[string]bool // whether the last request to a broker wasn't answered
-	answered          chan heardOf    // of each request that is answered, or that won't be; it never blocks
-	ended             chan again      // of each exchange whose answer is written; it never blocks
+	answered          chan release    // of each request that is answered, or that won't be; it never blocks
+	ended             chan nextDue    // of each exchange whose answer is written; it never blocks
 	known             time.Time       // when something is due, as far as is known; zero if nothing is
 	rest              backOff         // after claims that have failed
 	resting           time.Time       // until when nothing is claimed
@@ -135,8 +135,8 @@ type run struct {
 	asked             map[string]bool // for which brokers it was asked last
 }
 
-// again is when the row of an exchange is due again. It isn't, if isDue is false.
-type again struct {
+// nextDue is when the row of an exchange is due again. It isn't, if isDue is false.
+type nextDue struct {
 	in    time.Duration
 	isDue bool
 }
@@ -146,8 +146,8 @@ func newRun(ctx context.Context, e *Engine) *run {
 		Engine: e, ctx: ctx, busy: map[string]int{}, beside: map[string]int{}, silent: map[string]bool{},
 		rest: backOff{first: e.retry},
 	}
-	r.answered, r.ended = make(chan heardOf, 2*e.AtOnce), make(chan again, 2*e.AtOnce)
-	r.sites = newSites(ctx, e, &r.group)
+	r.answered, r.ended = make(chan release, 2*e.AtOnce), make(chan nextDue, 2*e.AtOnce)
+	r.registry = newRegistry(ctx, e, &r.group)
 	return r
 }
 
@@ -180,11 +180,11 @@ func (r *run) loop(ctx context.Context, stop <-chan struct{}) error {
 			return nil
 		case <-ctx.Done():
 			return ctx.Err()
-		case it := <-r.answered:
-			r.free(it)
+		case released := <-r.answered:
+			r.freeSlot(released)
 			continue
-		case it := <-r.ended:
-			r.note(it)
+		case next := <-r.ended:
+			r.note(next)
 			continue
 		default:
 		}
@@ -194,11 +194,11 @@ func (r *run) loop(ctx context.Context, stop <-chan struct{}) error {
 			return nil
 		case <-ctx.Done():
 			return ctx.Err()
-		case it := <-r.answered:
-			r.free(it)
-		case it := <-r.ended:
-			r.note(it)
-		case <-r.sites.changed:
+		case released := <-r.answered:
+			r.freeSlot(released)
+		case next := <-r.ended:
+			r.note(next)
+		case <-r.registry.changed:
 			r.look = time.Time{}
 		case <-timer.C:
 		}
@@ -216,22 +216,22 @@ func resetTimer(timer *time.Timer, wait time.Duration) {
 }
 
 // note takes in that an answer is written.
-func (r *run) note(it again) {
+func (r *run) note(next nextDue) {
 	r.running--
-	if !it.isDue {
+	if !next.isDue {
 		return
 	}
-	if at := time.Now().Add(it.in); r.known.IsZero() || at.Before(r.known) {
+	if at := time.Now().Add(next.in); r.known.IsZero() || at.Before(r.known) {
 		r.known = at
 	}
 }
 
-// pump begins as many exchanges as there are free places, and returns for how long there is nothing to do.
+// pump begins as many exchanges as there are free slots, and returns for how long there is nothing to do.
 func (r *run) pump() time.Duration {
 	if wait := time.Until(r.resting); wait > 0 {
 		return wait
 	}
-	names, most := r.places()
+	names, most := r.slots()
 	if most <= 0 {
 		if r.running == 0 { // no broker is reached, so no row is stepped
 			r.health.nothingDue()
@@ -239,7 +239,7 @@ func (r *run) pump() time.Duration {
 		return r.Look
 	}
 	for _, name := range names {
-		if !r.asked[name] { // it had no place left, and may have something due
+		if !r.asked[name] { // it had no slot left, and may have something due
 			r.look = time.Time{}
 		}
 	}
@@ -280,7 +280,7 @@ func (r *run) ask(names []string) {
 
 // begin claims what is due, and begins its exchanges.
 func (r *run) begin(names []string, most int) {
-	claim := r.claim(r.ctx, r.sites, names, most, r.spare())
+	claim := r.claim(r.ctx, r.registry, names, most, r.spareSlots())
 	r.start(claim.sendings)
 	r.known = time.Time{}
 	if claim.err == nil && claim.claimed > 0 {
@@ -304,14 +304,14 @@ const shortRest = 10 * time.Millisecond
 // start begins an exchange for each request.
 func (r *run) start(sendings []*sending) {
 	for _, sending := range sendings {
-		it := sending
+		sending := sending
 		r.running++
-		r.take(it)
+		r.takeSlot(sending)
 		r.group.Add(1)
 		go func() {
 			defer r.group.Done()
-			r.ended <- r.exchange(r.ctx, r.sites, it, func(isAnswered bool) {
-				r.answered <- heardOf{it.out.Broker.Name, it.isBeside, isAnswered}
+			r.ended <- r.exchange(r.ctx, r.registry, sending, func(isAnswered bool) {
+				r.answered <- release{sending.out.Broker.Name, sending.isBeside, isAnswered}
 			})
 		}()
 	}
@@ -353,47 +353,47 @@ func (o *once) hasFailed(event, broker string, err error) bool {
 	return err != nil
 }
 
-// heardOf is whether a request to a broker was answered.
-type heardOf struct {
+// A release says that the slot of a request to a broker is free, and whether the request was answered.
+type release struct {
 	broker               string
 	isBeside, isAnswered bool
 }
 
-// take takes a place for a request.
-func (r *run) take(it *sending) {
-	of := r.busy
-	if it.isBeside {
-		of = r.beside
+// takeSlot takes a slot for a request.
+func (r *run) takeSlot(s *sending) {
+	taken := r.busy
+	if s.isBeside {
+		taken = r.beside
 	} else {
 		r.inFlight++
 	}
-	of[it.out.Broker.Name]++
+	taken[s.out.Broker.Name]++
 }
 
-// free takes in that a request is answered, or won't be. That an order hangs again says nothing of its broker.
-func (r *run) free(it heardOf) {
-	if it.isBeside {
-		r.beside[it.broker]--
-		r.silent[it.broker] = r.silent[it.broker] && !it.isAnswered
+// freeSlot takes in that a request is answered, or won't be. That an order hangs again says nothing of its broker.
+func (r *run) freeSlot(freed release) {
+	if freed.isBeside {
+		r.beside[freed.broker]--
+		r.silent[freed.broker] = r.silent[freed.broker] && !freed.isAnswered
 		return
 	}
 	r.inFlight--
-	if r.busy[it.broker]--; r.busy[it.broker] == 0 {
-		delete(r.busy, it.broker)
+	if r.busy[freed.broker]--; r.busy[freed.broker] == 0 {
+		delete(r.busy, freed.broker)
 	}
-	r.silent[it.broker] = !it.isAnswered
+	r.silent[freed.broker] = !freed.isAnswered
 }
 
-// places returns the brokers to which something may be sent, and how many requests. If there are several brokers, those
+// slots returns the brokers to which something may be sent, and how many requests. If there are several brokers, those
 // that don't answer don't keep the orders of all others waiting:
 //
-//   - Each takes half of the places at most. If its last request wasn't answered, it takes one.
-//   - For each that has no request in flight a place is kept, but half of the places at most.
-func (r *run) places() (names []string, most int) {
-	reached, known := r.sites.names()
+//   - Each takes half of the slots at most. If its last request wasn't answered, it takes one.
+//   - For each that has no request in flight a slot is kept, but half of the slots at most.
+func (r *run) slots() (names []string, most int) {
+	reached, known := r.registry.names()
 	most = least(r.AtOnce-r.inFlight, 2*r.AtOnce-r.running)
 	for _, name := range reached {
-		left := r.left(name, known)
+		left := r.slotsLeft(name, known)
 		if left <= 0 {
 			continue
 		}
@@ -405,8 +405,8 @@ func (r *run) places() (names []string, most int) {
 	return names, most
 }
 
-// left is how many more requests may be sent to a broker, of so many brokers.
-func (r *run) left(name string, known int) int {
+// slotsLeft is how many more requests may be sent to a broker, of so many brokers.
+func (r *run) slotsLeft(name string, known int) int {
 	share, busy := r.AtOnce, r.busy[name]
 	free, others := r.AtOnce-r.inFlight, known-len(r.busy) // others are those without a request in flight
 	if busy == 0 {
@@ -421,30 +421,30 @@ func (r *run) left(name string, known int) int {
 		share = half
 	}
 	kept := least(others, half)
-	if busy == 0 { // its own place may be one of those that are kept
+	if busy == 0 { // its own slot may be one of those that are kept
 		return least(share, greatest(1, free-kept))
 	}
 	return least(share-busy, free-kept)
 }
 
-// MostInFlight returns how many requests of an engine with these Options.AtOnce are in flight at once, at most: those of
-// rows whose last request the broker hasn't taken up are beside the others.
+// MostInFlight returns how many requests of an engine with these Options.AtOnce are in flight at once, at most: those
+// of rows whose last request the broker hasn't taken up are beside the others.
 func MostInFlight(atOnce int) int { return atOnce + mostBeside(atOnce) }
 
 func mostBeside(atOnce int) int { return greatest(1, atOnce/2) }
 
-// A spare is how many requests a claim may give places beside the usual ones: in all, and to each broker.
-type spare struct {
+// spareSlots are how many slots a claim may give beside the usual ones: in all, and to the requests to each broker.
+type spareSlots struct {
 	all int
 	to  map[string]int
 }
 
-// spare are the places for rows whose last request the broker hasn't taken up. Each of these may hang again. So they
-// take no usual place. Beside these there are half as many, and at least one. If there are several brokers, each has half
-// of these, and one if it is silent.
-func (r *run) spare() *spare {
-	names, known := r.sites.names()
-	found := &spare{all: mostBeside(r.AtOnce), to: map[string]int{}}
+// spareSlots returns the slots for rows whose last request the broker hasn't taken up. Each of these may hang again. So
+// they take no usual slot. Beside these there are half as many, and at least one. If there are several brokers, each
+// has half of these, and one if it is silent.
+func (r *run) spareSlots() *spareSlots {
+	names, known := r.registry.names()
+	found := &spareSlots{all: mostBeside(r.AtOnce), to: map[string]int{}}
 	for _, count := range r.beside {
 		found.all -= count
 	}
@@ -462,8 +462,8 @@ func (r *run) spare() *spare {
 	return found
 }
 
-// hasFor is whether there is a place for one more request to a broker, after these decisions.
-func (s *spare) hasFor(broker string, decided map[Key]decision) bool {
+// hasFor is whether there is a slot for one more request to a broker, after these decisions.
+func (s *spareSlots) hasFor(broker string, decided map[Key]decision) bool {
 	all, left := s.all, s.to[broker]
 	for _, decision := range decided {
 		if decision.send == nil || !decision.send.isBeside {
@@ -479,10 +479,10 @@ func (s *spare) hasFor(broker string, decided map[Key]decision) bool {
 // isPutOff is whether the broker hasn't taken up the last request of a row. A request that its worker has left is none.
 func (e Entry) isPutOff() bool { return !e.DueSince.IsZero() && e.Lease.Worker == "" }
 
-// besides has what was decided on a row take a place beside the usual ones, if the row was put off. If there is none, the
-// row rests again for as long as after its last request: what has failed less often is due again sooner. A nil spare
-// has the row take a usual place.
-func (s *spare) besides(now time.Time, e Entry, made *decision, decided map[Key]decision) {
+// useFor has the request that was decided on a row take a slot beside the usual ones, if the row was put off. If there
+// is none, the row rests again for as long as after its last request: what has failed less often is due again sooner. A
+// nil spare has the row take a usual slot.
+func (s *spareSlots) useFor(now time.Time, e Entry, made *decision, decided map[Key]decision) {
 	switch {
 	case s == nil || made.send == nil || !e.isPutOff():
 	case s.hasFor(e.Broker, decided):

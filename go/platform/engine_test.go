@@ -238,7 +238,7 @@ func TestMostInFlight(t *testing.T) {
 	}
 }
 
-// No more requests are in flight at once than there are places.
+// No more requests are in flight at once than there are slots.
 func TestRunAtOnce(t *testing.T) {
 	p := newPlant(t, Options{AtOnce: 3})
 	check(t, p.engine.RunOnce(background))
@@ -319,22 +319,22 @@ func TestRunBesideOneThatHangs(t *testing.T) {
 	for n := 0; n < 5; n++ {
 		p.untilState(p.create(NewInstance{}), Ready)
 	}
-	diff.Equal(t, hanging.Load(), 2, "places taken")
+	diff.Equal(t, hanging.Load(), 2, "slots taken")
 }
 
-// Brokers that don't answer keep the orders of another one from nothing, as long as there are fewer of them than places.
-// So it is at once if no more of them than half of the places begin to hang, and otherwise once a request to each
+// Brokers that don't answer keep the orders of another one from nothing, as long as there are fewer of them than slots.
+// So it is at once if no more of them than half of the slots begin to hang, and otherwise once a request to each
 // wasn't answered.
 func TestRunBesideThoseThatHang(t *testing.T) {
 	for _, test := range []struct {
-		places, brokers, hanging int
-		areKnown                 bool // whether a request to each wasn't answered before
+		slots, brokers, hanging int
+		areKnown                bool // whether a request to each wasn't answered before
 	}{
 		{4, 3, 2, false}, {4, 20, 2, false}, {3, 3, 2, false}, {16, 9, 8, false}, {16, 30, 8, false},
 		{2, 3, 1, false}, {4, 8, 3, true}, {16, 30, 15, true},
 	} {
-		t.Run(fmt.Sprintf("%d of %d over %d", test.hanging, test.brokers, test.places), func(t *testing.T) {
-			p := newPlant(t, Options{AtOnce: test.places})
+		t.Run(fmt.Sprintf("%d of %d over %d", test.hanging, test.brokers, test.slots), func(t *testing.T) {
+			p := newPlant(t, Options{AtOnce: test.slots})
 			hanging := map[string]*atomic.Int32{}
 			for n := 1; n < test.brokers; n++ {
 				name := fmt.Sprintf("hook-%d", n)
@@ -358,7 +358,7 @@ func TestRunBesideThoseThatHang(t *testing.T) {
 				return usual(ctx, out)
 			}
 			for name := range hanging {
-				for n := 0; n < test.places; n++ {
+				for n := 0; n < test.slots; n++ {
 					p.create(NewInstance{Broker: name})
 				}
 			}
@@ -381,14 +381,14 @@ func TestRunBesideThoseThatHang(t *testing.T) {
 	}
 }
 
-// However many orders of a broker hang each time, they take half of the places beside the others: another order of the
+// However many orders of a broker hang each time, they take half of the slots beside the others: another order of the
 // same broker is carried out at once, and so is one of another broker.
 func TestRunBesideOrdersThatHang(t *testing.T) {
-	for _, test := range []struct{ places, brokers, hanging, most int }{
+	for _, test := range []struct{ slots, brokers, hanging, most int }{
 		{4, 1, 9, 2}, {8, 2, 4, 2}, {8, 2, 20, 2}, {16, 3, 20, 4}, {1, 1, 3, 1}, {1, 2, 3, 1},
 	} {
-		t.Run(fmt.Sprintf("%d of %d over %d", test.hanging, test.brokers, test.places), func(t *testing.T) {
-			p := newPlant(t, Options{AtOnce: test.places})
+		t.Run(fmt.Sprintf("%d of %d over %d", test.hanging, test.brokers, test.slots), func(t *testing.T) {
+			p := newPlant(t, Options{AtOnce: test.slots})
 			for n := 1; n < test.brokers; n++ {
 				p.addBroker(fmt.Sprintf("hook-%d", n))
 			}
@@ -451,8 +451,8 @@ func TestRunBesideOrdersThatHang(t *testing.T) {
 	}
 }
 
-// One broker of several with much to do goes on at once when one of its requests is answered. It isn't left for the next
-// look.
+// One broker of several with much to do goes on at once when one of its requests is answered. It isn't left for the
+// next look.
 func TestRunGoesOnWithoutALook(t *testing.T) {
 	p := newPlant(t, Options{AtOnce: 4})
 	p.addBroker("drawer")
@@ -473,8 +473,8 @@ func TestRunGoesOnWithoutALook(t *testing.T) {
 	}
 }
 
-// While all places are taken, and while no broker is reached, a run waits until it looks again: it isn't busy.
-func TestPumpWithoutPlaces(t *testing.T) {
+// While all slots are taken, and while no broker is reached, a run waits until it looks again: it isn't busy.
+func TestPumpWithoutSlots(t *testing.T) {
 	p := newPlant(t, Options{AtOnce: 3})
 	p.engine.Look = time.Hour
 	r := newRun(background, p.engine)

@@ -144,8 +144,8 @@ const (
 // mostTries is the most for which an instance or a binding may be ordered under further ids.
 const mostTries = 100
 
-// triesOf returns how often a creation is tried at most. wanted is how often somebody asks for, or 0. In that case, what
-// has a chosen id is tried once, because the next try would have another id.
+// triesOf returns how often a creation is tried at most. wanted is how often somebody asks for, or 0. In that case,
+// what has a chosen id is tried once, because the next try would have another id.
 //
 // Errors: a Fault.
 func triesOf(wanted int, isOwnID bool) (int, error) {
@@ -420,8 +420,8 @@ func namedID(named string) (text string, number osb.ID, err error) {
 	return named, number, nil
 }
 
-// longestIdentity is how many bytes an originating identity may have. It is sent with each request, and servers reject a
-// head that is too long: osb-broker one of more than 32 KiB. Then the order couldn't even be deleted.
+// longestIdentity is how many bytes an originating identity may have. It is sent with each request, and servers reject
+// a head that is too long: osb-broker one of more than 32 KiB. Then the order couldn't even be deleted.
 const longestIdentity = 16 << 10
 
 func checkIdentity(value string) error {
@@ -471,8 +471,8 @@ func orText(text, standby string) string {
 }
 
 // Remove has an instance or a binding deleted. An order that wasn't sent is withdrawn. withBindings has the bindings of
-// an instance deleted first. Without that, bindings of it that were ordered and never sent are withdrawn. It returns the
-// row after that; if the row is gone or withdrawn already, it stays as it is.
+// an instance deleted first. Without that, bindings of it that were ordered and never sent are withdrawn. It returns
+// the row after that; if the row is gone or withdrawn already, it stays as it is.
 //
 // Errors: a Fault if the key is unknown, or if the instance has bindings and withBindings is false; those of the Store.
 // A binding that is abandoned doesn't count.
@@ -535,7 +535,7 @@ func (o *Orders) Retry(ctx context.Context, key Key) (Entry, error) {
 			if err != nil {
 				return nil, notRetried(e, err)
 			}
-			e.come(now, record)
+			e.enter(now, record)
 		}
 		e.Due, e.Unchanged = now, 0
 		return &Change{Entry: e}, nil

@@ -889,7 +889,7 @@ func TestBindAgainWhileRemoved(t *testing.T) {
 // A row whose requests the broker doesn't take up counts as due since its first request was due, however often it is
 // put off. An answer of the broker ends that.
 func TestDueSince(t *testing.T) {
-	lost := hearing{Incoming: Incoming{Lost: errors.New("connection refused")}}
+	lost := exchangeResult{Incoming: Incoming{Lost: errors.New("connection refused")}}
 	for _, entry := range []Entry{rowIn(anInstance, Polling), rowIn(aBinding, Cleaning), longGone(anInstance)} {
 		row := with(entry, func(e *Entry) { e.Due = at(3) })
 		terms := plain()
@@ -903,7 +903,7 @@ func TestDueSince(t *testing.T) {
 			}
 			unheard := lost
 			if tries > 0 {
-				unheard = try.hear([]int{401, 503}[tries-1], object)
+				unheard = try.answer([]int{401, 503}[tries-1], object)
 			}
 			row = try.take(t, unheard).Entry
 			if !row.DueSince.Equal(at(3)) || !row.Due.After(at(11)) {
@@ -912,8 +912,8 @@ func TestDueSince(t *testing.T) {
 			row.Due = at(9)
 		}
 		try := newTrial(t, row, terms)
-		for _, answer := range []hearing{
-			try.hear(404, object), try.hear(410, object), try.hear(200, `{"state": "in progress"}`),
+		for _, answer := range []exchangeResult{
+			try.answer(404, object), try.answer(410, object), try.answer(200, `{"state": "in progress"}`),
 		} {
 			if e := try.take(t, answer).Entry; !e.DueSince.IsZero() {
 				t.Errorf("%s: got it due since %[3]v, after %[2]d, want no such time", row.State, answer.Status, e.DueSince)
@@ -931,7 +931,7 @@ func TestDueSinceOfDeletion(t *testing.T) {
 	}{{plain(), at(3)}, {usualTerms(), time.Time{}}} {
 		t.Run(fmt.Sprint("hold ", test.terms.hold), func(t *testing.T) {
 			try := newTrial(t, row, test.terms)
-			if e := try.take(t, try.hear(500, object)).Entry; e.State != Cleaning || !e.DueSince.Equal(test.want) {
+			if e := try.take(t, try.answer(500, object)).Entry; e.State != Cleaning || !e.DueSince.Equal(test.want) {
 				t.Errorf("got %s, due since %v, want %v", e.State, e.DueSince, test.want)
 			}
 		})

@@ -92,8 +92,8 @@ func newStage(t *testing.T, hold time.Duration) *stage {
 		options := Options{Worker: name, Share: func() float64 { return 0 }}
 		b := &bench{name: name, engine: NewEngine(s.store, s.wire, seal{}, options, s.wire)}
 		b.engine.retry = time.Microsecond
-		b.sites = newSites(background, b.engine, &sync.WaitGroup{})
-		b.sites.byName["shelf"] = &site{broker: broker, catalogue: catalogue}
+		b.registry = newRegistry(background, b.engine, &sync.WaitGroup{})
+		b.registry.byName["shelf"] = &knownBroker{broker: broker, catalogue: catalogue}
 		s.workers[at] = b
 	}
 	return s
@@ -103,9 +103,9 @@ var check = diff.Must
 
 // step has a worker do all that is due.
 func (s *stage) step(b *bench) {
-	found := b.engine.claim(background, b.sites, []string{"shelf"}, 10, nil)
+	found := b.engine.claim(background, b.registry, []string{"shelf"}, 10, nil)
 	for _, sending := range found.sendings {
-		b.engine.exchange(background, b.sites, sending, func(bool) {})
+		b.engine.exchange(background, b.registry, sending, func(bool) {})
 	}
 }
 
@@ -212,10 +212,10 @@ func (s *stage) pause(t *testing.T, how pause) bool {
 	first := s.workers[0]
 	go func() {
 		defer close(ended)
-		found := first.engine.claim(background, first.sites, []string{"shelf"}, 10, nil)
+		found := first.engine.claim(background, first.registry, []string{"shelf"}, 10, nil)
 		pause("claimed")
 		for _, sending := range found.sendings {
-			first.engine.exchange(background, first.sites, sending, func(bool) {})
+			first.engine.exchange(background, first.registry, sending, func(bool) {})
 		}
 	}()
 	await(t, "it doesn't come to the point", reached, ended)
@@ -245,7 +245,7 @@ func (s *stage) pause(t *testing.T, how pause) bool {
 func (s *stage) takeOver(t *testing.T, resume func()) {
 	t.Helper()
 	second := s.workers[1]
-	found := second.engine.claim(background, second.sites, []string{"shelf"}, 10, nil)
+	found := second.engine.claim(background, second.registry, []string{"shelf"}, 10, nil)
 	before, err := s.store.List(background, Filter{})
 	check(t, err)
 	now := s.dial.time()
@@ -259,7 +259,7 @@ func (s *stage) takeOver(t *testing.T, resume func()) {
 		}
 	}
 	for _, sending := range found.sendings {
-		second.engine.exchange(background, second.sites, sending, func(bool) {})
+		second.engine.exchange(background, second.registry, sending, func(bool) {})
 	}
 }
 
@@ -428,22 +428,22 @@ var scenes = []scene{
 	{name: "an Unbind that the next try follows", come: func(t *testing.T, s *stage) Key {
 		instance := s.create(t, "now")
 		s.seller.mood = func() int { return 1 }
-		key := s.bound(t, instance)
+		key := s.bind(t, instance)
 		s.step(s.workers[1])
 		s.seller.mood = func() int { return 9 }
 		s.dial.forward(time.Hour)
 		return key
 	}},
-	{name: "a Bind", come: func(t *testing.T, s *stage) Key { return s.bound(t, s.create(t, "now")) }},
+	{name: "a Bind", come: func(t *testing.T, s *stage) Key { return s.bind(t, s.create(t, "now")) }},
 	{name: "a Fetch", fetches: true, come: func(t *testing.T, s *stage) Key {
-		key := s.bound(t, s.create(t, "bind-later"))
+		key := s.bind(t, s.create(t, "bind-later"))
 		s.step(s.workers[1])
 		s.seller.goOn()
 		s.dial.forward(2 * time.Second)
 		return key
 	}},
 	{name: "an Unbind", come: func(t *testing.T, s *stage) Key {
-		key := s.bound(t, s.create(t, "now"))
+		key := s.bind(t, s.create(t, "now"))
 		s.step(s.workers[1])
 		s.remove(t, key)
 		s.dial.forward(time.Hour)
@@ -471,7 +471,7 @@ func (s *stage) create(t *testing.T, plan string) Key {
 	return key
 }
 
-func (s *stage) bound(t *testing.T, instance Key) Key {
+func (s *stage) bind(t *testing.T, instance Key) Key {
 	t.Helper()
 	e, err := s.orders.Bind(background, NewBinding{Instance: instance.String()})
 	check(t, err)
@@ -488,7 +488,7 @@ func (s *stage) remove(t *testing.T, key Key) {
 func (s *stage) crash(t *testing.T) {
 	t.Helper()
 	second := s.workers[1]
-	found := second.engine.claim(background, second.sites, []string{"shelf"}, 10, nil)
+	found := second.engine.claim(background, second.registry, []string{"shelf"}, 10, nil)
 	check(t, found.err)
 	for _, sending := range found.sendings {
 		s.Exchange(background, sending.out)

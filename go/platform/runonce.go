@@ -19,8 +19,9 @@ var (
 // long as an exchange may last. It waits no longer for a broker that refuses the user, the password or the version. For
 // as long as an exchange may last, it waits for rows that are due and that others have locked.
 //
-// Errors: that of ctx; the first of the Store, once what was in flight is written, or its leases are over; ErrLocked if such a row stays locked; ErrUnreached if a broker wasn't
-// reached, or refuses the user or the password, with the reason. The orders concerned are left to a later run.
+// Errors: that of ctx; the first of the Store, once what was in flight is written, or its leases are over; ErrLocked if
+// such a row stays locked; ErrUnreached if a broker wasn't reached, or refuses the user or the password, with the
+// reason. The orders concerned are left to a later run.
 func (e *Engine) RunOnce(ctx context.Context) error { return e.RunOnceUntil(ctx, nil) }
 
 // RunOnceUntil is RunOnce that begins nothing more once stop is closed. Then it returns nil once what was in flight is
@@ -31,33 +32,33 @@ func (e *Engine) RunOnceUntil(ctx context.Context, stop <-chan struct{}) error {
 	defer r.wait()
 	defer cancel()
 	r.stopAt(stop)
-	err := r.sites.reachAll()
+	err := r.registry.reachAll()
 	if err == nil {
-		err = r.drain(r.sites.ctx)
+		err = r.drain(r.registry.ctx)
 	}
 	if settled := r.settle(ctx, cancel); settled != nil {
 		return settled
 	}
-	if r.sites.ctx.Err() != nil { // it was stopped
+	if r.registry.ctx.Err() != nil { // it was stopped
 		return ctx.Err()
 	}
 	if err != nil {
 		return err
 	}
-	if unreached := r.sites.unreachedBrokers(); len(unreached) > 0 {
+	if unreached := r.registry.unreachedBrokers(); len(unreached) > 0 {
 		return fmt.Errorf("%w: %s", ErrUnreached, strings.Join(unreached, "; "))
 	}
 	return nil
 }
 
-// stopAt has the asking of the sites end once stop is closed.
+// stopAt has the asking of the registry end once stop is closed.
 func (r *run) stopAt(stop <-chan struct{}) {
 	r.group.Add(1)
 	go func() {
 		defer r.group.Done()
 		select {
 		case <-stop:
-			r.sites.stop()
+			r.registry.stop()
 		case <-r.ctx.Done():
 		}
 	}()
@@ -71,9 +72,9 @@ func (r *run) drain(ctx context.Context) error {
 			return ctx.Err()
 		}
 		claim := claimResult{}
-		names, most := r.places()
+		names, most := r.slots()
 		if most > 0 {
-			claim = r.claim(r.ctx, r.sites, names, most, nil) // each row is sent once, so none is put off
+			claim = r.claim(r.ctx, r.registry, names, most, nil) // each row is sent once, so none is put off
 			r.start(claim.sendings)
 			if claim.err != nil {
 				return claim.err
@@ -83,7 +84,7 @@ func (r *run) drain(ctx context.Context) error {
 			since = lockWatch{}
 			continue
 		}
-		if r.running == 0 && r.inFlight == 0 { // with requests in flight, no place may have been free
+		if r.running == 0 && r.inFlight == 0 { // with requests in flight, no slot may have been free
 			isDue, err := r.restIfDue(ctx, names, &since)
 			if err != nil || !isDue {
 				return err
@@ -91,10 +92,10 @@ func (r *run) drain(ctx context.Context) error {
 			continue
 		}
 		select {
-		case it := <-r.answered:
-			r.free(it)
-		case it := <-r.ended:
-			r.note(it)
+		case released := <-r.answered:
+			r.freeSlot(released)
+		case next := <-r.ended:
+			r.note(next)
 		case <-ctx.Done():
 			return ctx.Err()
 		}

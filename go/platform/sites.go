@@ -19,9 +19,9 @@ const (
 	longestAsking = 5 * time.Second
 )
 
-// sites are the brokers of a Store, as a run knows them. Each is asked for its catalogue before anything is sent to it.
-// So a broker that is down, and a wrong password, cost no order.
-type sites struct {
+// A registry has the brokers of a Store, as a run knows them. It asks each for its catalogue before anything is sent to
+// the broker. So a broker that is down, and a wrong password, cost no order.
+type registry struct {
 	*Engine
 	ctx     context.Context // of all that is asked
 	stop    context.CancelFunc
@@ -29,35 +29,35 @@ type sites struct {
 	changed chan struct{}   // has a value once a broker was reached
 
 	mu     sync.Mutex
-	byName map[string]*site
+	byName map[string]*knownBroker
 }
 
-// A site is a broker. It is reached if it has a catalogue.
-type site struct {
+// A knownBroker is a broker of a registry. It is reached if it has a catalogue.
+type knownBroker struct {
 	broker    Broker
 	catalogue *Catalogue
 	reason    error              // why there is no catalogue, or nil
 	cancel    context.CancelFunc // ends the goroutine that asks for the catalogue, now and later
 }
 
-func newSites(ctx context.Context, e *Engine, group *sync.WaitGroup) *sites {
+func newRegistry(ctx context.Context, e *Engine, group *sync.WaitGroup) *registry {
 	asking, stop := context.WithCancel(ctx)
-	return &sites{
-		Engine: e, ctx: asking, stop: stop, group: group, changed: make(chan struct{}, 1), byName: map[string]*site{},
+	return &registry{
+		Engine: e, ctx: asking, stop: stop, group: group, changed: make(chan struct{}, 1), byName: map[string]*knownBroker{},
 	}
 }
 
 // watch notices brokers that are added, changed or dropped, until stop.
-func (s *sites) watch() {
-	s.group.Add(1)
+func (r *registry) watch() {
+	r.group.Add(1)
 	go func() {
-		defer s.group.Done()
+		defer r.group.Done()
 		for {
-			brokers, err := s.store.Brokers(s.ctx)
-			if !s.health.read(err) {
-				s.refresh(brokers)
+			brokers, err := r.store.Brokers(r.ctx)
+			if !r.health.read(err) {
+				r.refresh(brokers)
 			}
-			if !sleep(s.ctx, s.Look) {
+			if !sleep(r.ctx, r.Look) {
 				return
 			}
 		}
@@ -66,28 +66,28 @@ func (s *sites) watch() {
 
 // refresh takes in which brokers there are. One that is new, or that is asked in another way, is asked for its
 // catalogue.
-func (s *sites) refresh(brokers []Broker) {
-	s.mu.Lock()
-	defer s.mu.Unlock()
+func (r *registry) refresh(brokers []Broker) {
+	r.mu.Lock()
+	defer r.mu.Unlock()
 	dropped := map[string]bool{}
-	for name := range s.byName {
+	for name := range r.byName {
 		dropped[name] = true
 	}
 	for _, broker := range brokers {
 		delete(dropped, broker.Name)
-		have := s.byName[broker.Name]
+		have := r.byName[broker.Name]
 		if have != nil && isAskedAlike(have.broker, broker) {
 			continue
 		}
 		if have != nil {
 			have.cancel()
 		}
-		s.byName[broker.Name] = &site{broker: broker}
-		s.ask(s.ctx, s.byName[broker.Name], s.group, s.Catalogues)
+		r.byName[broker.Name] = &knownBroker{broker: broker}
+		r.ask(r.ctx, r.byName[broker.Name], r.group, r.Catalogues)
 	}
 	for name := range dropped {
-		s.byName[name].cancel()
-		delete(s.byName, name)
+		r.byName[name].cancel()
+		delete(r.byName, name)
 	}
 }
 
@@ -103,33 +103,33 @@ func isAskedAlike(one, other Broker) bool {
 }
 
 // ask has a goroutine ask a broker for its catalogue until it is answered, and again and again after every so long. If
-// every is 0, one answer is enough, also one that refuses the platform. The goroutine ends once ctx is done, or the
-// site's cancel is called.
-func (s *sites) ask(ctx context.Context, it *site, group *sync.WaitGroup, every time.Duration) {
+// every is 0, one answer is enough, also one that refuses the platform. The goroutine ends once ctx is done, or
+// the broker's cancel is called.
+func (r *registry) ask(ctx context.Context, known *knownBroker, group *sync.WaitGroup, every time.Duration) {
 	asking, cancel := context.WithCancel(ctx)
-	it.cancel = cancel
+	known.cancel = cancel
 	group.Add(1)
 	go func() {
 		defer group.Done()
 		defer cancel()
-		for s.askOnce(asking, it, every == 0) && every > 0 && sleep(asking, every) {
+		for r.askOnce(asking, known, every == 0) && every > 0 && sleep(asking, every) {
 		}
 	}()
 }
 
 // askOnce asks a broker for its catalogue until it is answered. It returns false if ctx is done before, or if the
 // broker refuses the platform and that ends it. Until then the last catalogue counts.
-func (s *sites) askOnce(ctx context.Context, it *site, refusalEnds bool) bool {
+func (r *registry) askOnce(ctx context.Context, known *knownBroker, refusalEnds bool) bool {
 	for rest := firstAsking; ; rest = longerRest(rest) {
-		broker := s.brokerOf(it)
-		catalogue, status, err := s.catalogue(ctx, broker)
+		broker := r.brokerOf(known)
+		catalogue, status, err := r.catalogue(ctx, broker)
 		if err == nil {
-			s.reach(ctx, it, catalogue)
+			r.reach(ctx, known, catalogue)
 			return true
 		}
 		if ctx.Err() == nil {
-			s.miss(it, err)
-			s.once.hasFailed(eventOf(err), broker.Name, err)
+			r.miss(known, err)
+			r.once.hasFailed(eventOf(err), broker.Name, err)
 		}
 		if refusalEnds && refusesPlatform(status) {
 			return false
@@ -164,91 +164,91 @@ func refusesPlatform(status int) bool {
 
 // miss notes why the catalogue of a broker couldn't be fetched. If that is because the broker is over another store,
 // nothing more is sent there.
-func (s *sites) miss(it *site, reason error) {
-	s.mu.Lock()
-	defer s.mu.Unlock()
-	if it.reason = reason; errors.Is(reason, ErrOtherStore) {
-		it.catalogue = nil
+func (r *registry) miss(known *knownBroker, reason error) {
+	r.mu.Lock()
+	defer r.mu.Unlock()
+	if known.reason = reason; errors.Is(reason, ErrOtherStore) {
+		known.catalogue = nil
 	}
 }
 
-// brokerOf is the broker of a site. Its first catalogue says of which store it is.
-func (s *sites) brokerOf(it *site) Broker {
-	s.mu.Lock()
-	defer s.mu.Unlock()
-	return it.broker
+// brokerOf returns a broker as it is read in the Store. Its first catalogue says of which store it is.
+func (r *registry) brokerOf(known *knownBroker) Broker {
+	r.mu.Lock()
+	defer r.mu.Unlock()
+	return known.broker
 }
 
 // reach takes in that a broker has answered its catalogue, unless nobody asks for this answer any more.
-func (s *sites) reach(ctx context.Context, it *site, catalogue *Catalogue) {
-	s.mu.Lock()
-	isOver, isNew := ctx.Err() != nil, it.catalogue == nil
+func (r *registry) reach(ctx context.Context, known *knownBroker, catalogue *Catalogue) {
+	r.mu.Lock()
+	isOver, isNew := ctx.Err() != nil, known.catalogue == nil
 	if !isOver {
-		it.catalogue, it.reason, it.broker.Store = catalogue, nil, catalogue.Store
+		known.catalogue, known.reason, known.broker.Store = catalogue, nil, catalogue.Store
 	}
-	s.mu.Unlock()
+	r.mu.Unlock()
 	if isOver {
 		return
 	}
 	for _, event := range []string{"broker_unreached", "other_store"} {
-		s.once.hasFailed(event, it.broker.Name, nil)
+		r.once.hasFailed(event, known.broker.Name, nil)
 	}
 	if !isNew {
 		return
 	}
-	s.observer.OnCatalogue(it.broker.Name)
+	r.observer.OnCatalogue(known.broker.Name)
 	select {
-	case s.changed <- struct{}{}:
+	case r.changed <- struct{}{}:
 	default:
 	}
 }
 
 // catalogue asks for the catalogue once, and writes it, or why that failed, into the Store. status is the answer's, or
 // 0.
-func (s *sites) catalogue(ctx context.Context, broker Broker) (read *Catalogue, status int, err error) {
-	limited, cancel := context.WithTimeout(ctx, s.Exchange)
+func (r *registry) catalogue(ctx context.Context, broker Broker) (read *Catalogue, status int, err error) {
+	limited, cancel := context.WithTimeout(ctx, r.Exchange)
 	defer cancel()
-	document, status, err := s.client.Catalogue(limited, broker)
+	document, status, err := r.client.Catalogue(limited, broker)
 	if err == nil {
 		read, err = ReadCatalogue(document)
 	}
 	if err != nil {
 		reason := Reason{Kind: "catalogue", Status: status, Lost: atMost(err.Error())}
-		if written := s.keep(ctx, broker, nil, reason); written != nil && !errors.Is(written, errChanged) {
-			s.health.brokerFailed(written)
+		if written := r.keep(ctx, broker, nil, reason); written != nil && !errors.Is(written, errChanged) {
+			r.health.brokerFailed(written)
 		}
 		return nil, status, err
 	}
-	return read, status, s.keep(ctx, broker, document, Reason{})
+	return read, status, r.keep(ctx, broker, document, Reason{})
 }
 
 var errChanged = errors.New("the broker was changed or dropped meanwhile")
 
 // keep writes a catalogue with the store that it names, or why it couldn't be fetched, unless the Store has the same.
 // If the broker was changed or dropped meanwhile, nothing is written, and the error is errChanged.
-func (s *sites) keep(ctx context.Context, asked Broker, document json.RawMessage, reason Reason) error {
-	now, err := timeOf(ctx, s.store)
+func (r *registry) keep(ctx context.Context, asked Broker, document json.RawMessage, reason Reason) error {
+	now, err := timeOf(ctx, r.store)
 	if err != nil {
 		return err
 	}
-	err = s.store.ChangeBroker(ctx, asked.Name, func(it Broker) (*Broker, error) {
-		if !isAskedAlike(it, asked) {
+	err = r.store.ChangeBroker(ctx, asked.Name, func(broker Broker) (*Broker, error) {
+		if !isAskedAlike(broker, asked) {
 			return nil, errChanged
 		}
-		before := it.Reason
+		before := broker.Reason
 		before.At = time.Time{}
 		store := StoreOf(document)
-		isKept := document == nil || it.Store == store && isSameJSON(it.Catalogue, document)
+		isKept := document == nil || broker.Store == store && isSameJSON(broker.Catalogue, document)
 		if before == reason && isKept {
 			return nil, nil
 		}
-		if it.Reason = reason; document == nil {
-			it.Reason.At = now
+		if broker.Reason = reason; document == nil {
+			broker.Reason.At = now
 		}
 		if !isKept {
-			it.Catalogue, it.CatalogueAt, it.Store = document, now, store
+			broker.Catalogue, broker.CatalogueAt, broker.Store = document, now, store
 		}
-		return &it, nil
+		return &broker, nil
 	})
 	if errors.Is(err, ErrUnknown) {
 		return errChanged
@@ -277,60 +277,60 @@ func isSameJSON(one, other json.RawMessage) bool {
 // lose has a broker asked for its catalogue again before anything more is sent, since it refuses the user or the
 // password, or can't be reached. event says which. So an outage of a broker costs the orders that are in flight, and no
 // other.
-func (s *sites) lose(asked Broker, event string, reason error) {
+func (r *registry) lose(asked Broker, event string, reason error) {
 	err := fmt.Errorf("%w: nothing more is sent until it answers its catalogue", reason)
-	s.mu.Lock()
-	it := s.byName[asked.Name]
-	isLost := it != nil && it.catalogue != nil && isAskedAlike(it.broker, asked) && s.ctx.Err() == nil
+	r.mu.Lock()
+	known := r.byName[asked.Name]
+	isLost := known != nil && known.catalogue != nil && isAskedAlike(known.broker, asked) && r.ctx.Err() == nil
 	if isLost {
-		it.cancel()
-		it.catalogue, it.reason = nil, err
-		s.ask(s.ctx, it, s.group, s.Catalogues)
+		known.cancel()
+		known.catalogue, known.reason = nil, err
+		r.ask(r.ctx, known, r.group, r.Catalogues)
 	}
-	s.mu.Unlock()
+	r.mu.Unlock()
 	if isLost {
-		s.observer.OnFailure(Failure{Event: event, Broker: asked.Name, Err: err})
+		r.observer.OnFailure(Failure{Event: event, Broker: asked.Name, Err: err})
 	}
 }
 
-// names are those of the brokers that are reached. known is how many brokers there are.
-func (s *sites) names() (names []string, known int) {
-	s.mu.Lock()
-	defer s.mu.Unlock()
-	for name, site := range s.byName {
-		if site.catalogue != nil {
+// names returns the names of the brokers that are reached, and how many brokers there are.
+func (r *registry) names() (names []string, count int) {
+	r.mu.Lock()
+	defer r.mu.Unlock()
+	for name, known := range r.byName {
+		if known.catalogue != nil {
 			names = append(names, name)
 		}
 	}
 	sort.Strings(names)
-	return names, len(s.byName)
+	return names, len(r.byName)
 }
 
 // reachAll asks each broker for its catalogue, for as long as an exchange may last, or until the broker refuses the
 // platform.
-func (s *sites) reachAll() error {
-	brokers, err := s.store.Brokers(s.ctx)
+func (r *registry) reachAll() error {
+	brokers, err := r.store.Brokers(r.ctx)
 	if err != nil {
 		return err
 	}
-	limited, cancel := context.WithTimeout(s.ctx, s.Exchange)
+	limited, cancel := context.WithTimeout(r.ctx, r.Exchange)
 	defer cancel()
 	var group sync.WaitGroup
-	s.mu.Lock()
+	r.mu.Lock()
 	for _, broker := range brokers {
-		s.byName[broker.Name] = &site{broker: broker}
-		s.ask(limited, s.byName[broker.Name], &group, 0)
+		r.byName[broker.Name] = &knownBroker{broker: broker}
+		r.ask(limited, r.byName[broker.Name], &group, 0)
 	}
-	s.mu.Unlock()
+	r.mu.Unlock()
 	group.Wait()
-	return s.ctx.Err()
+	return r.ctx.Err()
 }
 
 // unreachedBrokers are the brokers that aren't reached, each with its name and why.
-func (s *sites) unreachedBrokers() (found []string) {
-	s.mu.Lock()
-	defer s.mu.Unlock()
-	for name, known := range s.byName {
+func (r *registry) unreachedBrokers() (found []string) {
+	r.mu.Lock()
+	defer r.mu.Unlock()
+	for name, known := range r.byName {
 		switch {
 		case known.catalogue != nil:
 		case known.reason != nil:
@@ -345,16 +345,16 @@ func (s *sites) unreachedBrokers() (found []string) {
 
 // decide decides on a row by the terms of its broker. It returns nil if the broker isn't reached any more: the row
 // stays.
-func (s *sites) decide(now time.Time, snapshot Snapshot) (*decision, error) {
-	s.mu.Lock()
-	it := s.byName[snapshot.Broker]
-	if it == nil || it.catalogue == nil {
-		s.mu.Unlock()
+func (r *registry) decide(now time.Time, snapshot Snapshot) (*decision, error) {
+	r.mu.Lock()
+	known := r.byName[snapshot.Broker]
+	if known == nil || known.catalogue == nil {
+		r.mu.Unlock()
 		return nil, nil
 	}
-	broker, catalogue := it.broker, it.catalogue
-	s.mu.Unlock()
-	t := s.terms(broker, catalogue, snapshot.Entry)
+	broker, catalogue := known.broker, known.catalogue
+	r.mu.Unlock()
+	t := r.terms(broker, catalogue, snapshot.Entry)
 	allGone := false
 	if needsAllGone(snapshot.Entry, t) {
 		var err error
@@ -370,19 +370,19 @@ func (s *sites) decide(now time.Time, snapshot Snapshot) (*decision, error) {
 }
 
 // terms are those of a row.
-func (s *sites) terms(broker Broker, catalogue *Catalogue, e Entry) terms {
+func (r *registry) terms(broker Broker, catalogue *Catalogue, e Entry) terms {
 	settings := broker.Settings
 	service, plan := catalogue.plan(e.Service, e.Plan)
 	t := terms{
 		pace: pace{
-			first: or(settings.FirstPace, s.FirstPace), longest: or(settings.LongestPace, s.LongestPace),
-			share: s.Share,
+			first: or(settings.FirstPace, r.FirstPace), longest: or(settings.LongestPace, r.LongestPace),
+			share: r.Share,
 		},
-		worker: s.Worker, exchange: s.Exchange, margin: s.Margin,
-		longestPoll: s.LongestPoll, hold: s.Hold,
-		removesUnsettled: s.Unsettled == RemoveUnsettled,
+		worker: r.Worker, exchange: r.Exchange, margin: r.Margin,
+		longestPoll: r.LongestPoll, hold: r.Hold,
+		removesUnsettled: r.Unsettled == RemoveUnsettled,
 		isRetrievable:    service != nil && service.IsRetrievable,
-		newID:            s.newID,
+		newID:            r.newID,
 	}
 	if plan != nil && plan.LongestPoll > 0 {
 		t.longestPoll = plan.LongestPoll

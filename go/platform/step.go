@@ -25,20 +25,20 @@ type claimResult struct {
 	err      error
 }
 
-// claim is the first transaction of a step, over all rows that are due as far as there are free places. The time of
+// claim is the first transaction of a step, over all rows that are due as far as there are free slots. The time of
 // their exchanges begins before it, so that a worker that is paused in or after it sends nothing that is late.
 func (e *Engine) claim(
-	ctx context.Context, sites *sites, names []string, most int, spare *spare,
+	ctx context.Context, registry *registry, names []string, most int, spare *spareSlots,
 ) (found claimResult) {
 	until := e.client.Clock().Add(e.Exchange)
 	decisions := map[Key]decision{}
 	rows, err := e.store.Claim(ctx, names, most, func(now time.Time, snapshot Snapshot) (*Change, error) {
 		delete(decisions, snapshot.Key)
-		made, err := sites.decide(now, snapshot)
+		made, err := registry.decide(now, snapshot)
 		if err != nil || made == nil {
 			return nil, err
 		}
-		spare.besides(now, snapshot.Entry, made, decisions)
+		spare.useFor(now, snapshot.Entry, made, decisions)
 		decisions[snapshot.Key] = *made
 		crash.At("claim-next")
 		return made.change(), nil
@@ -98,37 +98,37 @@ func inDoubt(decisions map[Key]decision, most int, err error) (sendings []*sendi
 }
 
 // exchange sends one request, and takes its result. In between it calls answered, with whether there is an answer.
-func (e *Engine) exchange(ctx context.Context, sites *sites, s *sending, answered func(isAnswered bool)) again {
-	heard := e.hear(ctx, s)
-	answered(heard.Lost == nil)
+func (e *Engine) exchange(ctx context.Context, registry *registry, s *sending, answered func(isAnswered bool)) nextDue {
+	result := e.carryOut(ctx, s)
+	answered(result.Lost == nil)
 	switch {
-	case isRefusal(heard.Status):
-		sites.lose(s.out.Broker, "broker_refuses", fmt.Errorf("status %d", heard.Status))
-	case errors.Is(heard.Lost, ErrOtherStore) && heard.Status < http.StatusInternalServerError:
-		sites.lose(s.out.Broker, "other_store", brief(heard.Lost))
-	case errors.Is(heard.Lost, ErrUnreachable):
-		sites.lose(s.out.Broker, "broker_unreached", brief(heard.Lost))
+	case isRefusal(result.Status):
+		registry.lose(s.out.Broker, "broker_refuses", fmt.Errorf("status %d", result.Status))
+	case errors.Is(result.Lost, ErrOtherStore) && result.Status < http.StatusInternalServerError:
+		registry.lose(s.out.Broker, "other_store", brief(result.Lost))
+	case errors.Is(result.Lost, ErrUnreachable):
+		registry.lose(s.out.Broker, "broker_unreached", brief(result.Lost))
 	}
-	entry, now, err := e.take(ctx, *s, heard)
+	entry, now, err := e.take(ctx, *s, result)
 	switch {
 	case err != nil:
 		e.fail("answer_not_written", *s, err)
-		return again{}
+		return nextDue{}
 	case entry == nil && s.unsure != nil: // it wasn't recorded
-		return again{isDue: true}
+		return nextDue{isDue: true}
 	case entry == nil:
 		e.fail("lease_lost", *s, osb.ErrNotInFlight)
-		return again{}
+		return nextDue{}
 	}
 	if entry.State != s.before {
 		e.observer.OnChange(entry.Key, s.before, entry.State)
 	}
 	if s.isLast() {
-		if shown, _ := judgeLast(heard.Incoming); shown != nothingLeft {
-			e.observer.OnOrphan(entry.Key, heard.Status, shown == orphanFound)
+		if shown, _ := judgeLast(result.Incoming); shown != nothingLeft {
+			e.observer.OnOrphan(entry.Key, result.Status, shown == orphanFound)
 		}
 	}
-	return again{in: entry.Due.Sub(now), isDue: !entry.Due.IsZero()}
+	return nextDue{in: entry.Due.Sub(now), isDue: !entry.Due.IsZero()}
 }
 
 // isRefusal is whether a broker refuses the user or the password.
@@ -143,17 +143,17 @@ func (e *Engine) fail(event string, s sending, err error) {
 	})
 }
 
-// hear sends a request and, if it is a Poll after which credentials can be fetched, the Fetch.
-func (e *Engine) hear(ctx context.Context, s *sending) hearing {
+// carryOut sends a request and, if it is a Poll after which credentials can be fetched, the Fetch.
+func (e *Engine) carryOut(ctx context.Context, s *sending) exchangeResult {
 	key := s.out.Entry.Key
-	heard := hearing{kind: kindOf(s.out.Request.Kind, key)}
-	heard.Incoming = e.send(ctx, s, heard.kind)
-	if !key.IsBinding || heard.Lost != nil {
-		return heard
+	result := exchangeResult{kind: kindOf(s.out.Request.Kind, key)}
+	result.Incoming = e.send(ctx, s, result.kind)
+	if !key.IsBinding || result.Lost != nil {
+		return result
 	}
 	if s.out.Request.Kind == osb.KindPoll {
-		if osb.DecidePoll(s.out.Entry.Record.State(), heard.Answer) != osb.StateReady {
-			return heard
+		if osb.DecidePoll(s.out.Entry.Record.State(), result.Answer) != osb.StateReady {
+			return result
 		}
 		crash.At("fetch-next")
 		fetch := *s
@@ -163,29 +163,29 @@ func (e *Engine) hear(ctx context.Context, s *sending) hearing {
 			fetched.Lost = fmt.Errorf("status %d: %w", fetched.Status, osb.ErrNoBinding)
 		}
 		if fetched.Lost != nil {
-			return hearing{kind: "fetch", Incoming: fetched}
+			return exchangeResult{kind: "fetch", Incoming: fetched}
 		}
-		heard.Binding, heard.Metadata = fetched.Binding, fetched.Metadata
+		result.Binding, result.Metadata = fetched.Binding, fetched.Metadata
 	}
-	return e.seal(*s, heard)
+	return e.seal(*s, result)
 }
 
 // seal seals the object of a binding. If that fails, the answer counts as lost, since nobody could use the binding.
-func (e *Engine) seal(s sending, heard hearing) hearing {
-	if heard.Binding == nil {
-		return heard
+func (e *Engine) seal(s sending, result exchangeResult) exchangeResult {
+	if result.Binding == nil {
+		return result
 	}
 	sealed, err := []byte(nil), errNoVault
 	if e.vault != nil {
-		sealed, err = e.vault.Seal(heard.Binding, s.out.Entry.Key.String())
+		sealed, err = e.vault.Seal(result.Binding, s.out.Entry.Key.String())
 	}
 	if err != nil {
-		heard.Lost, heard.isUnsealed = fmt.Errorf("the credentials can't be sealed: %w", err), true
+		result.Lost, result.isUnsealed = fmt.Errorf("the credentials can't be sealed: %w", err), true
 		e.fail("credentials_lost", s, err)
-		return heard
+		return result
 	}
-	heard.sealed = sealed
-	return heard
+	result.sealed = sealed
+	return result
 }
 
 // send is one exchange.
@@ -202,15 +202,15 @@ func (e *Engine) send(ctx context.Context, s *sending, kind string) Incoming {
 		return Incoming{Lost: errLate}
 	}
 	s.out.RequestID = id.String()
-	told := Exchange{
+	exchange := Exchange{
 		RequestID: s.out.RequestID, Broker: s.out.Entry.Broker, Key: s.out.Entry.Key, Kind: kind, Attempt: s.attempt,
 	}
-	e.observer.OnRequest(told)
+	e.observer.OnRequest(exchange)
 	crash.Soon("send-running")
 	in := e.client.Exchange(ctx, s.out)
-	told.Status, told.Lost, told.RetryAfter, told.Duration = in.Status, brief(in.Lost), in.RetryAfter, in.Duration
-	told.Error, told.Description = textOf(in.Details.Error), textOf(in.Details.Description)
-	e.observer.OnAnswer(told)
+	exchange.Status, exchange.Lost, exchange.RetryAfter, exchange.Duration = in.Status, brief(in.Lost), in.RetryAfter, in.Duration
+	exchange.Error, exchange.Description = textOf(in.Details.Error), textOf(in.Details.Description)
+	e.observer.OnAnswer(exchange)
 	return in
 }
 
@@ -219,11 +219,11 @@ const longestRetry = time.Second
 
 // take is the second transaction of a step. If it fails, it is tried again until the lease is over, or ctx is done.
 // entry is what was written, or nil if another worker has given the request up, or the request wasn't recorded.
-func (e *Engine) take(ctx context.Context, s sending, heard hearing) (entry *Entry, at time.Time, err error) {
+func (e *Engine) take(ctx context.Context, s sending, result exchangeResult) (entry *Entry, at time.Time, err error) {
 	var read Entry
 	step := func(now time.Time, snapshot Snapshot) (*Change, error) {
 		entry, at, read = nil, now, snapshot.Entry
-		change, err := takeAnswer(now, snapshot, s, heard)
+		change, err := takeAnswer(now, snapshot, s, result)
 		if err != nil || change == nil {
 			return nil, err
 		}
@@ -236,8 +236,8 @@ func (e *Engine) take(ctx context.Context, s sending, heard hearing) (entry *Ent
 		until = s.out.Until.Add(e.Margin)
 	}
 	var maybe *Entry // what may be written though its transaction failed
-	again := e.health.trying()
-	defer again.end()
+	rewrite := e.health.newRewrite()
+	defer rewrite.end()
 	for rest := (backOff{first: e.retry}); ; {
 		err = e.store.Change(ctx, s.out.Entry.Key, step)
 		if err == nil && entry == nil && maybe != nil && read.hasTaken(*maybe) {
@@ -250,7 +250,7 @@ func (e *Engine) take(ctx context.Context, s sending, heard hearing) (entry *Ent
 		if entry != nil {
 			maybe = entry
 		}
-		again.begin()
+		rewrite.begin()
 		if !e.waits(ctx, rest.next(), until) {
 			return nil, at, err
 		}

@@ -188,11 +188,11 @@ func TestNotReadyWhileAnAnswerIsNotWritten(t *testing.T) {
 // A claim that has nothing to write doesn't make the engine ready while something can't be written.
 func TestNotReadyAfterAClaimOfNothing(t *testing.T) {
 	p := newPlant(t, Options{})
-	sites := newSites(background, p.engine, &sync.WaitGroup{})
-	defer sites.stop()
+	registry := newRegistry(background, p.engine, &sync.WaitGroup{})
+	defer registry.stop()
 	full := errors.New("the disk is full")
 	p.engine.health.wrote(true, full)
-	if found := p.engine.claim(background, sites, []string{"shelf"}, 1, nil); found.err != nil || found.claimed > 0 {
+	if found := p.engine.claim(background, registry, []string{"shelf"}, 1, nil); found.err != nil || found.claimed > 0 {
 		t.Errorf("got %d rows claimed, and %v, want none", found.claimed, found.err)
 	}
 	if err := p.engine.Ready(); !errors.Is(err, full) {
@@ -204,7 +204,7 @@ func TestNotReadyAfterAClaimOfNothing(t *testing.T) {
 func TestAnswersThatAreWrittenAgain(t *testing.T) {
 	failed := errors.New("the disk is full")
 	h := &storeHealth{observer: Silent{}}
-	one, other := h.trying(), h.trying()
+	one, other := h.newRewrite(), h.newRewrite()
 	for range [3]int{} {
 		h.wrote(true, failed)
 		one.begin()
@@ -761,11 +761,11 @@ func (m *memory) Read(_ context.Context, key Key) (Entry, error) {
 	if !isThere {
 		return Entry{}, ErrUnknown
 	}
-	return m.shown(e), nil
+	return m.show(e), nil
 }
 
-// shown is a row as it is read to be shown.
-func (m *memory) shown(e Entry) Entry {
+// show is a row as it is read to be shown.
+func (m *memory) show(e Entry) Entry {
 	if m.unreadable[e.Key] {
 		e.Record, e.IsSent, e.Unreadable = osb.Record{}, false, errUnreadable.Error()
 	}
@@ -777,7 +777,7 @@ func (m *memory) List(context.Context, Filter) ([]Entry, error) {
 	defer m.mu.Unlock()
 	found := []Entry{}
 	for _, key := range m.begin().keys() {
-		found = append(found, m.shown(m.rows[key]))
+		found = append(found, m.show(m.rows[key]))
 	}
 	return found, nil
 }
@@ -787,7 +787,7 @@ func (m *memory) ReadAll(_ context.Context, keys []Key) (found []Entry, err erro
 	defer m.mu.Unlock()
 	for _, key := range keys {
 		if e, ok := m.rows[key]; ok {
-			found = append(found, m.shown(e))
+			found = append(found, m.show(e))
 		}
 	}
 	return found, nil

@@ -40,17 +40,17 @@ func (h *storeHealth) wrote(hasWritten bool, err error) bool {
 	return h.note(err, err != nil)
 }
 
-// A retrying is the writing of one answer, once it has failed.
-type retrying struct {
+// A rewrite is the writing of one answer, once it has failed.
+type rewrite struct {
 	of      *storeHealth
 	isBegun bool
 }
 
-// trying is for an answer that isn't written yet.
-func (h *storeHealth) trying() *retrying { return &retrying{of: h} }
+// newRewrite is for an answer that isn't written yet.
+func (h *storeHealth) newRewrite() *rewrite { return &rewrite{of: h} }
 
 // begin takes in that the answer is written again. It may be called more than once.
-func (r *retrying) begin() {
+func (r *rewrite) begin() {
 	if !r.isBegun {
 		r.isBegun = true
 		r.of.addAnswers(1)
@@ -58,7 +58,7 @@ func (r *retrying) begin() {
 }
 
 // end takes in that the answer isn't written again.
-func (r *retrying) end() {
+func (r *rewrite) end() {
 	if r.isBegun {
 		r.of.addAnswers(-1)
 	}
@@ -70,8 +70,8 @@ func (h *storeHealth) addAnswers(count int) {
 	h.answers += count
 }
 
-// nothingDue takes in that no row is to be stepped now. So nothing of what failed is left to be written, unless it is an
-// answer.
+// nothingDue takes in that no row is to be stepped now. So nothing of what failed is left to be written, unless it is
+// an answer.
 func (h *storeHealth) nothingDue() {
 	h.mu.Lock()
 	defer h.mu.Unlock()

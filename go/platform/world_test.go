@@ -159,7 +159,7 @@ type bench struct {
 	*world
 	name     string
 	engine   *Engine
-	sites    *sites
+	registry *registry
 	sendings []*sending
 	dies     string // the point at which it is killed, or empty
 }
@@ -222,10 +222,10 @@ func (b *bench) start() {
 		options.Unsettled = KeepUnsettled
 	}
 	b.engine = NewEngine(b.store, b, seal{}, options, b)
-	b.sites = newSites(context.Background(), b.engine, &sync.WaitGroup{})
+	b.registry = newRegistry(context.Background(), b.engine, &sync.WaitGroup{})
 	catalogue, err := ReadCatalogue([]byte(sold))
 	must(err)
-	b.sites.byName["shelf"] = &site{broker: b.store.brokers["shelf"], catalogue: catalogue}
+	b.registry.byName["shelf"] = &knownBroker{broker: b.store.brokers["shelf"], catalogue: catalogue}
 	b.engine.retry, b.engine.newID = time.Microsecond, b.world.newID
 	b.sendings, b.dies = nil, ""
 }
@@ -300,7 +300,7 @@ func (w *world) between(point string, _ Key) {
 // claim has a worker claim what is due.
 func (b *bench) claim() {
 	b.safely(func() {
-		found := b.engine.claim(context.Background(), b.sites, []string{"shelf"}, 3, nil)
+		found := b.engine.claim(context.Background(), b.registry, []string{"shelf"}, 3, nil)
 		b.sendings = append(b.sendings, found.sendings...)
 	})
 }
@@ -313,7 +313,7 @@ func (b *bench) exchange() {
 	at := b.roll(len(b.sendings))
 	s := b.sendings[at]
 	b.sendings = append(append([]*sending{}, b.sendings[:at]...), b.sendings[at+1:]...)
-	b.safely(func() { b.engine.exchange(context.Background(), b.sites, s, func(bool) {}) })
+	b.safely(func() { b.engine.exchange(context.Background(), b.registry, s, func(bool) {}) })
 }
 
 // Clock is the time as the worker has it.

@@ -45,8 +45,8 @@ type Options struct {
 	TLS Files // how brokers are trusted, and what the platform shows them
 
 	// LongestAnswer is the greatest length of an answer's body, in bytes. 0 stands for 1 MiB. An answer that is longer
-	// is lost. It doesn't count for catalogues, of which LongestCatalogue does. While an answer is parsed, each of its bytes
-	// takes up to 85 bytes, so answers of twice this length are parsed at once. Others wait until their Until.
+	// is lost. It doesn't count for catalogues, of which LongestCatalogue does. While an answer is parsed, each of its
+	// bytes takes up to 85 bytes, so answers of twice this length are parsed at once. Others wait until their Until.
 	LongestAnswer int
 	// Connections is how many connections to a broker there are at a time. 0 stands for 16. A request waits for one
 	// that is free, and that counts towards its time: so have no more requests in flight.
@@ -88,7 +88,7 @@ type Client struct {
 	parsed  *budget.Budget // bytes of answers that are parsed, of each broker as much as the others leave free
 
 	mutex    sync.Mutex
-	brokers  map[place]*broker
+	brokers  map[brokerKey]*broker
 	isClosed bool
 }
 
@@ -121,7 +121,7 @@ func New(options Options) (*Client, error) {
 		now:     clock(),
 		dial:    (&net.Dialer{}).DialContext,
 		idle:    standardIdle,
-		brokers: make(map[place]*broker),
+		brokers: make(map[brokerKey]*broker),
 		parsed:  budget.New(2 * options.LongestAnswer),
 	}
 	if err := c.Reload(); err != nil {
@@ -154,7 +154,7 @@ func (c *Client) Close() {
 
 // broker returns what is known of a broker, with its URL checked.
 func (c *Client) broker(of platform.Broker) (*broker, error) {
-	at := place{name: of.Name, url: of.URL}
+	at := brokerKey{name: of.Name, url: of.URL}
 	c.mutex.Lock()
 	defer c.mutex.Unlock()
 	if known, ok := c.brokers[at]; ok {

@@ -304,8 +304,8 @@ func tunnel(conn net.Conn, to string, user *url.Userinfo) error {
 	return nil
 }
 
-// place names a broker. If its URL changes, it is another one.
-type place struct{ name, url string }
+// A brokerKey names a broker. If the URL of a broker changes, it is another broker.
+type brokerKey struct{ name, url string }
 
 // A broker is what is known of one while the program runs: its address, and its connections.
 type broker struct {

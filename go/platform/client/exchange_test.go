@@ -564,8 +564,8 @@ func asks(t *testing.T, c *Client, of platform.Broker) map[string]func() error {
 const namedCatalogue = `{"services":[{"id":"s","name":"s","description":"d","bindable":true,"plans":[{"id":"p","name":"p",` +
 	`"description":"d"}]}],"x-osb-store":"one","credentials":{},"state":"succeeded"}`
 
-// A broker has named the store one. An answer that names another one, or none, is lost, whatever it answers: no status of
-// it counts as the broker's.
+// A broker has named the store one. An answer that names another one, or none, is lost, whatever it answers: no status
+// of it counts as the broker's.
 func TestAnswersOfAnotherStore(t *testing.T) {
 	for what, row := range map[string]struct {
 		headers []string
@@ -605,8 +605,8 @@ func TestAnswersOfAnotherStore(t *testing.T) {
 	}
 }
 
-// A request names the store that is recorded, so that a broker over another one doesn't carry it out. Only the catalogue is
-// asked for of any store.
+// A request names the store that is recorded, so that a broker over another one doesn't carry it out. Only the
+// catalogue is asked for of any store.
 func TestRequestsNameTheStore(t *testing.T) {
 	for _, store := range []string{"", "one"} {
 		var asked atomic.Int32
@@ -669,8 +669,8 @@ func TestCatalogueOfAnotherStore(t *testing.T) {
 	}
 }
 
-// An answer with the identity of another request is lost, whatever was asked. One without an identity is taken, since not
-// every broker returns it.
+// An answer with the identity of another request is lost, whatever was asked. One without an identity is taken, since
+// not every broker returns it.
 func TestAnswersToAnotherRequest(t *testing.T) {
 	for _, named := range []string{"another", "", "the same, twice"} {
 		server := httptest.NewServer(http.HandlerFunc(func(w http.ResponseWriter, r *http.Request) {

@@ -16,7 +16,8 @@ import (
 	"pippinterm/platform"
 )
 
-// An Answer is what a broker has answered to a question that changes nothing. No credentials and no parameters are in it.
+// An Answer is what a broker has answered to a question that changes nothing. No credentials and no parameters are in
+// it.
 type Answer struct {
 	Status             int
 	State              string // of a last operation: in progress, succeeded or failed; or empty
