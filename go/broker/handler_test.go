@@ -367,14 +367,14 @@ func TestLives(t *testing.T) {
 	}
 }
 
-// A held backend creates nothing until it is released.
-type waiting struct {
+// A blockedBackend creates nothing until it is released.
+type blockedBackend struct {
 	*shelf
 	begun   chan broker.Request
 	release chan struct{}
 }
 
-func (w waiting) Create(ctx context.Context, request broker.Request) error {
+func (w blockedBackend) Create(ctx context.Context, request broker.Request) error {
 	w.begun <- request
 	<-w.release
 	return w.shelf.Create(ctx, request)
@@ -382,7 +382,7 @@ func (w waiting) Create(ctx context.Context, request broker.Request) error {
 
 // While work is pending, other requests of the instance are answered at once. The backend gets the whole request.
 func TestPending(t *testing.T) {
-	one := waiting{begun: make(chan broker.Request, 1), release: make(chan struct{})}
+	one := blockedBackend{begun: make(chan broker.Request, 1), release: make(chan struct{})}
 	s := newTestBroker(t, setting{atOnce: 9, over: func(s *shelf) broker.Backend { one.shelf = s; return one }})
 	identity := "cloudfoundry " + base64.StdEncoding.EncodeToString([]byte(`{"user_id":"me"}`))
 	made := make(chan int)
@@ -410,7 +410,7 @@ func TestPending(t *testing.T) {
 
 // As many requests are carried out at once as may be: others wait.
 func TestAtOnce(t *testing.T) {
-	one := waiting{begun: make(chan broker.Request, 1), release: make(chan struct{})}
+	one := blockedBackend{begun: make(chan broker.Request, 1), release: make(chan struct{})}
 	s := newTestBroker(t, setting{atOnce: 0, over: func(s *shelf) broker.Backend { one.shelf = s; return one }})
 	made := make(chan int, 2)
 	create := func(of string) {
@@ -433,7 +433,7 @@ func TestAtOnce(t *testing.T) {
 
 // Wait returns once what is carried out has ended, or its time is over.
 func TestWait(t *testing.T) {
-	one := waiting{begun: make(chan broker.Request, 1), release: make(chan struct{})}
+	one := blockedBackend{begun: make(chan broker.Request, 1), release: make(chan struct{})}
 	s := newTestBroker(t, setting{atOnce: 3, over: func(s *shelf) broker.Backend { one.shelf = s; return one }})
 	made := make(chan int, 1)
 	go func() {
@@ -460,13 +460,13 @@ func TestWait(t *testing.T) {
 	}
 }
 
-// refusing is a backend that refuses and fails.
-type refusing struct {
+// refusingBackend is a backend that refuses and fails.
+type refusingBackend struct {
 	*shelf
 	failure error
 }
 
-func (r refusing) Create(context.Context, broker.Request) error { return r.failure }
+func (r refusingBackend) Create(context.Context, broker.Request) error { return r.failure }
 
 func TestFailures(t *testing.T) {
 	for _, test := range []struct {
@@ -489,9 +489,9 @@ func TestFailures(t *testing.T) {
 		t.Run(test.name, func(t *testing.T) {
 			s := newTestBroker(t, setting{over: func(s *shelf) broker.Backend {
 				if test.failure == nil {
-					return panicking{s}
+					return panickingBackend{s}
 				}
-				return refusing{s, test.failure}
+				return refusingBackend{s, test.failure}
 			}})
 			body := s.expect(t, test.status, "PUT", instances+"i", bodyOf(now, ""))
 			for _, text := range test.want {
@@ -517,9 +517,9 @@ func TestFailures(t *testing.T) {
 	}
 }
 
-type panicking struct{ *shelf }
+type panickingBackend struct{ *shelf }
 
-func (panicking) Create(context.Context, broker.Request) error { panic("boom") }
+func (panickingBackend) Create(context.Context, broker.Request) error { panic("boom") }
 
 // The creation of a later plan waits for its first Poll, if that is the rule, and fails after a while without one.
 func TestFirstPoll(t *testing.T) {
@@ -624,7 +624,7 @@ func TestFetchOfWhatIsNotRetrievable(t *testing.T) {
 			document := strings.Replace(document, "IS", retrievable, 1)
 			service := broker.NewService(
 				catalogueFor(t, document), b.store, newShelf(calm), newMemoryLocks(), broker.Rules{}, b.observed)
-			l := &lone{handler: handlerFor(t, service)}
+			l := &loneBroker{handler: handlerFor(t, service)}
 			l.expect(t, 201, "PUT", instances+"i", bodyOf(now, ""))
 			l.expect(t, 201, "PUT", instances+"i/service_bindings/b", bodyOf(now, ""))
 			given := l.ask("GET", instances+"i/service_bindings/b", "")
@@ -818,7 +818,7 @@ func TestCataloguesThatAreRejected(t *testing.T) {
 func TestLongDescriptions(t *testing.T) {
 	long := strings.Repeat("é", 1001)
 	s := newTestBroker(t, setting{over: func(s *shelf) broker.Backend {
-		return refusing{s, &broker.Rejection{Status: 400, Description: long}}
+		return refusingBackend{s, &broker.Rejection{Status: 400, Description: long}}
 	}})
 	body := s.expect(t, 400, "PUT", instances+"i", bodyOf(now, ""))
 	if !strings.Contains(body, strings.Repeat("é", 1000)) || strings.Contains(body, long) {
@@ -1071,7 +1071,7 @@ func TestTouchOfBindings(t *testing.T) {
 
 // The deletions that the broker begins itself, of bindings whose creation has failed, are gone on with at once.
 func TestTouchOfFailedBindings(t *testing.T) {
-	backend := &failing{shelf: newShelf(calm), name: "create-binding", err: errScripted}
+	backend := &failingBackend{shelf: newShelf(calm), name: "create-binding", err: errScripted}
 	u, one := newToucher(t, backend), instances+"i"
 	key := broker.BindingKey(keyOf("i").Instance, keyOf("b").Instance)
 	u.check(t, key, []request{

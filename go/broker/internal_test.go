@@ -45,7 +45,7 @@ func TestOneCallTriesSilentLocks(t *testing.T) {
 	entered, release, ended := make(chan struct{}), make(chan struct{}), make(chan error, 1)
 	locks := &tryLocks{try: func() error { close(entered); <-release; return nil }}
 	g := newGate(locks, 4)
-	g.silent()
+	g.fallSilent()
 	go func() { _, err := g.tryLock(context.Background(), Key{}); ended <- err }()
 	<-entered
 	locks.try = func() error { return errors.New("the locks were asked") }
@@ -59,7 +59,7 @@ func TestOneCallTriesSilentLocks(t *testing.T) {
 // Once a call has been answered, calls run side by side again. One that fails changes nothing.
 func TestLocksThatAnswerAgain(t *testing.T) {
 	g := newGate(&tryLocks{try: func() error { return errors.New("it failed") }}, 4)
-	g.silent()
+	g.fallSilent()
 	for _, test := range []struct {
 		err     error
 		isProbe bool
@@ -194,16 +194,16 @@ func keyOfTest(n int) Key {
 func TestSetbacks(t *testing.T) {
 	s := newSetbacks(time.Hour, time.Hour)
 	one, other, third := keyOfTest(1), keyOfTest(2), keyOfTest(3)
-	s.add(one, wentBadly, true)
-	s.add(other, wentBadly, false)
-	s.add(third, wentNowhere, true)
+	s.add(one, backendFailed, true)
+	s.add(other, backendFailed, false)
+	s.add(third, backendUnused, true)
 	for key, want := range map[Key][2]bool{one: {true, true}, other: {true, false}, third: {}} {
 		if s.isFailing(key) != want[0] || s.rests(key) != want[1] {
 			t.Errorf("%v: got failing %v and resting %v, want %v", key, s.isFailing(key), s.rests(key), want)
 		}
 	}
-	s.add(one, wentNowhere, true)
-	s.add(other, wentWell, false)
+	s.add(one, backendUnused, true)
+	s.add(other, backendSucceeded, false)
 	if !s.isFailing(one) || s.isFailing(other) {
 		t.Error("got other keys that fail, want only those that haven't succeeded since")
 	}
@@ -214,7 +214,7 @@ func TestSetbacks(t *testing.T) {
 		t.Error("got other keys that fail, want what waits or rests, and not what failed long ago")
 	}
 	for n := 0; n < mostSetbacks+10; n++ {
-		s.add(keyOfTest(n), wentBadly, true)
+		s.add(keyOfTest(n), backendFailed, true)
 	}
 	diff.Equal(t, len(s.of), mostSetbacks, "keys known")
 }
@@ -225,14 +225,14 @@ func TestSlowFollowsWhatRunsTake(t *testing.T) {
 	for _, test := range []struct {
 		runs            int
 		took            time.Duration
-		went            went
+		went            backendResult
 		shortest, after time.Duration
 	}{
-		{1, 100 * time.Millisecond, wentWell, 400 * time.Millisecond, time.Second},
-		{30, time.Minute, wentBadly, 400 * time.Millisecond, time.Second},
-		{30, time.Second, wentWell, 3 * time.Second, longestSlow},
-		{30, time.Minute, wentWell, longestSlow, longestSlow},
-		{100, time.Millisecond, wentWell, shortestSlow, time.Second},
+		{1, 100 * time.Millisecond, backendSucceeded, 400 * time.Millisecond, time.Second},
+		{30, time.Minute, backendFailed, 400 * time.Millisecond, time.Second},
+		{30, time.Second, backendSucceeded, 3 * time.Second, longestSlow},
+		{30, time.Minute, backendSucceeded, longestSlow, longestSlow},
+		{100, time.Millisecond, backendSucceeded, shortestSlow, time.Second},
 	} {
 		for n := 0; n < test.runs; n++ {
 			r := p.begin(keyOfTest(n), false)
@@ -266,7 +266,7 @@ func TestFewestFailuresFirst(t *testing.T) {
 		key := keyOfTest(n)
 		s.failing = append(s.failing, key)
 		for ; times > 0; times-- {
-			s.setbacks.add(key, wentBadly, true)
+			s.setbacks.add(key, backendFailed, true)
 		}
 	}
 	for _, n := range []int{4, 6, 2, 5, 3, 0, 1} {

@@ -49,7 +49,7 @@ func (g *gate) tryLock(ctx context.Context, key Key) (lock Lock, err error) {
 		return nil, errSilent
 	}
 	defer func() { <-g.slots }()
-	late := time.AfterFunc(patience, g.silent)
+	late := time.AfterFunc(patience, g.fallSilent)
 	defer late.Stop()
 	lock, err = g.locks.TryLock(ctx, key)
 	answered = err == nil
@@ -79,7 +79,7 @@ func (g *gate) leave(isProbe, answered bool) {
 	}
 }
 
-func (g *gate) silent() {
+func (g *gate) fallSilent() {
 	g.turn.Lock()
 	defer g.turn.Unlock()
 	g.isSilent = true

@@ -141,7 +141,7 @@ func TestSentencesOfTheBackend(t *testing.T) {
 		{http.ErrNotSupported, 500, "The backend failed. The broker's log has the reason."},
 	} {
 		t.Run(fmt.Sprint(test.failure), func(t *testing.T) {
-			s := newTestBroker(t, setting{over: func(s *shelf) broker.Backend { return refusing{s, test.failure} }})
+			s := newTestBroker(t, setting{over: func(s *shelf) broker.Backend { return refusingBackend{s, test.failure} }})
 			body := s.expect(t, test.status, "PUT", instances+"i", bodyOf(now, ""))
 			if description, _ := descriptionIn(t, body); description != test.description {
 				t.Errorf("%v: got %s, want its description", test.failure, body)
@@ -152,7 +152,7 @@ func TestSentencesOfTheBackend(t *testing.T) {
 
 // The creation of what has failed says why the creation has failed, and not why a deletion has failed since.
 func TestSentencesOfWhatHasFailed(t *testing.T) {
-	l, one := newLone(t), instances+"i"
+	l, one := newLoneBroker(t), instances+"i"
 	says := func(wanted string) {
 		t.Helper()
 		given := l.ask("PUT", one+query, bodyOf(later, ""))

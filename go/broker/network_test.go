@@ -81,7 +81,7 @@ func newWorld(t *testing.T, seed int64, open opener, seen *tally, walks *bufio.W
 	w.shelf.asked = w.checkSent
 	w.backend = w.shelf
 	if seed%2 == 0 {
-		w.backend = knowing{w.shelf}
+		w.backend = knowingShelf{w.shelf}
 	}
 	w.catalogue = catalogueFor(t, catalogue)
 	crash.Hook = w.passPoint
@@ -139,8 +139,8 @@ func (w *world) checkSent(r broker.Request) {
 }
 
 // arrive is a request at a process. If that is killed meanwhile, nobody is answered.
-func (w *world) arrive(it outgoing) *answer {
-	visit := &visit{outgoing: it}
+func (w *world) arrive(it outgoingRequest) *answer {
+	visit := &visit{outgoingRequest: it}
 	var given *answer
 	if !w.use(it.of, visit, func(p *process) { given = &answer{reply: it.serve(p.handler)} }) {
 		return nil
@@ -153,7 +153,7 @@ func (w *world) arrive(it outgoing) *answer {
 func (w *world) note(it *life, event string) { w.walk.event(it.key, event) }
 
 // deliver sends a request over the network: it may be lost, its answer may be lost, or an old one may arrive first.
-func (w *world) deliver(it outgoing) *answer {
+func (w *world) deliver(it outgoingRequest) *answer {
 	how := 9
 	if !w.calm {
 		how = w.chance.Intn(12)
@@ -428,12 +428,12 @@ func (w *world) end() {
 
 // A network carries a request to the broker, and returns nil if there is no answer. It hears what the platform does.
 type network interface {
-	deliver(outgoing) *answer
+	deliver(outgoingRequest) *answer
 	note(it *life, event string)
 }
 
-// An outgoing request is one of a life.
-type outgoing struct {
+// An outgoingRequest is one of a life.
+type outgoingRequest struct {
 	message
 	of      broker.Key
 	attempt uint64 // of a request but a Fetch
@@ -469,7 +469,7 @@ type platform struct {
 	bindings  []*life
 	isUnruly  bool // whether it keeps none of its rules
 	isRemoved bool // whether the instance is to be removed: no binding is created any more
-	sent      []outgoing
+	sent      []outgoingRequest
 }
 
 func newPlatform(network network, plan osb.Plan) *platform {
@@ -613,14 +613,14 @@ func (p *platform) fetch(it *life, poll osb.Sent) *answer {
 	return given
 }
 
-func (p *platform) send(it outgoing) *answer {
+func (p *platform) send(it outgoingRequest) *answer {
 	p.sent = append(p.sent, it)
 	return p.network.deliver(it)
 }
 
-func (p *platform) message(it *life, sent osb.Sent, isFetch bool) outgoing {
+func (p *platform) message(it *life, sent osb.Sent, isFetch bool) outgoingRequest {
 	request := sent.Request
-	made := outgoing{of: it.key, attempt: sent.Attempt, isFetch: isFetch}
+	made := outgoingRequest{of: it.key, attempt: sent.Attempt, isFetch: isFetch}
 	number := fmt.Sprintf("%v-%v-%d", it.key, request.Kind, sent.Attempt)
 	made.header = signedBy(fmt.Sprintf("the user of %v", it.key), number)
 	var err error
@@ -702,10 +702,10 @@ func (s *shelf) isCredentials(key broker.Key, object []byte) bool {
 	return it.there == broker.Whole && it.credentials == credentialsOf(object)
 }
 
-// A knowing shelf can tell the credentials of what exists.
-type knowing struct{ *shelf }
+// A knowingShelf can tell the credentials of what exists.
+type knowingShelf struct{ *shelf }
 
-func (k knowing) Credentials(_ context.Context, r broker.Request) (json.RawMessage, error) {
+func (k knowingShelf) Credentials(_ context.Context, r broker.Request) (json.RawMessage, error) {
 	k.asked(r)
 	k.turn.Lock()
 	defer k.turn.Unlock()
@@ -730,7 +730,7 @@ type course struct {
 
 // A visit is a request at a process.
 type visit struct {
-	outgoing
+	outgoingRequest
 	isGiven bool // whether its answer is decided on
 	at      int  // the number of that answer
 }
@@ -1009,7 +1009,7 @@ func (p *process) start() {
 	w.check(err)
 	p.store, p.close, p.isDead = store, closing, false
 	seen := recordingStore{store, p}
-	p.service = broker.NewService(w.catalogue, seen, w.backend, patient{locks, w}, w.rules, broker.Silent{})
+	p.service = broker.NewService(w.catalogue, seen, w.backend, patientLocks{locks, w}, w.rules, broker.Silent{})
 	p.handler = handlerFor(w.t, p.service)
 	p.handler.Observer = p
 }
@@ -1138,13 +1138,13 @@ func (w *world) use(key broker.Key, visit *visit, do func(*process)) bool {
 	return false
 }
 
-// Patient locks are waited for while other things happen.
-type patient struct {
+// patientLocks are waited for while other things happen.
+type patientLocks struct {
 	broker.Locks
 	world *world
 }
 
-func (p patient) Lock(ctx context.Context, key broker.Key) (broker.Lock, error) {
+func (p patientLocks) Lock(ctx context.Context, key broker.Key) (broker.Lock, error) {
 	for {
 		lock, err := p.TryLock(ctx, key)
 		if err != nil || lock != nil {

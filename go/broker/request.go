@@ -112,17 +112,17 @@ func (n Names) of(key Key) Names {
 }
 
 // namesAnother reports whether a request names another id than the one that is held under its key.
-func (a Visit) namesAnother(held Entry) (bool, error) {
+func (v Visit) namesAnother(held Entry) (bool, error) {
 	if !held.Holding.IsHeld() {
 		return false, nil
 	}
-	return a.Names.of(a.Key).differ(a.Key, held)
+	return v.Names.of(v.Key).differ(v.Key, held)
 }
 
 // instance is the holding of a binding's instance. If the request names another instance, it is the zero Holding.
-func (a Visit) instance(snapshot Snapshot) (osb.Holding, error) {
-	key := InstanceKey(a.Key.Instance)
-	differ, err := Names{Instance: a.Names.of(a.Key).Instance}.differ(key, snapshot.Instance)
+func (v Visit) instance(snapshot Snapshot) (osb.Holding, error) {
+	key := InstanceKey(v.Key.Instance)
+	differ, err := Names{Instance: v.Names.of(v.Key).Instance}.differ(key, snapshot.Instance)
 	if err != nil || differ {
 		return osb.Holding{}, err
 	}
@@ -148,16 +148,16 @@ func (n Names) head() []byte {
 	return head
 }
 
-// unknown answers a request that names something that doesn't exist, under a number that somebody else has.
-func (a Visit) unknown() Response {
+// unknownResponse answers a request that names something that doesn't exist, under a number that somebody else has.
+func (v Visit) unknownResponse() Response {
 	response := Response{
 		Answer:      osb.Answer{Status: http.StatusGone, Body: osb.BodyOtherError},
 		Description: "Nothing exists under this id.",
 	}
 	switch {
-	case a.IsFetch:
+	case v.IsFetch:
 		response.Status = http.StatusNotFound
-	case a.Asked.Kind == osb.KindProvision:
+	case v.Asked.Kind == osb.KindProvision:
 		response.Status = http.StatusConflict
 		response.Description = "This id has the same number as the id of something else. Choose another id."
 	}

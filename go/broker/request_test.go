@@ -257,23 +257,23 @@ func canonical(value any) string {
 	return string(text)
 }
 
-// A hanging backend creates nothing until it may.
-type hanging struct {
+// A hangingBackend creates nothing until it may.
+type hangingBackend struct {
 	*shelf
 	begun, goOn chan struct{}
 	open        func() // has all creations go on
 }
 
-func (h hanging) Create(ctx context.Context, request broker.Request) error {
+func (h hangingBackend) Create(ctx context.Context, request broker.Request) error {
 	h.begun <- struct{}{}
 	<-h.goOn
 	return h.shelf.Create(ctx, request)
 }
 
 // newHanging is a site of so many threads whose backend hangs in its creations.
-func newHanging(t *testing.T, threads int) (*testBroker, hanging) {
+func newHanging(t *testing.T, threads int) (*testBroker, hangingBackend) {
 	t.Helper()
-	backend := hanging{begun: make(chan struct{}, 100), goOn: make(chan struct{}, 100)}
+	backend := hangingBackend{begun: make(chan struct{}, 100), goOn: make(chan struct{}, 100)}
 	rules := broker.Rules{FirstPoll: true, WaitForPoll: time.Hour}
 	s := newTestBroker(t, setting{atOnce: threads - 1, rules: rules, over: func(s *shelf) broker.Backend {
 		backend.shelf = s

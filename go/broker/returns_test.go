@@ -67,13 +67,13 @@ func (c *clockStore) Change(ctx context.Context, key broker.Key, fence int64, st
 	return err
 }
 
-// returning keeps the returns that it gets.
-type returning struct {
+// returnRecorder keeps the returns that it gets.
+type returnRecorder struct {
 	*recorder
 	returns []broker.Return
 }
 
-func (r *returning) OnReturn(it broker.Return) {
+func (r *returnRecorder) OnReturn(it broker.Return) {
 	r.turn.Lock()
 	defer r.turn.Unlock()
 	r.returns = append(r.returns, it)
@@ -83,7 +83,7 @@ func (r *returning) OnReturn(it broker.Return) {
 type lives struct {
 	*bench
 	clock *clockStore
-	seen  *returning
+	seen  *returnRecorder
 }
 
 var anHour = broker.Rules{IDsReturnAfter: time.Hour}
@@ -91,7 +91,7 @@ var anHour = broker.Rules{IDsReturnAfter: time.Hour}
 func newLives(t *testing.T, backend broker.Backend, rules broker.Rules) *lives {
 	t.Helper()
 	b := newBench(t, backend, newMemoryLocks())
-	l := &lives{bench: b, clock: &clockStore{Store: b.store}, seen: &returning{recorder: b.observed}}
+	l := &lives{bench: b, clock: &clockStore{Store: b.store}, seen: &returnRecorder{recorder: b.observed}}
 	b.Service = l.service(t, backend, newMemoryLocks(), rules)
 	return l
 }
@@ -361,18 +361,18 @@ func TestABindingOfAnEarlierVersion(t *testing.T) {
 // A worker of the old life whose lock was lost ends nothing of the new life.
 func TestALateWorkerOfTheOldLife(t *testing.T) {
 	ctx, key := context.Background(), keyOf("i")
-	backend := &overtaken{shelf: newShelf(calm)}
+	backend := &overtakenBackend{shelf: newShelf(calm)}
 	l := newLives(t, backend, anHour)
-	old := l.service(t, backend, losable{newMemoryLocks()}, anHour)
+	old := l.service(t, backend, losableLocks{newMemoryLocks()}, anHour)
 	backend.overtake = func(broker.Key) {
 		backend.overtake = nil
-		other := l.service(t, backend, losable{newMemoryLocks()}, anHour)
+		other := l.service(t, backend, losableLocks{newMemoryLocks()}, anHour)
 		diff.NoError(t, other.TakeUp(ctx, key), "")
 		if given, err := other.Handle(ctx, deprovision(now)); err != nil || given.Status != 200 {
 			t.Errorf("got %+v and the error %v, want 200", given, err)
 		}
 		l.clock.set(time.Hour)
-		hangs := l.service(t, away{backend.shelf}, losable{newMemoryLocks()}, anHour)
+		hangs := l.service(t, away{backend.shelf}, losableLocks{newMemoryLocks()}, anHour)
 		if _, err := hangs.Handle(ctx, provision(now)); !errors.Is(err, broker.ErrNobodyKnows) {
 			t.Error(err)
 		}
@@ -523,13 +523,13 @@ func (l *lives) age(t *testing.T, key broker.Key) time.Duration {
 	return snapshot.EndedAgo
 }
 
-// A noting backend keeps the requests by which instances were created.
-type noting struct {
+// A notingBackend keeps the requests by which instances were created.
+type notingBackend struct {
 	*shelf
 	created []broker.Request
 }
 
-func (n *noting) Create(ctx context.Context, request broker.Request) error {
+func (n *notingBackend) Create(ctx context.Context, request broker.Request) error {
 	n.created = append(n.created, request)
 	return n.shelf.Create(ctx, request)
 }
@@ -538,10 +538,10 @@ func (n *noting) Create(ctx context.Context, request broker.Request) error {
 // life.
 func TestALateOperationOfTheOldLife(t *testing.T) {
 	ctx, one, key := context.Background(), instances+"i", keyOf("i")
-	backend := &noting{shelf: newShelf(calm)}
+	backend := &notingBackend{shelf: newShelf(calm)}
 	l := newLives(t, backend, anHour)
-	old := l.service(t, backend, losable{newMemoryLocks()}, anHour)
-	l.Service = l.service(t, backend, losable{newMemoryLocks()}, anHour)
+	old := l.service(t, backend, losableLocks{newMemoryLocks()}, anHour)
+	l.Service = l.service(t, backend, losableLocks{newMemoryLocks()}, anHour)
 	takeUp := func() {
 		diff.NoError(t, l.TakeUp(ctx, key), "")
 	}
@@ -571,11 +571,11 @@ func TestALateOperationOfTheOldLife(t *testing.T) {
 // A worker that lost its lock before it wrote down its fence does nothing if the operation has ended.
 func TestAnOperationThatHasEnded(t *testing.T) {
 	ctx, one, key := context.Background(), instances+"i", keyOf("i")
-	backend := &noting{shelf: newShelf(calm)}
+	backend := &notingBackend{shelf: newShelf(calm)}
 	l := newLives(t, backend, anHour)
-	l.Service = l.service(t, backend, losable{newMemoryLocks()}, anHour)
+	l.Service = l.service(t, backend, losableLocks{newMemoryLocks()}, anHour)
 	l.expect(t, 202, "PUT", one+query, bodyOf(later, ""))
-	other := l.service(t, backend, losable{newMemoryLocks()}, anHour)
+	other := l.service(t, backend, losableLocks{newMemoryLocks()}, anHour)
 	l.clock.afterRead = func(broker.Key) {
 		diff.NoError(t, other.TakeUp(ctx, key), "")
 	}

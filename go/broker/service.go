@@ -184,7 +184,7 @@ func (s *Service) fetch(ctx context.Context, visit Visit) (Response, error) {
 		return Response{}, errLate
 	}
 	if isAnother, err := visit.namesAnother(snapshot.Entry); err != nil || isAnother {
-		return visit.unknown(), err
+		return visit.unknownResponse(), err
 	}
 	answer, err := snapshot.Holding.Fetch()
 	if err != nil {
@@ -212,18 +212,18 @@ func (s *Service) withBinding(key Key, answer osb.Answer, object json.RawMessage
 type beginning struct {
 	answered Response
 	work     osb.Work
-	pending  pending // what was written, if work is due
-	returned *Return // if the id returns with what was written
+	pending  pendingEntry // what was written, if work is due
+	returned *Return      // if the id returns with what was written
 }
 
-// pending is an entry with pending work.
-type pending struct {
+// pendingEntry is an entry with pending work.
+type pendingEntry struct {
 	entry   Entry
 	request *Request // what entry.Request is the text of, or nil if it has to be read
 }
 
 // requestOf is the request whose work is pending.
-func (p pending) requestOf(key Key) (Request, error) {
+func (p pendingEntry) requestOf(key Key) (Request, error) {
 	if p.request != nil {
 		return *p.request, nil
 	}
@@ -260,7 +260,7 @@ func (s *Service) record(ctx context.Context, visit Visit, away error) (given be
 // since the entry was written. Otherwise it is read once more.
 //
 // Errors: errDoneBefore, and then nothing was done; those of the store and the backend.
-func (s *Service) do(ctx context.Context, lock Lock, key Key, due pending, isSure bool) (response Response, err error) {
+func (s *Service) do(ctx context.Context, lock Lock, key Key, due pendingEntry, isSure bool) (response Response, err error) {
 	work, isPending := due.entry.Holding.Work()
 	if !isPending {
 		return response, ErrLostWork
@@ -277,7 +277,7 @@ func (s *Service) do(ctx context.Context, lock Lock, key Key, due pending, isSur
 		if now, isPending := snapshot.Holding.Work(); !isPending || now != work {
 			return response, errDoneBefore
 		}
-		due = pending{entry: snapshot.Entry}
+		due = pendingEntry{entry: snapshot.Entry}
 	}
 	request, err := due.requestOf(key)
 	if err != nil {
@@ -386,7 +386,7 @@ func (s *Service) begin(snapshot Snapshot, visit Visit) (next *Entry, given begi
 	}
 	snapshot, returned := s.rules.enter(snapshot, visit)
 	if isAnother, err := visit.namesAnother(snapshot.Entry); err != nil || isAnother {
-		return nil, beginning{answered: visit.unknown()}, err
+		return nil, beginning{answered: visit.unknownResponse()}, err
 	}
 	request, err := visit.Asked.Request(snapshot.Holding.Row())
 	if err != nil {
@@ -416,7 +416,7 @@ func (s *Service) begin(snapshot Snapshot, visit Visit) (next *Entry, given begi
 	if err != nil {
 		return nil, given, err
 	}
-	given.pending, given.returned = pending{entry, of}, returned
+	given.pending, given.returned = pendingEntry{entry, of}, returned
 	return &entry, given, nil
 }
 

@@ -130,7 +130,7 @@ func (b *bench) takesUp(t *testing.T, shelf *shelf, expected *sentRequests, it s
 // its deletion, which needs it.
 func TestFailedRequestsAreForgotten(t *testing.T) {
 	shelf, expected := newShelf(calm), newExpected()
-	b := newBench(t, refusing{shelf, &broker.Rejection{Status: 400, Description: "no"}}, newMemoryLocks())
+	b := newBench(t, refusingBackend{shelf, &broker.Rejection{Status: 400, Description: "no"}}, newMemoryLocks())
 	handler, life := handlerFor(t, b.Service), aLife(later)
 	rejected := aLife(now)[0].message
 	rejected.target = instances + "j"
@@ -178,38 +178,38 @@ func TestBindingOfAnUnreadableInstance(t *testing.T) {
 	}
 }
 
-// Locks that can be lost while their worker goes on.
-type losable struct{ *memoryLocks }
+// losableLocks can be lost while their worker goes on.
+type losableLocks struct{ *memoryLocks }
 
-func (losable) CanBeLost() bool { return true }
+func (losableLocks) CanBeLost() bool { return true }
 
-// An overtaken backend does its work. Then, once, a second worker takes the lock, and with it the fence.
-type overtaken struct {
+// An overtakenBackend does its work. Then, once, a second worker takes the lock, and with it the fence.
+type overtakenBackend struct {
 	*shelf
 	overtake func(broker.Key)
 }
 
-func (o *overtaken) lose(key broker.Key) {
+func (o *overtakenBackend) lose(key broker.Key) {
 	if o.overtake != nil {
 		o.overtake(key)
 	}
 }
 
-func (o *overtaken) Create(ctx context.Context, request broker.Request) error {
+func (o *overtakenBackend) Create(ctx context.Context, request broker.Request) error {
 	defer o.lose(request.Key)
 	return o.shelf.Create(ctx, request)
 }
 
-func (o *overtaken) Delete(ctx context.Context, request broker.Request) error {
+func (o *overtakenBackend) Delete(ctx context.Context, request broker.Request) error {
 	defer o.lose(request.Key)
 	return o.shelf.Delete(ctx, request)
 }
 
-// losing is a broker whose workers lose their locks until the test has them keep those.
-func losing(t *testing.T) (*bench, *overtaken) {
+// newOvertaken is a broker whose workers lose their locks until the test has them keep those.
+func newOvertaken(t *testing.T) (*bench, *overtakenBackend) {
 	t.Helper()
-	backend := &overtaken{shelf: newShelf(calm)}
-	b := newBench(t, backend, losable{newMemoryLocks()})
+	backend := &overtakenBackend{shelf: newShelf(calm)}
+	b := newBench(t, backend, losableLocks{newMemoryLocks()})
 	backend.overtake = func(key broker.Key) {
 		if _, err := b.store.Fence(context.Background(), key); err != nil {
 			t.Error(err)
@@ -253,7 +253,7 @@ func TestLostLockOfPendingWork(t *testing.T) {
 		{"delete", []broker.Visit{provision(now)}, deprovision(now), ""},
 	} {
 		t.Run(test.name, func(t *testing.T) {
-			b, backend := losing(t)
+			b, backend := newOvertaken(t)
 			overtake := backend.overtake
 			backend.overtake = nil
 			for _, before := range test.before {
@@ -277,7 +277,7 @@ func TestLostLockOfPendingWork(t *testing.T) {
 // The same of an operation that goes on after its answer.
 func TestLostLockOfAnOperation(t *testing.T) {
 	ctx, key := context.Background(), keyOf("i")
-	b, backend := losing(t)
+	b, backend := newOvertaken(t)
 	overtake := backend.overtake
 	for _, test := range []struct {
 		asked broker.Visit
@@ -317,21 +317,21 @@ func (b *bench) ends(t *testing.T, key broker.Key, want string) {
 	}
 }
 
-// A leaving store fails once so many changes are written.
-type leaving struct {
+// A breakingStore fails once so many changes are written.
+type breakingStore struct {
 	broker.Store
 	left int
 	err  error
 }
 
-func (l *leaving) Read(ctx context.Context, key broker.Key) (broker.Snapshot, error) {
+func (l *breakingStore) Read(ctx context.Context, key broker.Key) (broker.Snapshot, error) {
 	if l.left < 0 {
 		return broker.Snapshot{}, l.err
 	}
 	return l.Store.Read(ctx, key)
 }
 
-func (l *leaving) Change(ctx context.Context, key broker.Key, fence int64, step broker.Step) error {
+func (l *breakingStore) Change(ctx context.Context, key broker.Key, fence int64, step broker.Step) error {
 	if l.left--; l.left < 0 {
 		return l.err
 	}
@@ -364,7 +364,7 @@ func TestStoreThatIsAway(t *testing.T) {
 			t.Cleanup(func() { _ = store.Close() })
 			backend := newShelf(calm)
 			service := broker.NewService(catalogueFor(t, catalogue),
-				&leaving{store, test.changes, fmt.Errorf("%w: %s", test.err, secret)}, backend, newMemoryLocks(), broker.Rules{}, seen)
+				&breakingStore{store, test.changes, fmt.Errorf("%w: %s", test.err, secret)}, backend, newMemoryLocks(), broker.Rules{}, seen)
 			request := httptest.NewRequest(test.method, test.path, strings.NewReader(bodyOf(now, "")))
 			request.SetBasicAuth("u", "p")
 			request.Header.Set(osb.VersionHeader, osb.VersionSent)
@@ -469,7 +469,7 @@ func TestTakeUpReportsPendingWorkThatFails(t *testing.T) {
 // A failure of the backend is reported, also if what was asked for is the case in the end.
 func TestFailuresThatEndWellAreReported(t *testing.T) {
 	one := instances + "i"
-	l := newLone(t)
+	l := newLoneBroker(t)
 	*l.backend = scriptedBackend{made: whole, failure: errScripted}
 	l.expect(t, 201, "PUT", one, bodyOf(now, ""))
 	*l.backend = scriptedBackend{there: whole, failure: errScripted}
@@ -486,13 +486,13 @@ func TestFailuresThatEndWellAreReported(t *testing.T) {
 	}
 }
 
-// A racing store has somebody else end the work once, after it was recorded and before its worker goes on.
-type racing struct {
+// A racingStore has somebody else end the work once, after it was recorded and before its worker goes on.
+type racingStore struct {
 	broker.Store
 	end func(broker.Key)
 }
 
-func (r *racing) Fence(ctx context.Context, key broker.Key) (int64, error) {
+func (r *racingStore) Fence(ctx context.Context, key broker.Key) (int64, error) {
 	if end := r.end; end != nil {
 		r.end = nil
 		end(key)
@@ -504,11 +504,11 @@ func (r *racing) Fence(ctx context.Context, key broker.Key) (int64, error) {
 // what is held.
 func TestWorkThatWasDoneBeforeIsAnswered(t *testing.T) {
 	backend := newShelf(calm)
-	b := newBench(t, backend, losable{newMemoryLocks()})
-	store := &racing{Store: b.store, end: func(key broker.Key) {
+	b := newBench(t, backend, losableLocks{newMemoryLocks()})
+	store := &racingStore{Store: b.store, end: func(key broker.Key) {
 		diff.NoError(t, b.TakeUp(context.Background(), key), "")
 	}}
-	service := broker.NewService(catalogueFor(t, catalogue), store, backend, losable{newMemoryLocks()},
+	service := broker.NewService(catalogueFor(t, catalogue), store, backend, losableLocks{newMemoryLocks()},
 		broker.Rules{}, b.observed)
 	given, err := service.Handle(context.Background(), provision(now))
 	if err != nil || given.Answer != (osb.Answer{Status: 200, Body: osb.BodyEmpty}) {
@@ -519,10 +519,10 @@ func TestWorkThatWasDoneBeforeIsAnswered(t *testing.T) {
 // Nor is the work done of a worker whose lock can be lost if other work is pending by then: that of a deletion, which
 // nobody knows how it ended.
 func TestWorkThatIsNotPendingAnyMore(t *testing.T) {
-	b := newBench(t, newShelf(calm), losable{newMemoryLocks()})
+	b := newBench(t, newShelf(calm), losableLocks{newMemoryLocks()})
 	deletes := broker.NewService(catalogueFor(t, catalogue), b.store,
-		&scriptedBackend{failure: errScripted, blindness: errScripted}, losable{newMemoryLocks()}, broker.Rules{}, b.observed)
-	store := &racing{Store: b.store, end: func(key broker.Key) {
+		&scriptedBackend{failure: errScripted, blindness: errScripted}, losableLocks{newMemoryLocks()}, broker.Rules{}, b.observed)
+	store := &racingStore{Store: b.store, end: func(key broker.Key) {
 		if err := b.TakeUp(context.Background(), key); err != nil {
 			t.Error(err)
 		}
@@ -531,7 +531,7 @@ func TestWorkThatIsNotPendingAnyMore(t *testing.T) {
 		}
 	}}
 	backend := &scriptedBackend{}
-	service := broker.NewService(catalogueFor(t, catalogue), store, backend, losable{newMemoryLocks()},
+	service := broker.NewService(catalogueFor(t, catalogue), store, backend, losableLocks{newMemoryLocks()},
 		broker.Rules{}, b.observed)
 	given, err := service.Handle(context.Background(), provision(now))
 	if strings.Contains(strings.Join(backend.calls, " "), "create") {
@@ -541,7 +541,7 @@ func TestWorkThatIsNotPendingAnyMore(t *testing.T) {
 
 // An operation that runs has the time since when it does: it is reported, and what takes too long is found by it.
 func TestSinceOfAnOperation(t *testing.T) {
-	l := newLone(t)
+	l := newLoneBroker(t)
 	l.expect(t, 202, "PUT", instances+"i"+query, bodyOf(later, ""))
 	snapshot, err := l.store.Read(context.Background(), keyOf("i"))
 	if row, _ := snapshot.Holding.Row(); err != nil || row.Phase != osb.PhaseMaking {

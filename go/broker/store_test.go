@@ -78,7 +78,7 @@ func (s *failingStore) UnfinishedKeys(ctx context.Context) ([]broker.Key, error)
 
 // A clumsy is a broker over a store that fails once.
 type clumsy struct {
-	*lone
+	*loneBroker
 	store *failingStore
 }
 
@@ -90,8 +90,8 @@ func newClumsy(t *testing.T, n int, backend broker.Backend) *clumsy {
 	c := &clumsy{store: &failingStore{Store: opened, left: n}}
 	b := &bench{store: opened, observed: &recorder{}}
 	b.Service = broker.NewService(
-		catalogueFor(t, catalogue), c.store, backend, losable{newMemoryLocks()}, broker.Rules{}, b.observed)
-	c.lone = &lone{bench: b, handler: handlerFor(t, b.Service)}
+		catalogueFor(t, catalogue), c.store, backend, losableLocks{newMemoryLocks()}, broker.Rules{}, b.observed)
+	c.loneBroker = &loneBroker{bench: b, handler: handlerFor(t, b.Service)}
 	return c
 }
 
@@ -171,7 +171,7 @@ func TestFailedBindingsThatAreNotDeleted(t *testing.T) {
 		catalogueFor(t, catalogue), forgetful{b.store}, newShelf(calm), newMemoryLocks(), broker.Rules{}, b.observed)
 	handler := handlerFor(t, service)
 	handler.Observer = b.observed
-	l := &lone{bench: b, handler: handler}
+	l := &loneBroker{bench: b, handler: handler}
 	l.expect(t, 201, "PUT", instances+"i", bodyOf(now, ""))
 	l.expect(t, 201, "PUT", instances+"i/service_bindings/b", bodyOf(now, ""))
 	l.expect(t, 422, "DELETE", instances+"i"+names(now), "")
@@ -211,7 +211,7 @@ func TestSweepOverAStoreThatFails(t *testing.T) {
 	c := newClumsy(t, 0, backend)
 	key := c.leave(t, backend, "left")
 	c.store.left = 1
-	end := sweeping(t, broker.NewSweeper(c.Service, c.observed), nil, nil)
+	end := runSweeper(t, broker.NewSweeper(c.Service, c.observed), nil, nil)
 	defer end()
 	for until := time.Now().Add(time.Minute); c.isPending(t, key); time.Sleep(time.Millisecond) {
 		if time.Now().After(until) {

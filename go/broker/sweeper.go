@@ -137,7 +137,7 @@ func (s *Sweeper) tendNext(ctx context.Context) bool {
 	if !ok {
 		return false
 	}
-	key, went := run.key, wentNowhere
+	key, went := run.key, backendUnused
 	err := safely(func() (err error) {
 		went, err = s.service.takeUp(ctx, key)
 		return err
@@ -350,7 +350,7 @@ func (p *slots) moveSlow() {
 }
 
 // end gives the slot of a run back.
-func (p *slots) end(r *run, went went) {
+func (p *slots) end(r *run, went backendResult) {
 	r.isOver = true
 	r.timer.Stop()
 	delete(p.slow, r)
@@ -364,9 +364,9 @@ func (p *slots) end(r *run, went went) {
 		p.leaveUsual(r)
 	}
 	p.moveSlow()
-	if took := time.Since(r.begun); went == wentWell && p.typical == 0 {
+	if took := time.Since(r.begun); went == backendSucceeded && p.typical == 0 {
 		p.typical = took
-	} else if went == wentWell {
+	} else if went == backendSucceeded {
 		p.typical += (took - p.typical) / 8
 	}
 }
@@ -394,12 +394,12 @@ func newSetbacks(shortest, longest time.Duration) *setbacks {
 
 // add notes how work of a key went. If the work goes on, the key rests, twice as long each time, and a random part less
 // so that keys that failed together aren't tried again together.
-func (s *setbacks) add(key Key, went went, goesOn bool) {
+func (s *setbacks) add(key Key, went backendResult, goesOn bool) {
 	known, isKnown := s.of[key]
 	switch {
-	case went == wentWell:
+	case went == backendSucceeded:
 		delete(s.of, key)
-	case went == wentBadly && (isKnown || len(s.of) < mostSetbacks):
+	case went == backendFailed && (isKnown || len(s.of) < mostSetbacks):
 		known.until = time.Now()
 		if goesOn {
 			known.until = known.until.Add(s.pause(known.times))

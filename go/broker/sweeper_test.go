@@ -46,9 +46,9 @@ func (b *bench) isPending(t *testing.T, key broker.Key) bool {
 	return isPending
 }
 
-// sweeping runs a sweeper with one worker. end ends it, and waits for that: meanwhile nobody who looks has to wait, and
-// each sweep finds nothing. Either channel may be nil.
-func sweeping(t *testing.T, sweeper *broker.Sweeper, looked <-chan broker.Key, found chan<- []broker.Key) (end func()) {
+// runSweeper runs a sweeper with one worker. end ends it, and waits for that: meanwhile nobody who looks has to wait,
+// and each sweep finds nothing. Either channel may be nil.
+func runSweeper(t *testing.T, sweeper *broker.Sweeper, looked <-chan broker.Key, found chan<- []broker.Key) (end func()) {
 	stop, cancel := context.WithCancel(context.Background())
 	swept := make(chan struct{})
 	go func() {
@@ -134,7 +134,7 @@ func TestSweeperPassesOverALockedKey(t *testing.T) {
 	sweeper := broker.NewSweeper(b.Service, b.observed)
 	sweeper.Touch(locked)
 	sweeper.Touch(free)
-	end := sweeping(t, sweeper, backend.looked, nil)
+	end := runSweeper(t, sweeper, backend.looked, nil)
 	for round := 0; round < 2; round++ { // before the creation, and after it
 		if got := soon(t, backend.looked); got != free {
 			t.Errorf("got %v gone on with, whose lock is another's, want the free one", got)
@@ -183,7 +183,7 @@ func TestSweeperTakesUpWhatIsOld(t *testing.T) {
 	b := newBench(t, newShelf(calm), locks)
 	service := broker.NewService(catalogueFor(t, catalogue), sweptStore{b.store, found}, newShelf(calm), locks,
 		broker.Rules{}, b.observed)
-	end := sweeping(t, broker.NewSweeper(service, b.observed), nil, found)
+	end := runSweeper(t, broker.NewSweeper(service, b.observed), nil, found)
 	for _, test := range []struct{ found, taken []broker.Key }{
 		{[]broker.Key{one}, []broker.Key{one}},        // the first sweep takes up everything
 		{[]broker.Key{other, one}, []broker.Key{one}}, // the other is new
@@ -212,7 +212,7 @@ func TestSweeperTellsOnce(t *testing.T) {
 	backend.because("one reason")
 	backend.looked = make(chan broker.Key)
 	sweeper := broker.NewSweeper(b.Service, b.observed)
-	end := sweeping(t, sweeper, backend.looked, nil)
+	end := runSweeper(t, sweeper, backend.looked, nil)
 	tryOften := func() {
 		for n := 0; n < 5; n++ { // each begins once the last has failed
 			soon(t, backend.looked)

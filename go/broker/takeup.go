@@ -20,21 +20,21 @@ const longWork = 30 * time.Minute
 var ErrStillTaken = fmt.Errorf("another worker has the lock, and the work began more than %v ago. "+
 	"See whether its process hangs", longWork)
 
-// A went is how going on with a key went.
-type went int
+// A backendResult is how going on with a key went.
+type backendResult int
 
 const (
-	wentNowhere went = iota // the backend wasn't needed, or nobody could ask it
-	wentWell                // the backend did what was asked for, or rejected it
-	wentBadly               // the backend failed or hung
+	backendUnused    backendResult = iota // the backend wasn't needed, or nobody could ask it
+	backendSucceeded                      // the backend did what was asked for, or rejected it
+	backendFailed                         // the backend failed or hung
 )
 
-// wentOf is how work went that has ended with this error.
-func wentOf(err error) went {
+// backendResultOf is how work went that has ended with this error.
+func backendResultOf(err error) backendResult {
 	if errors.Is(err, ErrNobodyKnows) {
-		return wentBadly
+		return backendFailed
 	}
-	return wentNowhere
+	return backendUnused
 }
 
 // TakeUp goes on with a key: it does pending work that a dead worker has left, goes on with the operation that runs,
@@ -48,20 +48,20 @@ func (s *Service) TakeUp(ctx context.Context, key Key) error {
 }
 
 // takeUp is TakeUp, and returns how it went, too.
-func (s *Service) takeUp(ctx context.Context, key Key) (went, error) {
+func (s *Service) takeUp(ctx context.Context, key Key) (backendResult, error) {
 	lock, err := s.tryLock(ctx, key)
 	if err != nil {
-		return wentNowhere, err
+		return backendUnused, err
 	}
 	if lock == nil {
-		return wentNowhere, s.stillTaken(ctx, key)
+		return backendUnused, s.stillTaken(ctx, key)
 	}
 	defer lock.Unlock()
 	snapshot, err := s.read(ctx, key)
 	if err != nil {
-		return wentNowhere, err
+		return backendUnused, err
 	}
-	done := wentNowhere
+	done := backendUnused
 	if _, isPending := snapshot.Holding.Work(); isPending {
 		if done, err = s.endPending(ctx, lock, key, snapshot); err != nil {
 			return done, err
@@ -83,21 +83,21 @@ func (s *Service) takeUp(ctx context.Context, key Key) (went, error) {
 }
 
 // endPending does the pending work of a key under its lock.
-func (s *Service) endPending(ctx context.Context, lock Lock, key Key, snapshot Snapshot) (went, error) {
-	response, err := s.do(ctx, lock, key, pending{entry: snapshot.Entry}, !s.locks.CanBeLost())
+func (s *Service) endPending(ctx context.Context, lock Lock, key Key, snapshot Snapshot) (backendResult, error) {
+	response, err := s.do(ctx, lock, key, pendingEntry{entry: snapshot.Entry}, !s.locks.CanBeLost())
 	if err != nil {
-		return wentOf(err), err
+		return backendResultOf(err), err
 	}
 	isDone := response.Status < http.StatusMultipleChoices
 	switch {
 	case response.IsUnfinished: // an operation has begun
-		return wentNowhere, nil
+		return backendUnused, nil
 	case isDone || response.Rejected != nil:
 		s.observer.OnEnd(key, isDone)
-		return wentWell, nil
+		return backendSucceeded, nil
 	}
 	s.observer.OnEnd(key, false)
-	return wentBadly, nil
+	return backendFailed, nil
 }
 
 // stillTaken returns ErrStillTaken if somebody else has been at the key for long.
@@ -110,31 +110,31 @@ func (s *Service) stillTaken(ctx context.Context, key Key) error {
 }
 
 // operate goes on with the operation that runs, and ends it.
-func (s *Service) operate(ctx context.Context, lock Lock, key Key, snapshot Snapshot) (went, error) {
+func (s *Service) operate(ctx context.Context, lock Lock, key Key, snapshot Snapshot) (backendResult, error) {
 	fence, err := s.fence(ctx, key)
 	if err != nil {
-		return wentNowhere, err
+		return backendUnused, err
 	}
 	if snapshot, err = s.sure(ctx, key, snapshot); err != nil {
-		return wentNowhere, err
+		return backendUnused, err
 	}
 	row, _ := snapshot.Holding.Row()
 	request, err := requestOf(key, row, snapshot.Request)
 	if err != nil {
-		return wentNowhere, err
+		return backendUnused, err
 	}
 	done, err := s.worker.operate(lock.Context(ctx), row.Phase, request)
 	if err != nil {
-		return wentOf(err), err
+		return backendResultOf(err), err
 	}
 	if err := s.finish(ctx, key, fence, row, done); err != nil {
-		return wentNowhere, err
+		return backendUnused, err
 	}
 	s.observer.OnEnd(key, done.isDone())
 	if !done.isDone() && done.rejected == nil {
-		return wentBadly, nil
+		return backendFailed, nil
 	}
-	return wentWell, nil
+	return backendSucceeded, nil
 }
 
 // finish ends the operation of a row.

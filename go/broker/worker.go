@@ -65,24 +65,24 @@ func (w worker) create(ctx context.Context, request Request) (result, error) {
 	calls := &calls{worker: w, request: request, isCreation: true}
 	there, err := calls.look(ctx)
 	if err != nil {
-		return result{}, unknown(err, nil)
+		return result{}, unknownOutcome(err, nil)
 	}
 	if there == Whole {
 		if there, err = calls.settle(ctx); err != nil {
-			return result{}, unknown(err, nil)
+			return result{}, unknownOutcome(err, nil)
 		}
 	}
 	var failed error
 	if there != Whole {
 		if there, failed, err = calls.try(ctx, calls.create); err != nil {
-			return result{}, unknown(err, either(failed, calls.useless))
+			return result{}, unknownOutcome(err, either(failed, calls.useless))
 		}
 	}
 	if there == Part {
 		var second error
 		there, second, err = calls.try(ctx, calls.delete)
 		if failed = either(failed, second); err != nil || there == Part {
-			return result{}, unknown(err, either(failed, calls.useless))
+			return result{}, unknownOutcome(err, either(failed, calls.useless))
 		}
 	}
 	return w.conclude(request, "create", there == Whole, failed, calls)
@@ -93,7 +93,7 @@ func (w worker) delete(ctx context.Context, request Request) (result, error) {
 	calls := &calls{worker: w, request: request}
 	there, err := calls.look(ctx)
 	if err != nil {
-		return result{}, unknown(err, nil)
+		return result{}, unknownOutcome(err, nil)
 	}
 	var failed error
 	if there == None {
@@ -103,7 +103,7 @@ func (w worker) delete(ctx context.Context, request Request) (result, error) {
 		there, failed, err = calls.try(ctx, calls.delete)
 	}
 	if err != nil || there == Part {
-		return result{}, unknown(err, failed)
+		return result{}, unknownOutcome(err, failed)
 	}
 	return w.conclude(request, "delete", there == None, failed, calls)
 }
@@ -142,9 +142,9 @@ func (w worker) conclude(request Request, what string, isDone bool, failed error
 	return given, nil
 }
 
-// unknown is the error of work of which nobody knows how it went: err says why it can't be known, and failed what the
-// backend said.
-func unknown(err, failed error) error {
+// unknownOutcome is the error of work of which nobody knows how it went: err says why it can't be known, and failed
+// what the backend said.
+func unknownOutcome(err, failed error) error {
 	if err == nil {
 		err = errors.New("a part exists, and can't be deleted")
 	}

@@ -110,26 +110,26 @@ var deletions = []script{
 	{"it can't be seen any more", scriptedBackend{there: whole, blinded: errBlinded}, pending, []string{"delete"}, none},
 }
 
-// A lone broker has one backend, and no sweeper.
-type lone struct {
+// A loneBroker has one backend, and no sweeper.
+type loneBroker struct {
 	*bench
 	backend *scriptedBackend
 	handler *broker.Handler
 }
 
-func newLone(t *testing.T) *lone {
+func newLoneBroker(t *testing.T) *loneBroker {
 	t.Helper()
 	backend := &scriptedBackend{made: whole}
-	it := &lone{bench: newBench(t, backend, newMemoryLocks()), backend: backend}
+	it := &loneBroker{bench: newBench(t, backend, newMemoryLocks()), backend: backend}
 	it.handler = handlerFor(t, it.Service)
 	return it
 }
 
-func (l *lone) ask(method, target, body string) *reply {
+func (l *loneBroker) ask(method, target, body string) *reply {
 	return message{method: method, target: target, body: []byte(body)}.serve(l.handler)
 }
 
-func (l *lone) expect(t *testing.T, status int, method, target, body string) {
+func (l *loneBroker) expect(t *testing.T, status int, method, target, body string) {
 	t.Helper()
 	if given := l.ask(method, target, body); given.status != status {
 		t.Fatalf("%s %s: got %d %s, want %d", method, target, given.status, given.body, status)
@@ -137,7 +137,7 @@ func (l *lone) expect(t *testing.T, status int, method, target, body string) {
 }
 
 // follows checks a script: what was called, and what is left.
-func (l *lone) follows(t *testing.T, it script) {
+func (l *loneBroker) follows(t *testing.T, it script) {
 	t.Helper()
 	diff.Check(t, l.backend.calls, it.calls, "the calls")
 	diff.Equal(t, l.backend.there, it.left, "left")
@@ -148,7 +148,7 @@ func TestPendingWork(t *testing.T) {
 	one := instances + "i"
 	for _, creation := range creations {
 		t.Run("create: "+creation.name, func(t *testing.T) {
-			l := newLone(t)
+			l := newLoneBroker(t)
 			*l.backend = creation.backend
 			l.expect(t, map[string]int{done: 201, failed: 500, pending: 500}[creation.outcome], "PUT", one, bodyOf(now, ""))
 			l.follows(t, creation)
@@ -159,7 +159,7 @@ func TestPendingWork(t *testing.T) {
 	}
 	for _, deletion := range deletions {
 		t.Run("delete: "+deletion.name, func(t *testing.T) {
-			l := newLone(t)
+			l := newLoneBroker(t)
 			l.expect(t, 201, "PUT", one, bodyOf(now, ""))
 			*l.backend = deletion.backend
 			l.expect(t, map[string]int{done: 200, failed: 500, pending: 500}[deletion.outcome], "DELETE", one+names(now), "")
@@ -176,7 +176,7 @@ func TestOperations(t *testing.T) {
 	one, key := instances+"i", keyOf("i")
 	for _, creation := range creations {
 		t.Run("create: "+creation.name, func(t *testing.T) {
-			l := newLone(t)
+			l := newLoneBroker(t)
 			*l.backend = creation.backend
 			l.expect(t, 202, "PUT", one+query, bodyOf(later, ""))
 			l.operates(t, creation, key, `{"state":"succeeded"}`)
@@ -184,7 +184,7 @@ func TestOperations(t *testing.T) {
 	}
 	for _, deletion := range deletions {
 		t.Run("delete: "+deletion.name, func(t *testing.T) {
-			l := newLone(t)
+			l := newLoneBroker(t)
 			l.expect(t, 202, "PUT", one+query, bodyOf(later, ""))
 			check(t, l.TakeUp(context.Background(), key))
 			*l.backend = deletion.backend
@@ -196,7 +196,7 @@ func TestOperations(t *testing.T) {
 
 // operates goes on with an operation. The answer to a Poll then says how it went: that of a deletion that was done is
 // 410.
-func (l *lone) operates(t *testing.T, it script, key broker.Key, succeeded string) {
+func (l *loneBroker) operates(t *testing.T, it script, key broker.Key, succeeded string) {
 	t.Helper()
 	if len(l.backend.calls) > 0 {
 		t.Errorf("got %v called before the operation is recorded, want none", l.backend.calls)
@@ -244,7 +244,7 @@ func (s *scribe) OnAnswer(_ context.Context, _ http.Header, given broker.Respons
 
 // A Journal gets each answer as it leaves, with the object of a binding. That of a request that has failed is an error.
 func TestAnswersOfAJournal(t *testing.T) {
-	l, journal := newLone(t), &scribe{}
+	l, journal := newLoneBroker(t), &scribe{}
 	l.handler.Journal = journal
 	one := instances + "i"
 	for _, test := range []struct {
@@ -272,10 +272,10 @@ func TestAnswersOfAJournal(t *testing.T) {
 	}
 }
 
-// A candid backend can tell the credentials of what exists.
-type candid struct{ *scriptedBackend }
+// A candidBackend can tell the credentials of what exists.
+type candidBackend struct{ *scriptedBackend }
 
-func (candid) Credentials(context.Context, broker.Request) (json.RawMessage, error) {
+func (candidBackend) Credentials(context.Context, broker.Request) (json.RawMessage, error) {
 	return json.RawMessage(`"old"`), nil
 }
 
@@ -295,7 +295,7 @@ func TestUnknownCredentials(t *testing.T) {
 		{"absent", absent, absent, none, []string{"create"}, "new"},
 		{"a part", partial, partial, part, []string{"create"}, "new"},
 		{"unknown", unknown, unknown, whole, []string{"delete", "create"}, "new"},
-		{"known", candid{known}, known, whole, nil, "old"},
+		{"known", candidBackend{known}, known, whole, nil, "old"},
 	} {
 		t.Run(test.name, func(t *testing.T) {
 			handler := handlerFor(t, newBench(t, test.backend, newMemoryLocks()).Service)
@@ -382,14 +382,14 @@ func TestFailedCallsAreCountedEachTime(t *testing.T) {
 	w.expect(t, map[string]int{"look": 3})
 }
 
-// A failing backend fails in the call of one name. Without an error it panics.
-type failing struct {
+// A failingBackend fails in the call of one name. Without an error it panics.
+type failingBackend struct {
 	*shelf
 	name string
 	err  error
 }
 
-func (f *failing) at(name string, call func() error) error {
+func (f *failingBackend) at(name string, call func() error) error {
 	if f.name != name {
 		return call()
 	}
@@ -399,38 +399,38 @@ func (f *failing) at(name string, call func() error) error {
 	return f.err
 }
 
-func (f *failing) Look(ctx context.Context, r broker.Request) (there broker.There, err error) {
+func (f *failingBackend) Look(ctx context.Context, r broker.Request) (there broker.There, err error) {
 	err = f.at("look", func() error { there, err = f.shelf.Look(ctx, r); return err })
 	return there, err
 }
 
-func (f *failing) Create(ctx context.Context, r broker.Request) error {
+func (f *failingBackend) Create(ctx context.Context, r broker.Request) error {
 	return f.at("create", func() error { return f.shelf.Create(ctx, r) })
 }
 
-func (f *failing) Delete(ctx context.Context, r broker.Request) error {
+func (f *failingBackend) Delete(ctx context.Context, r broker.Request) error {
 	return f.at("delete", func() error { return f.shelf.Delete(ctx, r) })
 }
 
-func (f *failing) Sync(ctx context.Context, r broker.Request) error {
+func (f *failingBackend) Sync(ctx context.Context, r broker.Request) error {
 	return f.at("sync", func() error { return f.shelf.Sync(ctx, r) })
 }
 
-func (f *failing) LookBinding(ctx context.Context, r broker.Request) (there broker.There, err error) {
+func (f *failingBackend) LookBinding(ctx context.Context, r broker.Request) (there broker.There, err error) {
 	err = f.at("look-binding", func() error { there, err = f.shelf.LookBinding(ctx, r); return err })
 	return there, err
 }
 
-func (f *failing) CreateBinding(ctx context.Context, r broker.Request) (credentials json.RawMessage, err error) {
+func (f *failingBackend) CreateBinding(ctx context.Context, r broker.Request) (credentials json.RawMessage, err error) {
 	err = f.at("create-binding", func() error { credentials, err = f.shelf.CreateBinding(ctx, r); return err })
 	return credentials, err
 }
 
-func (f *failing) DeleteBinding(ctx context.Context, r broker.Request) error {
+func (f *failingBackend) DeleteBinding(ctx context.Context, r broker.Request) error {
 	return f.at("delete-binding", func() error { return f.shelf.DeleteBinding(ctx, r) })
 }
 
-func (f *failing) Credentials(context.Context, broker.Request) (credentials json.RawMessage, err error) {
+func (f *failingBackend) Credentials(context.Context, broker.Request) (credentials json.RawMessage, err error) {
 	err = f.at("credentials", func() error { credentials = json.RawMessage(`"token"`); return nil })
 	return credentials, err
 }
@@ -460,7 +460,7 @@ func TestNamesOfFailedCalls(t *testing.T) {
 		"credentials":    {"credentials", errScripted, []broker.Key{one}, []broker.Key{bound}, "PUT", bound},
 	} {
 		t.Run(title, func(t *testing.T) {
-			backend := &failing{shelf: newShelf(calm)}
+			backend := &failingBackend{shelf: newShelf(calm)}
 			w := newWatched(t, backend)
 			for _, key := range test.held {
 				if status := w.ask("PUT", pathOf(key), bodyOf(now, ""), "a"); status != http.StatusCreated {
@@ -542,7 +542,7 @@ func pathOf(key broker.Key) string {
 
 // The log has the id of the request that the backend has failed, also if another worker did the work.
 func TestFailuresHaveTheIDOfTheRequest(t *testing.T) {
-	backend := &failing{shelf: newShelf(calm), name: "create", err: errScripted}
+	backend := &failingBackend{shelf: newShelf(calm), name: "create", err: errScripted}
 	w := newWatched(t, backend)
 	expect := func(event, requestID string) {
 		t.Helper()
@@ -677,37 +677,37 @@ func TestCredentialsWhileTheBrokerStops(t *testing.T) {
 	}
 }
 
-func newLoneOver(t *testing.T, backend *mute) (*lone, *mute) {
+func newLoneOver(t *testing.T, backend *mute) (*loneBroker, *mute) {
 	t.Helper()
-	it := &lone{bench: newBench(t, backend, newMemoryLocks()), backend: backend.scriptedBackend}
+	it := &loneBroker{bench: newBench(t, backend, newMemoryLocks()), backend: backend.scriptedBackend}
 	it.handler = handlerFor(t, it.Service)
 	return it, backend
 }
 
-// A changing backend creates a part of a binding, and fails to delete it: the password is another one then, and all of
+// A changingBackend creates a part of a binding, and fails to delete it: the password is another one then, and all of
 // the binding exists.
-type changing struct{ *mute }
+type changingBackend struct{ *mute }
 
-func (c changing) CreateBinding(ctx context.Context, r broker.Request) (json.RawMessage, error) {
+func (c changingBackend) CreateBinding(ctx context.Context, r broker.Request) (json.RawMessage, error) {
 	_ = c.Create(ctx, r)
 	c.there = part
 	return json.RawMessage(`"before"`), nil
 }
 
-func (c changing) DeleteBinding(context.Context, broker.Request) error {
+func (c changingBackend) DeleteBinding(context.Context, broker.Request) error {
 	c.there = whole
 	return errScripted
 }
 
-func (changing) Credentials(context.Context, broker.Request) (json.RawMessage, error) {
+func (changingBackend) Credentials(context.Context, broker.Request) (json.RawMessage, error) {
 	return json.RawMessage(`"after"`), nil
 }
 
 // A binding whose deletion has failed is reported with the credentials that it has then, and not with those of its
 // creation.
 func TestCredentialsAfterADeletionThatFailed(t *testing.T) {
-	backend := changing{&mute{scriptedBackend: &scriptedBackend{made: whole}}}
-	it := &lone{bench: newBench(t, backend, newMemoryLocks()), backend: backend.scriptedBackend}
+	backend := changingBackend{&mute{scriptedBackend: &scriptedBackend{made: whole}}}
+	it := &loneBroker{bench: newBench(t, backend, newMemoryLocks()), backend: backend.scriptedBackend}
 	it.handler = handlerFor(t, it.Service)
 	it.expect(t, 201, "PUT", instances+"i", bodyOf(now, ""))
 	backend.there = none
@@ -717,13 +717,13 @@ func TestCredentialsAfterADeletionThatFailed(t *testing.T) {
 	}
 }
 
-// A reporting store looks at each entry of a binding that is written.
-type reporting struct {
+// A reportingStore looks at each entry of a binding that is written.
+type reportingStore struct {
 	broker.Store
 	written func(broker.Entry)
 }
 
-func (r *reporting) Change(ctx context.Context, key broker.Key, fence int64, step broker.Step) error {
+func (r *reportingStore) Change(ctx context.Context, key broker.Key, fence int64, step broker.Step) error {
 	return r.Store.Change(ctx, key, fence, func(snapshot broker.Snapshot) (*broker.Entry, error) {
 		next, err := step(snapshot)
 		if err == nil && next != nil && key.IsBinding {
@@ -740,9 +740,9 @@ func TestCredentialsAreWrittenWithTheRow(t *testing.T) {
 	key := broker.BindingKey(keyOf("i").Instance, number)
 	for _, plan := range []string{now, bindLater} {
 		ready := 0
-		l := newLone(t)
+		l := newLoneBroker(t)
 		backend := newShelf(calm)
-		store := &reporting{Store: l.store, written: func(entry broker.Entry) {
+		store := &reportingStore{Store: l.store, written: func(entry broker.Entry) {
 			if row, isHeld := entry.Holding.Row(); isHeld && row.Phase == osb.PhaseReady {
 				ready++
 				if got, want := credentialsOf(entry.Binding), backend.credentials(key); got != want {

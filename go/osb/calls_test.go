@@ -163,8 +163,8 @@ func one[T ~string | ~[]byte](of T, err error) (results, error) {
 	return results{text(string(of))}, err
 }
 
-// nothing is the result of a call that gives nothing.
-func nothing(err error) (results, error) { return results{text("done")}, err }
+// errorResult is the result of a call that gives nothing.
+func errorResult(err error) (results, error) { return results{text("done")}, err }
 
 // unset fails the test if what a call gave with an error isn't its zero value.
 func unset[T any](t *testing.T, got, zero T) results {
@@ -312,16 +312,16 @@ var calls = map[string]func(arguments) (results, error){
 		}
 		return results{text(errorIn(a.t, body))}, nil
 	},
-	"api_version": func(a arguments) (results, error) { return nothing(osb.APIVersion(a.cells["value"])) },
+	"api_version": func(a arguments) (results, error) { return errorResult(osb.APIVersion(a.cells["value"])) },
 	"basic_auth": func(a arguments) (results, error) {
-		return nothing(osb.BasicAuth(a.text("value"), a.text("user"), a.text("password")))
+		return errorResult(osb.BasicAuth(a.text("value"), a.text("user"), a.text("password")))
 	},
 	"originating_identity": func(a arguments) (results, error) {
 		it, err := osb.OriginatingIdentity(a.text("value"))
 		return results{&it.Platform, raw(it.Object)}, err
 	},
 	"request_identity": func(a arguments) (results, error) {
-		return nothing(osb.RequestIdentity(a.text("value")))
+		return errorResult(osb.RequestIdentity(a.text("value")))
 	},
 	"catalogue_plans": func(a arguments) (results, error) {
 		found, err := osb.CataloguePlans(a.bytes("document"))
@@ -335,7 +335,7 @@ var calls = map[string]func(arguments) (results, error){
 				"fetching_instances": &serves.FetchingInstances, "fetching_bindings": &serves.FetchingBindings,
 			}[name] = true
 		}
-		return nothing(osb.CheckCatalogue(a.bytes("document"), serves))
+		return errorResult(osb.CheckCatalogue(a.bytes("document"), serves))
 	},
 	"served_catalogue": func(a arguments) (results, error) {
 		return one(osb.ServedCatalogue(a.bytes("document")))
@@ -347,7 +347,7 @@ var calls = map[string]func(arguments) (results, error){
 		return one(osb.PlanVersion(a.bytes("document"), a.id("service"), a.id("plan")))
 	},
 	"maintenance_conflict": func(a arguments) (results, error) {
-		return nothing(osb.MaintenanceConflict(a.cells["version"], a.bytes("body")))
+		return errorResult(osb.MaintenanceConflict(a.cells["version"], a.bytes("body")))
 	},
 	"write_binding_target": func(a arguments) (results, error) {
 		names := osb.BindingNames{
@@ -389,9 +389,9 @@ var calls = map[string]func(arguments) (results, error){
 		return results{text(errorIn(a.t, body))}, nil
 	},
 	"requires_app": func(a arguments) (results, error) {
-		return nothing(osb.RequiresApp(a.flag("needs_app"), a.bytes("body")))
+		return errorResult(osb.RequiresApp(a.flag("needs_app"), a.bytes("body")))
 	},
-	"write_binding": func(a arguments) (results, error) { return nothing(osb.CheckBinding(a.bytes("object"))) },
+	"write_binding": func(a arguments) (results, error) { return errorResult(osb.CheckBinding(a.bytes("object"))) },
 	"read_binding": func(a arguments) (results, error) {
 		status, body := uint16(a.number("status")), a.bytes("body")
 		object, err := osb.ReadFetched(status, body)
@@ -401,7 +401,7 @@ var calls = map[string]func(arguments) (results, error){
 		if err == nil && string(object) != string(body) {
 			a.t.Errorf("got %s, want %s", object, body)
 		}
-		return nothing(err)
+		return errorResult(err)
 	},
 	"binding_modes": func(a arguments) (results, error) {
 		found, err := osb.BindingModes(a.bytes("document"))

@@ -116,9 +116,9 @@ type output struct {
 	got, onError any
 }
 
-// gave are the results of a call that gave these values. If a value is the one that a cell stands for, the cell is the
+// resultsOf are the results of a call that gave these values. If a value is the one that a cell stands for, the cell is the
 // result.
-func (a arguments) gave(err error, outputs ...output) (results, error) {
+func (a arguments) resultsOf(err error, outputs ...output) (results, error) {
 	var found results
 	for _, output := range outputs {
 		wanted := a.wants[output.column]
@@ -136,22 +136,22 @@ func (a arguments) gave(err error, outputs ...output) (results, error) {
 }
 
 func (a arguments) next(record osb.Record, err error) (results, error) {
-	return a.gave(err, output{"record", record, a.record()})
+	return a.resultsOf(err, output{"record", record, a.record()})
 }
 
-func (a arguments) sent(record, before osb.Record, sent osb.Sent, err error) (results, error) {
+func (a arguments) resultsOfSend(record, before osb.Record, sent osb.Sent, err error) (results, error) {
 	if err == nil && sent.Attempt != record.Attempt() {
 		a.t.Errorf("got the attempt %d, want %d", sent.Attempt, record.Attempt())
 	}
-	return a.gave(err, output{"record", record, before}, output{"request", sent.Request, osb.Request{}})
+	return a.resultsOf(err, output{"record", record, before}, output{"request", sent.Request, osb.Request{}})
 }
 
 func (a arguments) nextHolding(holding osb.Holding, err error) (results, error) {
-	return a.gave(err, output{"holding", holding, a.holding()})
+	return a.resultsOf(err, output{"holding", holding, a.holding()})
 }
 
-func (a arguments) begun(holding osb.Holding, begun osb.Begun, err error) (results, error) {
-	return a.gave(err, output{"holding", holding, a.holding()}, output{"begun", begun, osb.Begun{}})
+func (a arguments) resultsOfBegin(holding osb.Holding, begun osb.Begun, err error) (results, error) {
+	return a.resultsOf(err, output{"holding", holding, a.holding()}, output{"begun", begun, osb.Begun{}})
 }
 
 func (a arguments) record() osb.Record { return recordOf(a.t, a.text("record")) }
@@ -160,7 +160,7 @@ func (a arguments) holding() osb.Holding { return holdingOf(a.t, a.text("holding
 
 func (a arguments) mode() osb.Mode { return osb.Mode(a.enum("mode", modeNames)) }
 
-func (a arguments) asked() osb.Request { return requestOf(a.t, a.text("request")) }
+func (a arguments) requestCell() osb.Request { return requestOf(a.t, a.text("request")) }
 
 func (a arguments) rules() osb.Rules {
 	rules := osb.Rules{FirstPoll: a.flag("first_poll")}
@@ -181,17 +181,17 @@ func init() {
 	for name, call := range map[string]func(arguments) (results, error){
 		"record_create": func(a arguments) (results, error) {
 			record, sent := osb.Create(a.id("id"), a.id("service"), a.id("plan"), a.flag("accepts_incomplete"))
-			return a.sent(record, record, sent, nil)
+			return a.resultsOfSend(record, record, sent, nil)
 		},
 		"record_from_row": func(a arguments) (results, error) {
 			row := osb.PlatformRow{Service: service, Plan: plan, State: a.state()}
 			row.InFlight = osb.Kind(a.enum("out", kindNames))
 			record, err := osb.RecordFromRow(row)
-			return a.gave(err, output{"record", record, osb.Record{}})
+			return a.resultsOf(err, output{"record", record, osb.Record{}})
 		},
 		"record_send": func(a arguments) (results, error) {
 			record, sent, err := a.record().Send(a.id("id"))
-			return a.sent(record, a.record(), sent, err)
+			return a.resultsOfSend(record, a.record(), sent, err)
 		},
 		"record_answer": func(a arguments) (results, error) {
 			return a.next(a.record().Answer(a.attempt(), a.answer()))
@@ -210,11 +210,11 @@ func init() {
 			before := recordOf(a.t, "ready 1")
 			record := before
 			err := record.UnmarshalJSON(a.bytes("text"))
-			return a.gave(err, output{"record", record, before})
+			return a.resultsOf(err, output{"record", record, before})
 		},
 		"binding_create": func(a arguments) (results, error) {
 			record, sent, err := a.record().CreateBinding(a.id("binding"), a.flag("accepts_incomplete"))
-			return a.sent(record, osb.Record{}, sent, err)
+			return a.resultsOfSend(record, osb.Record{}, sent, err)
 		},
 		"binding_answer": func(a arguments) (results, error) {
 			return a.next(a.record().AnswerBinding(a.attempt(), a.answer(), a.flag("retrievable")))
@@ -222,25 +222,25 @@ func init() {
 		"binding_record_to_text": func(a arguments) (results, error) { return one(a.record().BindingText()) },
 		"binding_record_from_text": func(a arguments) (results, error) {
 			record, err := osb.BindingRecordFromText(a.bytes("text"))
-			return a.gave(err, output{"record", record, osb.Record{}})
+			return a.resultsOf(err, output{"record", record, osb.Record{}})
 		},
 		"work_of": func(a arguments) (results, error) {
 			return results{text(osb.WorkOf(a.kind(), a.mode()).String())}, nil
 		},
 		"holding_fits": func(a arguments) (results, error) { return results{word(a.holding().Fits(a.mode()))}, nil },
 		"holding_begin": func(a arguments) (results, error) {
-			return a.begun(a.holding().Begin(a.mode(), a.asked(), a.rules()))
+			return a.resultsOfBegin(a.holding().Begin(a.mode(), a.requestCell(), a.rules()))
 		},
 		"holding_begin_if": func(a arguments) (results, error) {
-			return a.begun(a.holding().BeginIf(a.mode(), a.asked(), a.rules(), a.flag("may_begin")))
+			return a.resultsOfBegin(a.holding().BeginIf(a.mode(), a.requestCell(), a.rules(), a.flag("may_begin")))
 		},
 		"binding_begin": func(a arguments) (results, error) {
 			of := holdingOf(a.t, a.text("instance"))
-			return a.begun(a.holding().BeginBinding(of, a.mode(), a.asked(), a.rules()))
+			return a.resultsOfBegin(a.holding().BeginBinding(of, a.mode(), a.requestCell(), a.rules()))
 		},
 		"holding_end": func(a arguments) (results, error) {
 			holding, answer, err := a.holding().End(a.mode(), osb.Outcome(a.enum("outcome", outcomeNames)))
-			return a.gave(err, output{"holding", holding, a.holding()}, output{"answer", answer, osb.Answer{}})
+			return a.resultsOf(err, output{"holding", holding, a.holding()}, output{"answer", answer, osb.Answer{}})
 		},
 		"holding_finish":          func(a arguments) (results, error) { return a.nextHolding(a.holding().Finish(a.flag("ok"))) },
 		"holding_give_up_waiting": func(a arguments) (results, error) { return a.nextHolding(a.holding().GiveUpWaiting()) },
@@ -250,19 +250,19 @@ func init() {
 		},
 		"binding_fetch": func(a arguments) (results, error) {
 			answer, err := a.holding().Fetch()
-			return a.gave(err, output{"answer", answer, osb.Answer{}})
+			return a.resultsOf(err, output{"answer", answer, osb.Answer{}})
 		},
 		"holding_to_text": func(a arguments) (results, error) { return one(a.holding().MarshalJSON()) },
 		"holding_from_text": func(a arguments) (results, error) {
 			before := holdingOf(a.t, "ready:sync")
 			holding := before
 			err := holding.UnmarshalJSON(a.bytes("text"))
-			return a.gave(err, output{"holding", holding, before})
+			return a.resultsOf(err, output{"holding", holding, before})
 		},
 		"binding_holding_to_text": func(a arguments) (results, error) { return one(a.holding().BindingText()) },
 		"binding_holding_from_text": func(a arguments) (results, error) {
 			holding, err := osb.BindingHoldingFromText(a.bytes("text"))
-			return a.gave(err, output{"holding", holding, osb.Holding{}})
+			return a.resultsOf(err, output{"holding", holding, osb.Holding{}})
 		},
 	} {
 		calls[name] = call

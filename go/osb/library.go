@@ -53,13 +53,13 @@ func errorOf(status C.uint32_t) error {
 	return Status(status)
 }
 
-// nothing is what an empty text points to, since no pointer may be null. It is never read or written.
-var nothing [1]byte
+// errorResult is what an empty text points to, since no pointer may be null. It is never read or written.
+var errorResult [1]byte
 
 // pointer is where the bytes begin.
 func pointer(bytes []byte) *C.uint8_t {
 	if len(bytes) == 0 {
-		return (*C.uint8_t)(&nothing[0])
+		return (*C.uint8_t)(&errorResult[0])
 	}
 	return (*C.uint8_t)(&bytes[0])
 }

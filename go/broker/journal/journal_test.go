@@ -182,20 +182,20 @@ func TestOrder(t *testing.T) {
 			t.Errorf("before %s: got %+v, want its begin", call, last)
 		}
 	}
-	given := &leaving{ResponseRecorder: httptest.NewRecorder(), s: s}
+	given := &answerRecorder{ResponseRecorder: httptest.NewRecorder(), s: s}
 	s.ServeHTTP(given, s.request("PUT", one, atOnce))
 	if commits != 2 || calls != 3 || given.Code != 201 {
 		t.Errorf("got %d commits, %d calls and the status %d, want 2, 3 and 201", commits, calls, given.Code)
 	}
 }
 
-// leaving is an answer that leaves with its status.
-type leaving struct {
+// answerRecorder is an answer that leaves with its status.
+type answerRecorder struct {
 	*httptest.ResponseRecorder
 	s *testBroker
 }
 
-func (l *leaving) WriteHeader(status int) {
+func (l *answerRecorder) WriteHeader(status int) {
 	last := l.s.last()
 	at, err := strconv.ParseInt(l.Header().Get(journalfile.Header), 10, 64)
 	if last.Event != "answered" || last.Status != status || err != nil || at <= last.Time {

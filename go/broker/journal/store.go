@@ -33,7 +33,7 @@ func (s store) Change(ctx context.Context, key broker.Key, fence int64, step bro
 	number := int64(0) // of the change that may be committed
 	undo := func(isDoubtful bool) {
 		if number != 0 {
-			s.journal.to.Write("undone", undone{Change: number, life: lifeOf(key), IsDoubtful: isDoubtful})
+			s.journal.to.Write("undone", undoneLine{Change: number, life: lifeOf(key), IsDoubtful: isDoubtful})
 			s.journal.changes.end(number)
 		}
 		number = 0
@@ -59,8 +59,8 @@ func isAnother(before, after broker.Entry) bool {
 	return before.Holding != after.Holding || before.Life != after.Life
 }
 
-// undone is the line of a change that wasn't committed.
-type undone struct {
+// undoneLine is the line of a change that wasn't committed.
+type undoneLine struct {
 	Change int64 `json:"change"`
 	life
 	IsDoubtful bool `json:"doubtful,omitempty"` // whether it may have been committed

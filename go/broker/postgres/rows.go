@@ -108,14 +108,14 @@ func storable(text string) string {
 
 // Read returns what is committed: the server shows nothing that isn't on its disk.
 func (s *Store) Read(outer context.Context, key broker.Key) (snapshot broker.Snapshot, err error) {
-	err = s.reading(outer, func(ctx context.Context, statements statementSet) error {
+	err = s.callReading(outer, func(ctx context.Context, statements statementSet) error {
 		if key.IsBinding {
 			snapshot, err = readHeldBinding(ctx, statements[readBinding], key)
 			return err
 		}
 		snapshot, _, err = scanRow(key, statements[findInstance].QueryRowContext(ctx, key.Instance))
 		snapshot.AnyBinding = func() (is bool, err error) {
-			err = s.reading(outer, func(ctx context.Context, statements statementSet) error {
+			err = s.callReading(outer, func(ctx context.Context, statements statementSet) error {
 				return statements[anyBinding].QueryRowContext(ctx, key.Instance).Scan(&is)
 			})
 			return is, err
@@ -125,9 +125,9 @@ func (s *Store) Read(outer context.Context, key broker.Key) (snapshot broker.Sna
 	return snapshot, err
 }
 
-// reading calls with the prepared statements, for those that are transactions of their own. A server that doesn't
+// callReading calls with the prepared statements, for those that are transactions of their own. A server that doesn't
 // answer isn't waited for longer than pg.Answer: its sessions would be used up.
-func (s *Store) reading(ctx context.Context, call func(context.Context, statementSet) error) error {
+func (s *Store) callReading(ctx context.Context, call func(context.Context, statementSet) error) error {
 	return s.query(func(*sql.DB) error {
 		within, cancel := pg.Within(ctx, pg.Answer)
 		defer cancel()
@@ -372,7 +372,7 @@ func (c change) lockRow(key broker.Key, how string) (broker.Snapshot, error) {
 }
 
 func (c change) find(key broker.Key, how string) (broker.Snapshot, bool, error) {
-	return scanRow(key, c.statement(finding(key)+how).QueryRowContext(c.ctx, keyParameters(key)...))
+	return scanRow(key, c.statement(findStatement(key)+how).QueryRowContext(c.ctx, keyParameters(key)...))
 }
 
 // insert inserts the row of the zero Holding, unless another transaction does it first, which it waits for. It returns
@@ -425,7 +425,7 @@ func (s *Store) Fence(ctx context.Context, key broker.Key) (int64, error) {
 		return 0, err
 	}
 	worker := int64(binary.BigEndian.Uint64(random[:])>>1) | 1
-	err := s.reading(ctx, func(ctx context.Context, statements statementSet) error {
+	err := s.callReading(ctx, func(ctx context.Context, statements statementSet) error {
 		_, err := statements[of(key, putWorker, putBindingWorker)].ExecContext(ctx, append(keyParameters(key), worker)...)
 		return err
 	})

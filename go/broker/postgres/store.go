@@ -91,7 +91,7 @@ func (s *Store) prepare(ctx context.Context) error {
 		return err
 	}
 	if encoding != "UTF8" && encoding != "SQL_ASCII" {
-		return pg.Lasting(fmt.Errorf("the encoding of the database is %s. Create one with: CREATE DATABASE .. "+
+		return pg.AsLasting(fmt.Errorf("the encoding of the database is %s. Create one with: CREATE DATABASE .. "+
 			"ENCODING 'UTF8' TEMPLATE template0", encoding))
 	}
 	return s.migrate(ctx)
@@ -270,8 +270,8 @@ func (s *Store) preparedFor(ctx context.Context) (statementSet, error) {
 	return all, pg.AsNoAnswer(ctx, err)
 }
 
-// finding is the text that finds the row of a key.
-func finding(key broker.Key) string {
+// findStatement is the text that finds the row of a key.
+func findStatement(key broker.Key) string {
 	if key.IsBinding {
 		return findBinding
 	}

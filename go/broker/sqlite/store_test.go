@@ -97,7 +97,7 @@ func TestOneFails(t *testing.T) {
 			given[n] = s.Change(it.ctx, keyOf(n), 0, it.step(keyOf(n)))
 		}(n)
 	}
-	for until := time.Now().Add(time.Minute); s.file.Waiting() < 40; time.Sleep(time.Millisecond) {
+	for until := time.Now().Add(time.Minute); s.file.QueueLength() < 40; time.Sleep(time.Millisecond) {
 		if time.Now().After(until) {
 			t.Error("got changes that don't gather in time, want them in one commit")
 			break

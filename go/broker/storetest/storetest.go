@@ -94,8 +94,8 @@ func in(t *testing.T, phase string) osb.Holding {
 	return holding(t, fmt.Sprintf(`{"phase":%q,"plan":%q,"service":%q}`, phase, plan, service), "null", false)
 }
 
-// pending is the holding of a key with a pending creation.
-func pending(t *testing.T, key broker.Key) osb.Holding {
+// pendingHolding is the holding of a key with a pending creation.
+func pendingHolding(t *testing.T, key broker.Key) osb.Holding {
 	t.Helper()
 	work := fmt.Sprintf(`{"accepts_incomplete":true,"id":%q,"kind":"provision","plan":%q,"service":%q}`,
 		key.ID(), plan, service)
@@ -345,8 +345,8 @@ func testStats(t *testing.T, open func(*testing.T) broker.NamedStore) {
 		key   broker.Key
 		entry broker.Entry
 	}{
-		{instance(1), broker.Entry{Holding: pending(t, instance(1)), Since: at(9)}},
-		{binding(1, 1), broker.Entry{Holding: pending(t, binding(1, 1)), Since: at(8)}},
+		{instance(1), broker.Entry{Holding: pendingHolding(t, instance(1)), Since: at(9)}},
+		{binding(1, 1), broker.Entry{Holding: pendingHolding(t, binding(1, 1)), Since: at(8)}},
 		{instance(2), broker.Entry{Holding: in(t, "making"), Since: at(7)}},
 		{binding(2, 1), broker.Entry{Holding: in(t, "deleting"), Since: at(6)}},
 		{binding(3, 1), broker.Entry{Holding: in(t, "making")}}, // as of a version that wrote no time
@@ -397,7 +397,7 @@ func testNothing(t *testing.T, open func(*testing.T) broker.NamedStore) {
 // entries are an entry with all that there is, and one that has less.
 func entries(t *testing.T, key broker.Key) []broker.Entry {
 	full := broker.Entry{
-		Holding:     pending(t, key),
+		Holding:     pendingHolding(t, key),
 		Request:     json.RawMessage(`{"instance_id": "a", "body":{"x":[1, 2.0,"\u0000"]}}`),
 		Description: "the disk is full",
 		Since:       time.Date(2026, 2, 3, 4, 5, 6, 789e6, time.FixedZone("somewhere", 3600)),
@@ -496,7 +496,7 @@ func testHeldBindings(t *testing.T, open func(*testing.T) broker.NamedStore) {
 	write(t, store, binding(2, 2), broker.Entry{Holding: in(t, "ready")}) // another instance's
 	write(t, store, binding(5, 1), broker.Entry{Description: "a row that holds nothing"})
 	wantHeld(t, store)
-	write(t, store, binding(3, 1), broker.Entry{Holding: pending(t, binding(3, 1))})
+	write(t, store, binding(3, 1), broker.Entry{Holding: pendingHolding(t, binding(3, 1))})
 	write(t, store, binding(4, 1), broker.Entry{Holding: in(t, "failed")})
 	wantHeld(t, store, id(3), id(4))
 	write(t, store, binding(3, 1), broker.Entry{Holding: tombstone(t)})
@@ -539,7 +539,7 @@ func testUnfinished(t *testing.T, open func(*testing.T) broker.NamedStore) {
 		}
 	}
 	for _, key := range []broker.Key{instance(20), binding(20, 20)} {
-		write(t, store, key, broker.Entry{Holding: pending(t, key)})
+		write(t, store, key, broker.Entry{Holding: pendingHolding(t, key)})
 		want[key] = true
 	}
 	for _, key := range []broker.Key{instance(21), binding(21, 20)} {
@@ -574,7 +574,7 @@ func testAge(t *testing.T, open func(*testing.T) broker.NamedStore) {
 				wantAge(t, reader, key, began, written)
 			}
 		}
-		write(t, second, key, broker.Entry{Holding: pending(t, key), Life: 1})
+		write(t, second, key, broker.Entry{Holding: pendingHolding(t, key), Life: 1})
 		time.Sleep(soon / 10)
 		wantNoAge(t, first, key)
 	}
@@ -621,7 +621,7 @@ func testReturn(t *testing.T, open func(*testing.T) broker.NamedStore) {
 			write(t, stores[0], key, broker.Entry{Holding: tombstone(t)})
 			time.Sleep(2 * time.Millisecond) // so that it has an age
 			diff.Equal(t, returns(t, stores, key), 1, "%v: returns", key)
-			want := broker.Entry{Holding: pending(t, key), Life: 1}
+			want := broker.Entry{Holding: pendingHolding(t, key), Life: 1}
 			wantEntry(t, key.String(), read(t, stores[0], key).Entry, want)
 		}
 	}
@@ -630,7 +630,7 @@ func testReturn(t *testing.T, open func(*testing.T) broker.NamedStore) {
 // returns has the stores put a new life in the place of a tombstone, all at the same time, and returns how many have.
 func returns(t *testing.T, stores []broker.Store, key broker.Key) (count int) {
 	t.Helper()
-	begun := pending(t, key)
+	begun := pendingHolding(t, key)
 	found := make([]bool, len(stores))
 	var gate, all sync.WaitGroup
 	gate.Add(len(stores))

@@ -568,7 +568,7 @@ func newInside(t *testing.T) *inside {
 	t.Setenv("OSB_BROKER_PASSWORD", "secret")
 	queue := logs.NewQueue(io.Discard)
 	t.Cleanup(func() { _ = queue.Close(ctx) })
-	r := &running{settings: s, log: logs.New(queue)}
+	r := &server{settings: s, log: logs.New(queue)}
 	var err error
 	if r.access, err = accessOf(s, r.log); err != nil {
 		t.Fatal(err)

@@ -93,7 +93,7 @@ func TestJournalTaken(t *testing.T) {
 // Without --journal nothing is wrapped, and no time is sent.
 func TestNoJournal(t *testing.T) {
 	parts := &parts{store: &ownStore{}, backend: &ownBackend{}}
-	with, err := (&running{settings: &settings{}, parts: parts}).withJournal(nil)
+	with, err := (&server{settings: &settings{}, parts: parts}).withJournal(nil)
 	if err != nil || with.store != broker.Store(parts.store) || with.backend != parts.backend || with.journal != nil {
 		t.Errorf("got %+v and the error %v, want the parts as they are", with, err)
 	}

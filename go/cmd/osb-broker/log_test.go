@@ -123,7 +123,7 @@ func TestObserversHandOnEachEvent(t *testing.T) {
 // Why the store can't be used is in the log, under the event that the answer to /readyz names.
 func TestNotReadyIsLogged(t *testing.T) {
 	var got bytes.Buffer
-	r := &running{observer: logObserver{logs.New(&got)}}
+	r := &server{observer: logObserver{logs.New(&got)}}
 	r.notReady(errors.New("away"))
 	want := `{"time":"T","level":"error","event":"not_ready","error":"away"}` + "\n"
 	diff.Equal(t, withoutTimes(got.String()), want, "")

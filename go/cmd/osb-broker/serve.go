@@ -27,8 +27,8 @@ import (
 	"pippinterm/internal/sqlitefile"
 )
 
-// A running is a broker that serves, or is about to.
-type running struct {
+// A server is a broker that serves, or is about to.
+type server struct {
 	settings *settings
 	log      *logs.Logger
 	observer broker.Observer
@@ -58,7 +58,7 @@ func serve(ctx context.Context, s *settings, stderr io.Writer) error {
 		defer cancel()
 		_ = queue.Close(until)
 	}()
-	r := &running{settings: s, log: logs.New(queue)}
+	r := &server{settings: s, log: logs.New(queue)}
 	var err error
 	if r.access, err = accessOf(s, r.log); err != nil { // a file that can't be read for long: the signals still end it
 		return err
@@ -87,7 +87,7 @@ func serve(ctx context.Context, s *settings, stderr io.Writer) error {
 }
 
 // open opens everything but access, and what serve begins.
-func (r *running) open(ctx, stop context.Context, queue *logs.Queue) (err error) {
+func (r *server) open(ctx, stop context.Context, queue *logs.Queue) (err error) {
 	s := r.settings
 	r.metrics = newMetrics(metricsOptions{
 		DroppedLines: queue.DroppedLines, LostJournalLines: r.lostLines, Connections: r.connections,
@@ -124,7 +124,7 @@ func (r *running) open(ctx, stop context.Context, queue *logs.Queue) (err error)
 }
 
 // openService makes the service, and what calls it.
-func (r *running) openService(ctx context.Context, catalogue *broker.Catalogue) error {
+func (r *server) openService(ctx context.Context, catalogue *broker.Catalogue) error {
 	s := r.settings
 	with, err := r.withJournal(catalogue)
 	if err != nil {
@@ -147,7 +147,7 @@ func (s *settings) rules() broker.Rules {
 	}
 }
 
-func (r *running) connections() int {
+func (r *server) connections() int {
 	if r.main == nil {
 		return 0
 	}
@@ -155,7 +155,7 @@ func (r *running) connections() int {
 }
 
 // serve listens, and serves until stop is done.
-func (r *running) serve(ctx, stop context.Context) error {
+func (r *server) serve(ctx, stop context.Context) error {
 	sites, err := r.sites(ctx)
 	if err != nil {
 		return err
@@ -208,7 +208,7 @@ func waitFor(ctx context.Context, ended <-chan struct{}) {
 }
 
 // wait waits for what ends, such as the sweeper, and returns whether it has ended in time.
-func (r *running) wait(ended <-chan struct{}, within time.Duration) bool {
+func (r *server) wait(ended <-chan struct{}, within time.Duration) bool {
 	late := time.NewTimer(within)
 	defer late.Stop()
 	select {
@@ -225,7 +225,7 @@ func (r *running) wait(ended <-chan struct{}, within time.Duration) bool {
 }
 
 // sites are where it listens, and what answers there.
-func (r *running) sites(ctx context.Context) ([]httpserver.Site, error) {
+func (r *server) sites(ctx context.Context) ([]httpserver.Site, error) {
 	s, certificates := r.settings, r.access.certificates
 	var err error
 	r.main, err = httpserver.Listen(ctx, s.listen, httpserver.Options{
@@ -259,7 +259,7 @@ func (r *running) sites(ctx context.Context) ([]httpserver.Site, error) {
 }
 
 // notReady reports why the store can't be used.
-func (r *running) notReady(err error) {
+func (r *server) notReady(err error) {
 	r.observer.OnFailure(broker.Failure{Event: "not_ready", Err: err})
 }
 
@@ -401,7 +401,7 @@ type serviceParts struct {
 }
 
 // withJournal returns the parts, which write the journal if there is one.
-func (r *running) withJournal(catalogue *broker.Catalogue) (serviceParts, error) {
+func (r *server) withJournal(catalogue *broker.Catalogue) (serviceParts, error) {
 	s := r.settings
 	with := serviceParts{store: r.parts.store, backend: r.parts.backend}
 	if s.journal == "" {
@@ -426,12 +426,12 @@ func isDoubtful(err error) bool {
 	return errors.Is(err, pg.ErrUnknownCommit) || errors.Is(err, sqlitefile.ErrUnknownCommit)
 }
 
-func (r *running) journalFailed(err error) {
+func (r *server) journalFailed(err error) {
 	r.observer.OnFailure(broker.Failure{Event: "journal_failed", Err: fmt.Errorf("lines are lost: %w", err)})
 }
 
 // lostLines are the lines of the journal that couldn't be written.
-func (r *running) lostLines() uint64 {
+func (r *server) lostLines() uint64 {
 	if r.journal == nil {
 		return 0
 	}
@@ -439,7 +439,7 @@ func (r *running) lostLines() uint64 {
 }
 
 // closeJournal ends the journal, unless work goes on: then it ends as after a crash.
-func (r *running) closeJournal() {
+func (r *server) closeJournal() {
 	if r.journal != nil && !r.isCut {
 		r.journal.Close()
 	}

@@ -179,35 +179,35 @@ func TestMetricsWhileTheStoreHangs(t *testing.T) {
 	proxy.Hang(false)
 }
 
-// An old is an instance of the state folder that version 0.2 has left.
-type old struct {
+// An oldInstance is an instance of the state folder that version 0.2 has left.
+type oldInstance struct {
 	number    int
 	plan      string
 	hasFolder bool
 }
 
-func (o old) id() string { return fmt.Sprintf("00000000-0000-0000-0000-%012x", o.number) }
+func (o oldInstance) id() string { return fmt.Sprintf("00000000-0000-0000-0000-%012x", o.number) }
 
-func (o old) path() string { return "/v2/service_instances/" + o.id() }
+func (o oldInstance) path() string { return "/v2/service_instances/" + o.id() }
 
-func (o old) order() string { return strings.Replace(order, atOnce, o.plan, 1) }
+func (o oldInstance) order() string { return strings.Replace(order, atOnce, o.plan, 1) }
 
-func (o old) names() string { return strings.Replace(names, atOnce, o.plan, 1) }
+func (o oldInstance) names() string { return strings.Replace(names, atOnce, o.plan, 1) }
 
 // The instances, by what the broker of version 0.2 had reported of each, or what it was doing when it was killed.
 var (
-	oldReady       = []old{{1, atOnce, true}, {2, byWorker, true}}
-	oldGone        = []old{{3, atOnce, false}, {4, byWorker, false}, {5, atOnce, false}} // the last was never created
-	oldFailed      = old{6, byWorker, false}
-	oldUndeleted   = old{7, byWorker, true} // its deletion has failed
-	oldCreating    = old{8, byWorker, false}
-	oldDeleting    = old{9, byWorker, true}
-	oldToBeCreated = old{10, atOnce, false} // the work was pending, and nothing of it done
-	oldToBeDeleted = old{11, atOnce, true}
+	oldReady       = []oldInstance{{1, atOnce, true}, {2, byWorker, true}}
+	oldGone        = []oldInstance{{3, atOnce, false}, {4, byWorker, false}, {5, atOnce, false}} // the last was never created
+	oldFailed      = oldInstance{6, byWorker, false}
+	oldUndeleted   = oldInstance{7, byWorker, true} // its deletion has failed
+	oldCreating    = oldInstance{8, byWorker, false}
+	oldDeleting    = oldInstance{9, byWorker, true}
+	oldToBeCreated = oldInstance{10, atOnce, false} // the work was pending, and nothing of it done
+	oldToBeDeleted = oldInstance{11, atOnce, true}
 )
 
-func oldInstances() []old {
-	all := append([]old{oldFailed, oldUndeleted, oldCreating, oldDeleting, oldToBeCreated, oldToBeDeleted}, oldReady...)
+func oldInstances() []oldInstance {
+	all := append([]oldInstance{oldFailed, oldUndeleted, oldCreating, oldDeleting, oldToBeCreated, oldToBeDeleted}, oldReady...)
 	return append(all, oldGone...)
 }
 
@@ -240,7 +240,7 @@ func oldState(t *testing.T) string {
 }
 
 // isReady checks that an instance exists, and that a repeated Provision gets 200.
-func (s *servedBroker) isReady(state string, it old) {
+func (s *servedBroker) isReady(state string, it oldInstance) {
 	s.t.Helper()
 	s.until(200, "succeeded", "GET", it.path()+"/last_operation", "")
 	s.expect(200, "PUT", it.path()+async, it.order())
@@ -249,7 +249,7 @@ func (s *servedBroker) isReady(state string, it old) {
 }
 
 // isGone checks that an instance doesn't exist, and that no Provision creates it.
-func (s *servedBroker) isGone(state string, it old) {
+func (s *servedBroker) isGone(state string, it oldInstance) {
 	s.t.Helper()
 	s.until(410, "", "GET", it.path()+"/last_operation", "")
 	s.expect(409, "PUT", it.path()+async, it.order())
@@ -264,8 +264,8 @@ func (s *servedBroker) isGone(state string, it old) {
 func TestStateOfVersion02(t *testing.T) {
 	state := oldState(t)
 	s := start(t, []string{password}, "--state", state, "--existing")
-	ready := append([]old{oldCreating, oldToBeCreated}, oldReady...)
-	gone := append([]old{oldDeleting, oldToBeDeleted}, oldGone...)
+	ready := append([]oldInstance{oldCreating, oldToBeCreated}, oldReady...)
+	gone := append([]oldInstance{oldDeleting, oldToBeDeleted}, oldGone...)
 	for round := 0; round < 2; round++ {
 		for _, instance := range ready {
 			s.isReady(state, instance)
@@ -273,7 +273,7 @@ func TestStateOfVersion02(t *testing.T) {
 		for _, instance := range gone {
 			s.isGone(state, instance)
 		}
-		for _, instance := range []old{oldFailed, oldUndeleted} {
+		for _, instance := range []oldInstance{oldFailed, oldUndeleted} {
 			s.until(200, "failed", "GET", instance.path()+"/last_operation", "")
 		}
 		s.stop()

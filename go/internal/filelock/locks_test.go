@@ -168,13 +168,13 @@ func TestLockWaitsUntilItsContextIsDone(t *testing.T) {
 	diff.Equal(t, openFiles(t), before, "files open")
 }
 
-// A counted context counts the looks at its end: Lock takes one before each try.
-type counted struct {
+// A countingContext counts the looks at its end: Lock takes one before each try.
+type countingContext struct {
 	context.Context
 	looks int
 }
 
-func (c *counted) Err() error {
+func (c *countingContext) Err() error {
 	c.looks++
 	return c.Context.Err()
 }
@@ -187,7 +187,7 @@ func TestLockRestsBetweenItsTries(t *testing.T) {
 	begun := time.Now()
 	ctx, cancel := context.WithTimeout(context.Background(), 100*time.Millisecond)
 	defer cancel()
-	waiting := &counted{Context: ctx}
+	waiting := &countingContext{Context: ctx}
 	_, err := locks.Lock(waiting, one)
 	diff.ErrorIs(t, err, context.DeadlineExceeded, "")
 	if most := 8 + int(time.Since(begun)/longestPause); waiting.looks < 2 || waiting.looks > most {

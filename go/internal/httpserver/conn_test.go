@@ -296,7 +296,7 @@ func whoAsks(w http.ResponseWriter, r *http.Request) {
 	_, _ = io.WriteString(w, "of "+r.RemoteAddr+"!")
 }
 
-func trusting(t *testing.T, networks ...string) (trusted []netip.Prefix) {
+func trustedNetworks(t *testing.T, networks ...string) (trusted []netip.Prefix) {
 	t.Helper()
 	for _, network := range networks {
 		trusted = append(trusted, netip.MustParsePrefix(network))
@@ -355,7 +355,7 @@ func TestWhoseRequestItIs(t *testing.T) {
 	} {
 		test := test
 		t.Run(name, func(t *testing.T) {
-			trusted := trusting(t, strings.Fields(test.trusted)...)
+			trusted := trustedNetworks(t, strings.Fields(test.trusted)...)
 			client := dial(t, start(t, Options{TrustedProxies: trusted}, Server{}, whoAsks))
 			head := "GET / HTTP/1.1\r\nHost: x\r\n"
 			if test.forwarded != "" {
@@ -391,7 +391,7 @@ func TestBadPROXYHeaders(t *testing.T) {
 		test := test
 		t.Run(name, func(t *testing.T) {
 			observer := &recorder{}
-			listener := start(t, Options{TrustedProxies: trusting(t, test.trusted), Observer: observer}, Server{}, echo)
+			listener := start(t, Options{TrustedProxies: trustedNetworks(t, test.trusted), Observer: observer}, Server{}, echo)
 			client := dial(t, listener)
 			client.send(test.sent)
 			diff.Check(t, statusesIn(client.rest()), []string{"400"}, "")
@@ -405,7 +405,7 @@ func TestBadPROXYHeaders(t *testing.T) {
 // The clients that a proxy names by PROXY headers have connections of their own, and the proxy has any number.
 func TestConnectionsThroughAProxy(t *testing.T) {
 	listener := start(t, Options{
-		Connections: 12, PerAddress: 2, TrustedProxies: trusting(t, "127.0.0.1/32"),
+		Connections: 12, PerAddress: 2, TrustedProxies: trustedNetworks(t, "127.0.0.1/32"),
 	}, Server{}, whoAsks)
 	open := func(address string) client {
 		c := dial(t, listener)
@@ -431,7 +431,7 @@ func TestConnectionsThroughAProxy(t *testing.T) {
 func TestRequestsThroughAProxy(t *testing.T) {
 	pause, observer := newPause(), &recorder{}
 	listener := start(t, Options{
-		Connections: 12, PerAddress: 2, TrustedProxies: trusting(t, "127.0.0.1/32"), Observer: observer,
+		Connections: 12, PerAddress: 2, TrustedProxies: trustedNetworks(t, "127.0.0.1/32"), Observer: observer,
 	}, Server{}, pause.ServeHTTP)
 	send := func(c client, address string) {
 		c.send(whole[:len(whole)-2] + "X-Forwarded-For: " + address + "\r\n\r\n")
@@ -464,7 +464,7 @@ func TestRequestsThroughAProxy(t *testing.T) {
 // A further request of a client that X-Forwarded-For names keeps no connection of the proxy until its body has arrived.
 func TestARefusedBodyIsNotWaitedFor(t *testing.T) {
 	listener := start(t, Options{
-		Connections: 12, PerAddress: 1, TrustedProxies: trusting(t, "127.0.0.1/32"),
+		Connections: 12, PerAddress: 1, TrustedProxies: trustedNetworks(t, "127.0.0.1/32"),
 	}, Server{}, echo)
 	slow := func() client {
 		c := dial(t, listener)
@@ -500,7 +500,7 @@ func TestPROXYHeaderBeforeTLS(t *testing.T) {
 	authority := newAuthority(t)
 	certificates := diff.Value(LoadCertificates(authority.issue("server")))(t)
 	listener := start(t, Options{
-		Certificates: certificates, TrustedProxies: trusting(t, "127.0.0.1/32"),
+		Certificates: certificates, TrustedProxies: trustedNetworks(t, "127.0.0.1/32"),
 	}, Server{}, whoAsks)
 	plain := dial(t, listener)
 	plain.send("PROXY TCP4 198.51.100.7 192.0.2.1 8080 80\r\n")
@@ -512,7 +512,7 @@ func TestPROXYHeaderBeforeTLS(t *testing.T) {
 // A connection that is refused or closed leaves nothing that is counted, also if a proxy sends half a header.
 func TestNothingStaysCounted(t *testing.T) {
 	listener := start(t, Options{
-		Silent: 50 * time.Millisecond, TrustedProxies: trusting(t, "127.0.0.1/32"),
+		Silent: 50 * time.Millisecond, TrustedProxies: trustedNetworks(t, "127.0.0.1/32"),
 	}, Server{}, echo)
 	for count := 0; count < 10; count++ {
 		c := dial(t, listener)

@@ -199,7 +199,7 @@ func (q *Queue) wakeUp() {
 // run writes queued lines, until the Queue is closed and empty.
 func (q *Queue) run() {
 	defer close(q.done)
-	to := &tearing{to: q.to}
+	to := &lineWriter{to: q.to}
 	for range q.wake {
 		for {
 			next, isClosed := q.take()
@@ -245,14 +245,14 @@ func (q *Queue) write(to io.Writer, next batch) {
 	q.writing = batch{bytes: next.bytes[:0]}
 }
 
-// A tearing writes lines to a writer that may fail in the middle of a line. If it does, a line feed is written before
-// the next line.
-type tearing struct {
+// A lineWriter writes lines to a writer that may fail in the middle of a line. If it does, a line feed is written
+// before the next line.
+type lineWriter struct {
 	to     io.Writer
 	isTorn bool
 }
 
-func (t *tearing) Write(lines []byte) (int, error) {
+func (t *lineWriter) Write(lines []byte) (int, error) {
 	if t.isTorn {
 		if _, err := t.to.Write([]byte("\n")); err != nil {
 			return 0, err

@@ -46,11 +46,11 @@ func (h *hunt) run(ctx context.Context) error {
 	if err := h.trace(ctx); err != nil {
 		return err
 	}
-	reaching := h.reaching()
+	tests := h.testsOfMutants()
 	left := those(h.mutants, func(m mutant) bool { return h.ledger.verdict(m.ID).Ending == "" })
 	done := len(h.mutants) - len(left)
 	return parallel(ctx, h.many, len(left), func(ctx context.Context, w *worker, i int) error {
-		found, err := h.judge(ctx, w, left[i], reaching[left[i].ID])
+		found, err := h.judge(ctx, w, left[i], tests[left[i].ID])
 		if err != nil {
 			return err
 		}
@@ -142,8 +142,8 @@ func forAll(folder, name string) (path string, err error) {
 	return path, err
 }
 
-// reaching returns the tests that reach each mutant of their own package, the shortest first.
-func (h *hunt) reaching() map[int][]tracedTest {
+// testsOfMutants returns the tests that reach each mutant of their own package, the shortest first.
+func (h *hunt) testsOfMutants() map[int][]tracedTest {
 	of := make(map[int]string)
 	for _, mutant := range h.mutants {
 		of[mutant.ID] = mutant.Package

@@ -404,7 +404,7 @@ func shuffle(packages []*pkg, random *rand.Rand) (order []mutant) {
 func check(packages []*pkg, mutants []mutant) (found []mutant, err error) {
 	isBad := make(map[int]bool)
 	for _, p := range packages {
-		_, bad, err := compiling(p, inPackage(p, mutants))
+		_, bad, err := compilable(p, inPackage(p, mutants))
 		if err != nil {
 			return nil, fmt.Errorf("%s with its mutants: %w", p.path, err)
 		}
@@ -544,7 +544,7 @@ func checkEdits(ctx context.Context, out io.Writer, folder string, many int, pat
 		mutants = append(mutants, edit.mutant)
 	}
 	for _, p := range packages {
-		_, bad, err := compiling(p, inPackage(p, mutants))
+		_, bad, err := compilable(p, inPackage(p, mutants))
 		if err != nil {
 			return err
 		}

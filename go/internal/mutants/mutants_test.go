@@ -106,7 +106,7 @@ func TestDraw(t *testing.T) {
 		if err != nil || len(drawn) != 20 {
 			t.Fatalf("got %d mutants, %v, want 20", len(drawn), err)
 		}
-		if good, bad, err := compiling(p, drawn); err != nil || len(good) != 20 {
+		if good, bad, err := compilable(p, drawn); err != nil || len(good) != 20 {
 			t.Errorf("got %v, %v, want each to compile", bad, err)
 		}
 		var text strings.Builder
@@ -130,7 +130,7 @@ func TestMutantsThatDoNotCompile(t *testing.T) {
 			mutants = append(mutants, mutant)
 		}
 	}
-	good, bad, err := compiling(p, mutants)
+	good, bad, err := compilable(p, mutants)
 	if err != nil || len(bad) != 1 || len(good) != len(mutants)-1 {
 		t.Errorf("got %v, %v, want one of %d that doesn't compile", bad, err, len(mutants))
 	}

@@ -186,9 +186,9 @@ func of(file *source, mutants []mutant) []mutant {
 	return those(mutants, func(m mutant) bool { return m.File == file.path })
 }
 
-// compiling returns those mutants of a package that compile, and for each other one why it doesn't. Each mutant has an
+// compilable returns those mutants of a package that compile, and for each other one why it doesn't. Each mutant has an
 // ID.
-func compiling(p *pkg, mutants []mutant) (good []mutant, bad map[int]error, err error) {
+func compilable(p *pkg, mutants []mutant) (good []mutant, bad map[int]error, err error) {
 	bad = make(map[int]error)
 	set := token.NewFileSet()
 	var trees []*ast.File

@@ -174,11 +174,11 @@ func milliseconds(duration time.Duration) string {
 // Errors: ErrBadAddress; those of a variable of the environment that can't be used, which last.
 func newConnector(address string) (made *pq.Connector, err error) {
 	if err := useEnvironment(); err != nil {
-		return nil, Lasting(err)
+		return nil, AsLasting(err)
 	}
 	defer func() { // lib/pq rejects variables by a panic
 		if what := recover(); what != nil {
-			err = Lasting(fmt.Errorf("the environment can't be used: %v", what))
+			err = AsLasting(fmt.Errorf("the environment can't be used: %v", what))
 		}
 	}()
 	made, err = pq.NewConnector(address)
@@ -186,7 +186,7 @@ func newConnector(address string) (made *pq.Connector, err error) {
 	if errors.As(err, &badURL) {
 		return nil, ErrBadAddress
 	}
-	return made, Lasting(err)
+	return made, AsLasting(err)
 }
 
 // A connector opens connections whose synchronous_commit is known.

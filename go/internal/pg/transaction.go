@@ -221,18 +221,18 @@ func IsAway(err error) bool {
 	return IsLost(err) || errors.Is(err, ErrNotBegun) || errors.Is(err, ErrUnknownCommit) || errors.Is(err, ErrNoAnswer)
 }
 
-// Lasting returns an error with the text of err, for which Remedy returns that it lasts. Use it for what a database or
-// a role has to be changed for, such as an encoding. It returns nil if err is nil.
-func Lasting(err error) error {
+// AsLasting returns an error with the text of err, for which Remedy returns that it lasts. Use it for what a database
+// or a role has to be changed for, such as an encoding. It returns nil if err is nil.
+func AsLasting(err error) error {
 	if err == nil {
 		return nil
 	}
-	return lasting{err}
+	return lastingError{err}
 }
 
-type lasting struct{ error }
+type lastingError struct{ error }
 
-func (l lasting) Unwrap() error { return l.error }
+func (l lastingError) Unwrap() error { return l.error }
 
 // remedies are what to do about an error of the server that lasts until somebody does it.
 var remedies = map[pq.ErrorCode]string{
@@ -255,7 +255,7 @@ func Remedy(err error) (remedy string, isLasting bool) {
 		remedy, isLasting = remedies[failed.Code]
 		return remedy, isLasting
 	}
-	var known lasting
+	var known lastingError
 	if errors.As(err, &known) || errors.Is(err, ErrBadAddress) || errors.Is(err, ErrNotDurable) {
 		return "", true
 	}

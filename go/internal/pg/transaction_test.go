@@ -287,7 +287,7 @@ func TestRemedy(t *testing.T) {
 		"a file that is missing":       {noFile, true, true},
 		"no URL":                       {pg.ErrBadAddress, true, false},
 		"commits that may be lost":     {pg.ErrNotDurable, true, false},
-		"another that lasts":           {pg.Lasting(errors.New("a bad encoding")), true, false},
+		"another that lasts":           {pg.AsLasting(errors.New("a bad encoding")), true, false},
 		"starting":                     {&pq.Error{Code: "57P03"}, false, false},
 		"stopped by its administrator": {&pq.Error{Code: "57P01"}, false, false},
 		"too many connections":         {&pq.Error{Code: "53300"}, false, false},
@@ -311,7 +311,7 @@ func TestRemedy(t *testing.T) {
 			}
 		})
 	}
-	diff.NoError(t, pg.Lasting(nil), "")
+	diff.NoError(t, pg.AsLasting(nil), "")
 }
 
 func TestIsAway(t *testing.T) {

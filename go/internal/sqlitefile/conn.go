@@ -192,9 +192,9 @@ func (c *Conn) Snapshot(do func() error) error {
 	return do()
 }
 
-// Undoing calls do in a transaction, and undoes what it has written if it fails or panics: what was written before
+// WithSavepoint calls do in a transaction, and undoes what it has written if it fails or panics: what was written before
 // stays. It may be called in itself.
-func (c *Conn) Undoing(do func() error) error {
+func (c *Conn) WithSavepoint(do func() error) error {
 	if !c.InTransaction() {
 		return ErrBroken
 	}

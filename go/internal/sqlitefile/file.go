@@ -223,8 +223,8 @@ func syncLog(log string) error {
 	return file.Sync()
 }
 
-// Waiting returns how many jobs wait for the next transaction.
-func (f *File[C]) Waiting() int { return len(f.queue) }
+// QueueLength returns how many jobs wait for the next transaction.
+func (f *File[C]) QueueLength() int { return len(f.queue) }
 
 // Close closes the file, once all jobs and reads that have begun have ended. Later calls fail with ErrClosed. To call
 // Close again does nothing.
@@ -372,7 +372,7 @@ func (f *File[C]) commit(batch []*job[C]) {
 func (f *File[C]) try(it *job[C]) error {
 	do := func() error { return it.do(f.writer.with) }
 	if !f.options.OneStatement {
-		return f.writer.conn.Undoing(do)
+		return f.writer.conn.WithSavepoint(do)
 	}
 	err := Safely(do)
 	if !f.writer.conn.InTransaction() {

@@ -149,7 +149,7 @@ func writeTogether(t *testing.T, file *File[*notes], jobs map[string]func(*notes
 			}
 		}()
 	}
-	waits.Until(t, "the jobs gather", func() bool { return file.Waiting() == len(jobs) })
+	waits.Until(t, "the jobs gather", func() bool { return file.QueueLength() == len(jobs) })
 	close(release)
 	all.Wait()
 }
@@ -164,22 +164,22 @@ func first(errs ...error) error {
 }
 
 // What is undone in a job is undone alone.
-func TestUndoing(t *testing.T) {
+func TestWithSavepoint(t *testing.T) {
 	file := open(t, filepath.Join(t.TempDir(), "file"), options())
 	err := file.Write(background, func(n *notes) error {
 		if err := note("a")(n); err != nil {
 			return err
 		}
-		err := n.Undoing(func() error {
-			if err := n.Undoing(func() error { return note("b")(n) }); err != nil {
+		err := n.WithSavepoint(func() error {
+			if err := n.WithSavepoint(func() error { return note("b")(n) }); err != nil {
 				return err
 			}
 			return first(note("c")(n), errWrong)
 		})
 		if !errors.Is(err, errWrong) {
-			return fmt.Errorf("Undoing: %w", err)
+			return fmt.Errorf("WithSavepoint: %w", err)
 		}
-		return n.Undoing(func() error { return note("d")(n) })
+		return n.WithSavepoint(func() error { return note("d")(n) })
 	})
 	diff.NoError(t, err, "")
 	wantNotes(t, file, "a", "d")
@@ -213,9 +213,9 @@ func TestTransactionFails(t *testing.T) {
 // of its own. Nothing is written, and neither is what it would write after that, without a transaction.
 func TestRolledBack(t *testing.T) {
 	ends := func(n *notes) error { return first(note("lost")(n), n.Exec("ROLLBACK")) }
-	undoing := func(n *notes) error { return n.Undoing(func() error { return ends(n) }) }
+	undoing := func(n *notes) error { return n.WithSavepoint(func() error { return ends(n) }) }
 	goesOn := func(n *notes) error {
-		return first(ends(n), n.Undoing(func() error { return note("alone")(n) }))
+		return first(ends(n), n.WithSavepoint(func() error { return note("alone")(n) }))
 	}
 	transaction := func(n *notes) error { return n.Transaction(background, func() error { return ends(n) }) }
 	for _, test := range []struct {
@@ -225,8 +225,8 @@ func TestRolledBack(t *testing.T) {
 	}{
 		{"Write", false, func(file *File[*notes]) error { return file.Write(background, ends) }},
 		{"Write of one statement", true, func(file *File[*notes]) error { return file.Write(background, ends) }},
-		{"Undoing in a Write", false, func(file *File[*notes]) error { return file.Write(background, undoing) }},
-		{"Undoing after the end", false, func(file *File[*notes]) error { return file.Write(background, goesOn) }},
+		{"WithSavepoint in a Write", false, func(file *File[*notes]) error { return file.Write(background, undoing) }},
+		{"WithSavepoint after the end", false, func(file *File[*notes]) error { return file.Write(background, goesOn) }},
 		{"Transaction", false, func(file *File[*notes]) error { return file.Read(background, transaction) }},
 	} {
 		t.Run(test.name, func(t *testing.T) {

@@ -176,8 +176,8 @@ func (p *Proxy) Tally() Answers {
 	return counted
 }
 
-// sent notes that a client has sent messages, waits while the proxy hangs, and returns whether the connection is cut.
-func (p *Proxy) sent(round []byte) (isCut bool) {
+// onRequest notes that a client has sent messages, waits while the proxy hangs, and returns whether the connection is cut.
+func (p *Proxy) onRequest(round []byte) (isCut bool) {
 	p.mutex.Lock()
 	defer p.mutex.Unlock()
 	p.isUsed = true
@@ -187,8 +187,8 @@ func (p *Proxy) sent(round []byte) (isCut bool) {
 	return len(p.cut) > 0 && bytes.Contains(round, p.cut)
 }
 
-// answered counts a message of the server, and waits while the proxy hangs.
-func (p *Proxy) answered(message []byte) {
+// onAnswer counts a message of the server, and waits while the proxy hangs.
+func (p *Proxy) onAnswer(message []byte) {
 	p.mutex.Lock()
 	defer p.mutex.Unlock()
 	for p.hangs {
@@ -248,7 +248,7 @@ func (c *talk) answer() error {
 		if err != nil {
 			return err
 		}
-		c.proxy.answered(message)
+		c.proxy.onAnswer(message)
 		kind := message[0] // D is a row, and C the end of what a statement answers
 		if c.isLost.Load() || (kind == 'D' || kind == 'C') && c.isBroken.Load() {
 			return io.EOF
@@ -324,7 +324,7 @@ var releases = map[string]bool{"ROLLBACK": true, "SELECT pg_advisory_unlock_all(
 // send sends messages to the server, unless they are to fail.
 func (c *talk) send(round []byte, text string) error {
 	fault := c.proxy.next()
-	if c.proxy.sent(round) {
+	if c.proxy.onRequest(round) {
 		_ = c.client.Close() // before the messages are forwarded: the answer can't be faster
 		_, _ = c.server.Write(round)
 		return io.EOF

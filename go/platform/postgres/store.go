@@ -125,7 +125,7 @@ func (s *Store) prepare(ctx context.Context, bring extension) error {
 		return err
 	}
 	if encoding != "UTF8" && encoding != "SQL_ASCII" {
-		return pg.Lasting(fmt.Errorf("the encoding of the database is %s. Create one with: CREATE DATABASE .. "+
+		return pg.AsLasting(fmt.Errorf("the encoding of the database is %s. Create one with: CREATE DATABASE .. "+
 			"ENCODING 'UTF8' TEMPLATE template0", encoding))
 	}
 	return s.migrate(ctx, bring)

@@ -150,7 +150,7 @@ func extendExisting(ctx context.Context, tx *sql.Tx) (bool, error) {
 		return false, err
 	}
 	if !isThere {
-		return false, pg.Lasting(platform.ErrNoStore)
+		return false, pg.AsLasting(platform.ErrNoStore)
 	}
 	return extend(ctx, tx)
 }
@@ -175,7 +175,7 @@ func extend(ctx context.Context, tx *sql.Tx) (bool, error) {
 		return false, err
 	}
 	if hasAny {
-		return false, pg.Lasting(errWorkers)
+		return false, pg.AsLasting(errWorkers)
 	}
 	_, err := tx.ExecContext(ctx, tablesOf02+tablesSince02+missingTexts())
 	return true, err

@@ -186,7 +186,7 @@ func (c *connection) claim(now time.Time, key platform.Key, step platform.Step) 
 	case isOne(before, change):
 		return c.write(now, before, change)
 	}
-	return c.Undoing(func() error { return c.write(now, before, change) })
+	return c.WithSavepoint(func() error { return c.write(now, before, change) })
 }
 
 // postpone has a row whose step has failed due later. Nothing else of it is read or written.

@@ -35,8 +35,8 @@ func TestOrderOfFsyncs(t *testing.T) {
 	diff.Check(t, seen, wanted, "what was there at the fsyncs")
 }
 
-// A file is synced after it was written, and what fails isn't hidden by the other: a full disk has no error of fsync, and
-// /dev/null can't be synced.
+// A file is synced after it was written, and what fails isn't hidden by the other: a full disk has no error of fsync,
+// and /dev/null can't be synced.
 func TestErrorsOfWriteFile(t *testing.T) {
 	for path, want := range map[string]os.PathError{
 		"/dev/full": {Op: "write", Err: syscall.ENOSPC}, "/dev/null": {Op: "fsync", Err: syscall.EINVAL},
@@ -100,18 +100,18 @@ func newSlow() *slow {
 // start calls do in a goroutine, and returns once it waits. The channel gets what do returns.
 func (s *slow) start(ctx context.Context) <-chan error {
 	waits, returned := make(chan struct{}), make(chan error, 1)
-	go func() { returned <- s.do(waiting{ctx, waits}) }()
+	go func() { returned <- s.do(waitingContext{ctx, waits}) }()
 	<-waits
 	return returned
 }
 
-// A waiting is a context that reports when somebody begins to wait for its end.
-type waiting struct {
+// A waitingContext is a context that reports when somebody begins to wait for its end.
+type waitingContext struct {
 	context.Context
 	waits chan struct{}
 }
 
-func (w waiting) Done() <-chan struct{} {
+func (w waitingContext) Done() <-chan struct{} {
 	close(w.waits)
 	return w.Context.Done()
 }
@@ -165,19 +165,19 @@ func TestCallThatHasEndedIsNotMadeAgain(t *testing.T) {
 		calls := 0
 		var shared together
 		shared.init(func() error { calls++; return nil })
-		if err := shared.do(ending{ctx, &shared}); err != nil || calls != 1 {
+		if err := shared.do(endingContext{ctx, &shared}); err != nil || calls != 1 {
 			t.Fatalf("got %d calls and %v, want 1 and no error", calls, err)
 		}
 	}
 }
 
-// An ending is a context. While somebody begins to wait for its end, it lets another one make the call.
-type ending struct {
+// An endingContext is a context. While somebody begins to wait for its end, it lets another one make the call.
+type endingContext struct {
 	context.Context
 	shared *together
 }
 
-func (e ending) Done() <-chan struct{} {
+func (e endingContext) Done() <-chan struct{} {
 	if err := e.shared.do(e.Context); err != nil {
 		panic(err)
 	}

@@ -117,7 +117,7 @@ func (d *Databases) dropDatabase(ctx context.Context, conn *sql.Conn, f existenc
 	if err := endSessions(ctx, conn, f.name, roles, 0); err != nil {
 		return err
 	}
-	if err := exec(ctx, conn, closing(f, roles)); err != nil {
+	if err := exec(ctx, conn, closeStatements(f, roles)); err != nil {
 		return err
 	}
 	if err := endSessions(ctx, conn, f.name, roles, endWait); err != nil {
@@ -141,8 +141,8 @@ func checkPrepared(ctx context.Context, conn *sql.Conn, name string) error {
 	return err
 }
 
-// closing are the statements, in one transaction, after which nobody can connect any more.
-func closing(f existence, roles []string) (statements string) {
+// closeStatements are the statements, in one transaction, after which nobody can connect any more.
+func closeStatements(f existence, roles []string) (statements string) {
 	for _, role := range roles {
 		statements += "ALTER ROLE " + quote(role) + " NOLOGIN;"
 	}

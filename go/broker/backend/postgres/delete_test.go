@@ -343,7 +343,7 @@ func TestASessionThatDoesNotEnd(t *testing.T) {
 	of := createInstance(t, d)
 	bind, one := bound(t, d, of.request.Key)
 	session := hold(t, r.login(one.Username, one.Password, postgres.NameOf(of.request.Key)))
-	stopped(t, session, one.Username)
+	stopSession(t, session, one.Username)
 	ctx, cancel := context.WithTimeout(bind.ctx, time.Minute)
 	defer cancel()
 	begin := time.Now()
@@ -352,8 +352,8 @@ func TestASessionThatDoesNotEnd(t *testing.T) {
 	wantThere(t, d, of, broker.Whole)
 }
 
-// stopped stops the server's process of a session of a user until the end of the test.
-func stopped(t *testing.T, session *sql.Conn, user string) {
+// stopSession stops the server's process of a session of a user until the end of the test.
+func stopSession(t *testing.T, session *sql.Conn, user string) {
 	t.Helper()
 	var process int
 	check(t, session.QueryRowContext(context.Background(), "SELECT pg_backend_pid()").Scan(&process))
@@ -596,7 +596,7 @@ func (r *rig) dropByForce(name string) {
 type faultyCall struct {
 	name string
 	call func() error
-	look looking
+	look lookCall
 	want broker.There // once it has returned nil
 	undo func() error // if it succeeds although a statement has failed
 }
@@ -625,7 +625,7 @@ func TestStatementsThatFail(t *testing.T) {
 	remove := under(i, func(ctx context.Context) error { return d.Delete(ctx, i) })
 	bind := under(b, func(ctx context.Context) error { _, err := d.CreateBinding(ctx, b); return err })
 	unbind := under(b, func(ctx context.Context) error { return d.DeleteBinding(ctx, b) })
-	seen := func(of broker.Request, look func(context.Context, broker.Request) (broker.There, error)) looking {
+	seen := func(of broker.Request, look func(context.Context, broker.Request) (broker.There, error)) lookCall {
 		return func() (there broker.There, err error) {
 			err = under(of, func(ctx context.Context) (err error) { there, err = look(ctx, of); return err })()
 			return there, err
@@ -635,11 +635,11 @@ func TestStatementsThatFail(t *testing.T) {
 	credentials := under(b, func(ctx context.Context) error { _, err := d.Credentials(ctx, b); return err })
 	for _, call := range []faultyCall{
 		{"Create", create, look, broker.Whole, remove},
-		{"Look", look.call, look, broker.Whole, nothing},
+		{"Look", look.call, look, broker.Whole, doNothing},
 		{"CreateBinding", bind, lookBinding, broker.Whole, unbind},
-		{"LookBinding", lookBinding.call, lookBinding, broker.Whole, nothing},
-		{"Credentials", credentials, lookBinding, broker.Whole, nothing},
-		{"Own", func() error { _, err := d.Own(context.Background(), store); return err }, look, broker.Whole, nothing},
+		{"LookBinding", lookBinding.call, lookBinding, broker.Whole, doNothing},
+		{"Credentials", credentials, lookBinding, broker.Whole, doNothing},
+		{"Own", func() error { _, err := d.Own(context.Background(), store); return err }, look, broker.Whole, doNothing},
 		{"DeleteBinding", unbind, lookBinding, broker.None, bind},
 		{"Delete", remove, look, broker.None, create},
 	} {
@@ -647,12 +647,12 @@ func TestStatementsThatFail(t *testing.T) {
 	}
 }
 
-// looking returns what exists.
-type looking func() (broker.There, error)
+// lookCall returns what exists.
+type lookCall func() (broker.There, error)
 
-func (l looking) call() error { _, err := l(); return err }
+func (l lookCall) call() error { _, err := l(); return err }
 
-func nothing() error { return nil }
+func doNothing() error { return nil }
 
 // isDispensable reports whether nothing depends on a statement: a lock ends with its session too, and whoever is in the
 // way is ended by the next try.
@@ -722,7 +722,7 @@ func TestOpeningAndRekeyThatFail(t *testing.T) {
 			proxy, url := storefaults.NewProxy(t, r.url)
 			r.url = url
 			other := append([]byte("another"), secret...)
-			open := faultyCall{name: "Open", want: broker.None, undo: nothing, call: func() error {
+			open := faultyCall{name: "Open", want: broker.None, undo: doNothing, call: func() error {
 				d, err := postgres.Open(context.Background(), r.url, postgres.Options{Key: secret, Sessions: 4})
 				if err == nil {
 					_ = d.Close()
@@ -751,7 +751,7 @@ func TestWarningsThatFail(t *testing.T) {
 	r.url = url
 	d := r.open(template)
 	faultyCall{
-		name: "Warnings", want: broker.None, undo: nothing,
+		name: "Warnings", want: broker.None, undo: doNothing,
 		look: func() (broker.There, error) { return broker.None, nil },
 		call: func() error { _, err := d.Warnings(context.Background()); return err },
 	}.fails(t, &proxy.Countdown)

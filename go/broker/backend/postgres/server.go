@@ -46,11 +46,11 @@ func readServer(ctx context.Context, db *sql.DB) (s server, err error) {
 		return s, err
 	}
 	if s.version < oldest {
-		return s, pg.Lasting(
+		return s, pg.AsLasting(
 			fmt.Errorf("PostgreSQL %d is too old: version %d or later is needed", s.version/10000, oldest/10000))
 	}
 	if !s.mayCreateDatabase || !s.mayCreateRole {
-		return s, pg.Lasting(fmt.Errorf("the role %s may not create databases and roles. Run as a superuser: "+
+		return s, pg.AsLasting(fmt.Errorf("the role %s may not create databases and roles. Run as a superuser: "+
 			"ALTER ROLE %s CREATEDB CREATEROLE", s.role, quote(s.role)))
 	}
 	s.limitsTempFiles = s.isSuperuser
@@ -126,9 +126,9 @@ func readTemplate(ctx context.Context, db *sql.DB, name string) (t template, err
 	case errors.Is(err, sql.ErrNoRows) && name == "":
 		return template{name: bareTemplate, mayCopy: true}, nil
 	case errors.Is(err, sql.ErrNoRows):
-		return t, pg.Lasting(fmt.Errorf("there is no database %s to copy. Create it, or name another template", name))
+		return t, pg.AsLasting(fmt.Errorf("there is no database %s to copy. Create it, or name another template", name))
 	case err == nil && !t.mayCopy:
-		return t, pg.Lasting(fmt.Errorf("the database %s can't be copied. Run as a superuser: ALTER DATABASE %s "+
+		return t, pg.AsLasting(fmt.Errorf("the database %s can't be copied. Run as a superuser: ALTER DATABASE %s "+
 			"IS_TEMPLATE true", t.name, quote(t.name)))
 	}
 	return t, err
@@ -141,7 +141,8 @@ SELECT count(*) FROM pg_proc WHERE pronamespace = 'pg_catalog'::regnamespace
     AND proname ~ '^pg_(try_)?advisory_(xact_)?lock(_shared)?$' AND has_function_privilege('public', oid, 'EXECUTE')
 `
 
-// templateWarnings are what an operator should change about the template, so that no customer takes all locks of the server.
+// templateWarnings are what an operator should change about the template, so that no customer takes all locks of the
+// server.
 func (d *Databases) templateWarnings(ctx context.Context) (found []string, err error) {
 	const remedy = "One customer can stop the server by them. Prepare a template as docs/broker-guide.md says"
 	t, err := readTemplate(ctx, d.db, d.options.Template)

@@ -22,7 +22,7 @@ func always(status int) http.Handler {
 	return http.HandlerFunc(func(w http.ResponseWriter, _ *http.Request) { w.WriteHeader(status) })
 }
 
-func failing(context.Context) error { return errors.New("connection refused") }
+func failCheck(context.Context) error { return errors.New("connection refused") }
 
 var next, scraped = always(http.StatusTeapot), always(http.StatusAccepted)
 
@@ -37,11 +37,11 @@ var answers = []struct {
 	{"alive", Options{}, false, "GET", "/healthz", 200, fine},
 	{"alive by HEAD", Options{}, false, "HEAD", "/healthz", 200, fine},
 	{"alive with a query", Options{}, false, "GET", "/healthz?a=b", 200, fine},
-	{"alive and not ready", Options{Ready: failing}, false, "GET", "/healthz", 200, fine},
+	{"alive and not ready", Options{Ready: failCheck}, false, "GET", "/healthz", 200, fine},
 	{"alive by PUT", Options{}, false, "PUT", "/healthz", 405, notGet},
 	{"alive and stopping", Options{}, true, "GET", "/healthz", 503, stopping},
 	{"ready", Options{}, false, "GET", "/readyz", 200, fine},
-	{"not ready", Options{Ready: failing}, false, "GET", "/readyz", 503, notReady},
+	{"not ready", Options{Ready: failCheck}, false, "GET", "/readyz", 503, notReady},
 	{"ready by DELETE", Options{}, false, "DELETE", "/readyz", 405, notGet},
 	{"ready and stopping", Options{}, true, "GET", "/readyz", 503, stopping},
 	{"metrics", Options{Metrics: scraped, Next: next}, false, "GET", "/metrics", 202, ""},
