@@ -6,8 +6,6 @@ import (
 	"errors"
 	"fmt"
 	mathrand "math/rand"
-	"os"
-	"strings"
 	"sync"
 	"time"
 
@@ -572,20 +570,4 @@ var Points = []string{
 	"fetch-next",    // a Poll was answered succeeded, and the Fetch isn't sent yet
 	"take-next",     // an answer, or a timeout, is in the record, and nothing is committed yet
 	"take-written",  // it is committed
-}
-
-// CheckPoint returns an error that names all Points if the program has crash points and OSB_CRASH_AT names none of
-// them: the process would never be killed. It returns nil if the variable is missing or empty.
-func CheckPoint() error {
-	wanted := os.Getenv("OSB_CRASH_AT")
-	if !hasPoints || wanted == "" {
-		return nil
-	}
-	for _, point := range Points {
-		if point == wanted {
-			return nil
-		}
-	}
-	return fmt.Errorf("OSB_CRASH_AT is %q, which is no crash point. Choose one of: %s", wanted,
-		strings.Join(Points, ", "))
 }

@@ -11,6 +11,7 @@ import (
 	"testing"
 	"time"
 
+	"pippinterm/internal/crash"
 	"pippinterm/internal/diff"
 	"pippinterm/osb"
 )
@@ -514,13 +515,13 @@ func TestWait(t *testing.T) {
 	}
 }
 
-func TestCheckPoint(t *testing.T) {
+func TestCheckPoints(t *testing.T) {
 	for _, point := range append([]string{""}, Points...) {
 		t.Setenv("OSB_CRASH_AT", point)
-		diff.NoError(t, CheckPoint(), "%q", point)
+		diff.NoError(t, crash.Check(Points), "%q", point)
 	}
 	t.Setenv("OSB_CRASH_AT", "claim-nxt")
-	if err := CheckPoint(); (err != nil) != hasPoints {
+	if err := crash.Check(Points); (err != nil) != crash.IsOn {
 		t.Errorf("got %v, want an error exactly with crash points", err)
 	}
 }

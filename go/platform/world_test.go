@@ -14,6 +14,7 @@ import (
 	"testing"
 	"time"
 
+	"pippinterm/internal/crash"
 	"pippinterm/osb"
 )
 
@@ -55,7 +56,7 @@ func TestAnyNetwork(t *testing.T) {
 		}
 	}
 	for _, point := range Points {
-		if hasPoints && point != "send-running" && counts["killed "+point] == 0 {
+		if crash.IsOn && point != "send-running" && counts["killed "+point] == 0 {
 			t.Errorf("got no kill at %s, want one", point)
 		}
 	}
@@ -193,8 +194,9 @@ func newWorld(t *testing.T, seed int64, counts map[string]int) *world {
 		w.workers = append(w.workers, b)
 	}
 	w.store.between = w.between
-	setHook(w.reach)
-	t.Cleanup(func() { setHook(nil) })
+	before := crash.Hook
+	crash.Hook = w.reach
+	t.Cleanup(func() { crash.Hook = before })
 	return w
 }
 

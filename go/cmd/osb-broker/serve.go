@@ -47,7 +47,7 @@ type server struct {
 
 // serve serves until SIGTERM or SIGINT. It writes the log to standard error.
 func serve(ctx context.Context, s *settings, stderr io.Writer) error {
-	if err := crash.Check(); err != nil {
+	if err := crash.Check(crash.Points()); err != nil {
 		return cli.Unusable(err)
 	}
 	debug.SetGCPercent(250) // it has little in memory, and makes much that is short-lived

@@ -18,6 +18,7 @@ import (
 	"github.com/spf13/pflag"
 
 	"pippinterm/internal/cli"
+	"pippinterm/internal/crash"
 	pgsession "pippinterm/internal/pg"
 	"pippinterm/internal/sqlitefile"
 	"pippinterm/osb"
@@ -65,7 +66,7 @@ moment and start it again.
 
 docs/platform-guide.md says how to run it.
 ` + environment,
-		PersistentPreRunE: func(*cobra.Command, []string) error { return cli.Unusable(platform.CheckPoint()) },
+		PersistentPreRunE: func(*cobra.Command, []string) error { return cli.Unusable(crash.Check(platform.Points)) },
 	}
 	root.AddGroup(
 		&cobra.Group{ID: "orders", Title: "Instances and bindings:"}, &cobra.Group{ID: "run", Title: "The program:"},
