@@ -63,8 +63,6 @@ type Filter struct {
 	Latest   bool      // in the opposite order
 	After    *Position // only rows behind this position, in the order in which they are listed
 	Most     int       // as many at most; 0 for all
-	// IsBrief leaves out what the orders were sent with (Order.Body), and credentials. A body may have 256 KiB.
-	IsBrief bool
 }
 
 // Chain chooses all tries of the order of a row. The ids of bindings are those of one instance.
@@ -83,6 +81,15 @@ type Position struct {
 	State State
 	Since time.Time
 	Key   Key
+}
+
+// KeysOf returns the keys of rows in a list.
+func KeysOf(positions []Position) []Key {
+	keys := make([]Key, len(positions))
+	for at := range positions {
+		keys[at] = positions[at].Key
+	}
+	return keys
 }
 
 // A Count is how many rows there are of a kind.
@@ -131,7 +138,8 @@ type Store interface {
 	Read(ctx context.Context, key Key) (Entry, error)
 
 	// ReadAll returns the rows of these keys, in their order, all as of one moment, also those that can't be read. It
-	// leaves out a key without a row.
+	// leaves out a key without a row, what the orders were sent with (Order.Body), and credentials. A body may have
+	// 256 KiB.
 	ReadAll(ctx context.Context, keys []Key) ([]Entry, error)
 
 	// List returns rows as of one moment, in the order of Filter.Order, or with Filter.Latest in the opposite order.
@@ -509,11 +517,7 @@ func Walk(ctx context.Context, store Store, filter Filter, atOnce int, call func
 
 // walkOver calls with the rows at these positions that the filter still chooses.
 func walkOver(ctx context.Context, store Store, filter Filter, positions []Position, call func([]Entry) error) error {
-	keys := make([]Key, len(positions))
-	for at := range positions {
-		keys[at] = positions[at].Key
-	}
-	rows, err := store.ReadAll(ctx, keys)
+	rows, err := store.ReadAll(ctx, KeysOf(positions))
 	if err != nil {
 		return err
 	}

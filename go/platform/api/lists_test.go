@@ -185,8 +185,13 @@ func (s *testStore) Read(_ context.Context, key platform.Key) (platform.Entry, e
 	return e, s.fails(err)
 }
 
-func (s *testStore) List(_ context.Context, filter platform.Filter) ([]platform.Entry, error) {
-	found, err := s.Store.List(background, filter)
+func (s *testStore) Positions(_ context.Context, filter platform.Filter) ([]platform.Position, error) {
+	found, err := s.Store.Positions(background, filter)
+	return found, s.fails(err)
+}
+
+func (s *testStore) ReadAll(_ context.Context, keys []platform.Key) ([]platform.Entry, error) {
+	found, err := s.Store.ReadAll(background, keys)
 	for at := range found {
 		s.read(&found[at])
 	}

@@ -225,20 +225,24 @@ func (r *reader) List(ctx context.Context, query Query) (List, error) {
 	if err != nil {
 		return List{}, err
 	}
-	s.filter.Most, s.filter.IsBrief = s.limit+1, true
-	entries, err := r.store.List(ctx, s.filter)
+	s.filter.Most = s.limit + 1
+	positions, err := r.store.Positions(ctx, s.filter)
 	if err != nil {
 		return List{}, err
 	}
-	isMore := len(entries) > s.limit
+	isMore := len(positions) > s.limit
 	if isMore {
-		entries = entries[:s.limit]
+		positions = positions[:s.limit]
 	}
 	if s.isBack {
-		turn(entries)
+		turn(positions)
 	}
 	found := List{Items: []Record{}}
-	if err := found.link(s, entries, isMore); err != nil {
+	if err := found.link(s, positions, isMore); err != nil {
+		return List{}, err
+	}
+	entries, err := r.store.ReadAll(ctx, platform.KeysOf(positions))
+	if err != nil {
 		return List{}, err
 	}
 	for _, entry := range entries {
@@ -273,18 +277,18 @@ func (r *reader) filter(ctx context.Context, query Query) (platform.Filter, erro
 
 // link writes the cursors of a page, by whether there are more rows in the direction in which it was read. In the other
 // direction there are more if it was read from a position.
-func (l *List) link(s selection, entries []platform.Entry, isMore bool) (err error) {
+func (l *List) link(s selection, positions []platform.Position, isMore bool) (err error) {
 	hasNext, hasPrevious := isMore, s.filter.After != nil
 	if s.isBack {
 		hasNext, hasPrevious = hasPrevious, hasNext
 	}
-	if hasNext && len(entries) > 0 {
-		if l.Next, err = cursorOf(entries[len(entries)-1], s.filter.Order); err != nil {
+	if hasNext && len(positions) > 0 {
+		if l.Next, err = cursorOf(positions[len(positions)-1], s.filter.Order); err != nil {
 			return err
 		}
 	}
-	if hasPrevious && len(entries) > 0 {
-		l.Previous, err = cursorOf(entries[0], s.filter.Order)
+	if hasPrevious && len(positions) > 0 {
+		l.Previous, err = cursorOf(positions[0], s.filter.Order)
 	}
 	return err
 }
@@ -369,10 +373,10 @@ func (q Query) choosePage(s *selection) (err error) {
 	return nil
 }
 
-// turn turns rows round.
-func turn(entries []platform.Entry) {
-	for one, other := 0, len(entries)-1; one < other; one, other = one+1, other-1 {
-		entries[one], entries[other] = entries[other], entries[one]
+// turn turns a list round.
+func turn(positions []platform.Position) {
+	for one, other := 0, len(positions)-1; one < other; one, other = one+1, other-1 {
+		positions[one], positions[other] = positions[other], positions[one]
 	}
 }
 
@@ -402,14 +406,14 @@ type writtenPosition struct {
 var errCursor = errors.New("the cursor isn't one that this API has answered in this order")
 
 // cursorOf is the position of a row in an order, as a text that stands in a URL as it is.
-func cursorOf(e platform.Entry, order platform.Ordering) (string, error) {
-	position := writtenPosition{Instance: &e.Key.Instance}
+func cursorOf(at platform.Position, order platform.Ordering) (string, error) {
+	position := writtenPosition{Instance: &at.Key.Instance}
 	if order != platform.ByKey {
-		since := e.Since.UTC()
-		position.State, position.Since = e.State, &since
+		since := at.Since.UTC()
+		position.State, position.Since = at.State, &since
 	}
-	if e.Key.IsBinding {
-		position.Binding = &e.Key.Binding
+	if at.Key.IsBinding {
+		position.Binding = &at.Key.Binding
 	}
 	text, err := json.Marshal(position)
 	return base64.RawURLEncoding.EncodeToString(text), err

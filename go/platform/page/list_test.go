@@ -425,15 +425,24 @@ func positionIn(e platform.Entry) platform.Position {
 	return platform.Position{State: e.State, Since: e.Since, Key: e.Key}
 }
 
-func (f *fake) List(_ context.Context, filter platform.Filter) (found []platform.Entry, err error) {
+func (f *fake) Positions(_ context.Context, filter platform.Filter) (found []platform.Position, err error) {
 	for _, e := range f.rows {
 		if isChosen(filter, e) {
-			found = append(found, e)
+			found = append(found, positionIn(e))
 		}
 	}
-	sort.Slice(found, func(a, b int) bool { return comesBefore(filter, positionIn(found[a]), positionIn(found[b])) })
+	sort.Slice(found, func(a, b int) bool { return comesBefore(filter, found[a], found[b]) })
 	if filter.Most > 0 && len(found) > filter.Most {
 		found = found[:filter.Most]
+	}
+	return found, f.err
+}
+
+func (f *fake) ReadAll(ctx context.Context, keys []platform.Key) (found []platform.Entry, err error) {
+	for _, key := range keys {
+		if e, err := f.Read(ctx, key); err == nil {
+			found = append(found, e)
+		}
 	}
 	return found, f.err
 }

@@ -193,29 +193,21 @@ func (c *condition) and(text string, values ...any) {
 	c.texts = append(c.texts, strings.ReplaceAll(text, "\x00", "$"))
 }
 
-// A line of a list: a row, and a row without the columns that may be long.
-const (
-	wholeLine = "row_to_json(t)"
-	briefLine = "(SELECT json_object_agg(key, value) FROM json_each(row_to_json(t)) " +
-		"WHERE key NOT IN ('further', 'credentials'))"
-)
-
 // List returns rows, as platform.Store says. It is one statement, and so of one moment.
 func (s *Store) List(ctx context.Context, filter platform.Filter) ([]platform.Entry, error) {
-	line := wholeLine
-	if filter.IsBrief {
-		line = briefLine
-	}
-	query, parameters := listing(filter, line, "line")
+	query, parameters := listing(filter)
 	if query == "" {
 		return []platform.Entry{}, nil
 	}
-	return s.entries(ctx, query, parameters...)
+	return s.entries(ctx, "WITH p AS MATERIALIZED ("+query+") SELECT coalesce(row_to_json(i), row_to_json(b)) FROM p "+
+		"LEFT JOIN osb_instances AS i ON i.id = p.id AND p.binding = '' "+
+		"LEFT JOIN osb_bound AS b ON b.id = p.id AND b.binding = p.binding"+
+		orderBy(filter, columnsOf(filter, "p.", true)...), parameters...)
 }
 
 // Positions returns the positions of the rows that List returns, as platform.Store says.
 func (s *Store) Positions(ctx context.Context, filter platform.Filter) ([]platform.Position, error) {
-	query, parameters := listing(filter, "NULL", "state, since, id, binding")
+	query, parameters := listing(filter)
 	if query == "" {
 		return nil, nil
 	}
@@ -236,13 +228,19 @@ func (s *Store) Positions(ctx context.Context, filter platform.Filter) ([]platfo
 	})
 }
 
-const readAll = `
-SELECT line FROM (SELECT n, row_to_json(t) AS line FROM unnest($1::text[], $2::text[]) WITH ORDINALITY AS k (i, b, n)
+var readAll = `
+SELECT row_to_json(t) FROM (SELECT n, '' AS binding, ` + briefColumns + `
+        FROM unnest($1::text[], $2::text[]) WITH ORDINALITY AS k (i, b, n)
         JOIN osb_instances AS t ON t.id = k.i WHERE k.b = ''
-    UNION ALL SELECT n, row_to_json(t) FROM unnest($1::text[], $2::text[]) WITH ORDINALITY AS k (i, b, n)
+    UNION ALL SELECT n, binding, ` + briefColumns + `
+        FROM unnest($1::text[], $2::text[]) WITH ORDINALITY AS k (i, b, n)
         JOIN osb_bound AS t ON t.id = k.i AND t.binding = k.b WHERE k.b <> '') AS t
 ORDER BY n
 `
+
+// briefColumns are the columns of both tables but for those that may be long.
+var briefColumns = strings.Replace(strings.Join(append(append([]string{}, orderColumns...), stateColumns...), ", "),
+	" further,", "", 1)
 
 // ReadAll returns the rows of these keys, as platform.Store says.
 func (s *Store) ReadAll(ctx context.Context, keys []platform.Key) ([]platform.Entry, error) {
@@ -256,9 +254,9 @@ func (s *Store) ReadAll(ctx context.Context, keys []platform.Key) ([]platform.En
 	return s.entries(ctx, readAll, array(instances), array(bindings))
 }
 
-// listing is the query of a filter for these columns, with its parameters. It is empty if the filter can choose no row.
-// There are the columns line, which is this expression over a row, state, since, id and binding.
-func listing(filter platform.Filter, line, columns string) (query string, parameters []any) {
+// listing is the query of a filter for the positions of its rows, with its parameters: the columns state, since, id and
+// binding. It is empty if the filter can choose no row.
+func listing(filter platform.Filter) (query string, parameters []any) {
 	parts := []string{}
 	limit := ""
 	if filter.Most > 0 {
@@ -269,14 +267,14 @@ func listing(filter platform.Filter, line, columns string) (query string, parame
 			continue
 		}
 		for _, states := range statesOf(filter) {
-			parts = append(parts, partOf(filter, line, states, isBinding, &parameters)+limit+")")
+			parts = append(parts, partOf(filter, states, isBinding, &parameters)+limit+")")
 		}
 	}
 	if len(parts) == 0 {
 		return "", nil
 	}
-	return "SELECT " + columns + " FROM (" + strings.Join(parts, " UNION ALL ") + ") AS t" +
-		orderBy(filter, columnsOf(filter, true)...) + limit, parameters
+	return "SELECT * FROM (" + strings.Join(parts, " UNION ALL ") + ") AS t" +
+		orderBy(filter, columnsOf(filter, "", true)...) + limit, parameters
 }
 
 // everyState are all states.
@@ -305,9 +303,7 @@ func statesOf(filter platform.Filter) [][]platform.State {
 }
 
 // partOf is the query of a filter over one table, and over these states, or all if there are none.
-func partOf(
-	filter platform.Filter, line string, states []platform.State, isBinding bool, parameters *[]any,
-) string {
+func partOf(filter platform.Filter, states []platform.State, isBinding bool, parameters *[]any) string {
 	table, binding, number := "osb_instances", "''", "id"
 	if isBinding {
 		table, binding, number = "osb_bound", "binding", "binding"
@@ -333,28 +329,28 @@ func partOf(
 		first := *filter.First // the first try itself is found by its key, and the others by an index of their own
 		where.and("("+number+" = $ AND first = $ OR first = $ AND first <> "+number+")", first, first, first)
 	}
-	columns := columnsOf(filter, isBinding)
+	columns := columnsOf(filter, "", isBinding)
 	if filter.After != nil {
 		position := positionOf(filter, isBinding)
 		where.and("("+strings.Join(columns, ", ")+")"+behind(filter, isBinding)+
 			"($"+strings.Repeat(", $", len(position)-1)+")", position...)
 	}
-	return "(SELECT " + line + " AS line, state, since, id, " + binding + " AS binding FROM " + table +
-		" AS t WHERE " + strings.Join(where.texts, " AND ") + orderBy(filter, columns...)
+	return "(SELECT state, since, id, " + binding + " AS binding FROM " + table + " WHERE " +
+		strings.Join(where.texts, " AND ") + orderBy(filter, columns...)
 }
 
-// columnsOf are the columns of the order of a filter.
-func columnsOf(filter platform.Filter, hasBinding bool) (columns []string) {
+// columnsOf are the columns of the order of a filter, behind the name of a table with a dot, or nothing.
+func columnsOf(filter platform.Filter, of string, hasBinding bool) (columns []string) {
 	switch filter.Order {
 	case platform.ByKey:
-		columns = []string{"id"}
+		columns = []string{of + "id"}
 	case platform.ByTime:
-		columns = []string{"since", "id"}
+		columns = []string{of + "since", of + "id"}
 	default:
-		columns = []string{"state", "since", "id"}
+		columns = []string{of + "state", of + "since", of + "id"}
 	}
 	if hasBinding {
-		columns = append(columns, "binding")
+		columns = append(columns, of+"binding")
 	}
 	return columns
 }

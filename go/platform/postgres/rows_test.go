@@ -210,7 +210,7 @@ func TestQueriesUseIndexes(t *testing.T) {
 	defer conn.Close()
 	const key = "00000000-0000-4000-8000-000000000007"
 	const row = `[{"id": "` + key + `"}]`
-	byKey, _ := listing(platform.Filter{Order: platform.ByKey, Most: 10}, "row_to_json(t)", "line")
+	byKey, _ := listing(platform.Filter{Order: platform.ByKey, Most: 10})
 	queries := map[string]string{
 		lockDue:        "'{one}', 16, 96",
 		nextDue:        "'{one}'",

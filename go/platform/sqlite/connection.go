@@ -31,7 +31,7 @@ type connection struct {
 }
 
 // A table has the statements of one of the two tables of rows.
-type table struct{ read, insert, update, updateInState, postpone *sqlitefile.Statement }
+type table struct{ read, readBriefly, insert, update, updateInState, postpone *sqlitefile.Statement }
 
 // prepare prepares the statements for a connection.
 func prepare(ctx context.Context, conn *sqlitefile.Conn) (*connection, error) {
@@ -55,9 +55,14 @@ func (c *connection) ofRows() map[**sqlitefile.Statement]string {
 	binding := append(append([]string{"instance", "id"}, orderColumns...), bindingOrder...)
 	ofBinding := append(append([]string{}, stateColumns...), bindingState...)
 	binding = append(binding, ofBinding...)
+	const ofInstance, ofOne = " FROM osb_instances WHERE id = ?", " FROM osb_bindings WHERE instance = ? AND id = ?"
 	return map[**sqlitefile.Statement]string{
-		&c.instances.read:   "SELECT " + instanceRow + " FROM osb_instances WHERE id = ?",
-		&c.bindings.read:    "SELECT " + bindingRow + " FROM osb_bindings WHERE instance = ? AND id = ?",
+		&c.instances.read: "SELECT " + instanceRow + ofInstance,
+		&c.bindings.read:  "SELECT " + bindingRow + ofOne,
+
+		&c.instances.readBriefly: "SELECT " + brief(instanceRow) + ofInstance,
+		&c.bindings.readBriefly:  "SELECT " + brief(bindingRow) + ofOne,
+
 		&c.instances.insert: inserting("osb_instances", instance...),
 		&c.bindings.insert:  inserting("osb_bindings", binding...),
 		&c.instances.update: updating("osb_instances", "id = ?", stateColumns),
@@ -137,16 +142,30 @@ func (c *connection) of(key platform.Key) *table {
 	return &c.instances
 }
 
+// brief are columns with nothing in place of those that may be long.
+func brief(columns string) string {
+	return strings.NewReplacer("further", "''", "credentials", "NULL").Replace(columns)
+}
+
 // entry reads a row. Errors: platform.ErrUnknown; that the row can't be read.
-func (c *connection) entry(key platform.Key) (platform.Entry, error) { return c.readBy(entryOf, key) }
+func (c *connection) entry(key platform.Key) (platform.Entry, error) {
+	return readBy(c.of(key).read, entryOf, key)
+}
 
 // show reads a row to show it (shownOf). Errors: platform.ErrUnknown.
-func (c *connection) show(key platform.Key) (platform.Entry, error) { return c.readBy(shownOf, key) }
+func (c *connection) show(key platform.Key) (platform.Entry, error) {
+	return readBy(c.of(key).read, shownOf, key)
+}
 
-func (c *connection) readBy(
-	read func([]driver.Value) (platform.Entry, error), key platform.Key,
+// showBriefly is show without the columns that may be long.
+func (c *connection) showBriefly(key platform.Key) (platform.Entry, error) {
+	return readBy(c.of(key).readBriefly, shownOf, key)
+}
+
+func readBy(
+	statement *sqlitefile.Statement, read func([]driver.Value) (platform.Entry, error), key platform.Key,
 ) (platform.Entry, error) {
-	values, err := c.of(key).read.One(keyValues(key)...)
+	values, err := statement.One(keyValues(key)...)
 	if err != nil {
 		return platform.Entry{}, err
 	}

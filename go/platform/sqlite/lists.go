@@ -16,77 +16,43 @@ var states = []platform.State{
 	platform.Ready, platform.Unsettled, platform.Wanted, platform.Withdrawn,
 }
 
-// A view is what is read of each row: the columns of an instance and of a binding, of which the first two are the key.
-type view[T any] struct {
-	instance, binding string
-	read              func([]driver.Value) (T, error)
-	position          func(T) platform.Position
-}
-
-var (
-	wholeRow = view[platform.Entry]{
-		instance: instanceRow, binding: bindingRow, read: shownOf,
-		position: func(e platform.Entry) platform.Position {
-			return platform.Position{State: e.State, Since: e.Since, Key: e.Key}
-		},
-	}
-	briefRow = view[platform.Entry]{
-		instance: brief(instanceRow), binding: brief(bindingRow), read: shownOf, position: wholeRow.position,
-	}
-	onlyPosition = view[platform.Position]{
-		instance: "id, NULL, state, since", binding: "instance, id, state, since", read: positionOf,
-		position: func(at platform.Position) platform.Position { return at },
-	}
-)
-
-// brief are columns with nothing in place of those that may be long.
-func brief(columns string) string {
-	return strings.NewReplacer("further", "''", "credentials", "NULL").Replace(columns)
-}
-
-func positionOf(values []driver.Value) (platform.Position, error) {
-	r := &row{values: values}
-	at := platform.Position{Key: r.key(), State: platform.State(r.text("")), Since: r.at()}
-	return at, r.err
-}
-
 // List returns rows of one snapshot, in the order of the filter.
 func (s *Store) List(ctx context.Context, filter platform.Filter) ([]platform.Entry, error) {
-	if filter.IsBrief {
-		return listOf(ctx, s, filter, briefRow)
-	}
-	return listOf(ctx, s, filter, wholeRow)
+	return inSnapshot(ctx, s, func(c *connection) ([]platform.Entry, error) {
+		positions, err := c.positions(ctx, filter)
+		if err != nil {
+			return nil, err
+		}
+		return showAll(ctx, platform.KeysOf(positions), c.show)
+	})
 }
 
 // Positions returns the positions of the rows that List returns. If the filter has nothing but states and a broker, it
 // reads indexes alone.
 func (s *Store) Positions(ctx context.Context, filter platform.Filter) ([]platform.Position, error) {
-	return listOf(ctx, s, filter, onlyPosition)
-}
-
-func listOf[T any](ctx context.Context, s *Store, filter platform.Filter, of view[T]) ([]T, error) {
-	return inSnapshot(ctx, s, func(c *connection) ([]T, error) {
-		l := &listing[T]{connection: c, view: of, filter: filter}
-		err := l.list(ctx)
-		return l.found, err
-	})
+	return inSnapshot(ctx, s, func(c *connection) ([]platform.Position, error) { return c.positions(ctx, filter) })
 }
 
 // ReadAll returns the rows of these keys, of one snapshot.
 func (s *Store) ReadAll(ctx context.Context, keys []platform.Key) ([]platform.Entry, error) {
-	return inSnapshot(ctx, s, func(c *connection) (entries []platform.Entry, err error) {
-		for _, key := range keys {
-			entry, err := c.show(key)
-			switch {
-			case errors.Is(err, platform.ErrUnknown):
-			case err != nil:
-				return nil, err
-			default:
-				entries = append(entries, entry)
-			}
+	return inSnapshot(ctx, s, func(c *connection) ([]platform.Entry, error) { return showAll(ctx, keys, c.showBriefly) })
+}
+
+// showAll reads the rows of these keys that there are.
+func showAll(
+	ctx context.Context, keys []platform.Key, show func(platform.Key) (platform.Entry, error),
+) (entries []platform.Entry, err error) {
+	for _, key := range keys {
+		entry, err := show(key)
+		switch {
+		case errors.Is(err, platform.ErrUnknown):
+		case err != nil:
+			return nil, err
+		default:
+			entries = append(entries, entry)
 		}
-		return entries, ctx.Err()
-	})
+	}
+	return entries, ctx.Err()
 }
 
 // inSnapshot returns what is read of one state of the file.
@@ -100,17 +66,22 @@ func inSnapshot[T any](ctx context.Context, s *Store, read func(*connection) ([]
 	return found, err
 }
 
-// A listing reads what a list has.
-type listing[T any] struct {
+// A listing reads the positions of a list.
+type listing struct {
 	*connection
-	view   view[T]
 	filter platform.Filter
-	found  []T
+	found  []platform.Position
+}
+
+func (c *connection) positions(ctx context.Context, filter platform.Filter) ([]platform.Position, error) {
+	l := &listing{connection: c, filter: filter}
+	err := l.list(ctx)
+	return l.found, err
 }
 
 // list reads all. By key that is one query. Else it is one for each state, which an index has in order: by state they
 // are read until there are enough, and by time all of them, and merged.
-func (l *listing[T]) list(ctx context.Context) error {
+func (l *listing) list(ctx context.Context) error {
 	if l.filter.Order == platform.ByKey {
 		return l.byKey()
 	}
@@ -135,12 +106,12 @@ func (l *listing[T]) list(ctx context.Context) error {
 }
 
 // merge sorts what was read of several states by time, and keeps as many as the filter has at most.
-func (l *listing[T]) merge() {
+func (l *listing) merge() {
 	sort.SliceStable(l.found, func(one, other int) bool {
 		if l.filter.Latest {
 			one, other = other, one
 		}
-		a, b := l.view.position(l.found[one]), l.view.position(l.found[other])
+		a, b := l.found[one], l.found[other]
 		if !a.Since.Equal(b.Since) {
 			return a.Since.Before(b.Since)
 		}
@@ -152,7 +123,7 @@ func (l *listing[T]) merge() {
 }
 
 // in reads at most so many rows that are in a state, or all for 0.
-func (l *listing[T]) in(state platform.State, most int) error {
+func (l *listing) in(state platform.State, most int) error {
 	filter, chosen := l.filter, &selection{}
 	isNarrow := filter.Instance != nil || filter.First != nil || filter.Prefix != ""
 	where := func(key string) {
@@ -171,7 +142,7 @@ const fewRows = 5000
 // byKey reads the rows by their keys. If few rows have the states and the broker of the filter, an index finds them,
 // and they are sorted. Else the rows are read in the order of their keys, and those that don't fit are passed over. So
 // all pages together read each row once.
-func (l *listing[T]) byKey() error {
+func (l *listing) byKey() error {
 	filter, chosen := l.filter, &selection{}
 	count, err := l.countOf(filter)
 	if err != nil {
@@ -210,13 +181,13 @@ func (c *connection) countOf(filter platform.Filter) (count int64, err error) {
 
 // read reads at most so many rows, or all for 0, in the order of these columns. where adds the conditions on the rows
 // of a table to what is chosen, by the columns of its key.
-func (l *listing[T]) read(chosen *selection, where func(key string), order string, most int) error {
+func (l *listing) read(chosen *selection, where func(key string), order string, most int) error {
 	if wantsInstances(l.filter) {
-		chosen.from(l.view.instance, "osb_instances")
+		chosen.from("id, NULL, state, since", "osb_instances")
 		where("id")
 	}
 	if wantsBindings(l.filter) {
-		chosen.from(l.view.binding, "osb_bindings")
+		chosen.from("instance, id, state, since", "osb_bindings")
 		where("instance, id")
 	}
 	if chosen.text.Len() == 0 {
@@ -230,9 +201,10 @@ func (l *listing[T]) read(chosen *selection, where func(key string), order strin
 	}
 	chosen.text.WriteString(" ORDER BY " + order + " LIMIT ?")
 	return l.each(chosen.text.String(), append(chosen.values, int64(most)), func(values []driver.Value) error {
-		it, err := l.view.read(values)
-		l.found = append(l.found, it)
-		return err
+		r := &row{values: values}
+		at := platform.Position{Key: r.key(), State: platform.State(r.text("")), Since: r.at()}
+		l.found = append(l.found, at)
+		return r.err
 	})
 }
 
