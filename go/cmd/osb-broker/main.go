@@ -16,11 +16,11 @@ import (
 )
 
 func main() {
-	outcome := &cli.Outcome{}
-	cli.Main(rootCommand(outcome), outcome)
+	verdict := &cli.Verdict{}
+	cli.Main(rootCommand(verdict), verdict)
 }
 
-func rootCommand(o *cli.Outcome) *cobra.Command {
+func rootCommand(v *cli.Verdict) *cobra.Command {
 	root := &cobra.Command{
 		Use:     "osb-broker",
 		Short:   "A broker under the Open Service Broker API 2.17",
@@ -35,7 +35,7 @@ holdings there, in SQLite.
 docs/broker-guide.md says how to run it, and how to sell something of your own. 'osb-broker try' tests a backend
 of your own without a broker.`,
 	}
-	root.AddCommand(serveCommand(), tryCommand(o), passwordCommand(), keyCommand(), rekeyCommand())
+	root.AddCommand(serveCommand(), tryCommand(v), passwordCommand(), keyCommand(), rekeyCommand())
 	root.CompletionOptions.DisableDefaultCmd = true
 	return root
 }

@@ -63,14 +63,14 @@ type tryOptions struct {
 var sharedOptions = []string{"backend", "catalog", "customer-address", "backend-key-file", "command-seconds",
 	"connections-per-instance", "template", "stop-seconds"}
 
-func tryCommand(o *cli.Outcome) *cobra.Command {
+func tryCommand(v *cli.Verdict) *cobra.Command {
 	t := &tryOptions{settings: &settings{}}
 	made := &cobra.Command{
 		Use: "try", Short: "Test a backend of your own", Long: tryHelp,
 		Example: `  osb-broker try --backend command:./mine --catalog mine.json
   osb-broker try --backend command:./mine --catalog mine.json --plan small --parameters '{"size": "small"}'`,
 		RunE: func(c *cobra.Command, _ []string) (err error) {
-			o.Status, err = t.run(c.Context(), c.OutOrStdout(), c.ErrOrStderr())
+			v.Status, err = t.run(c.Context(), c.OutOrStdout(), c.ErrOrStderr())
 			return err
 		},
 	}

@@ -46,7 +46,7 @@ converged, an answer broke a MUST, a program ended by itself, not everything was
 the command line can't be parsed; 78 change something first: an option, a file, a program or a server; 70 any other
 error`
 
-func bothCommand(o *cli.Outcome) *cobra.Command {
+func bothCommand(o *cli.Verdict) *cobra.Command {
 	s := &bothSettings{}
 	run := func(c *cobra.Command) (int, error) {
 		s.chooseSettleTime(c)

@@ -43,7 +43,7 @@ a signal ended the run; 2 the command line can't be parsed; 3 an instance or a b
 output lists it; 69 the broker can't be reached; 78 change something first: an option, a file, a name, a plan that can't
 be created without faults, or a command that doesn't list what exists; 70 any other error`
 
-func brokerCommand(o *cli.Outcome) *cobra.Command {
+func brokerCommand(o *cli.Verdict) *cobra.Command {
 	s := &brokerSettings{}
 	run := func(c *cobra.Command) (int, error) { return s.run(c, s.open) }
 	return commandOf(o, "broker --url URL",

@@ -38,7 +38,7 @@ were tried; 2 the command line can't be parsed; 3 an instance or a binding could
 standard output lists it; 69 the broker can't be reached; 78 change something first: an option, a file
 or a name; 70 any other error`
 
-func conformCommand(o *cli.Outcome) *cobra.Command {
+func conformCommand(o *cli.Verdict) *cobra.Command {
 	s := &conformSettings{}
 	return commandOf(o, "conform --url URL",
 		"Compare the answers of a broker with the standard", conformHelp, "url", s.add,

@@ -12,8 +12,8 @@ import (
 )
 
 func main() {
-	outcome := &cli.Outcome{}
-	cli.Main(rootCommand(outcome), outcome)
+	verdict := &cli.Verdict{}
+	cli.Main(rootCommand(verdict), verdict)
 }
 
 // The exit statuses besides those of the package cli.
@@ -23,7 +23,7 @@ const (
 	statusUnreachable = 69 // the broker doesn't answer (EX_UNAVAILABLE in sysexits.h)
 )
 
-func rootCommand(o *cli.Outcome) *cobra.Command {
+func rootCommand(o *cli.Verdict) *cobra.Command {
 	root := &cobra.Command{
 		Use:     "osb-storm",
 		Short:   "Test a broker or a platform under the Open Service Broker API 2.17",

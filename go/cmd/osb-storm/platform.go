@@ -49,7 +49,7 @@ request broke a MUST, no request came, no request had a fault though --fault-per
 signal ended the run; 2 the command line can't be parsed; 78 change something first: an option or a file; 70 any other
 error, such as a command that fails`
 
-func platformCommand(o *cli.Outcome) *cobra.Command {
+func platformCommand(o *cli.Verdict) *cobra.Command {
 	s := &platformSettings{}
 	run := func(c *cobra.Command) (int, error) { return s.run(c, s.open) }
 	return commandOf(o, "platform --listen HOST:PORT",

@@ -89,14 +89,14 @@ func Run(ctx context.Context, root *cobra.Command) (status int) {
 	return status
 }
 
-// An Outcome is what a command has found. Its status is that of the program if the command itself has succeeded.
-type Outcome struct{ Status int }
+// A Verdict is what a command has found. Its status is that of the program if the command itself has succeeded.
+type Verdict struct{ Status int }
 
 // Main runs a command as Run does, and ends the process with the status.
-func Main(root *cobra.Command, outcome *Outcome) {
+func Main(root *cobra.Command, verdict *Verdict) {
 	status := Run(context.Background(), root)
 	if status == StatusDone {
-		status = outcome.Status
+		status = verdict.Status
 	}
 	os.Exit(status)
 }
