@@ -23,7 +23,7 @@ func TestFileLocks(t *testing.T) {
 		t.Error("a lock in a file: got one that can be lost, want one that can't be")
 	}
 	instance := broker.InstanceKey(osb.ID{15: 1})
-	held, err := first.Lock(ctx, instance)
+	taken, err := first.Lock(ctx, instance)
 	check(t, err)
 	if lock, err := second.TryLock(ctx, instance); lock != nil || err != nil {
 		t.Errorf("got the lock %v and %v of a key whose lock is held, want neither", lock, err)
@@ -38,7 +38,7 @@ func TestFileLocks(t *testing.T) {
 		t.Fatalf("another key: got the lock %v and %v, want one and no error", binding, err)
 	}
 	binding.Unlock()
-	held.Unlock()
+	taken.Unlock()
 	if lock, err := second.TryLock(ctx, instance); lock == nil || err != nil {
 		t.Errorf("a key whose lock was unlocked: got the lock %v and %v, want one and no error", lock, err)
 	}

@@ -39,7 +39,7 @@ type testBroker struct {
 	sent     atomic.Int64
 }
 
-// A setting changes how a site is made.
+// A setting changes how a testBroker is made.
 type setting struct {
 	atOnce  int
 	over    func(*shelf) broker.Backend
@@ -171,7 +171,7 @@ func (s *testBroker) ask(method, target, body string, change ...func(*http.Reque
 	return given.Result(), given.Body.String()
 }
 
-// storeID is the store that every answer of a site names.
+// storeID is the store that every answer of a testBroker names.
 const storeID = "8d5f7a3e-0000-4000-8000-000000000001"
 
 // expect asks, and checks the status. It returns the body.
@@ -838,7 +838,7 @@ func (s slowBody) Read([]byte) (int, error) {
 	return 0, io.ErrUnexpectedEOF
 }
 
-// twoUsers is a site with the users u and v, whose bodies have at most 1,000 bytes.
+// twoUsers is a testBroker with the users u and v, whose bodies have at most 1,000 bytes.
 func twoUsers(t *testing.T) *testBroker {
 	t.Helper()
 	return newTestBroker(t, setting{atOnce: 3, users: map[string][]string{"u": {"p"}, "v": {"w"}}})
@@ -964,25 +964,25 @@ func newToucher(t *testing.T, backend broker.Backend) *toucher {
 	return it
 }
 
-// A request is one of a platform, its answer, and whether its key is touched then.
-type request struct {
+// A touchCase is a platform's request, the status of its answer, and whether its key is touched then.
+type touchCase struct {
 	method, target, body string
 	status               int
 	isTouched            bool
 }
 
-func (u *toucher) check(t *testing.T, key broker.Key, requests []request) {
+func (u *toucher) check(t *testing.T, key broker.Key, cases []touchCase) {
 	t.Helper()
-	for _, request := range requests {
+	for _, test := range cases {
 		u.touched = nil
-		given := message{method: request.method, target: request.target, body: []byte(request.body)}.serve(u.handler)
+		given := message{method: test.method, target: test.target, body: []byte(test.body)}.serve(u.handler)
 		var want []broker.Key
-		if request.isTouched {
+		if test.isTouched {
 			want = []broker.Key{key}
 		}
-		if given.status != request.status || !reflect.DeepEqual(u.touched, want) {
-			t.Errorf("%s %s: got %d %s and %v touched, want %d and %v", request.method, request.target, given.status,
-				given.body, u.touched, request.status, want)
+		if given.status != test.status || !reflect.DeepEqual(u.touched, want) {
+			t.Errorf("%s %s: got %d %s and %v touched, want %d and %v", test.method, test.target, given.status,
+				given.body, u.touched, test.status, want)
 		}
 	}
 }
@@ -998,7 +998,7 @@ const query = "?accepts_incomplete=true"
 func TestTouchOfOperations(t *testing.T) {
 	u, one, key := newToucher(t, newShelf(calm)), instances+"i", keyOf("i")
 	order, poll, deletion := bodyOf(later, ""), one+"/last_operation", one+names(later)
-	u.check(t, key, []request{
+	u.check(t, key, []touchCase{
 		{"GET", "/v2/catalog", "", 200, false},
 		{"GET", poll, "", 410, false},
 		{"PUT", one, order, 422, false}, // AsyncRequired
@@ -1009,7 +1009,7 @@ func TestTouchOfOperations(t *testing.T) {
 		{"DELETE", deletion + "&accepts_incomplete=true", "", 422, true}, // ConcurrencyError
 	})
 	u.takeUp(t, key)
-	u.check(t, key, []request{
+	u.check(t, key, []touchCase{
 		{"GET", poll, "", 200, false},
 		{"PUT", one + query, order, 200, false},
 		{"DELETE", deletion, "", 422, false}, // AsyncRequired
@@ -1018,7 +1018,7 @@ func TestTouchOfOperations(t *testing.T) {
 		{"GET", poll, "", 200, true},
 	})
 	u.takeUp(t, key)
-	u.check(t, key, []request{
+	u.check(t, key, []touchCase{
 		{"GET", poll, "", 410, false},
 		{"DELETE", deletion + "&accepts_incomplete=true", "", 410, false},
 		{"PUT", one + query, order, 409, false},
@@ -1031,7 +1031,7 @@ func TestTouchOfPendingWork(t *testing.T) {
 	u, one, key := newToucher(t, backend), instances+"i", keyOf("i")
 	order, poll, deletion := bodyOf(now, ""), one+"/last_operation", one+names(now)
 	backend.because("the backend is away")
-	u.check(t, key, []request{
+	u.check(t, key, []touchCase{
 		{"PUT", one, order, 500, false},
 		{"PUT", one, order, 503, true},
 		{"GET", poll, "", 200, true},
@@ -1039,7 +1039,7 @@ func TestTouchOfPendingWork(t *testing.T) {
 	})
 	backend.because("")
 	u.takeUp(t, key)
-	u.check(t, key, []request{
+	u.check(t, key, []touchCase{
 		{"PUT", one, order, 200, false},
 		{"PUT", one, "{", 400, false},
 		{"GET", poll, "", 200, false},
@@ -1052,16 +1052,16 @@ func TestTouchOfBindings(t *testing.T) {
 	u, one := newToucher(t, newShelf(calm)), instances+"i"
 	key := broker.BindingKey(keyOf("i").Instance, keyOf("b").Instance)
 	bound, poll := one+"/service_bindings/b", one+"/service_bindings/b/last_operation"
-	u.check(t, key, []request{
+	u.check(t, key, []touchCase{
 		{"PUT", bound + query, bodyOf(bindLater, ""), 503, false}, // its instance doesn't exist
 		{"PUT", one, bodyOf(bindLater, ""), 201, false},
 		{"PUT", bound + query, bodyOf(bindLater, ""), 202, true},
 		{"GET", bound, "", 404, false},
 		{"GET", poll, "", 200, true},
 	})
-	u.check(t, keyOf("i"), []request{{"DELETE", one + names(bindLater), "", 422, false}}) // it has a binding
+	u.check(t, keyOf("i"), []touchCase{{"DELETE", one + names(bindLater), "", 422, false}}) // it has a binding
 	u.takeUp(t, key)
-	u.check(t, key, []request{
+	u.check(t, key, []touchCase{
 		{"GET", poll, "", 200, false},
 		{"GET", bound, "", 200, false},
 		{"DELETE", bound + names(bindLater) + "&accepts_incomplete=true", "", 202, true},
@@ -1074,7 +1074,7 @@ func TestTouchOfFailedBindings(t *testing.T) {
 	backend := &failingBackend{shelf: newShelf(calm), name: "create-binding", err: errScripted}
 	u, one := newToucher(t, backend), instances+"i"
 	key := broker.BindingKey(keyOf("i").Instance, keyOf("b").Instance)
-	u.check(t, key, []request{
+	u.check(t, key, []touchCase{
 		{"PUT", one, bodyOf(bindLater, ""), 201, false},
 		{"PUT", one + "/service_bindings/b" + query, bodyOf(bindLater, ""), 202, true},
 	})
@@ -1085,14 +1085,14 @@ func TestTouchOfFailedBindings(t *testing.T) {
 		t.Errorf("got %d %s and %v touched, want %v", given.status, given.body, u.touched, want)
 	}
 	u.takeUp(t, key)
-	u.check(t, key, []request{{"DELETE", one + names(bindLater), "", 200, false}})
+	u.check(t, key, []touchCase{{"DELETE", one + names(bindLater), "", 200, false}})
 }
 
 // An observer of the server hands on everything, with the route other.
 func TestServerObserver(t *testing.T) {
 	got, err := &recorder{}, errors.New("why")
 	observer := broker.ServerObserver(got)
-	observer.OnRejection(httpserver.Rejection{
+	observer.OnRejection(httpserver.RejectedRequest{
 		Method: "PUT", Target: "/v2", Status: 400, Reason: "bad", Duration: time.Second, Address: "::1",
 	})
 	observer.OnFailure("http_server", err)

@@ -1083,7 +1083,7 @@ func (w *world) begin(happen func()) {
 	w.goOn(len(w.turns) - 1)
 }
 
-// goOn has the turn at a place happen until it is over or pauses again.
+// goOn has the turn at a position happen until it is over or pauses again.
 func (w *world) goOn(at int) {
 	it := w.turns[at]
 	w.now = it

@@ -27,22 +27,22 @@ func TestIDsWithOneNumber(t *testing.T) {
 	} {
 		it := test
 		t.Run(it.first, func(t *testing.T) {
-			site := newTestBroker(t, setting{})
+			s := newTestBroker(t, setting{})
 			first, second := instances+it.first, instances+it.second
-			site.expect(t, 201, "PUT", first, bodyOf(now, ""))
-			bound := site.expect(t, 201, "PUT", first+"/service_bindings/b", bodyOf(now, ""))
+			s.expect(t, 201, "PUT", first, bodyOf(now, ""))
+			bound := s.expect(t, 201, "PUT", first+"/service_bindings/b", bodyOf(now, ""))
 
-			site.unknown(t, second, now)
-			site.expect(t, 503, "PUT", second+"/service_bindings/b2", bodyOf(now, ""))
-			site.expect(t, 409, "PUT", second+"/service_bindings/b", bodyOf(now, ""))
-			site.expect(t, 404, "GET", second+"/service_bindings/b", "")
-			site.expect(t, 410, "DELETE", second+"/service_bindings/b"+names(now), "")
+			s.unknown(t, second, now)
+			s.expect(t, 503, "PUT", second+"/service_bindings/b2", bodyOf(now, ""))
+			s.expect(t, 409, "PUT", second+"/service_bindings/b", bodyOf(now, ""))
+			s.expect(t, 404, "GET", second+"/service_bindings/b", "")
+			s.expect(t, 410, "DELETE", second+"/service_bindings/b"+names(now), "")
 
-			diff.Equal(t, site.expect(t, 200, "PUT", first+"/service_bindings/b", bodyOf(now, "")), bound,
+			diff.Equal(t, s.expect(t, 200, "PUT", first+"/service_bindings/b", bodyOf(now, "")), bound,
 				"the binding")
-			site.expect(t, 200, "DELETE", first+"/service_bindings/b"+names(now), "")
-			site.expect(t, 200, "DELETE", first+names(now), "")
-			site.expect(t, 409, "PUT", second, bodyOf(now, "")) // its number has a tombstone
+			s.expect(t, 200, "DELETE", first+"/service_bindings/b"+names(now), "")
+			s.expect(t, 200, "DELETE", first+names(now), "")
+			s.expect(t, 409, "PUT", second, bodyOf(now, "")) // its number has a tombstone
 		})
 	}
 }
@@ -57,27 +57,27 @@ func (s *testBroker) unknown(t *testing.T, target, plan string) {
 
 // Two bindings whose ids have one number are two bindings.
 func TestBindingsWithOneNumber(t *testing.T) {
-	site := newTestBroker(t, setting{})
+	s := newTestBroker(t, setting{})
 	instance := instances + "i"
 	number, err := osb.IDOfText("b")
 	must(err)
 	first, second := instance+"/service_bindings/b", instance+"/service_bindings/"+number.String()
-	site.expect(t, 201, "PUT", instance, bodyOf(now, ""))
-	site.expect(t, 201, "PUT", first, bodyOf(now, ""))
-	site.unknown(t, second, now)
-	site.expect(t, 404, "GET", second, "")
-	site.expect(t, 200, "GET", first, "")
+	s.expect(t, 201, "PUT", instance, bodyOf(now, ""))
+	s.expect(t, 201, "PUT", first, bodyOf(now, ""))
+	s.unknown(t, second, now)
+	s.expect(t, 404, "GET", second, "")
+	s.expect(t, 200, "GET", first, "")
 }
 
 // An id that is escaped in the path, or in JSON, is the same id.
 func TestEscapedIDs(t *testing.T) {
-	site := newTestBroker(t, setting{})
-	site.expect(t, 201, "PUT", instances+`a%22b%3C%C3%A9`, bodyOf(now, ""))
-	site.expect(t, 200, "PUT", instances+`%61%22b%3c%C3%A9`, bodyOf(now, ""))
-	site.expect(t, 200, "DELETE", instances+`a%22b%3C%C3%A9`+names(now), "")
+	s := newTestBroker(t, setting{})
+	s.expect(t, 201, "PUT", instances+`a%22b%3C%C3%A9`, bodyOf(now, ""))
+	s.expect(t, 200, "PUT", instances+`%61%22b%3c%C3%A9`, bodyOf(now, ""))
+	s.expect(t, 200, "DELETE", instances+`a%22b%3C%C3%A9`+names(now), "")
 	guid := keyOf("g").Instance.String()
-	site.expect(t, 201, "PUT", instances+guid, bodyOf(now, ""))
-	site.expect(t, 200, "DELETE", instances+fmt.Sprintf("%%%02x", guid[0])+guid[1:]+names(now), "")
+	s.expect(t, 201, "PUT", instances+guid, bodyOf(now, ""))
+	s.expect(t, 200, "DELETE", instances+fmt.Sprintf("%%%02x", guid[0])+guid[1:]+names(now), "")
 }
 
 // sentRequests is what a backend may be given for each key, as it was sent.
@@ -157,11 +157,11 @@ func isAmong(text string, all []string) bool {
 }
 
 // isDeletion reports whether what is held is being deleted.
-func isDeletion(held broker.Entry) bool {
-	if work, isPending := held.Holding.Work(); isPending {
+func isDeletion(entry broker.Entry) bool {
+	if work, isPending := entry.Holding.Work(); isPending {
 		return work.Kind == osb.KindDeprovision
 	}
-	row, _ := held.Holding.Row()
+	row, _ := entry.Holding.Row()
 	return row.Phase == osb.PhaseDeleting
 }
 
@@ -270,7 +270,7 @@ func (h hangingBackend) Create(ctx context.Context, request broker.Request) erro
 	return h.shelf.Create(ctx, request)
 }
 
-// newHanging is a site of so many threads whose backend hangs in its creations.
+// newHanging is a testBroker of so many threads whose backend hangs in its creations.
 func newHanging(t *testing.T, threads int) (*testBroker, hangingBackend) {
 	t.Helper()
 	backend := hangingBackend{begun: make(chan struct{}, 100), goOn: make(chan struct{}, 100)}
@@ -281,7 +281,7 @@ func newHanging(t *testing.T, threads int) (*testBroker, hangingBackend) {
 	}})
 	var once sync.Once
 	backend.open = func() { once.Do(func() { close(backend.goOn) }) }
-	t.Cleanup(backend.open) // before the site is closed
+	t.Cleanup(backend.open) // before the broker is closed
 	return s, backend
 }
 

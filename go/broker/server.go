@@ -15,9 +15,9 @@ import (
 // ErrCut reports that Serve has closed connections whose requests weren't answered in time.
 var ErrCut = httpserver.ErrCut
 
-// Serve answers the requests on the connections of a listener of TCP by a handler, such as a Handler, until stop is done.
-// Then it closes the listener and all idle connections, and waits for at most 30 seconds until the running requests are
-// answered. The contexts of the requests aren't done with stop.
+// Serve answers the requests on the connections of a listener of TCP by a handler, such as a Handler, until stop is
+// done. Then it closes the listener and all idle connections, and waits for at most 30 seconds until the running
+// requests are answered. The contexts of the requests aren't done with stop.
 //
 // At most 800 connections are open at once, and 200 of them of one address. A connection may be silent for 5 seconds
 // before its first request and for 30 seconds between two requests, and a request may take 30 seconds to arrive. If a
@@ -37,8 +37,8 @@ func Serve(stop context.Context, listener net.Listener, handler http.Handler, ob
 // this project's choice.)
 func NewLimiter() Limiter { return limiter.New() }
 
-// CrashAt is a crash point of a backend of your own, at which something is half done. In a program that is built with the
-// tag crashpoints, it kills the process if OSB_CRASH_AT is the name of the point. Otherwise it does nothing.
+// CrashAt is a crash point of a backend of your own, at which something is half done. In a program that is built with
+// the tag crashpoints, it kills the process if OSB_CRASH_AT is the name of the point. Otherwise it does nothing.
 func CrashAt(point string) { crash.At(point) }
 
 // otherRoute is the route of a request that is none of the API, or that was rejected before anybody could know.
@@ -52,7 +52,7 @@ type serverObserver struct{ to Observer }
 func ServerObserver(to Observer) httpserver.Observer { return serverObserver{to} }
 
 // OnRejection hands on a request that the Handler didn't get.
-func (o serverObserver) OnRejection(it httpserver.Rejection) {
+func (o serverObserver) OnRejection(it httpserver.RejectedRequest) {
 	o.to.OnExchange(Exchange{
 		Route: otherRoute, Method: it.Method, Target: it.Target, Status: it.Status, Reason: it.Reason,
 		Duration: it.Duration, Address: it.Address,

@@ -165,12 +165,12 @@ type BindingParts struct {
 func ReceiveBindingRequest(
 	prefix string, longestBody int, method, target string, body []byte,
 ) (BindingReceived, error) {
-	before, verb, line := []byte(prefix), []byte(method), []byte(target)
+	before, verb, uri := []byte(prefix), []byte(method), []byte(target)
 	var asked C.struct_osb_binding_asked
 	var lengths C.struct_osb_binding_received
 	text, err := textFrom(func(buffer *C.uint8_t, bytes C.size_t, needed *C.size_t) C.uint32_t {
 		return C.osb_receive_binding_request(pointer(before), size(before), C.size_t(max(0, longestBody)),
-			pointer(verb), size(verb), pointer(line), size(line), pointer(body), size(body), &asked, &lengths, buffer,
+			pointer(verb), size(verb), pointer(uri), size(uri), pointer(body), size(body), &asked, &lengths, buffer,
 			bytes, needed)
 	})
 	if err != nil {
@@ -308,8 +308,8 @@ func bindingIn(body []byte, status C.uint32_t) (json.RawMessage, error) {
 // Errors: ErrNotJSON, ErrNoServices, the first of ErrBadService, ErrNoPlans, ErrBadPlan, ErrPlanTwice, ErrNotABoolean
 // and ErrNotRetrievable in the document's order, and ErrMemory.
 func BindingModes(document []byte) ([]Plan, error) {
-	return plansRead(func(places *C.struct_osb_plan, count C.size_t, needed *C.size_t) C.uint32_t {
-		return C.osb_binding_modes(pointer(document), size(document), places, count, needed)
+	return plansRead(func(buffer *C.struct_osb_plan, count C.size_t, needed *C.size_t) C.uint32_t {
+		return C.osb_binding_modes(pointer(document), size(document), buffer, count, needed)
 	})
 }
 

@@ -20,26 +20,26 @@ type Plan struct {
 // Errors: ErrNotJSON, ErrNoServices, the first of ErrBadService, ErrNoPlans, ErrBadPlan, ErrBadPlanMode and
 // ErrPlanTwice in the document's order, and ErrMemory.
 func CataloguePlans(document []byte) ([]Plan, error) {
-	return plansRead(func(places *C.struct_osb_plan, count C.size_t, needed *C.size_t) C.uint32_t {
-		return C.osb_catalogue_plans(pointer(document), size(document), places, count, needed)
+	return plansRead(func(buffer *C.struct_osb_plan, count C.size_t, needed *C.size_t) C.uint32_t {
+		return C.osb_catalogue_plans(pointer(document), size(document), buffer, count, needed)
 	})
 }
 
-// plansRead gives the plans that a call reads: it calls again with more places where there were too few.
-func plansRead(read func(places *C.struct_osb_plan, count C.size_t, needed *C.size_t) C.uint32_t) ([]Plan, error) {
-	places := make([]C.struct_osb_plan, 32)
+// plansRead gives the plans that a call reads: it calls again with a longer buffer if it was too short.
+func plansRead(read func(buffer *C.struct_osb_plan, count C.size_t, needed *C.size_t) C.uint32_t) ([]Plan, error) {
+	buffer := make([]C.struct_osb_plan, 32)
 	var needed C.size_t
-	status := read(&places[0], C.size_t(len(places)), &needed)
+	status := read(&buffer[0], C.size_t(len(buffer)), &needed)
 	if status == C.OSB_TOO_SMALL {
-		places = make([]C.struct_osb_plan, needed)
-		status = read(&places[0], C.size_t(len(places)), &needed)
+		buffer = make([]C.struct_osb_plan, needed)
+		status = read(&buffer[0], C.size_t(len(buffer)), &needed)
 	}
 	if err := errorOf(status); err != nil {
 		return nil, err
 	}
 	plans := make([]Plan, needed)
 	for at := range plans {
-		plans[at] = planOf(places[at])
+		plans[at] = planOf(buffer[at])
 	}
 	return plans, nil
 }
@@ -78,8 +78,8 @@ func ServedCatalogue(document []byte) ([]byte, error) {
 // AsksForCatalogue reports whether a target asks for the catalogue: the path is the prefix and /v2/catalog, or stands
 // for that as in ReceiveRequest (section Catalog Management). It is false too if the prefix isn't UTF-8.
 func AsksForCatalogue(prefix, target string) bool {
-	before, line := []byte(prefix), []byte(target)
-	return bool(C.osb_asks_for_catalogue(pointer(before), size(before), pointer(line), size(line)))
+	before, uri := []byte(prefix), []byte(target)
+	return bool(C.osb_asks_for_catalogue(pointer(before), size(before), pointer(uri), size(uri)))
 }
 
 // PlanVersion is the maintenance_info.version that a catalogue's document has of a plan of a service (section Catalog

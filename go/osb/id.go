@@ -156,9 +156,9 @@ func WriteNamedTarget(prefix string, request Request, names Names, operation *st
 //
 // Errors: ErrNotUTF8 (any text), ErrBadKind, ErrNotJSON and ErrNotAnObject (further), ErrMemory.
 func WriteNamedBody(kind Kind, names Names, organization, space string, further []byte) ([]byte, error) {
-	service, plan, org, place := []byte(names.Service), []byte(names.Plan), []byte(organization), []byte(space)
+	service, plan, orgID, spaceID := []byte(names.Service), []byte(names.Plan), []byte(organization), []byte(space)
 	return textFrom(func(buffer *C.uint8_t, bytes C.size_t, needed *C.size_t) C.uint32_t {
 		return C.osb_write_named_body(C.uint8_t(kind), pointer(service), size(service), pointer(plan), size(plan),
-			pointer(org), size(org), pointer(place), size(place), pointer(further), size(further), buffer, bytes, needed)
+			pointer(orgID), size(orgID), pointer(spaceID), size(spaceID), pointer(further), size(further), buffer, bytes, needed)
 	})
 }

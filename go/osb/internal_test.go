@@ -12,7 +12,7 @@ import (
 func TestTextOfID(t *testing.T) {
 	ids := []ID{{}, MustParseID("12345678-9abc-def0-1234-56789abcdef0")}
 	for at := range (ID{}) {
-		for one := 0; one < 256; one++ { // each byte at each place
+		for one := 0; one < 256; one++ { // each byte at each position
 			id := ID{}
 			id[at] = byte(one)
 			ids = append(ids, id)

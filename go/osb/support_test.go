@@ -68,7 +68,7 @@ func guids(request osb.Request) osb.Names {
 
 func second[T any](_ T, err error) error { return err }
 
-// More plans than the first list has places for.
+// More plans than the first buffer holds.
 func TestManyPlans(t *testing.T) {
 	var many []string
 	for at := 0; at < 100; at++ {

@@ -152,12 +152,12 @@ type Parts struct {
 // first of ErrRefusedRepeated to ErrRefusedSpace in the order of docs/wire.md, and ErrMemory. RefusalStatus and
 // RefusalBody are the answer to all but ErrNotUTF8.
 func ReceiveRequest(prefix string, longestBody int, method, target string, body []byte) (Received, error) {
-	before, verb, line := []byte(prefix), []byte(method), []byte(target)
+	before, verb, uri := []byte(prefix), []byte(method), []byte(target)
 	var asked C.struct_osb_asked
 	var lengths C.struct_osb_received
 	text, err := textFrom(func(buffer *C.uint8_t, bytes C.size_t, needed *C.size_t) C.uint32_t {
 		return C.osb_receive_request(pointer(before), size(before), C.size_t(max(0, longestBody)), pointer(verb),
-			size(verb), pointer(line), size(line), pointer(body), size(body), &asked, &lengths, buffer, bytes, needed)
+			size(verb), pointer(uri), size(uri), pointer(body), size(body), &asked, &lengths, buffer, bytes, needed)
 	})
 	if err != nil {
 		return Received{}, err

@@ -86,14 +86,14 @@ func TestMembers(t *testing.T) {
 	}
 	var holding osb.Holding
 	check(t, holding.UnmarshalJSON([]byte(text[""])))
-	if key := broker.InstanceKey(number); holding != s.store.rows[key].Holding {
-		t.Errorf("the journal: got %v, want %v held", holding, s.store.rows[key].Holding)
+	if key := broker.InstanceKey(number); holding != s.store.entries[key].Holding {
+		t.Errorf("the journal: got %v, want %v held", holding, s.store.entries[key].Holding)
 	}
 	bound, err := osb.ParseID(bind)
 	check(t, err)
 	holding, err = osb.BindingHoldingFromText([]byte(text[bind]))
-	if key := broker.BindingKey(number, bound); err != nil || holding != s.store.rows[key].Holding {
-		t.Errorf("the journal: got %v (%v), want %v held", holding, err, s.store.rows[key].Holding)
+	if key := broker.BindingKey(number, bound); err != nil || holding != s.store.entries[key].Holding {
+		t.Errorf("the journal: got %v (%v), want %v held", holding, err, s.store.entries[key].Holding)
 	}
 }
 
@@ -494,7 +494,7 @@ func TestCommitted(t *testing.T) {
 		return store.Change(context.Background(), broker.Key{}, 0,
 			func(broker.Snapshot) (*broker.Entry, error) { return &broker.Entry{Life: life}, nil })
 	}
-	store, another := to.Store(s.store), to.Store(&memory{rows: map[broker.Key]broker.Entry{}})
+	store, another := to.Store(s.store), to.Store(&memory{entries: map[broker.Key]broker.Entry{}})
 	arrives(0)
 	check(t, change(store, 1))
 	check(t, change(store, 2))
@@ -521,7 +521,7 @@ func TestNoChange(t *testing.T) {
 		snapshot.Entry.Description = "another"
 		return &snapshot.Entry, nil
 	}))
-	if events := s.lines(); len(events) != 1 || s.store.rows[broker.Key{}].Description != "another" {
+	if events := s.lines(); len(events) != 1 || s.store.entries[broker.Key{}].Description != "another" {
 		t.Errorf("got %+v, want one line and the other description", events)
 	}
 }
@@ -574,20 +574,20 @@ var errFull = errors.New("the disk is full")
 type memory struct {
 	broker.Store // has no other methods
 	turn         sync.Mutex
-	rows         map[broker.Key]broker.Entry
+	entries      map[broker.Key]broker.Entry
 	fails        error                    // of the next commit
 	tries        int                      // how often the next step is called, if it is more than once
 	stepped      func(next *broker.Entry) // is called after each step, before the commit
 }
 
 func (m *memory) snapshot(key broker.Key) broker.Snapshot {
-	snapshot := broker.Snapshot{Entry: m.rows[key]}
+	snapshot := broker.Snapshot{Entry: m.entries[key]}
 	if key.IsBinding {
-		snapshot.Instance = m.rows[broker.InstanceKey(key.Instance)]
+		snapshot.Instance = m.entries[broker.InstanceKey(key.Instance)]
 		return snapshot
 	}
 	snapshot.AnyBinding = func() (bool, error) {
-		for other, entry := range m.rows {
+		for other, entry := range m.entries {
 			if other.IsBinding && other.Instance == key.Instance && entry.Holding.IsHeld() {
 				return true, nil
 			}
@@ -620,14 +620,14 @@ func (m *memory) Change(_ context.Context, key broker.Key, _ int64, step broker.
 	if err, m.fails = m.fails, nil; err != nil {
 		return err
 	}
-	m.rows[key] = *next
+	m.entries[key] = *next
 	return nil
 }
 
 func (m *memory) HeldBindings(_ context.Context, instance osb.ID) (ids []osb.ID, err error) {
 	m.turn.Lock()
 	defer m.turn.Unlock()
-	for key, entry := range m.rows {
+	for key, entry := range m.entries {
 		if key.IsBinding && key.Instance == instance && entry.Holding.IsHeld() {
 			ids = append(ids, key.Binding)
 		}
@@ -722,7 +722,7 @@ var errDoubt = errors.New("nobody knows")
 func newTestBroker(t *testing.T) *testBroker {
 	t.Helper()
 	s := &testBroker{
-		t: t, path: filepath.Join(t.TempDir(), "journal"), store: &memory{rows: map[broker.Key]broker.Entry{}},
+		t: t, path: filepath.Join(t.TempDir(), "journal"), store: &memory{entries: map[broker.Key]broker.Entry{}},
 		seller: &seller{things: map[broker.Key]broker.There{}, called: func(string) {}},
 	}
 	sold, err := broker.NewCatalogue([]byte(catalogue), true)
@@ -825,7 +825,7 @@ func BenchmarkRequests(b *testing.B) {
 			before := processor(b)
 			for n := 0; n < b.N; n++ {
 				if method == "PUT" {
-					s.store.rows, s.seller.things = map[broker.Key]broker.Entry{}, map[broker.Key]broker.There{}
+					s.store.entries, s.seller.things = map[broker.Key]broker.Entry{}, map[broker.Key]broker.There{}
 				}
 				s.ServeHTTP(httptest.NewRecorder(), s.request(method, one, atOnce))
 			}

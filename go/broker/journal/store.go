@@ -211,8 +211,8 @@ func (j *Journal) Backend(of broker.Backend) broker.Backend {
 	return it
 }
 
-// work is the line of a call of the backend.
-type work struct {
+// workLine is the line of a call of the backend.
+type workLine struct {
 	life
 	Visit       int64  `json:"visit,omitempty"` // of the request that does the work
 	Call        string `json:"call"`
@@ -226,7 +226,7 @@ type work struct {
 func (j *Journal) do(
 	ctx context.Context, request broker.Request, call string, do func() (found string, made json.RawMessage, err error),
 ) {
-	line := work{life: lifeOf(request.Key), Visit: visitOf(ctx), Call: call, Stage: "begun"}
+	line := workLine{life: lifeOf(request.Key), Visit: visitOf(ctx), Call: call, Stage: "begun"}
 	j.to.Write("work", line)
 	line.Stage, line.Result = "ended", "failed" // also if the call panics
 	defer func() { j.to.Write("work", line) }()

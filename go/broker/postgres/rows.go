@@ -24,7 +24,7 @@ type row struct {
 	endedAgo                              sql.NullFloat64 // in seconds
 }
 
-// into are the places to scan the columns into.
+// into are the variables to scan the columns into.
 func (r *row) into(more ...any) []any {
 	return append([]any{&r.holding, &r.request, &r.object, &r.description, &r.since, &r.life, &r.endedAgo}, more...)
 }

@@ -137,14 +137,14 @@ func away(err error) error {
 
 // transaction is pg.Transaction on a connection of the store. It is tried again if it couldn't begin, since the
 // server may have closed each connection that was idle, and if another transaction has undone it.
-func (s *Store) transaction(ctx context.Context, key *broker.Key, work func(*sql.Tx) (bool, error)) error {
+func (s *Store) transaction(ctx context.Context, key *broker.Key, do func(*sql.Tx) (bool, error)) error {
 	if err := s.enter(); err != nil {
 		return err
 	}
 	defer s.running.Done()
 	until := time.Now().Add(pg.Answer) // so that a silent server isn't waited for on one idle session after the other
 	for unbegun, undone := 0, 0; ; {
-		err := s.attempt(ctx, work)
+		err := s.attempt(ctx, do)
 		switch {
 		case errors.Is(err, pg.ErrNotBegun) && unbegun < s.most && time.Now().Before(until):
 			unbegun++
@@ -160,13 +160,13 @@ func (s *Store) transaction(ctx context.Context, key *broker.Key, work func(*sql
 	}
 }
 
-func (s *Store) attempt(ctx context.Context, work func(*sql.Tx) (bool, error)) error {
+func (s *Store) attempt(ctx context.Context, do func(*sql.Tx) (bool, error)) error {
 	conn, err := s.conn(ctx)
 	if err != nil {
 		return err
 	}
 	defer conn.Close()
-	return pg.Transaction(ctx, conn, work)
+	return pg.Transaction(ctx, conn, do)
 }
 
 // conn waits for a connection, and no longer than for a server that answers.

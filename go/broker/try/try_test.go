@@ -185,7 +185,7 @@ func TestStuckLock(t *testing.T) {
 
 var errOfBackend = errors.New("exit status 1: of the backend")
 
-// The places in the order of the creations, if all succeed.
+// The positions in the order of the creations, if all succeed.
 const (
 	instance1 = 1 + iota
 	instance2
@@ -624,7 +624,7 @@ func newFake(t *testing.T) *fake {
 	}
 }
 
-// nth returns the place of a key in the order of the creations, from 1 on, or 0.
+// nth returns the position of a key in the order of the creations, from 1 on, or 0.
 func (f *fake) nth(key broker.Key) int {
 	for at, call := range f.order {
 		if call == key {

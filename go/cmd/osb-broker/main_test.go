@@ -641,8 +641,8 @@ func TestGUIDInUpperCase(t *testing.T) {
 	} {
 		t.Run(fmt.Sprint(test.arguments), func(t *testing.T) {
 			// It can't listen there, so it ends after it has read the catalogue.
-			line := append([]string{"serve", "--state", t.TempDir(), "--listen", "192.0.2.1:1"}, test.arguments...)
-			out, _ := osbBroker([]string{password}, line...).CombinedOutput()
+			arguments := append([]string{"serve", "--state", t.TempDir(), "--listen", "192.0.2.1:1"}, test.arguments...)
+			out, _ := osbBroker([]string{password}, arguments...).CombinedOutput()
 			var ids []any
 			for _, text := range strings.Split(string(out), "\n") {
 				var read struct {

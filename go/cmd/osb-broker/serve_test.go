@@ -134,8 +134,8 @@ func TestIDsReturnIsWarnedOf(t *testing.T) {
 	}{{nil, nil}, {[]string{"--ids-return-after", "3600"}, 3600.0}} {
 		t.Run(fmt.Sprint(test.arguments), func(t *testing.T) {
 			// It can't listen there, so it ends after it has warned.
-			line := append([]string{"serve", "--state", t.TempDir(), "--listen", "192.0.2.1:1"}, test.arguments...)
-			out, _ := osbBroker([]string{password}, line...).CombinedOutput()
+			arguments := append([]string{"serve", "--state", t.TempDir(), "--listen", "192.0.2.1:1"}, test.arguments...)
+			out, _ := osbBroker([]string{password}, arguments...).CombinedOutput()
 			var seconds any
 			for _, text := range strings.Split(string(out), "\n") {
 				var read map[string]any

@@ -183,7 +183,7 @@ func (g *gate) killRunning() {
 	}
 	text, _ := os.ReadFile(g.number)
 	if number, err := strconv.Atoi(strings.TrimSpace(string(text))); err == nil {
-		if line, _ := os.ReadFile("/proc/" + strconv.Itoa(number) + "/cmdline"); bytes.Contains(line, []byte(g.backend)) {
+		if arguments, _ := os.ReadFile("/proc/" + strconv.Itoa(number) + "/cmdline"); bytes.Contains(arguments, []byte(g.backend)) {
 			_ = syscall.Kill(number, syscall.SIGKILL)
 		}
 	}

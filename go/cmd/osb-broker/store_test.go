@@ -97,17 +97,17 @@ func TestStatusOfPostgreSQL(t *testing.T) {
 // A template that doesn't exist ends it before anything is sold.
 func TestTemplateThatIsMissing(t *testing.T) {
 	address, environment := postgresql(t)
-	line := []string{"serve", "--state", t.TempDir(), "--backend", address, "--template", "osb_nowhere"}
+	arguments := []string{"serve", "--state", t.TempDir(), "--backend", address, "--template", "osb_nowhere"}
 	variables := append([]string{"OSB_BACKEND_KEY=" + strings.Repeat("k", 32)}, environment...)
-	runToEnd(t, 78, "there is no database osb_nowhere to copy", osbBroker(variables, line...))
+	runToEnd(t, 78, "there is no database osb_nowhere to copy", osbBroker(variables, arguments...))
 }
 
 // A socket is of no use to applications, so their address has to be given with it.
 func TestSocketOfTheBackend(t *testing.T) {
 	variables := []string{password, "OSB_BACKEND_KEY=" + strings.Repeat("k", 32)}
-	line := []string{"serve", "--state", t.TempDir(), "--backend", "postgresql:///d?user=u&host=/nowhere"}
-	runToEnd(t, 78, "--customer-address", osbBroker(variables, line...))
-	runToEnd(t, 75, "Check that the server runs", osbBroker(variables, append(line, "--customer-address", "db:5432")...))
+	arguments := []string{"serve", "--state", t.TempDir(), "--backend", "postgresql:///d?user=u&host=/nowhere"}
+	runToEnd(t, 78, "--customer-address", osbBroker(variables, arguments...))
+	runToEnd(t, 75, "Check that the server runs", osbBroker(variables, append(arguments, "--customer-address", "db:5432")...))
 }
 
 // A server that goes away once the store is open, before the store and the backend are tied, ends it with status 75.

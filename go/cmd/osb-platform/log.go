@@ -218,7 +218,7 @@ func (o observers) OnCatalogue(broker string) {
 type serverObserver struct{ to platform.Observer }
 
 // OnRejection does nothing: the log has the requests that the platform sends.
-func (serverObserver) OnRejection(httpserver.Rejection) {}
+func (serverObserver) OnRejection(httpserver.RejectedRequest) {}
 
 func (o serverObserver) OnFailure(event string, err error) {
 	o.to.OnFailure(platform.Failure{Event: event, Err: err})

@@ -19,8 +19,8 @@ import (
 )
 
 const (
-	second = "/v2/service_instances/00000000-0000-0000-0000-000000000003"
-	absent = "/v2/service_instances/00000000-0000-0000-0000-000000000004"
+	second  = "/v2/service_instances/00000000-0000-0000-0000-000000000003"
+	missing = "/v2/service_instances/00000000-0000-0000-0000-000000000004"
 )
 
 // TestMain runs the tests. In a process that startProcess has started it serves instead.
@@ -57,7 +57,7 @@ func startProcess(t *testing.T, state, point string) (s *servedBroker, process *
 // once there is no answer.
 func (s *servedBroker) live() error {
 	for _, test := range []struct{ method, target, plan string }{
-		{"DELETE", absent, now},
+		{"DELETE", missing, now},
 		{"PUT", instance, now}, {"PUT", binding, now}, {"DELETE", binding, now}, {"DELETE", instance, now},
 		{"PUT", second, later}, {"DELETE", second, later},
 	} {

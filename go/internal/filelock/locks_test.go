@@ -141,12 +141,12 @@ func (t *turns) Err() error {
 // Whoever has waited for a lock for some time gets it soon after it is free: the pauses don't grow without an end.
 func TestLockIsTakenSoonAfterALongWait(t *testing.T) {
 	locks := newLocks(t, filepath.Join(t.TempDir(), "locks"))
-	held := mustLock(t, locks, one)
+	taken := mustLock(t, locks, one)
 	ctx, cancel := context.WithTimeout(context.Background(), 10*time.Second)
 	defer cancel()
 	lock, err := locks.Lock(&turns{Context: ctx, call: func(turn int) {
 		if turn == 9 { // the pauses before are 1, 2, 4, 8 and 16 ms, and then the longest one
-			held.Unlock()
+			taken.Unlock()
 		}
 	}}, one)
 	check(t, err)

@@ -235,7 +235,7 @@ func (c *conn) reject() {
 
 // report reports a request that the handler doesn't get.
 func (c *conn) report(status int) {
-	c.listener.options.Observer.OnRejection(Rejection{Status: status, Address: c.host()})
+	c.listener.options.Observer.OnRejection(RejectedRequest{Status: status, Address: c.host()})
 }
 
 // host returns the address of the client without its port.

@@ -14,15 +14,15 @@ const (
 // metrics. Its methods return at once, and are called by any number of goroutines.
 type Observer interface {
 	// OnRejection is called for each request that is answered before the handler gets it, after its answer was written.
-	OnRejection(Rejection)
+	OnRejection(RejectedRequest)
 	// OnFailure is called if something went wrong that an operator has to know. The event is tls_handshake_failed,
 	// address_at_limit once an address has all connections that it may have, or http_server for what net/http logs.
 	OnFailure(event string, err error)
 }
 
-// A Rejection is a request that was answered before the handler got it. If no whole head of the request has arrived,
-// its method and its target are empty.
-type Rejection struct {
+// A RejectedRequest is a request that was answered before the handler got it. If no whole head of the request has
+// arrived, its method and its target are empty.
+type RejectedRequest struct {
 	Method   string // at most 20 bytes
 	Target   string // LoggedTarget of what arrived
 	Status   int
@@ -34,8 +34,8 @@ type Rejection struct {
 // noObserver is an Observer that does nothing.
 type noObserver struct{}
 
-func (noObserver) OnRejection(Rejection)   {}
-func (noObserver) OnFailure(string, error) {}
+func (noObserver) OnRejection(RejectedRequest) {}
+func (noObserver) OnFailure(string, error)     {}
 
 // LoggedTarget returns what may be logged of the target of a request: at most 1000 bytes, without the user and the
 // password that the host of a whole URL can have.

@@ -216,7 +216,7 @@ func (f front) refuse(w http.ResponseWriter, r *http.Request) {
 func (f front) answer(w http.ResponseWriter, r *http.Request, status int, text string) {
 	began := time.Now()
 	http.Error(w, text, status)
-	f.observer.OnRejection(Rejection{
+	f.observer.OnRejection(RejectedRequest{
 		Method:   first(r.Method, longestMethod),
 		Target:   LoggedTarget(r.RequestURI),
 		Status:   status,

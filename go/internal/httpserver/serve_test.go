@@ -63,7 +63,7 @@ func TestAClosedConnectionFreesItsPlaceOnce(t *testing.T) {
 		client.until("GET /a ;")
 		client.Close()
 	}
-	waits.Until(t, "only Accept has a place", func() bool { return listener.Connections() == 1 })
+	waits.Until(t, "only Accept has a slot", func() bool { return listener.Connections() == 1 })
 }
 
 func TestTwoListenersShareAnAddress(t *testing.T) {
@@ -508,11 +508,11 @@ const limit = 10 * time.Second // of what has to happen soon
 // A recorder is an Observer that has what it got.
 type recorder struct {
 	mutex      sync.Mutex
-	rejections []Rejection
+	rejections []RejectedRequest
 	failures   []string
 }
 
-func (r *recorder) OnRejection(rejection Rejection) {
+func (r *recorder) OnRejection(rejection RejectedRequest) {
 	r.mutex.Lock()
 	defer r.mutex.Unlock()
 	r.rejections = append(r.rejections, rejection)
@@ -525,7 +525,7 @@ func (r *recorder) OnFailure(event string, err error) {
 }
 
 // waitForRejections returns the rejections, once there are so many: an answer is sent before the observer gets it.
-func (r *recorder) waitForRejections(t *testing.T, count int) []Rejection {
+func (r *recorder) waitForRejections(t *testing.T, count int) []RejectedRequest {
 	t.Helper()
 	waits.Until(t, "what the observer is told", func() bool {
 		r.mutex.Lock()
@@ -534,7 +534,7 @@ func (r *recorder) waitForRejections(t *testing.T, count int) []Rejection {
 	})
 	r.mutex.Lock()
 	defer r.mutex.Unlock()
-	return append([]Rejection(nil), r.rejections...)
+	return append([]RejectedRequest(nil), r.rejections...)
 }
 
 // waitForStatuses returns the statuses of the rejections, which have to be of the address 127.0.0.1, once there are so

@@ -128,13 +128,13 @@ func (d *drawing) run(ctx context.Context, patterns []string) error {
 	}
 	fmt.Fprintf(d.out, "%d mutants are drawn with the seed %d, and built at once\n", len(mutants), d.seed)
 	packages = with(packages, mutants) // the tests of another package decide nothing
-	place := filepath.Join(d.folder, digest(packages, mutants))
-	built := filepath.Join(place, "built")
+	folder := filepath.Join(d.folder, digest(packages, mutants))
+	built := filepath.Join(folder, "built")
 	binaries, err := build(ctx, built, tags, d.many, packages, mutants)
 	if err != nil {
 		return err
 	}
-	kept, err := openLedger(filepath.Join(place, "results.jsonl"))
+	kept, err := openLedger(filepath.Join(folder, "results.jsonl"))
 	if err != nil {
 		return err
 	}

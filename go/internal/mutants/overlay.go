@@ -124,16 +124,16 @@ func (r *mutatedFile) original(p *pkg, file *source, f *ast.FuncDecl, these []mu
 	for _, mutant := range these {
 		at[statement(p, f.Body, mutant.Start)] += "mutantAt(" + strconv.Itoa(mutant.ID) + "); "
 	}
-	places := make([]int, 0, len(at))
-	for place := range at {
-		places = append(places, place)
+	offsets := make([]int, 0, len(at))
+	for offset := range at {
+		offsets = append(offsets, offset)
 	}
-	sort.Ints(places)
+	sort.Ints(offsets)
 	done := p.offset(f.Body.Lbrace) + 1
-	for _, place := range places {
-		r.text = append(r.text, file.text[done:place]...)
-		r.add(at[place])
-		done = place
+	for _, offset := range offsets {
+		r.text = append(r.text, file.text[done:offset]...)
+		r.add(at[offset])
+		done = offset
 	}
 	r.text = append(r.text, file.text[done:p.offset(f.Body.Rbrace)]...)
 }

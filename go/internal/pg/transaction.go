@@ -22,8 +22,8 @@ func Discard(conn *sql.Conn) {
 	_ = conn.Close() // sql.ErrConnDone: it is closed already
 }
 
-// Transaction calls work in a transaction (READ COMMITTED) on a connection, and commits it if work returns true. If
-// work returns false or an error, or panics, or if the context is cancelled before the COMMIT, the transaction is
+// Transaction calls do in a transaction (READ COMMITTED) on a connection, and commits it if do returns true. If
+// do returns false or an error, or panics, or if the context is cancelled before the COMMIT, the transaction is
 // rolled back. Transaction returns nil only if the server has confirmed the COMMIT, or the transaction was to be rolled
 // back.
 //
@@ -31,10 +31,10 @@ func Discard(conn *sql.Conn) {
 // COMMIT stops waiting for its standby, and reports a commit that the standby doesn't have, with no more than a
 // warning. So a warning to a COMMIT is ErrUnknownCommit too.
 //
-// Errors: ErrNotBegun, ErrUnknownCommit, the context's, those of work, a panic of work as an error, and the server's.
+// Errors: ErrNotBegun, ErrUnknownCommit, the context's, those of do, a panic of do as an error, and the server's.
 // With any but ErrUnknownCommit nothing was changed. After an error with which the connection can't be used any more it
 // is closed.
-func Transaction(ctx context.Context, conn *sql.Conn, work func(*sql.Tx) (isToCommit bool, err error)) error {
+func Transaction(ctx context.Context, conn *sql.Conn, do func(*sql.Tx) (isToCommit bool, err error)) error {
 	warned, err := watch(conn)
 	if err != nil {
 		Discard(conn)
@@ -51,7 +51,7 @@ func Transaction(ctx context.Context, conn *sql.Conn, work func(*sql.Tx) (isToCo
 			Discard(conn)
 		}
 	}()
-	isToCommit, err := safely(func() (bool, error) { return work(tx) })
+	isToCommit, err := safely(func() (bool, error) { return do(tx) })
 	if err == nil || IsLost(err) || IsCode(err, QueryCanceled) {
 		err = either(ctx.Err(), err)
 	}

@@ -40,11 +40,11 @@ func insert(ctx context.Context) func(*sql.Tx) (bool, error) {
 	}
 }
 
-func transaction(t *testing.T, ctx context.Context, url string, work func(*sql.Tx) (bool, error)) error {
+func transaction(t *testing.T, ctx context.Context, url string, do func(*sql.Tx) (bool, error)) error {
 	t.Helper()
 	conn := diff.Value(pgtest.DB(t, url).Conn(context.Background()))(t)
 	defer conn.Close()
-	return pg.Transaction(ctx, conn, work)
+	return pg.Transaction(ctx, conn, do)
 }
 
 func count(t *testing.T, url string) int { return countIn(t, pgtest.DB(t, url)) }

@@ -588,12 +588,12 @@ type lockedKey struct {
 // lock takes the lock of a key until the end of the test.
 func lock(t *testing.T, d *postgres.Databases, key broker.Key) lockedKey {
 	t.Helper()
-	held, err := d.Locks().TryLock(context.Background(), key)
-	if err != nil || held == nil {
-		t.Fatalf("the lock of %v: got %v, %v, want one", key, held, err)
+	taken, err := d.Locks().TryLock(context.Background(), key)
+	if err != nil || taken == nil {
+		t.Fatalf("the lock of %v: got %v, %v, want one", key, taken, err)
 	}
-	t.Cleanup(held.Unlock)
-	return lockedKey{held.Context(context.Background()), request(key)}
+	t.Cleanup(taken.Unlock)
+	return lockedKey{taken.Context(context.Background()), request(key)}
 }
 
 // request is one of this version: it has a body.

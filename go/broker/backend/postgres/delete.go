@@ -447,8 +447,8 @@ FROM (SELECT polname, polrelid::regclass AS relation,
 
 // The statements that an heir lacks rights for, to own what a role owns in the database of the session.
 const selectRights = `
-SELECT string_agg(format('GRANT CREATE ON %s TO %I', place, $2::text), ';')
-FROM (SELECT 'DATABASE ' || quote_ident(current_database()) AS place
+SELECT string_agg(format('GRANT CREATE ON %s TO %I', object, $2::text), ';')
+FROM (SELECT 'DATABASE ' || quote_ident(current_database()) AS object
     WHERE NOT has_database_privilege($2, current_database(), 'CREATE')
     UNION SELECT 'SCHEMA ' || schema FROM pg_shdepend, pg_identify_object(classid, objid, 0)
     WHERE refclassid = 'pg_authid'::regclass AND refobjid = $1::text::regrole AND deptype = 'o'

@@ -131,14 +131,14 @@ func TestWhatAnotherCustomerHolds(t *testing.T) {
 			for n := range statements {
 				statements[n] = strings.ReplaceAll(statements[n], "$other", postgres.NameOf(other.request.Key))
 			}
-			held := hold(t, r.customer(other.request.Key), statements...)
+			session := hold(t, r.customer(other.request.Key), statements...)
 			wantQuick(t, "Delete", func() error { return d.Delete(of.ctx, of.request) })
 			r.wantNothing(of.request.Key)
 			wantThere(t, d, other, broker.Whole)
 			if strings.Contains(strings.Join(statements, ";"), ";BEGIN") {
 				return
 			}
-			if err := held.PingContext(of.ctx); err != nil {
+			if err := session.PingContext(of.ctx); err != nil {
 				t.Errorf("the session of the other customer: got %v, want that it goes on", err)
 			}
 		})
@@ -542,25 +542,25 @@ func (u unlabelledDatabase) run(t *testing.T) {
 		r.of02(store)
 	}
 	d := r.open()
-	held := lock(t, d, newInstance(t))
+	locked := lock(t, d, newInstance(t))
 	if u.isOfRow02 {
-		held.request.Body = nil
+		locked.request.Body = nil
 	}
-	r.create02(held.request.Key, "x")
-	t.Cleanup(func() { r.dropByForce(postgres.NameOf(held.request.Key)) })
-	for _, statement := range statementsOf(u.change, held.request.Key) {
+	r.create02(locked.request.Key, "x")
+	t.Cleanup(func() { r.dropByForce(postgres.NameOf(locked.request.Key)) })
+	for _, statement := range statementsOf(u.change, locked.request.Key) {
 		pgtest.Exec(t, r.admin, strings.ReplaceAll(statement, "$role", r.role))
 	}
 	if u.isOurs {
-		wantOurs(t, r, d, held)
+		wantOurs(t, r, d, locked)
 		return
 	}
 	if u.isOfRow02 { // the row of a binding doesn't say which version created its instance
-		wantForeign(t, d, held)
-	} else if _, err := d.Look(held.ctx, held.request); !errors.Is(err, postgres.ErrForeign) {
+		wantForeign(t, d, locked)
+	} else if _, err := d.Look(locked.ctx, locked.request); !errors.Is(err, postgres.ErrForeign) {
 		t.Errorf("Look: got %v, want %v", err, postgres.ErrForeign)
 	}
-	if !r.exists("pg_database WHERE datname = $1", postgres.NameOf(held.request.Key)) {
+	if !r.exists("pg_database WHERE datname = $1", postgres.NameOf(locked.request.Key)) {
 		t.Error("got no database, want it left")
 	}
 }
@@ -579,12 +579,12 @@ func TestNoCustomerChangesItsLabel(t *testing.T) {
 }
 
 // wantOurs sees that an instance of version 0.2 is bound and deleted as any other.
-func wantOurs(t *testing.T, r *rig, d *postgres.Databases, held lockedKey) {
+func wantOurs(t *testing.T, r *rig, d *postgres.Databases, locked lockedKey) {
 	t.Helper()
-	wantThere(t, d, held, broker.Whole)
-	bound(t, d, held.request.Key)
-	diff.NoError(t, d.Delete(held.ctx, held.request), "Delete")
-	r.wantNothing(held.request.Key)
+	wantThere(t, d, locked, broker.Whole)
+	bound(t, d, locked.request.Key)
+	diff.NoError(t, d.Delete(locked.ctx, locked.request), "Delete")
+	r.wantNothing(locked.request.Key)
 }
 
 // dropByForce drops what a test has taken away from the broker.
@@ -613,12 +613,12 @@ func TestStatementsThatFail(t *testing.T) {
 	i, b := request(instance), request(broker.BindingKey(instance.Instance, randomID(t)))
 	under := func(of broker.Request, call func(context.Context) error) func() error {
 		return func() error {
-			held, err := d.Locks().Lock(context.Background(), of.Key) // a session that has ended may have it for a moment
+			taken, err := d.Locks().Lock(context.Background(), of.Key) // a session that has ended may have it for a moment
 			if err != nil {
 				return err
 			}
-			defer held.Unlock()
-			return call(held.Context(context.Background()))
+			defer taken.Unlock()
+			return call(taken.Context(context.Background()))
 		}
 	}
 	create := under(i, func(ctx context.Context) error { return d.Create(ctx, i) })

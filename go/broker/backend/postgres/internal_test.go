@@ -143,7 +143,7 @@ func TestVerifier(t *testing.T) {
 
 // What is in the way is tried again, but not for ever, and other errors are returned at once.
 func TestPersist(t *testing.T) {
-	held, other := &pq.Error{Code: "55P03"}, &pq.Error{Code: "42501"}
+	inUse, other := &pq.Error{Code: "55P03"}, &pq.Error{Code: "42501"}
 	for _, test := range []struct {
 		name  string
 		given []error
@@ -151,9 +151,9 @@ func TestPersist(t *testing.T) {
 		calls int
 	}{
 		{"nobody", []error{nil}, nil, 1},
-		{"somebody, for a while", []error{held, held, nil}, nil, 3},
-		{"another error", []error{held, other}, other, 2},
-		{"somebody, for ever", []error{held, held, held, held, held, held}, held, 5},
+		{"somebody, for a while", []error{inUse, inUse, nil}, nil, 3},
+		{"another error", []error{inUse, other}, other, 2},
+		{"somebody, for ever", []error{inUse, inUse, inUse, inUse, inUse, inUse}, inUse, 5},
 	} {
 		t.Run(test.name, func(t *testing.T) {
 			calls := 0

@@ -110,9 +110,9 @@ var errNoLock = errors.New("the call has no context of the key's lock")
 
 // sessionOf is the session that holds the lock of a key.
 func sessionOf(ctx context.Context, key broker.Key) (*sql.Conn, error) {
-	held, ok := ctx.Value(lockKey{}).(*lock)
-	if !ok || held.key != key {
+	taken, ok := ctx.Value(lockKey{}).(*lock)
+	if !ok || taken.key != key {
 		return nil, errNoLock
 	}
-	return held.conn, nil
+	return taken.conn, nil
 }

@@ -16,11 +16,11 @@ import (
 
 func take(t *testing.T, d *postgres.Databases, key broker.Key) broker.Lock {
 	t.Helper()
-	held, err := d.Locks().TryLock(context.Background(), key)
+	taken, err := d.Locks().TryLock(context.Background(), key)
 	if err != nil {
 		t.Fatalf("TryLock of %v: got %v, want no error", key, err)
 	}
-	return held
+	return taken
 }
 
 func TestLocks(t *testing.T) {
@@ -31,8 +31,8 @@ func TestLocks(t *testing.T) {
 	}
 	id := randomID(t)
 	for _, key := range []broker.Key{broker.InstanceKey(id), broker.BindingKey(id, id)} {
-		held := take(t, first, key)
-		if held == nil {
+		taken := take(t, first, key)
+		if taken == nil {
 			t.Fatalf("%v: got no lock, want it free", key)
 		}
 		for _, d := range []*postgres.Databases{first, second} {
@@ -40,7 +40,7 @@ func TestLocks(t *testing.T) {
 				t.Errorf("%v: got the lock twice, want it once", key)
 			}
 		}
-		held.Unlock()
+		taken.Unlock()
 		again := take(t, second, key)
 		if again == nil {
 			t.Fatalf("%v: got no lock, want it free again", key)
@@ -62,7 +62,7 @@ func TestLockWaits(t *testing.T) {
 	r := newRig(t)
 	d := r.open()
 	key := newInstance(t)
-	held := take(t, d, key)
+	taken := take(t, d, key)
 	ctx, cancel := context.WithCancel(context.Background())
 	given := make(chan error, 1)
 	go func() {
@@ -86,7 +86,7 @@ func TestLockWaits(t *testing.T) {
 		t.Errorf("Lock: got %v, want it to wait", err)
 	case <-time.After(2500 * time.Millisecond):
 	}
-	held.Unlock()
+	taken.Unlock()
 	diff.NoError(t, <-given, "Lock")
 }
 
@@ -111,13 +111,13 @@ func TestLockExcludes(t *testing.T) {
 		all.Add(1)
 		go func() {
 			defer all.Done()
-			held, err := d.Locks().Lock(context.Background(), key)
+			taken, err := d.Locks().Lock(context.Background(), key)
 			if err != nil {
 				t.Error(err)
 				return
 			}
 			at++ // the race detector sees two at once
-			held.Unlock()
+			taken.Unlock()
 		}()
 	}
 	all.Wait()
@@ -171,15 +171,15 @@ func TestALockThatOutlivesItsClient(t *testing.T) {
 	check(t, err)
 	defer d.Close()
 	key := newInstance(t)
-	held := take(t, d, key)
+	taken := take(t, d, key)
 	// CREATE DATABASE waits for the lock of template0, which this transaction has.
 	template := hold(t, r.admin, "BEGIN", "COMMENT ON DATABASE template0 IS 'unmodifiable empty database'")
 	proxy.Cut("CREATE DATABASE")
-	err = d.Create(held.Context(context.Background()), request(key))
+	err = d.Create(taken.Context(context.Background()), request(key))
 	if err == nil {
 		t.Fatal("Create: got no error, want one")
 	}
-	held.Unlock()
+	taken.Unlock()
 	second := r.open()
 	if other := take(t, second, key); other != nil {
 		t.Error("got the lock while the server still creates the database, want it taken")
@@ -258,8 +258,8 @@ func TestLocksOfAServerThatIsAway(t *testing.T) {
 		}
 	}
 	proxy.Cut("")
-	held := take(t, d, key)
-	defer held.Unlock()
+	taken := take(t, d, key)
+	defer taken.Unlock()
 	if other := take(t, d, key); other != nil {
 		t.Error("got a lock twice, want it once")
 	}
@@ -275,7 +275,7 @@ func TestLocksOfAServerThatIsSilent(t *testing.T) {
 	check(t, err)
 	defer d.Close()
 	key := newInstance(t)
-	held, idle := take(t, d, key), take(t, d, newInstance(t))
+	taken, idle := take(t, d, key), take(t, d, newInstance(t))
 	idle.Unlock()
 	proxy.Hang(true)
 	done := make(chan error, 5)
@@ -287,7 +287,7 @@ func TestLocksOfAServerThatIsSilent(t *testing.T) {
 		}()
 	}
 	go func() {
-		held.Unlock()
+		taken.Unlock()
 		done <- broker.ErrAway
 	}()
 	late := time.After(time.Minute)

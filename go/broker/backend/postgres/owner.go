@@ -52,13 +52,13 @@ func migrate(ctx context.Context, db *sql.DB) error {
 	})
 }
 
-func inTransaction(ctx context.Context, db *sql.DB, work func(*sql.Tx) (bool, error)) error {
+func inTransaction(ctx context.Context, db *sql.DB, do func(*sql.Tx) (bool, error)) error {
 	conn, err := db.Conn(ctx)
 	if err != nil {
 		return err
 	}
 	defer conn.Close()
-	return pg.Transaction(ctx, conn, work)
+	return pg.Transaction(ctx, conn, do)
 }
 
 // An owner is the store that has the databases. The zero owner is none.
