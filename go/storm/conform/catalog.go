@@ -272,7 +272,7 @@ func (r *Runner) choose() error {
 	return nil
 }
 
-// find returns the place of the plan that the Config names, or -1.
+// find returns the index of the plan that the Config names, or -1.
 func (r *Runner) find(all []Target) int {
 	if r.config.Plan == "" {
 		for at, target := range all {

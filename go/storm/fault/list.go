@@ -145,7 +145,7 @@ func isKind(kind Kind) bool {
 	return false
 }
 
-// choose returns the kind at a place between 0 and 1.
+// choose returns the kind at a position between 0 and 1.
 func (w Weights) choose(at float64) Kind {
 	all := 0
 	for _, weight := range w {
@@ -160,37 +160,37 @@ func (w Weights) choose(at float64) Kind {
 	return None
 }
 
-// A Place is an instance, or a binding of it. Instances are counted from 1 in the order of the run, and so are the
+// A Subject is an instance, or a binding of it. Instances are counted from 1 in the order of the run, and so are the
 // bindings of each instance. Binding is 0 for the instance itself.
-type Place struct{ Instance, Binding int }
+type Subject struct{ Instance, Binding int }
 
-// String returns the place as people write it: 12 for an instance, and 12/2 for a binding of it.
-func (p Place) String() string {
-	if p.Binding == 0 {
-		return strconv.Itoa(p.Instance)
+// String returns the subject as people write it: 12 for an instance, and 12/2 for a binding of it.
+func (s Subject) String() string {
+	if s.Binding == 0 {
+		return strconv.Itoa(s.Instance)
 	}
-	return fmt.Sprintf("%d/%d", p.Instance, p.Binding)
+	return fmt.Sprintf("%d/%d", s.Instance, s.Binding)
 }
 
-// Less returns whether a place comes first in a list.
-func (p Place) Less(other Place) bool {
-	return p.Instance < other.Instance || p.Instance == other.Instance && p.Binding < other.Binding
+// Less returns whether a subject comes first in a list.
+func (s Subject) Less(other Subject) bool {
+	return s.Instance < other.Instance || s.Instance == other.Instance && s.Binding < other.Binding
 }
 
-// A Number names a request: the first, second, .. request about a Place. It is the same in each run with the same seed,
-// in whatever order the requests about different places arrive.
+// A Number names a request: the first, second, .. request about a Subject. It is the same in each run with the same
+// seed, in whatever order the requests about different subjects arrive.
 type Number struct {
-	Place
+	Subject
 	Request int // from 1
 }
 
 // String returns the number as people write it: 12.3 is the third request about the instance 12.
-func (n Number) String() string { return fmt.Sprintf("%s.%d", n.Place, n.Request) }
+func (n Number) String() string { return fmt.Sprintf("%s.%d", n.Subject, n.Request) }
 
 // ParseNumber reads what String has written.
 func ParseNumber(text string) (Number, error) {
-	place, request, hasRequest := strings.Cut(text, ".")
-	instance, binding, hasBinding := strings.Cut(place, "/")
+	subject, request, hasRequest := strings.Cut(text, ".")
+	instance, binding, hasBinding := strings.Cut(subject, "/")
 	if !hasBinding {
 		binding = "0"
 	}
@@ -210,7 +210,7 @@ func ParseNumber(text string) (Number, error) {
 }
 
 func (n Number) less(other Number) bool {
-	return n.Place.Less(other.Place) || n.Place == other.Place && n.Request < other.Request
+	return n.Subject.Less(other.Subject) || n.Subject == other.Subject && n.Request < other.Request
 }
 
 // A Fault is what befalls one request.
@@ -230,31 +230,31 @@ type Source struct {
 	list    map[Number]Kind // of a replay, or nil
 
 	mutex sync.Mutex
-	seen  map[Place]int
+	seen  map[Subject]int
 	given []Entry
 	ended bool
 }
 
 // BySeed returns a Source that chooses by chance. share is how many of all requests have a fault, from 0 to 1.
 func BySeed(seed int64, share float64, weights Weights) *Source {
-	return &Source{seed: seed, share: share, weights: weights, seen: map[Place]int{}}
+	return &Source{seed: seed, share: share, weights: weights, seen: map[Subject]int{}}
 }
 
 // ByList returns a Source that has the faults of a list. The seed decides what else is to be chosen about them.
 func ByList(seed int64, list []Entry) *Source {
-	s := &Source{seed: seed, list: map[Number]Kind{}, seen: map[Place]int{}}
+	s := &Source{seed: seed, list: map[Number]Kind{}, seen: map[Subject]int{}}
 	for _, entry := range list {
 		s.list[entry.Number] = entry.Kind
 	}
 	return s
 }
 
-// Next returns what befalls the next request about a place.
-func (s *Source) Next(place Place) Fault {
+// Next returns what befalls the next request about a subject.
+func (s *Source) Next(subject Subject) Fault {
 	s.mutex.Lock()
 	defer s.mutex.Unlock()
-	s.seen[place]++
-	fault := Fault{Number: Number{place, s.seen[place]}, Kind: None}
+	s.seen[subject]++
+	fault := Fault{Number: Number{subject, s.seen[subject]}, Kind: None}
 	chance := Chance(s.seed, "fault", fault.Number.String())
 	isFault, at := chance.Float64() < s.share, chance.Float64()
 	fault.Share, fault.Pick = chance.Float64(), chance.Intn(1<<16)

@@ -12,7 +12,7 @@ import (
 )
 
 func TestList(t *testing.T) {
-	list := []Entry{{Number{Place{12, 0}, 3}, AnswerLost}, {Number{Place{12, 2}, 1}, HangUp}}
+	list := []Entry{{Number{Subject{12, 0}, 3}, AnswerLost}, {Number{Subject{12, 2}, 1}, HangUp}}
 	var text bytes.Buffer
 	if err := WriteList(&text, list); err != nil || text.String() != "12.3 answer-lost\n12/2.1 hang-up\n" {
 		t.Fatalf("got the error %v and the list %q, want two lines", err, text.String())
@@ -37,11 +37,11 @@ func TestBySeed(t *testing.T) {
 	one, other := BySeed(7, 0.5, StandardWeights(true)), BySeed(7, 0.5, StandardWeights(true))
 	next := BySeed(8, 0.5, StandardWeights(true))
 	for n := 1; n <= 200; n++ {
-		one.Next(Place{1 + n%5, n % 2})
-		next.Next(Place{1 + n%5, n % 2})
+		one.Next(Subject{1 + n%5, n % 2})
+		next.Next(Subject{1 + n%5, n % 2})
 	}
 	for n := 200; n >= 1; n-- {
-		other.Next(Place{1 + n%5, n % 2})
+		other.Next(Subject{1 + n%5, n % 2})
 	}
 	diff.Check(t, other.Faults(), one.Faults(), "the faults by one seed, in another order")
 	if reflect.DeepEqual(one.Faults(), next.Faults()) {
@@ -57,7 +57,7 @@ func TestAllKinds(t *testing.T) {
 	for _, restarts := range []bool{false, true} {
 		met, source := map[Kind]bool{}, BySeed(1, 1, StandardWeights(restarts))
 		for n := 0; n < 2000; n++ {
-			met[source.Next(Place{Instance: 1}).Kind] = true
+			met[source.Next(Subject{Instance: 1}).Kind] = true
 		}
 		for _, kind := range Kinds() {
 			if met[kind] != (restarts || !kind.IsRestart()) {
@@ -71,18 +71,18 @@ func TestAllKinds(t *testing.T) {
 func TestByList(t *testing.T) {
 	first := BySeed(7, 0.5, StandardWeights(false))
 	for n := 0; n < 20; n++ {
-		first.Next(Place{Instance: 3})
+		first.Next(Subject{Instance: 3})
 	}
 	again := ByList(7, first.Faults())
 	for n := 0; n < 20; n++ {
-		again.Next(Place{Instance: 3})
-		again.Next(Place{Instance: 4})
+		again.Next(Subject{Instance: 3})
+		again.Next(Subject{Instance: 4})
 	}
 	diff.Check(t, again.Faults(), first.Faults(), "the faults again")
-	ended := ByList(7, []Entry{{Number{Place{1, 0}, 2}, HangUp}})
-	ended.Next(Place{Instance: 1})
+	ended := ByList(7, []Entry{{Number{Subject{1, 0}, 2}, HangUp}})
+	ended.Next(Subject{Instance: 1})
 	ended.End()
-	if fault := ended.Next(Place{Instance: 1}); fault.Kind != None || len(ended.Faults()) != 0 {
+	if fault := ended.Next(Subject{Instance: 1}); fault.Kind != None || len(ended.Faults()) != 0 {
 		t.Errorf("after the end: got the fault %+v, want none", fault)
 	}
 }
@@ -92,10 +92,10 @@ func TestUnmet(t *testing.T) {
 	list, err := ReadList(strings.NewReader("9.1 hang-up\n2.1 hang-up\n2/1.1 hang-up\n1.2 answer-lost\n1.1 answer-lost"))
 	check(t, err)
 	s := ByList(1, list)
-	s.Next(Place{Instance: 1})
-	s.Next(Place{Instance: 2, Binding: 1})
+	s.Next(Subject{Instance: 1})
+	s.Next(Subject{Instance: 2, Binding: 1})
 	s.End()
-	s.Next(Place{Instance: 1})
+	s.Next(Subject{Instance: 1})
 	diff.Equal(t, fmt.Sprint(s.Unmet()), "[1.2 answer-lost 2.1 hang-up 9.1 hang-up]", "")
 	if unmet := BySeed(1, 0.5, StandardWeights(false)).Unmet(); len(unmet) > 0 {
 		t.Errorf("got unmet faults %v, want none", unmet)

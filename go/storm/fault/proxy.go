@@ -32,14 +32,14 @@ type Config struct {
 	Others  []*url.URL
 	Source  *Source
 	Journal *Journal
-	// Place returns the Place of an instance, or of a binding of it. The request of an instance that isn't one of the
+	// Subject returns the Subject of an instance, or of a binding of it. The request of an instance that isn't one of the
 	// run's is answered with 502, and doesn't reach the broker.
-	Place func(instance, binding string) (Place, bool)
+	Subject func(instance, binding string) (Subject, bool)
 	// Catalogue answers the requests for the catalogue in the broker's place, without faults.
 	Catalogue []byte
 	// CatalogueHeader is the header of that answer, or nil for one that has only the Content-Type.
 	CatalogueHeader http.Header
-	// ForwardsOthers has the requests for the catalogue, and those without a Place, reach the broker without faults.
+	// ForwardsOthers has the requests for the catalogue, and those without a Subject, reach the broker without faults.
 	ForwardsOthers bool
 	// RequestTime is how long the platform waits for an answer.
 	RequestTime time.Duration
@@ -64,7 +64,7 @@ type Proxy struct {
 	mutex       sync.Mutex
 	connections map[net.Conn]bool
 	pending     int // requests that may still reach the broker
-	others      int // requests without a place
+	others      int // requests without a subject
 	restarts    int
 	restarting  sync.Mutex
 	group       sync.WaitGroup
@@ -162,12 +162,12 @@ func (p *Proxy) serve(connection net.Conn) {
 		return
 	}
 	instance, binding := idsOf(request.URL)
-	place, isOurs := p.Place(instance, binding)
+	subject, isOurs := p.Subject(instance, binding)
 	if !isOurs && !p.ForwardsOthers {
 		_, _ = connection.Write(page(http.StatusBadGateway))
 		return
 	}
-	fault := p.fault(place, isOurs)
+	fault := p.fault(subject, isOurs)
 	header := request.Header.Clone()
 	header.Del("Authorization")
 	carried := &carriage{
@@ -180,10 +180,10 @@ func (p *Proxy) serve(connection net.Conn) {
 	p.Journal.end(carried.exchange, carried.carry())
 }
 
-// fault returns what befalls a request. One without a place has no fault, and reaches the brokers in turn.
-func (p *Proxy) fault(place Place, isOurs bool) Fault {
+// fault returns what befalls a request. One without a subject has no fault, and reaches the brokers in turn.
+func (p *Proxy) fault(subject Subject, isOurs bool) Fault {
 	if isOurs {
-		return p.Source.Next(place)
+		return p.Source.Next(subject)
 	}
 	p.mutex.Lock()
 	defer p.mutex.Unlock()
@@ -650,7 +650,7 @@ func (j *Journal) end(x *Exchange, got Got) {
 	x.Ended, x.Got = j.Now(), got
 }
 
-// deliver notes that a copy is being sent. It returns the place of the delivery.
+// deliver notes that a copy is being sent. It returns the index of the delivery.
 func (j *Journal) deliver(x *Exchange) int {
 	j.mutex.Lock()
 	defer j.mutex.Unlock()

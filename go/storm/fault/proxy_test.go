@@ -70,9 +70,9 @@ func between(t *testing.T, broker *counting, kind Kind, change func(*Config)) *P
 	t.Cleanup(server.Close)
 	at := diff.Value(url.Parse(server.URL))(t)
 	config := Config{
-		Broker: at, Journal: NewJournal(), Source: ByList(1, []Entry{{Number{Place{1, 0}, 1}, kind}}),
+		Broker: at, Journal: NewJournal(), Source: ByList(1, []Entry{{Number{Subject{1, 0}, 1}, kind}}),
 		RequestTime: requestTime, Late: late, AnswerTime: 5 * time.Second, Catalogue: []byte(`{"services": []}`),
-		Place: func(instance, _ string) (Place, bool) { return Place{1, 0}, instance == "ours" },
+		Subject: func(instance, _ string) (Subject, bool) { return Subject{1, 0}, instance == "ours" },
 	}
 	if change != nil {
 		change(&config)
@@ -207,10 +207,10 @@ func longBetween(t *testing.T, broker *counting, kind Kind) (p *Proxy, share flo
 	t.Helper()
 	seed := int64(0)
 	for ; share < 0.7; seed++ {
-		share = ByList(seed+1, nil).Next(Place{Instance: 1}).Share
+		share = ByList(seed+1, nil).Next(Subject{Instance: 1}).Share
 	}
 	return between(t, broker, kind, func(c *Config) {
-		c.Source = ByList(seed, []Entry{{Number{Place{1, 0}, 1}, kind}})
+		c.Source = ByList(seed, []Entry{{Number{Subject{1, 0}, 1}, kind}})
 	}), share
 }
 
@@ -333,7 +333,7 @@ func TestOthersUntouched(t *testing.T) {
 }
 
 // The path of the broker's URL is a prefix, and the query stays.
-// Several brokers each get some of the requests, with a place and without one. A copy may reach another broker.
+// Several brokers each get some of the requests, with a subject and without one. A copy may reach another broker.
 func TestSeveralBrokers(t *testing.T) {
 	one, other := &counting{}, &counting{}
 	p := between(t, one, None, func(c *Config) {
@@ -359,7 +359,7 @@ func TestSeveralBrokers(t *testing.T) {
 		put(p, "/v2/service_instances/theirs")
 	}
 	if c := counts(); c[0]-before[0] != 2 || c[1]-before[1] != 2 {
-		t.Errorf("got %v of 4 requests without a place, want 2 more of each", c)
+		t.Errorf("got %v of 4 requests without a subject, want 2 more of each", c)
 	}
 }
 

@@ -16,7 +16,7 @@ import (
 
 // A Finding is something that a storm has found of an instance or a binding.
 type Finding struct {
-	Number   string `json:"number"` // the place
+	Number   string `json:"number"` // that of fault.Subject
 	Instance string `json:"instance"`
 	Binding  string `json:"binding,omitempty"`
 	What     string `json:"what"`
@@ -77,7 +77,7 @@ func (d Differences) Without(kind Kind) (rest Differences) {
 
 // A Run is what happened in a run, from which Findings are written.
 type Run struct {
-	Place     func(instance, binding string) (fault.Place, bool)
+	Subject   func(instance, binding string) (fault.Subject, bool)
 	Exchanges []fault.Exchange
 	Events    []Event
 	Hide      Hider
@@ -93,8 +93,8 @@ func (r Run) Findings(found []Difference, kinds ...Kind) []Finding {
 			all[known].What += "; " + difference.What
 		case !is:
 			number := "?"
-			if place, is := r.Place(difference.Key.Instance, difference.Key.Binding); is {
-				number = place.String()
+			if subject, is := r.Subject(difference.Key.Instance, difference.Key.Binding); is {
+				number = subject.String()
 			}
 			at[difference.Key] = len(all)
 			life := LifeOf(difference.Key, r.Exchanges, r.Events, r.Hide)

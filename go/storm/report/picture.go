@@ -189,19 +189,19 @@ func (p *Page) Write(w io.Writer) error {
 const mostLanes = 12
 
 // Course returns the lives of the instances and bindings whose requests have had the most faults, in the order of their
-// places. They are drawn if nothing was found.
+// numbers. They are drawn if nothing was found.
 func (r Run) Course() []Finding {
 	all := r.countFaults()
 	sort.SliceStable(all, func(one, other int) bool { return all[one].faults > all[other].faults })
 	if len(all) > mostLanes {
 		all = all[:mostLanes]
 	}
-	sort.SliceStable(all, func(one, other int) bool { return all[one].place.Less(all[other].place) })
+	sort.SliceStable(all, func(one, other int) bool { return all[one].subject.Less(all[other].subject) })
 	course := make([]Finding, 0, len(all))
 	for _, faulty := range all {
 		life := LifeOf(faulty.key, r.Exchanges, r.Events, r.Hide)
 		course = append(course, Finding{
-			Number: faulty.place.String(), Instance: faulty.key.Instance, Binding: faulty.key.Binding, Life: life,
+			Number: faulty.subject.String(), Instance: faulty.key.Instance, Binding: faulty.key.Binding, Life: life,
 		})
 	}
 	return course
@@ -209,22 +209,22 @@ func (r Run) Course() []Finding {
 
 // A faulty is how many faults an instance or a binding has had.
 type faulty struct {
-	key    Key
-	place  fault.Place
-	faults int
+	key     Key
+	subject fault.Subject
+	faults  int
 }
 
-// countFaults counts the faults of each instance and binding that has a place, in the order of their first requests.
+// countFaults counts the faults of each instance and binding of the run, in the order of their first requests.
 func (r Run) countFaults() (all []*faulty) {
 	of := map[Key]*faulty{}
 	for _, x := range r.Exchanges {
 		key := Key{x.Instance, x.Binding}
 		if of[key] == nil {
-			place, is := r.Place(x.Instance, x.Binding)
+			subject, is := r.Subject(x.Instance, x.Binding)
 			if !is {
 				continue
 			}
-			of[key] = &faulty{key: key, place: place}
+			of[key] = &faulty{key: key, subject: subject}
 			all = append(all, of[key])
 		}
 		if x.Fault != fault.None {

@@ -17,8 +17,8 @@ import (
 // Each instance and each binding is one finding, with all that was found of it, in its order.
 func TestFindings(t *testing.T) {
 	one, two := Key{Instance: "one"}, Key{Instance: "one", Binding: "two"}
-	run := Run{Place: func(instance, binding string) (fault.Place, bool) {
-		return fault.Place{Instance: 7}, binding == ""
+	run := Run{Subject: func(instance, binding string) (fault.Subject, bool) {
+		return fault.Subject{Instance: 7}, binding == ""
 	}}
 	all := run.Findings([]Difference{{one, Lost, "a"}, {two, Lost, "b"}, {one, Lost, "c"}, {one, Lost, "a"}, {one, Stuck, "d"}}, Lost)
 	var got []string
@@ -132,10 +132,10 @@ func TestPicture(t *testing.T) {
 // runOf returns a run with a request about each of some instances, a second after the other. Some have a fault.
 func runOf(instances int, hasFault map[int]bool) Run {
 	run := Run{
-		Place: func(instance, _ string) (fault.Place, bool) {
-			place := fault.Place{}
-			_, err := fmt.Sscanf(instance, "id-%d", &place.Instance)
-			return place, err == nil
+		Subject: func(instance, _ string) (fault.Subject, bool) {
+			subject := fault.Subject{}
+			_, err := fmt.Sscanf(instance, "id-%d", &subject.Instance)
+			return subject, err == nil
 		},
 		Events: []Event{
 			{At: 1500 * time.Millisecond, Who: WhoBroker, What: "is killed"},

@@ -202,8 +202,8 @@ func (b *Both) openProxy(ctx context.Context) (err error) {
 		others = nil
 	}
 	b.proxy, err = fault.Listen(fault.Config{
-		Broker: first, Others: others, Source: b.source, Journal: b.journal, Place: b.keys.PlaceOrNew, ForwardsOthers: true,
-		RequestTime: b.config.RequestTime, Late: b.config.Late, AnswerTime: 30 * time.Second,
+		Broker: first, Others: others, Source: b.source, Journal: b.journal, Subject: b.keys.SubjectOrNew,
+		ForwardsOthers: true, RequestTime: b.config.RequestTime, Late: b.config.Late, AnswerTime: 30 * time.Second,
 	})
 	return err
 }
@@ -334,16 +334,16 @@ func (b *Both) platformLine() []string {
 
 // tries is how many ids the order of an instance, or of a binding of it, may use up: one, or three.
 func (b *Both) tries(key Key) int {
-	place, _ := b.keys.Place(key.Instance, "")
-	return 1 + 2*(place.Instance/len(plans)%2)
+	subject, _ := b.keys.Subject(key.Instance, "")
+	return 1 + 2*(subject.Instance/len(plans)%2)
 }
 
 // plans are those of the instances of a storm.
 var plans = []string{goods.AtOnce, goods.Later, goods.LaterWithBinds, goods.OnlyBindsLater}
 
 func (b *Both) plan(key Key) string {
-	place, _ := b.keys.Place(key.Instance, "")
-	return plans[place.Instance%len(plans)]
+	subject, _ := b.keys.Subject(key.Instance, "")
+	return plans[subject.Instance%len(plans)]
 }
 
 // prepare says how both programs are started.

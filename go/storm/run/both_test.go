@@ -125,14 +125,14 @@ func TestUntried(t *testing.T) {
 	}
 }
 
-// A request about an instance that isn't one of the lives' gets a place, and keeps it.
-func TestPlaceOrNew(t *testing.T) {
+// A request about an instance that isn't one of the lives' gets a number, and keeps it.
+func TestSubjectOrNew(t *testing.T) {
 	k := newKeys(func(n int) string { return fmt.Sprint("own-", n) })
 	own := k.instance(3)
 	var found []string
 	for _, ids := range [][2]string{{own.Instance}, {"x"}, {"y", "b"}, {"x", "b"}, {"y", "b"}, {own.Instance, "c"}, {}} {
-		place, is := k.PlaceOrNew(ids[0], ids[1])
-		found = append(found, fmt.Sprintf("%s %v", place, is))
+		subject, is := k.SubjectOrNew(ids[0], ids[1])
+		found = append(found, fmt.Sprintf("%s %v", subject, is))
 	}
 	wanted := "3 true 1000001 true 1000002/1 true 1000001/1 true 1000002/1 true 3/1 true 0 false"
 	diff.Equal(t, strings.Join(found, " "), wanted, "")

@@ -385,10 +385,10 @@ func (b *Both) meddleWith(ctx context.Context, chance *rand.Rand, key Key, recor
 		operator := &operator{events: b.events}
 		operator.do(ctx, key, what, call)
 	}
-	place, _ := b.keys.PlaceOrNew(key.Instance, key.Binding)
+	subject, _ := b.keys.SubjectOrNew(key.Instance, key.Binding)
 	removed, retried, abandoned := chance.Float64(), chance.Float64(), chance.Float64()
 	switch {
-	case removed < isRemoved[record.State] && (place.Instance+place.Binding)%8 != 0:
+	case removed < isRemoved[record.State] && (subject.Instance+subject.Binding)%8 != 0:
 		withBindings := chance.Float64() < 0.7
 		do("removes it", func() error { return b.commands.Remove(ctx, key, withBindings && key.Binding == "") })
 	case retried < isRetried[record.State]:

@@ -36,7 +36,7 @@ func exchange(method string, status int, body string, begun, ended time.Duration
 	d := fault.Delivery{Begun: begun, Ended: ended, Status: status, Body: []byte(body)}
 	d.Header = http.Header{"Content-Type": {"application/json"}}
 	return fault.Exchange{
-		Number: fault.Number{Place: fault.Place{Instance: 1}, Request: 1}, Instance: "one", Method: method,
+		Number: fault.Number{Subject: fault.Subject{Instance: 1}, Request: 1}, Instance: "one", Method: method,
 		Target: target, Begun: begun, Ended: ended, Deliveries: []fault.Delivery{d},
 	}
 }

@@ -158,8 +158,8 @@ const mostCandidates = 5
 func candidates(found *Result) (all []Candidate) {
 	lost, restarted := map[int]bool{}, map[int]bool{}
 	for _, difference := range found.Differences {
-		place, is := found.Keys.Place(difference.Key.Instance, "")
-		number := place.Instance
+		subject, is := found.Keys.Subject(difference.Key.Instance, "")
+		number := subject.Instance
 		if is && difference.Kind.IsOneOf(losses...) && number < firstOther && !lost[number] {
 			lost[number] = true
 			all = append(all, part(found.Given, map[int]bool{number: true}))

@@ -49,8 +49,8 @@ func TestCandidates(t *testing.T) {
 	diff.Equal(t, len(got), mostCandidates+1, "candidates of seven")
 
 	other := Difference{Key: Key{Instance: "another"}}
-	if place, _ := k.PlaceOrNew(other.Key.Instance, ""); place.Instance != firstOther {
-		t.Fatalf("another instance: got the number %s, want the first of the others", place)
+	if subject, _ := k.SubjectOrNew(other.Key.Instance, ""); subject.Instance != firstOther {
+		t.Fatalf("another instance: got the number %s, want the first of the others", subject)
 	}
 	stuck, isFalse := of(3), of(2)
 	stuck.Kind, isFalse.Kind = Stuck, False

@@ -425,16 +425,16 @@ func keyOf(key platform.Key) Key {
 	return Key{Instance: key.Instance.String()}
 }
 
-// Keys are the ids of a run with their places. Any number of goroutines use them.
+// Keys are the ids of a run with their numbers. Any number of goroutines use them.
 type Keys struct {
 	newID func(number int) string
 	first int           // the number of the first instance that isn't one of the lives'
 	Began chan struct{} // is closed once there is a key
 	mutex sync.Mutex
-	ofKey map[Key]fault.Place
+	ofKey map[Key]fault.Subject
 	next  map[string]int // the number of the last binding of an instance
 	order []Key          // in which they were named
-	// others is how many instances have got a place although they aren't the lives'.
+	// others is how many instances have got a number although they aren't the lives'.
 	others int
 }
 
@@ -443,7 +443,7 @@ const firstOther = 1000001
 
 // NewKeys returns Keys of a run in which somebody else names all instances.
 func NewKeys() *Keys {
-	return &Keys{first: 1, Began: make(chan struct{}), ofKey: map[Key]fault.Place{}, next: map[string]int{}}
+	return &Keys{first: 1, Began: make(chan struct{}), ofKey: map[Key]fault.Subject{}, next: map[string]int{}}
 }
 
 func newKeys(newID func(int) string) *Keys {
@@ -453,18 +453,18 @@ func newKeys(newID func(int) string) *Keys {
 }
 
 // add adds a key. The mutex is locked.
-func (k *Keys) add(key Key, place fault.Place) Key {
+func (k *Keys) add(key Key, subject fault.Subject) Key {
 	if len(k.order) == 0 {
 		close(k.Began)
 	}
-	k.ofKey[key], k.order = place, append(k.order, key)
+	k.ofKey[key], k.order = subject, append(k.order, key)
 	return key
 }
 
 func (k *Keys) instance(number int) Key {
 	k.mutex.Lock()
 	defer k.mutex.Unlock()
-	return k.add(Key{Instance: k.newID(number)}, fault.Place{Instance: number})
+	return k.add(Key{Instance: k.newID(number)}, fault.Subject{Instance: number})
 }
 
 func (k *Keys) binding(of Key) Key {
@@ -473,33 +473,33 @@ func (k *Keys) binding(of Key) Key {
 	k.next[of.Instance]++
 	number := k.next[of.Instance]
 	key := Key{Instance: of.Instance, Binding: k.newID(number)}
-	return k.add(key, fault.Place{Instance: k.ofKey[of].Instance, Binding: number})
+	return k.add(key, fault.Subject{Instance: k.ofKey[of].Instance, Binding: number})
 }
 
-// Place returns the place of ids, if they are of the run.
-func (k *Keys) Place(instance, binding string) (fault.Place, bool) {
+// Subject returns the subject of ids, if they are of the run.
+func (k *Keys) Subject(instance, binding string) (fault.Subject, bool) {
 	k.mutex.Lock()
 	defer k.mutex.Unlock()
-	place, is := k.ofKey[Key{Instance: instance, Binding: binding}]
-	return place, is
+	subject, is := k.ofKey[Key{Instance: instance, Binding: binding}]
+	return subject, is
 }
 
-// PlaceOrNew returns the place of ids. The first request about others gives them one. It is false if a path names no
+// SubjectOrNew returns the subject of ids. The first request about others numbers them. It is false if a path names no
 // instance.
-func (k *Keys) PlaceOrNew(instance, binding string) (fault.Place, bool) {
+func (k *Keys) SubjectOrNew(instance, binding string) (fault.Subject, bool) {
 	k.mutex.Lock()
 	defer k.mutex.Unlock()
 	key, of := Key{Instance: instance, Binding: binding}, Key{Instance: instance}
 	if instance == "" {
-		return fault.Place{}, false
+		return fault.Subject{}, false
 	}
 	if _, is := k.ofKey[of]; !is {
-		k.add(of, fault.Place{Instance: k.first + k.others})
+		k.add(of, fault.Subject{Instance: k.first + k.others})
 		k.others++
 	}
 	if _, is := k.ofKey[key]; !is {
 		k.next[instance]++
-		k.add(key, fault.Place{Instance: k.ofKey[of].Instance, Binding: k.next[instance]})
+		k.add(key, fault.Subject{Instance: k.ofKey[of].Instance, Binding: k.next[instance]})
 	}
 	return k.ofKey[key], true
 }
@@ -511,12 +511,12 @@ func (k *Keys) All() []Key {
 	return append([]Key(nil), k.order...)
 }
 
-// byPlace returns all keys, in the order of their places.
-func (k *Keys) byPlace() []Key {
+// inOrder returns all keys, in the order of their numbers.
+func (k *Keys) inOrder() []Key {
 	all := k.All()
 	sort.Slice(all, func(one, other int) bool {
-		a, _ := k.Place(all[one].Instance, all[one].Binding)
-		b, _ := k.Place(all[other].Instance, all[other].Binding)
+		a, _ := k.Subject(all[one].Instance, all[one].Binding)
+		b, _ := k.Subject(all[other].Instance, all[other].Binding)
 		return a.Less(b)
 	})
 	return all

@@ -161,7 +161,7 @@ func (r *Report) findings(found *Result, kinds ...report.Kind) []Finding {
 
 func (r *Report) runOf(found *Result) report.Run {
 	return report.Run{
-		Place: found.Keys.Place, Exchanges: found.Exchanges, Events: found.Events, Hide: r.hider(found),
+		Subject: found.Keys.Subject, Exchanges: found.Exchanges, Events: found.Events, Hide: r.hider(found),
 	}
 }
 

@@ -324,7 +324,7 @@ func (s *Storm) startRun(ctx, deleting context.Context, folder string, source *f
 	}
 	var err error
 	r.proxy, err = fault.Listen(fault.Config{
-		Broker: s.address, Source: source, Journal: r.journal, Place: r.keys.Place, Catalogue: s.target.Catalogue,
+		Broker: s.address, Source: source, Journal: r.journal, Subject: r.keys.Subject, Catalogue: s.target.Catalogue,
 		CatalogueHeader: s.target.CatalogueHeader,
 		RequestTime:     s.config.RequestTime, Late: s.config.Late, AnswerTime: s.config.Broker.RequestTime,
 		Restart: restart, Failed: func(err error) { r.fail("a restart of the broker failed: " + err.Error()) },
@@ -518,7 +518,7 @@ func lives(seed int64, count int, within time.Duration, isBindable bool, only ma
 // deleteAll deletes everything that a run may have created, and returns what couldn't be deleted, except what an
 // earlier run has returned.
 func (s *Storm) deleteAll(running, deleting context.Context, found *Result) []conform.Leftover {
-	for _, key := range found.Keys.byPlace() {
+	for _, key := range found.Keys.inOrder() {
 		if it, isOwed := debtOf(key, found, s.config.Broker.RequestTime); isOwed {
 			s.broker.Owe(it)
 		}

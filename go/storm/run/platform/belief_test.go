@@ -17,7 +17,7 @@ import (
 // one that was cut.
 func requestWith(method, path string, status int, body string) fault.Exchange {
 	x := fault.Exchange{
-		Number: fault.Number{Place: fault.Place{Instance: 1}, Request: 1}, Method: method, Instance: "one",
+		Number: fault.Number{Subject: fault.Subject{Instance: 1}, Request: 1}, Method: method, Instance: "one",
 		Target: "/v2/service_instances/one" + path, Fault: fault.None,
 		Got: fault.Got{Status: status, Body: []byte(body), IsWhole: body != "", Words: "something"},
 	}

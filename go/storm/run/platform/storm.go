@@ -28,7 +28,7 @@ type Storm struct {
 	proxy   *fault.Proxy
 	journal *fault.Journal
 	source  *fault.Source
-	places  *run.Keys
+	keys    *run.Keys
 	events  []report.Event
 	// restTime is how long the operations of the broker may take once no request arrives, and how long the last look
 	// may take after a signal. Tests lower it.
@@ -44,7 +44,7 @@ func Start(ctx context.Context, config Config) (s *Storm, err error) {
 		return nil, err
 	}
 	s = &Storm{
-		config: config, journal: fault.NewJournal(), places: run.NewKeys(), source: config.Source(fault.StandardWeights(false)),
+		config: config, journal: fault.NewJournal(), keys: run.NewKeys(), source: config.Source(fault.StandardWeights(false)),
 		restTime: 2*config.OperationTime + 10*time.Second,
 	}
 	if s.folder, err = os.MkdirTemp(config.Folder, "osb-storm-"); err != nil {
@@ -54,7 +54,7 @@ func Start(ctx context.Context, config Config) (s *Storm, err error) {
 		return nil, run.Either(err, os.RemoveAll(s.folder))
 	}
 	s.proxy, err = fault.Listen(fault.Config{
-		Address: config.Address, Broker: s.shop.address, Source: s.source, Journal: s.journal, Place: s.places.PlaceOrNew,
+		Address: config.Address, Broker: s.shop.address, Source: s.source, Journal: s.journal, Subject: s.keys.SubjectOrNew,
 		ForwardsOthers: true, RequestTime: config.RequestTime, Late: config.Late,
 		AnswerTime: config.RequestTime + config.RequestTime/10 + config.OperationTime + time.Second,
 	})
@@ -112,7 +112,7 @@ const (
 )
 
 func (s *Storm) once(ctx context.Context) *run.Result {
-	found := &result{Result: run.Result{Keys: s.places, OrdersAll: true}}
+	found := &result{Result: run.Result{Keys: s.keys, OrdersAll: true}}
 	var ordering *shell.Command // or nil
 	var err error
 	if s.config.Commands.Order != "" {
@@ -181,9 +181,9 @@ func (s *Storm) storm(ctx context.Context, ordered <-chan struct{}) string {
 	waiting, cancel := context.WithTimeout(ctx, s.config.WaitTime)
 	defer cancel()
 	select {
-	case <-s.places.Began:
+	case <-s.keys.Began:
 	case <-ordered:
-		if len(s.places.All()) == 0 {
+		if len(s.keys.All()) == 0 {
 			return nothingOrdered
 		}
 	case <-waiting.Done():
@@ -237,7 +237,7 @@ type result struct {
 func (s *Storm) look(ctx context.Context, found *result) {
 	found.Exchanges = s.journal.Exchanges()
 	found.views = viewsOf(found.Exchanges)
-	keys := s.places.All()
+	keys := s.keys.All()
 	existing, err := s.shop.existing(ctx, keys)
 	if err != nil {
 		found.Failed = append(found.Failed, "what exists can't be seen: "+err.Error())

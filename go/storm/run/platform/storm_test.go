@@ -104,8 +104,8 @@ func listOf(kinds map[int]fault.Kind) []fault.Entry {
 	for instance := 1; instance <= 500; instance++ {
 		for _, binding := range []int{0, 1} {
 			for request, kind := range kinds {
-				place := fault.Place{Instance: instance, Binding: binding}
-				list = append(list, fault.Entry{Number: fault.Number{Place: place, Request: request}, Kind: kind})
+				subject := fault.Subject{Instance: instance, Binding: binding}
+				list = append(list, fault.Entry{Number: fault.Number{Subject: subject, Request: request}, Kind: kind})
 			}
 		}
 	}
@@ -322,13 +322,13 @@ func TestAfterRun(t *testing.T) {
 	defer storm.Close()
 	m := newModel(t, storm.URL(), mistakes{}, config.RequestTime)
 	m.send(context.Background(), http.MethodGet, "/v2/service_instances/one/last_operation", nil)
-	if storm.source.Next(fault.Place{Instance: 100}).Kind == fault.None {
+	if storm.source.Next(fault.Subject{Instance: 100}).Kind == fault.None {
 		t.Error("got an end of the faults before the run, want it after that")
 	}
 	if report := storm.Run(context.Background()); report.Ended != "" {
 		t.Errorf("got %v, want none", report.Ended)
 	}
-	if next := storm.source.Next(fault.Place{Instance: 99}); next.Kind != fault.None {
+	if next := storm.source.Next(fault.Subject{Instance: 99}); next.Kind != fault.None {
 		t.Errorf("a request after the run: got the fault %s, want none", next.Kind)
 	}
 	if a := m.send(context.Background(), http.MethodGet, "/v2/catalog", nil); a.status != 0 {
@@ -397,8 +397,8 @@ func TestNoSecrets(t *testing.T) {
 	config.Time, config.SettleTime, config.RequestTime = 2*time.Second, time.Second, unhurried
 	config.List = []fault.Entry{}
 	for instance := 1; instance <= 500; instance++ { // the broker answers with credentials, and the answers are lost
-		place := fault.Place{Instance: instance, Binding: 1}
-		lost := fault.Entry{Number: fault.Number{Place: place, Request: 1}, Kind: fault.AnswerLost}
+		subject := fault.Subject{Instance: instance, Binding: 1}
+		lost := fault.Entry{Number: fault.Number{Subject: subject, Request: 1}, Kind: fault.AnswerLost}
 		config.List = append(config.List, lost)
 	}
 	report := runStorm(t, config, mistakes{forgetsTimeout: true, noType: true}, false)
@@ -423,8 +423,8 @@ func TestNoSecrets(t *testing.T) {
 func TestList(t *testing.T) {
 	config := configFor(t)
 	config.List = []fault.Entry{
-		{Number: fault.Number{Place: fault.Place{Instance: 1}, Request: 1}, Kind: fault.AnswerLost},
-		{Number: fault.Number{Place: fault.Place{Instance: 99}, Request: 1}, Kind: fault.AnswerLost},
+		{Number: fault.Number{Subject: fault.Subject{Instance: 1}, Request: 1}, Kind: fault.AnswerLost},
+		{Number: fault.Number{Subject: fault.Subject{Instance: 99}, Request: 1}, Kind: fault.AnswerLost},
 	}
 	config.Time, config.SettleTime, config.RequestTime = time.Second, time.Second, unhurried
 	report := runStorm(t, config, mistakes{forgetsTimeout: true}, false)
