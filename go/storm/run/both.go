@@ -111,7 +111,7 @@ type Both struct {
 	keys             *Keys
 	events           *events
 	proxy            *fault.Proxy
-	places           *places
+	storage          *storage
 	haproxy          *servers.HAProxy
 	store            platform.Store
 	commands         *commands // of osb-platform, with which the operator orders
@@ -144,7 +144,7 @@ func NewBoth(ctx context.Context, config BothConfig) (*Both, error) {
 	return b, nil
 }
 
-// open makes the folder and the places, chooses the addresses and the faults, and prepares the programs.
+// open makes the folder and the storage, chooses the addresses and the faults, and prepares the programs.
 func (b *Both) open(ctx context.Context) (err error) {
 	if b.folder, err = os.MkdirTemp(b.config.Folder, "osb-storm-"); err != nil {
 		return err
@@ -164,7 +164,7 @@ func (b *Both) open(ctx context.Context) (err error) {
 	faults := b.config.Config
 	faults.Share = b.config.share()
 	b.source = faults.Source(b.config.weights())
-	if b.places, err = openPlaces(ctx, b.config, b.folder, b.ids.Prefix()); err != nil {
+	if b.storage, err = openStorage(ctx, b.config, b.folder, b.ids.Prefix()); err != nil {
 		return err
 	}
 	if err := b.openProxy(ctx); err != nil {
@@ -251,7 +251,7 @@ func (b *Both) addPlatform(ctx context.Context) error {
 		stateNotes: &stateNotes{events: b.events, states: map[Key]platform.State{}},
 	}
 	chance := fault.Chance(b.config.Seed, "commands")
-	b.commands = newCommands(book, chance, b.platformLine(), journal, b.places.environment)
+	b.commands = newCommands(book, chance, b.platformLine(), journal, b.storage.environment)
 	b.commands.triesOf = b.tries
 	words := []string{
 		"broker", "add", brokerName, b.proxy.URL(), "--user", "platform", "--password-file", b.file("password"),
@@ -260,7 +260,7 @@ func (b *Both) addPlatform(ctx context.Context) error {
 	if ended, err := b.commands.call(ctx, words...); err != nil || ended.status != cli.StatusDone {
 		return fmt.Errorf("the broker can't be added to the platform: %v%s", err, ended.said)
 	}
-	if b.store, err = b.places.openStore(ctx, b.config); err != nil {
+	if b.store, err = b.storage.openStore(ctx, b.config); err != nil {
 		return err
 	}
 	b.commands.store = b.store
@@ -272,18 +272,18 @@ func (b *Both) addPlatform(ctx context.Context) error {
 func (b *Both) look() {
 	if b.config.Unruly {
 		b.unruly = &unruly{
-			url: b.proxy.URL(), password: b.password, records: b.commands.book.Records, held: b.places.holdings.Read,
+			url: b.proxy.URL(), password: b.password, records: b.commands.book.Records, held: b.storage.holdings.Read,
 			newID: func() string { return b.ids.NewID(0) }, client: http.Client{Timeout: unrulyRequest},
 			perSecond: float64(b.config.Instances) / 2 / b.config.Time.Seconds(),
 			chance:    fault.Chance(b.config.Seed, "unruly"), bound: map[Key]bool{}, sending: map[Key]bool{},
 		}
 	}
 	b.keyring = &keyring{
-		read: b.commands.Credentials, records: b.commands.book.Records, works: b.places.resources.Works,
+		read: b.commands.Credentials, records: b.commands.book.Records, works: b.storage.resources.Works,
 		finds: &finds{events: b.events}, given: map[Key]json.RawMessage{},
 	}
-	b.auditor = newAuditor(audit.Place{
-		Records: b.commands.book.Records, Holdings: b.places.holdings, Resources: b.places.resources, Given: b.keyring.all,
+	b.auditor = newAuditor(audit.Reader{
+		Records: b.commands.book.Records, Holdings: b.storage.holdings, Resources: b.storage.resources, Given: b.keyring.all,
 		Foreign: b.foreign, IsOurs: b.isOurs,
 	}, b.events)
 }
@@ -321,15 +321,15 @@ func (b *Both) Close() error {
 	if b.store != nil {
 		all = append(all, b.store.Close())
 	}
-	if b.places != nil {
-		all = append(all, b.places.close(isOurs))
+	if b.storage != nil {
+		all = append(all, b.storage.close(isOurs))
 	}
 	return Either(append(all, os.RemoveAll(b.folder))...)
 }
 
 // platformLine is the program osb-platform with the options of its store.
 func (b *Both) platformLine() []string {
-	return []string{b.config.Platform, "--store", b.places.storeName, "--key-file", b.file("key")}
+	return []string{b.config.Platform, "--store", b.storage.storeName, "--key-file", b.file("key")}
 }
 
 // tries is how many ids the order of an instance, or of a binding of it, may use up: one, or three.
@@ -357,7 +357,7 @@ func (b *Both) prepare() error {
 			words = append(words, "--first-poll=false")
 		}
 		named := programNumber(number, b.config.Brokers)
-		made, err := b.victim(whoBroker, named, append(words, b.places.brokerWords...), "OSB_BROKER_PASSWORD="+b.password)
+		made, err := b.victim(whoBroker, named, append(words, b.storage.brokerWords...), "OSB_BROKER_PASSWORD="+b.password)
 		if err != nil {
 			return err
 		}
@@ -391,12 +391,12 @@ func (b *Both) journalOptions(side string) ([]string, error) {
 	return []string{"--journal", folder}, os.MkdirAll(folder, 0o700)
 }
 
-// programNumber returns the number of a program, from 1, or 0 if there is no other one of its kind.
-func programNumber(place, count int) int {
+// programNumber returns the number of the program at an index, from 1, or 0 if there is no other one of its kind.
+func programNumber(at, count int) int {
 	if count == 1 {
 		return 0
 	}
-	return place + 1
+	return at + 1
 }
 
 // share gives each of some programs its share of the crash points to visit.
@@ -420,7 +420,7 @@ func (b *Both) victim(name string, number int, line []string, environment ...str
 	made := &victim{
 		process: process{
 			name: name, number: number, line: append(line, journal...), log: b.file(file),
-			environment: append(append([]string{}, b.places.environment...), environment...),
+			environment: append(append([]string{}, b.storage.environment...), environment...),
 		},
 		chance: fault.Chance(b.config.Seed, "kills", file), events: b.events, times: usualTimes(),
 	}
@@ -470,15 +470,15 @@ func (b *Both) checkPoints(ctx context.Context) error {
 	return nil
 }
 
-// The places of records, holdings and resources.
+// Where records, holdings and resources are.
 const (
 	InFiles      = "sqlite"     // a store
 	AsFolders    = "folders"    // a backend
 	InPostgreSQL = "postgresql" // both
 )
 
-// A places is where the records, the broker's rows and the resources of a storm are.
-type places struct {
+// A storage is where the records, the broker's rows and the resources of a storm are.
+type storage struct {
 	server   *servers.Postgres // of the storm's own, or nil
 	database *servers.Database // of the storm's own, or nil
 	state    string            // the folder of the brokers
@@ -494,60 +494,60 @@ type places struct {
 // backendKey is what the passwords of the databases are derived from that a storm sells.
 const backendKey = "the key of a storm's passwords, of which nobody has any use"
 
-// openPlaces makes new places, with nothing in them.
-func openPlaces(ctx context.Context, c BothConfig, folder, prefix string) (*places, error) {
-	p := &places{
+// openStorage makes a new storage, with nothing in it.
+func openStorage(ctx context.Context, c BothConfig, folder, prefix string) (*storage, error) {
+	s := &storage{
 		state: filepath.Join(folder, "broker"), storeName: filepath.Join(folder, "instances.sqlite"),
 		environment: append(os.Environ(), "OSB_BACKEND_KEY="+backendKey),
 	}
-	p.brokerWords = []string{"--state", p.state}
-	p.holdings = audit.File(filepath.Join(p.state, "holdings.sqlite"))
-	p.resources = audit.Folders{Top: filepath.Join(p.state, "instances")}
+	s.brokerWords = []string{"--state", s.state}
+	s.holdings = audit.File(filepath.Join(s.state, "holdings.sqlite"))
+	s.resources = audit.Folders{Top: filepath.Join(s.state, "instances")}
 	if !c.needsPostgreSQL() {
-		return p, nil
+		return s, nil
 	}
-	if err := p.openDatabase(ctx, c, "storm_"+prefix); err != nil {
-		return nil, Either(err, p.close(nil))
+	if err := s.openDatabase(ctx, c, "storm_"+prefix); err != nil {
+		return nil, Either(err, s.close(nil))
 	}
-	p.useDatabase(c)
-	return p, nil
+	s.useDatabase(c)
+	return s, nil
 }
 
 // openDatabase creates the database, on a server of the storm's own if that is to be killed.
-func (p *places) openDatabase(ctx context.Context, c BothConfig, name string) (err error) {
+func (s *storage) openDatabase(ctx context.Context, c BothConfig, name string) (err error) {
 	address := c.PostgreSQL
 	if c.KillDatabase > 0 {
-		if p.server, err = servers.StartPostgres(ctx, c.Folder); err != nil {
+		if s.server, err = servers.StartPostgres(ctx, c.Folder); err != nil {
 			return err
 		}
-		address = p.server.URL("postgres")
+		address = s.server.URL("postgres")
 	}
-	p.database, err = servers.Create(ctx, address, name)
+	s.database, err = servers.Create(ctx, address, name)
 	return err
 }
 
 // useDatabase has the database be the store and the backend, as the configuration says.
-func (p *places) useDatabase(c BothConfig) {
-	named, environment := p.database.ForPrograms()
-	p.environment = append(p.environment, environment...)
+func (s *storage) useDatabase(c BothConfig) {
+	named, environment := s.database.ForPrograms()
+	s.environment = append(s.environment, environment...)
 	if c.Store == InPostgreSQL {
-		p.storeName, p.holdings = named, audit.Tables{DB: p.database.DB()}
-		p.brokerWords = append(p.brokerWords, "--store", named)
+		s.storeName, s.holdings = named, audit.Tables{DB: s.database.DB()}
+		s.brokerWords = append(s.brokerWords, "--store", named)
 	}
 	if c.Backend == InPostgreSQL {
-		p.brokerWords = append(p.brokerWords, "--backend", named)
-		p.resources = audit.Databases{
-			DB: p.database.DB(), Server: p.database.URL(), Secret: []byte(backendKey),
+		s.brokerWords = append(s.brokerWords, "--backend", named)
+		s.resources = audit.Databases{
+			DB: s.database.DB(), Server: s.database.URL(), Secret: []byte(backendKey),
 		}
 	}
 }
 
-func (p *places) openStore(ctx context.Context, c BothConfig) (store platform.Store, err error) {
+func (s *storage) openStore(ctx context.Context, c BothConfig) (store platform.Store, err error) {
 	if c.Store == InPostgreSQL {
 		const connections = 8
-		store, err = postgres.Open(ctx, p.database.URL(), connections)
+		store, err = postgres.Open(ctx, s.database.URL(), connections)
 	} else {
-		store, err = sqlite.Open(ctx, p.storeName)
+		store, err = sqlite.Open(ctx, s.storeName)
 	}
 	if err != nil {
 		return nil, fmt.Errorf("the store of the platform: %w", err)
@@ -564,25 +564,25 @@ func (c BothConfig) describe() string {
 }
 
 // together returns the keys at which two have worked at once, as far as a broker with the tag storm sees it.
-func (p *places) together() []string {
-	text, err := os.ReadFile(filepath.Join(p.state, "together"))
+func (s *storage) together() []string {
+	text, err := os.ReadFile(filepath.Join(s.state, "together"))
 	if err != nil {
 		return nil
 	}
 	return strings.Fields(string(text))
 }
 
-// close deletes what the storm has created. isOurs is whether an instance is one of the storm's; it may be nil if none
-// was created.
-func (p *places) close(isOurs func(string) bool) (err error) {
-	if isOurs != nil && p.server == nil {
-		err = p.resources.Clear(context.Background(), isOurs)
+// close deletes what the storm has created. isOurs reports whether an instance is one of the storm's. It may be nil if
+// none was created.
+func (s *storage) close(isOurs func(string) bool) (err error) {
+	if isOurs != nil && s.server == nil {
+		err = s.resources.Clear(context.Background(), isOurs)
 	}
-	if p.database != nil && p.server == nil {
-		err = Either(err, p.database.Close())
+	if s.database != nil && s.server == nil {
+		err = Either(err, s.database.Close())
 	}
-	if p.server != nil { // everything ends with it
-		err = Either(err, p.server.Close())
+	if s.server != nil { // everything ends with it
+		err = Either(err, s.server.Close())
 	}
 	return err
 }

@@ -78,7 +78,7 @@ func TestSeveralPrograms(t *testing.T) {
 	seen, logs, open := map[string]int{}, map[string]bool{}, 0
 	for _, program := range b.programs() {
 		line := strings.Join(program.line, " ")
-		for _, word := range []string{"--state " + b.places.state, "--listen 127.0.0.1:", "--worker storm-1 ", "--worker storm-2 "} {
+		for _, word := range []string{"--state " + b.storage.state, "--listen 127.0.0.1:", "--worker storm-1 ", "--worker storm-2 "} {
 			seen[strings.TrimPrefix(word, "--state "+b.folder)] += strings.Count(line, word)
 		}
 		seen[after(line, "--listen ")]++
@@ -276,22 +276,22 @@ func TestKeyring(t *testing.T) {
 	}
 }
 
-// fixedPlace has one instance that is ready, of which nothing exists.
-type fixedPlace struct{ audit.Resources }
+// fixedBroker has one instance that is ready, of which nothing exists.
+type fixedBroker struct{ audit.Resources }
 
-func (fixedPlace) Read(context.Context) (map[Key]audit.Row, error) { return nil, nil }
+func (fixedBroker) Read(context.Context) (map[Key]audit.Row, error) { return nil, nil }
 
-func (fixedPlace) Look(context.Context, func(string) bool) (audit.There, error) {
-	return audit.There{}, nil
+func (fixedBroker) Look(context.Context, func(string) bool) (audit.Stock, error) {
+	return audit.Stock{}, nil
 }
 
 // The looks count what they compare, and what is found stays, once.
 func TestAuditor(t *testing.T) {
 	t.Parallel()
 	ready, events := map[Key]Record{{Instance: "one"}: {State: audit.Ready, Rests: true}}, silentEvents()
-	a := newAuditor(audit.Place{
+	a := newAuditor(audit.Reader{
 		Records:  func(context.Context) (map[Key]Record, error) { return ready, nil },
-		Holdings: fixedPlace{}, Resources: fixedPlace{}, IsOurs: func(string) bool { return true },
+		Holdings: fixedBroker{}, Resources: fixedBroker{}, IsOurs: func(string) bool { return true },
 		Given: func() map[Key]json.RawMessage { return nil }, Foreign: func() map[Key]bool { return nil },
 	}, events)
 	for look := 0; look < 3; look++ {

@@ -16,7 +16,7 @@ import (
 
 // An auditor compares what the platform records, what the broker holds and what exists, all through a storm of both.
 type auditor struct {
-	place audit.Place
+	reader audit.Reader
 	*finds
 
 	mutex    sync.Mutex
@@ -35,22 +35,22 @@ var comparedKinds = []comparedKind{
 	{"bindings that are ready", audit.Ready, true}, {"bindings that are gone", audit.Gone, true},
 }
 
-func newAuditor(place audit.Place, events *events) *auditor {
-	return &auditor{place: place, finds: &finds{events: events}, compared: map[string]int{}}
+func newAuditor(reader audit.Reader, events *events) *auditor {
+	return &auditor{reader: reader, finds: &finds{events: events}, compared: map[string]int{}}
 }
 
 // look looks once. A look that fails, such as while the database is away, says nothing.
 func (a *auditor) look(ctx context.Context) {
-	sight, err := a.place.Look(ctx)
+	reading, err := a.reader.Read(ctx)
 	if err != nil {
 		return
 	}
 	a.mutex.Lock()
 	defer a.mutex.Unlock()
 	for _, kind := range comparedKinds {
-		a.compared[kind.name] += len(sight.SteadyKeys(kind.state, kind.isBinding))
+		a.compared[kind.name] += len(reading.SteadyKeys(kind.state, kind.isBinding))
 	}
-	for _, wrong := range sight.Wrong() {
+	for _, wrong := range reading.Compare() {
 		wrong.What = "during the storm, " + wrong.What
 		a.addOnce(wrong)
 	}
@@ -59,11 +59,11 @@ func (a *auditor) look(ctx context.Context) {
 // end returns what the looks have found, and what is wrong at the end.
 func (a *auditor) end(ctx context.Context) (all report.Differences, failed error) {
 	all = a.list()
-	sight, err := a.place.Look(ctx)
+	reading, err := a.reader.Read(ctx)
 	if err != nil {
 		return all, fmt.Errorf("the records, the rows and what exists can't be compared: %w", err)
 	}
-	left, err := sight.Left(ctx, a.place.Resources)
+	left, err := reading.CompareAtEnd(ctx, a.reader.Resources)
 	if err != nil {
 		err = fmt.Errorf("a resource can't be tried: %w", err)
 	}
@@ -255,11 +255,11 @@ func (b *Both) add(report *Report, found *Result) {
 	for _, line := range b.commands.odd() {
 		p.Odd = append(p.Odd, hide.In(line))
 	}
-	if b.places.server != nil {
-		p.DatabaseKills, p.DatabasePauses = b.places.server.Counts()
+	if b.storage.server != nil {
+		p.DatabaseKills, p.DatabasePauses = b.storage.server.Counts()
 	}
 	p.Compared, p.Credentials = b.auditor.counts(), len(b.keyring.all())
-	p.Together = append(p.Together, b.places.together()...)
+	p.Together = append(p.Together, b.storage.together()...)
 	p.Without = b.config.Without
 	if b.unruly != nil {
 		p.UnrulyBindings = len(b.unruly.all())

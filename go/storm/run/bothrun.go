@@ -253,10 +253,10 @@ func (b *Both) trouble(ctx context.Context) *troubles {
 			program.startCalmly()
 		}
 	}
-	if b.places.database != nil && !b.config.Calm {
+	if b.storage.database != nil && !b.config.Calm {
 		calls = append(calls, b.endSessions)
 	}
-	if b.places.server != nil && !b.config.Calm {
+	if b.storage.server != nil && !b.config.Calm {
 		calls = append(calls, b.strike)
 	}
 	for _, call := range calls {
@@ -294,7 +294,7 @@ func (b *Both) calm(ctx context.Context, t *troubles) {
 func (b *Both) endSessions(ctx context.Context) {
 	chance := fault.Chance(b.config.Seed, "sessions")
 	for fault.Sleep(ctx, between(chance, 500*time.Millisecond, 3*time.Second)) {
-		if isEnded, err := b.places.database.EndSession(ctx); err == nil && isEnded {
+		if isEnded, err := b.storage.database.EndSession(ctx); err == nil && isEnded {
 			b.events.add(Key{}, "osb-storm", "ends a session with PostgreSQL")
 		}
 	}
@@ -317,7 +317,7 @@ func (b *Both) strike(ctx context.Context) {
 			return
 		}
 		b.events.add(Key{}, "osb-storm", "kills PostgreSQL")
-		if err := b.places.server.Kill(ctx, between(chance, time.Second, 4*time.Second)); err != nil {
+		if err := b.storage.server.Kill(ctx, between(chance, time.Second, 4*time.Second)); err != nil {
 			b.commands.note(err.Error())
 			return
 		}
@@ -327,7 +327,7 @@ func (b *Both) strike(ctx context.Context) {
 		}
 		rest := between(chance, usualTimes().pause[0], usualTimes().pause[1])
 		b.events.add(Key{}, "osb-storm", fmt.Sprintf("pauses PostgreSQL for %.1f s", rest.Seconds()))
-		b.places.server.Pause(ctx, rest)
+		b.storage.server.Pause(ctx, rest)
 	}
 }
 
@@ -421,8 +421,8 @@ func (b *Both) omissions() (all []string) {
 			all = append(all, fmt.Sprintf("the %s was killed %s and paused %s", program, times(its.kills), times(its.pauses)))
 		}
 	}
-	if b.places.server != nil {
-		if kills, pauses := b.places.server.Counts(); kills < b.config.KillDatabase || pauses < b.config.KillDatabase {
+	if b.storage.server != nil {
+		if kills, pauses := b.storage.server.Counts(); kills < b.config.KillDatabase || pauses < b.config.KillDatabase {
 			all = append(all, fmt.Sprintf("PostgreSQL was killed %s and paused %s", times(kills), times(pauses)))
 		}
 	}

@@ -164,29 +164,29 @@ UNION SELECT datname, false FROM pg_database WHERE datname ~ '^osb_'
 `
 
 // Look reads the names. No role shows its password.
-func (d Databases) Look(ctx context.Context, isOurs func(string) bool) (There, error) {
-	there := There{Of: map[Key]Existence{}}
+func (d Databases) Look(ctx context.Context, isOurs func(string) bool) (Stock, error) {
+	stock := Stock{Of: map[Key]broker.There{}}
 	rows, err := d.DB.QueryContext(ctx, exist)
 	if err != nil {
-		return there, err
+		return stock, err
 	}
 	defer rows.Close()
 	for rows.Next() {
 		var name string
 		var isWhole bool
 		if err := rows.Scan(&name, &isWhole); err != nil {
-			return there, err
+			return stock, err
 		}
 		key, isKey := keyOfRole(name)
 		switch {
 		case !isKey || !isOurs(key.Instance):
 		case isWhole:
-			there.Of[key] = Whole
-		case there.Of[key] != Whole:
-			there.Of[key] = Part
+			stock.Of[key] = broker.Whole
+		case stock.Of[key] != broker.Whole:
+			stock.Of[key] = broker.Part
 		}
 	}
-	return there, rows.Err()
+	return stock, rows.Err()
 }
 
 func keyOfRole(name string) (Key, bool) {
@@ -269,12 +269,12 @@ func isClosedTo(err error) bool {
 
 // Clear drops the databases and the roles.
 func (d Databases) Clear(ctx context.Context, isOurs func(string) bool) error {
-	there, err := d.Look(ctx, isOurs)
+	stock, err := d.Look(ctx, isOurs)
 	if err != nil {
 		return err
 	}
 	var databases, bindings, instances []string
-	for key := range there.Of {
+	for key := range stock.Of {
 		named, err := BrokerKey(key)
 		if err != nil {
 			return err
@@ -308,15 +308,15 @@ const (
 )
 
 // Look reads the folders.
-func (f Folders) Look(context.Context, func(string) bool) (There, error) {
-	there := There{Of: map[Key]Existence{}, Credentials: map[Key]json.RawMessage{}}
+func (f Folders) Look(context.Context, func(string) bool) (Stock, error) {
+	stock := Stock{Of: map[Key]broker.There{}, Credentials: map[Key]json.RawMessage{}}
 	for _, folder := range []string{"", bindings} {
 		files, err := os.ReadDir(filepath.Join(f.Top, folder))
 		if errors.Is(err, fs.ErrNotExist) { // the broker hasn't started yet
 			continue
 		}
 		if err != nil {
-			return there, err
+			return stock, err
 		}
 		for _, file := range files {
 			name := strings.TrimPrefix(file.Name(), partPrefix)
@@ -324,23 +324,23 @@ func (f Folders) Look(context.Context, func(string) bool) (There, error) {
 			switch isPart := name != file.Name(); {
 			case !isKey:
 			case isPart: // the whole, if there is one, comes later: the names are sorted
-				there.Of[key] = Part
+				stock.Of[key] = broker.Part
 			default:
-				there.Of[key] = Whole
-				f.show(there, key)
+				stock.Of[key] = broker.Whole
+				f.show(stock, key)
 			}
 		}
 	}
-	return there, nil
+	return stock, nil
 }
 
 // show adds the credentials of a binding. One that is deleted meanwhile has none.
-func (f Folders) show(there There, key Key) {
+func (f Folders) show(stock Stock, key Key) {
 	if key.Binding == "" {
 		return
 	}
 	if text, err := os.ReadFile(f.binding(key)); err == nil && json.Valid(text) {
-		there.Credentials[key] = text
+		stock.Credentials[key] = text
 	}
 }
 

@@ -8,6 +8,7 @@ import (
 	"encoding/json"
 	"time"
 
+	"pippinterm/broker"
 	"pippinterm/osb"
 	"pippinterm/platform"
 	"pippinterm/storm/report"
@@ -20,9 +21,9 @@ const (
 )
 
 // SteadyKeys returns the keys of the records that were in a state all the time: bindings or instances.
-func (s Sight) SteadyKeys(state platform.State, isBinding bool) (keys []Key) {
-	for key, record := range s.Records {
-		if record.State == state && s.After[key].State == state && (key.Binding != "") == isBinding {
+func (r Reading) SteadyKeys(state platform.State, isBinding bool) (keys []Key) {
+	for key, record := range r.Records {
+		if record.State == state && r.After[key].State == state && (key.Binding != "") == isBinding {
 			keys = append(keys, key)
 		}
 	}
@@ -30,30 +31,30 @@ func (s Sight) SteadyKeys(state platform.State, isBinding bool) (keys []Key) {
 }
 
 type finder struct {
-	Sight
+	Reading
 	report.Differences
 }
 
-// Wrong returns what is wrong while a storm goes on.
-func (s Sight) Wrong() report.Differences {
-	f := &finder{Sight: s}
+// Compare returns what the three disagree in while a storm goes on.
+func (r Reading) Compare() report.Differences {
+	f := &finder{Reading: r}
 	f.findUnrecorded()
-	for key, record := range s.Records {
+	for key, record := range r.Records {
 		if record.Says != "" && !record.isOfNoRecord() && record.Says != record.State {
 			f.Add(key, report.False, "its state is "+string(record.State)+", and its record says "+string(record.Says))
 		}
 	}
 	for _, isBinding := range []bool{false, true} {
-		for _, key := range s.SteadyKeys(Ready, isBinding) {
-			if why := s.notReady(key, s.Records[key]); why != "" {
+		for _, key := range r.SteadyKeys(Ready, isBinding) {
+			if why := r.whyNotReady(key, r.Records[key]); why != "" {
 				f.Add(key, report.False, "its record says ready, and "+why)
 			}
 		}
-		for _, key := range s.SteadyKeys(Gone, isBinding) {
-			f.notGone(key, "its record says gone")
+		for _, key := range r.SteadyKeys(Gone, isBinding) {
+			f.checkGone(key, "its record says gone")
 		}
 	}
-	f.withoutInstance()
+	f.findWithoutInstance()
 	return f.InOrder()
 }
 
@@ -66,8 +67,8 @@ func (r Record) isOfNoRecord() bool {
 
 // findUnrecorded finds what exists, or what the broker has a row of, without a record.
 func (f *finder) findUnrecorded() {
-	for key := range f.There.Of {
-		if _, isKnown := f.After[key]; !isKnown && !f.Foreign[key] && f.There.Some(key) {
+	for key := range f.Stock.Of {
+		if _, isKnown := f.After[key]; !isKnown && !f.Foreign[key] && f.Stock.Some(key) {
 			f.Add(key, report.Lost, "it exists, and the platform has no record")
 		}
 	}
@@ -86,25 +87,25 @@ func (h Row) isEmpty() bool {
 	return !isHeld && !isPending && !h.Holding.HasTombstone()
 }
 
-// notReady returns what a record that is ready is belied by, or "".
-func (s Sight) notReady(key Key, record Record) string {
-	if s.There.Of[key] != Whole {
+// whyNotReady returns what belies a record that says ready, or "".
+func (r Reading) whyNotReady(key Key, record Record) string {
+	if r.Stock.Of[key] != broker.Whole {
 		return "it doesn't exist, or not as a whole"
 	}
-	if !s.isHeldReady(key, record) {
+	if !r.isHeldReady(key, record) {
 		return "the broker's row says something else"
 	}
-	shown, isShown := s.There.Credentials[key]
-	given, isGiven := s.Given[key]
+	shown, isShown := r.Stock.Credentials[key]
+	given, isGiven := r.Given[key]
 	if isShown && isGiven && !isSame(shown, CredentialsOf(given)) {
 		return "its credentials are other ones"
 	}
 	return ""
 }
 
-// notGone finds what a record that says that nothing exists is belied by.
-func (f *finder) notGone(key Key, says string) {
-	if f.There.Some(key) {
+// checkGone finds what belies a record that says that nothing exists.
+func (f *finder) checkGone(key Key, says string) {
+	if f.Stock.Some(key) {
 		f.Add(key, report.Lost, "it exists, and "+says)
 	}
 	if f.Held[key].Holding.IsHeld() {
@@ -114,23 +115,23 @@ func (f *finder) notGone(key Key, says string) {
 
 // isHeldReady returns whether the broker holds an instance or a binding, complete, with that service and plan, and no
 // work is pending. If the object of a binding was given out, the broker has the same.
-func (s Sight) isHeldReady(key Key, record Record) bool {
-	held := s.Held[key]
+func (r Reading) isHeldReady(key Key, record Record) bool {
+	held := r.Held[key]
 	row, isHeld := held.Holding.Row()
 	_, isPending := held.Holding.Work()
 	wanted := osb.BrokerRow{Service: record.Service, Plan: record.Plan, Phase: osb.PhaseReady}
 	if !isHeld || isPending || row != wanted {
 		return false
 	}
-	given, isGiven := s.Given[key]
+	given, isGiven := r.Given[key]
 	return key.Binding == "" || held.Object != nil && (!isGiven || isSame(held.Object, given))
 }
 
-// withoutInstance finds each binding that exists or is held while its instance isn't held ready. A broker never lets
+// findWithoutInstance finds each binding that exists or is held while its instance isn't held ready. A broker never lets
 // that can happen, whatever it is asked.
-func (f *finder) withoutInstance() {
-	for key := range f.There.Of {
-		if key.Binding == "" || !f.Before.Some(key) || !f.There.Some(key) {
+func (f *finder) findWithoutInstance() {
+	for key := range f.Stock.Of {
+		if key.Binding == "" || !f.Before.Some(key) || !f.Stock.Some(key) {
 			continue
 		}
 		row, isHeld := f.Held[key.InstanceKey()].Holding.Row()
@@ -143,15 +144,15 @@ func (f *finder) withoutInstance() {
 		if key.Binding == "" {
 			continue
 		}
-		service, plan, isHeld := heldFor(row.Holding)
+		service, plan, isHeld := heldPlan(row.Holding)
 		if isHeld && !f.Held[key.InstanceKey()].Holding.IsThere(service, plan) {
 			f.Add(key, report.Disagree, "the broker holds it, and doesn't hold its instance ready at the same plan")
 		}
 	}
 }
 
-// heldFor returns the service and the plan of what is held or pending.
-func heldFor(holding osb.Holding) (service, plan osb.ID, isHeld bool) {
+// heldPlan returns the service and the plan of what is held or pending.
+func heldPlan(holding osb.Holding) (service, plan osb.ID, isHeld bool) {
 	if row, is := holding.Row(); is {
 		return row.Service, row.Plan, true
 	}
@@ -217,32 +218,23 @@ type Row struct {
 	Object  json.RawMessage // of a binding: the object with its credentials, or nil
 }
 
-// An Existence is what exists of an instance or a binding.
-type Existence int
-
-const (
-	Nothing Existence = iota
-	Part              // nobody can use it
-	Whole
-)
-
-// A There is what exists. What it lacks doesn't exist.
-type There struct {
-	Of map[Key]Existence
+// A Stock is what exists. What it lacks doesn't exist.
+type Stock struct {
+	Of map[Key]broker.There
 	// Credentials are those of each whole binding whose resource shows them.
 	Credentials map[Key]json.RawMessage
 }
 
 // Some returns whether anything of a key exists.
-func (t There) Some(key Key) bool { return t.Of[key] != Nothing }
+func (s Stock) Some(key Key) bool { return s.Of[key] != broker.None }
 
-// A Sight is what was seen, in the order of the members. What is the same in two members was so all the time between
+// A Reading is what was seen, in the order of the members. What is the same in two members was so all the time between
 // them: no record returns to ready, or leaves gone, and nothing exists again once it was deleted.
-type Sight struct {
+type Reading struct {
 	Records map[Key]Record
-	Before  There       // what existed before the rows of the broker were read
+	Before  Stock       // what existed before the rows of the broker were read
 	Held    map[Key]Row // the rows of the broker, all of one moment
-	There   There       // what existed after that
+	Stock   Stock       // what existed after that
 	After   map[Key]Record
 	Given   map[Key]json.RawMessage // the objects of bindings that the platform has given out, with the credentials
 	Foreign map[Key]bool            // the bindings that somebody else than the platform has created
@@ -256,8 +248,8 @@ type Holdings interface {
 
 // Resources are what a broker sells in a storm.
 type Resources interface {
-	// Look returns what exists. isOurs is whether an instance is one of the storm's, if its place doesn't say it.
-	Look(ctx context.Context, isOurs func(instance string) bool) (There, error)
+	// Look returns what exists. isOurs reports whether an instance is one of the storm's, where the server may have others.
+	Look(ctx context.Context, isOurs func(instance string) bool) (Stock, error)
 	// IsUsable returns whether the resource of an instance that is ready can be used, and is what was ordered.
 	IsUsable(ctx context.Context, key Key, record Record) (bool, error)
 	// Works returns whether the credentials of a binding give access to its instance.
@@ -266,8 +258,8 @@ type Resources interface {
 	Clear(ctx context.Context, isOurs func(instance string) bool) error
 }
 
-// A Place is where to look.
-type Place struct {
+// A Reader reads everything that is compared.
+type Reader struct {
 	Records   func(context.Context) (map[Key]Record, error)
 	Holdings  Holdings
 	Resources Resources
@@ -276,51 +268,51 @@ type Place struct {
 	IsOurs    func(instance string) bool // besides the instances with a record
 }
 
-// Look looks at everything, in the order of Sight.
-func (p Place) Look(ctx context.Context) (s Sight, err error) {
-	if s.Records, err = p.Records(ctx); err != nil {
-		return s, err
+// Read reads everything, in the order of the members of a Reading.
+func (r Reader) Read(ctx context.Context) (reading Reading, err error) {
+	if reading.Records, err = r.Records(ctx); err != nil {
+		return reading, err
 	}
 	isOurs := func(instance string) bool {
-		_, isKnown := s.Records[Key{Instance: instance}]
-		return isKnown || p.IsOurs(instance)
+		_, isKnown := reading.Records[Key{Instance: instance}]
+		return isKnown || r.IsOurs(instance)
 	}
-	if s.Before, err = p.Resources.Look(ctx, isOurs); err != nil {
-		return s, err
+	if reading.Before, err = r.Resources.Look(ctx, isOurs); err != nil {
+		return reading, err
 	}
-	if s.Held, err = p.Holdings.Read(ctx); err != nil {
-		return s, err
+	if reading.Held, err = r.Holdings.Read(ctx); err != nil {
+		return reading, err
 	}
-	if s.There, err = p.Resources.Look(ctx, isOurs); err != nil {
-		return s, err
+	if reading.Stock, err = r.Resources.Look(ctx, isOurs); err != nil {
+		return reading, err
 	}
-	if s.After, err = p.Records(ctx); err != nil {
-		return s, err
+	if reading.After, err = r.Records(ctx); err != nil {
+		return reading, err
 	}
-	s.Given, s.Foreign = p.Given(), p.Foreign()
-	return s, nil
+	reading.Given, reading.Foreign = r.Given(), r.Foreign()
+	return reading, nil
 }
 
-// Left returns what the three disagree in at the end: each instance and each binding has to be ready in all three, or
-// in none. Nobody knows of the instances that were abandoned. usable tries each resource that is ready; what it fails
-// with is returned.
-func (s Sight) Left(ctx context.Context, usable Resources) (report.Differences, error) {
-	f := &finder{Sight: s}
+// CompareAtEnd returns what the three disagree in at the end: each instance and each binding has to be ready in all
+// three, or in none. Nobody knows of the instances that were abandoned. It tries each resource that is ready, and returns
+// the first error of that.
+func (r Reading) CompareAtEnd(ctx context.Context, resources Resources) (report.Differences, error) {
+	f := &finder{Reading: r}
 	f.findUnrecorded()
 	var failed error
-	for key, record := range s.After {
+	for key, record := range r.After {
 		switch {
 		case !record.Rests || !isFinal(record.State):
 			f.Add(key, report.Stuck, "its record is still "+string(record.State))
 		case record.State == Ready:
-			if err := f.readyAtEnd(ctx, key, record, usable); err != nil && failed == nil {
+			if err := f.checkReady(ctx, key, record, resources); err != nil && failed == nil {
 				failed = err
 			}
 		case record.State != platform.Abandoned:
-			f.notGone(key, "its record says "+string(record.State))
+			f.checkGone(key, "its record says "+string(record.State))
 		}
 	}
-	f.withoutInstance()
+	f.findWithoutInstance()
 	return f.InOrder(), failed
 }
 
@@ -334,24 +326,24 @@ func isFinal(state platform.State) bool {
 	return false
 }
 
-func (f *finder) readyAtEnd(ctx context.Context, key Key, record Record, usable Resources) error {
-	if why := f.notReady(key, record); why != "" {
+func (f *finder) checkReady(ctx context.Context, key Key, record Record, resources Resources) error {
+	if why := f.whyNotReady(key, record); why != "" {
 		f.Add(key, report.False, "its record says ready, and "+why)
 		return nil
 	}
 	if key.Binding != "" {
-		f.bindingAtEnd(key)
+		f.checkBinding(key)
 		return nil
 	}
-	isUsable, err := usable.IsUsable(ctx, key, record)
+	isUsable, err := resources.IsUsable(ctx, key, record)
 	if err == nil && !isUsable {
 		f.Add(key, report.False, "its record says ready, and it can't be used, or isn't what was ordered")
 	}
 	return err
 }
 
-// bindingAtEnd finds what is wrong with a binding that is ready at the end, and that exists.
-func (f *finder) bindingAtEnd(key Key) {
+// checkBinding finds what is wrong with a binding that is ready at the end, and that exists.
+func (f *finder) checkBinding(key Key) {
 	if _, isGiven := f.Given[key]; !isGiven {
 		f.Add(key, report.False, "its record says ready, and its credentials aren't given out")
 	}

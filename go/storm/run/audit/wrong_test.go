@@ -75,7 +75,7 @@ type scene struct {
 	state, says   platform.State
 	held          string // the row of what the scene is about
 	object        string // of the binding in the broker's row
-	exists        Existence
+	exists        broker.There
 	shows         string // the credentials that the resource shows
 	given         string
 	instance      string         // the row of the binding's instance; "-" for none
@@ -87,12 +87,12 @@ type scene struct {
 	came          bool // what exists was created after the rows were read
 }
 
-func (s scene) sight(t *testing.T, key Key) Sight {
+func (s scene) reading(t *testing.T, key Key) Reading {
 	t.Helper()
-	sight := Sight{
+	reading := Reading{
 		Records: map[Key]Record{}, After: map[Key]Record{}, Held: map[Key]Row{}, Given: map[Key]json.RawMessage{},
 		Foreign: map[Key]bool{bound: s.foreign},
-		There:   There{Of: map[Key]Existence{}, Credentials: map[Key]json.RawMessage{}},
+		Stock:   Stock{Of: map[Key]broker.There{}, Credentials: map[Key]json.RawMessage{}},
 	}
 	if key.Binding != "" {
 		state := s.instanceState
@@ -100,12 +100,12 @@ func (s scene) sight(t *testing.T, key Key) Sight {
 			state = Ready
 		}
 		instance := Record{State: state, Says: state, Service: service, Plan: plan, Rests: true}
-		sight.Records[one], sight.After[one], sight.There.Of[one] = instance, instance, Whole
+		reading.Records[one], reading.After[one], reading.Stock.Of[one] = instance, instance, broker.Whole
 		if s.instance == "" {
 			s.instance = "ready"
 		}
 		if s.instance != "-" {
-			sight.Held[one] = Row{Holding: row(t, s.instance, plan)}
+			reading.Held[one] = Row{Holding: row(t, s.instance, plan)}
 		}
 	}
 	says := s.says
@@ -114,31 +114,31 @@ func (s scene) sight(t *testing.T, key Key) Sight {
 	}
 	record := Record{State: s.state, Says: says, Service: service, Plan: plan, Rests: !s.restless}
 	if !s.unrecorded {
-		sight.Records[key], sight.After[key] = record, record
+		reading.Records[key], reading.After[key] = record, record
 	}
 	if s.moves {
 		record.State = platform.Cleaning
-		sight.After[key] = record
+		reading.After[key] = record
 	}
 	if s.held != "" {
-		sight.Held[key] = Row{Holding: row(t, s.held, plan), Object: json.RawMessage(s.object)}
+		reading.Held[key] = Row{Holding: row(t, s.held, plan), Object: json.RawMessage(s.object)}
 		if s.object == "" {
-			sight.Held[key] = Row{Holding: row(t, s.held, plan)}
+			reading.Held[key] = Row{Holding: row(t, s.held, plan)}
 		}
 	}
 	if !s.came {
-		sight.Before = There{Of: map[Key]Existence{key: s.exists}}
+		reading.Before = Stock{Of: map[Key]broker.There{key: s.exists}}
 	}
-	if s.exists != Nothing {
-		sight.There.Of[key] = s.exists
+	if s.exists != broker.None {
+		reading.Stock.Of[key] = s.exists
 	}
 	if s.shows != "" {
-		sight.There.Credentials[key] = json.RawMessage(s.shows)
+		reading.Stock.Credentials[key] = json.RawMessage(s.shows)
 	}
 	if s.given != "" {
-		sight.Given[key] = json.RawMessage(s.given)
+		reading.Given[key] = json.RawMessage(s.given)
 	}
-	return sight
+	return reading
 }
 
 type usable struct {
@@ -158,13 +158,13 @@ func texts(all report.Differences, key Key) string {
 	return strings.Join(found, "; ")
 }
 
-func left(t *testing.T, s Sight, key Key) string {
+func differencesAtEnd(t *testing.T, r Reading, key Key) string {
 	t.Helper()
-	all := diff.Value(s.Left(context.Background(), usable{is: true}))(t)
+	all := diff.Value(r.CompareAtEnd(context.Background(), usable{is: true}))(t)
 	return texts(all, key)
 }
 
-var readyBinding = scene{state: Ready, held: "ready", object: object, exists: Whole, shows: token, given: object}
+var readyBinding = scene{state: Ready, held: "ready", object: object, exists: broker.Whole, shows: token, given: object}
 
 func (s scene) with(change func(*scene)) scene {
 	change(&s)
@@ -190,9 +190,9 @@ func TestBindings(t *testing.T) {
 		"gone":                   {scene{state: Gone}, "", ""},
 		"in flight":              {scene{state: platform.Wanted, restless: true}, "", wanting},
 		"in flight, begun":       {scene{state: platform.Wanted, restless: true, held: "provision"}, "", wanting},
-		"in flight, exists":      {scene{state: platform.Wanted, restless: true, held: "ready", object: object, exists: Whole}, "", wanting},
-		"absent":                 {readyBinding.with(func(s *scene) { s.exists = Nothing }), absent, absent},
-		"a part":                 {readyBinding.with(func(s *scene) { s.exists = Part }), absent, absent},
+		"in flight, exists":      {scene{state: platform.Wanted, restless: true, held: "ready", object: object, exists: broker.Whole}, "", wanting},
+		"absent":                 {readyBinding.with(func(s *scene) { s.exists = broker.None }), absent, absent},
+		"a part":                 {readyBinding.with(func(s *scene) { s.exists = broker.Part }), absent, absent},
 		"no row":                 {readyBinding.with(func(s *scene) { s.held, s.object = "", "" }), other, other},
 		"failed":                 {readyBinding.with(func(s *scene) { s.held = "failed" }), other, other},
 		"pending":                {readyBinding.with(func(s *scene) { s.held = "deprovision" }), other, other},
@@ -202,19 +202,19 @@ func TestBindings(t *testing.T) {
 		"not given out":          {readyBinding.with(func(s *scene) { s.given = "" }), "", "1 its record says ready, and its credentials aren't given out"},
 		"gone, held":             {scene{state: Gone, held: "ready"}, holds, holds},
 		"gone, begun":            {scene{state: Gone, held: "provision"}, holds, holds},
-		"gone, exists":           {scene{state: Gone, exists: Whole}, stands, stands},
-		"gone, a part":           {scene{state: Gone, exists: Part}, stands, stands},
+		"gone, exists":           {scene{state: Gone, exists: broker.Whole}, stands, stands},
+		"gone, a part":           {scene{state: Gone, exists: broker.Part}, stands, stands},
 		"changes":                {scene{state: Ready, moves: true}, "", "2 its record is still cleaning"},
-		"no record, held":        {readyBinding.with(func(s *scene) { s.unrecorded, s.exists = true, Nothing }), "3 the broker has a row, and the platform has no record", "3 the broker has a row, and the platform has no record"},
-		"no record, exists":      {scene{unrecorded: true, exists: Whole}, noRecord, noRecord},
-		"no record, a part":      {scene{unrecorded: true, exists: Part}, noRecord, noRecord},
-		"somebody else's":        {scene{unrecorded: true, foreign: true, exists: Whole, held: "ready", object: object}, "", ""},
+		"no record, held":        {readyBinding.with(func(s *scene) { s.unrecorded, s.exists = true, broker.None }), "3 the broker has a row, and the platform has no record", "3 the broker has a row, and the platform has no record"},
+		"no record, exists":      {scene{unrecorded: true, exists: broker.Whole}, noRecord, noRecord},
+		"no record, a part":      {scene{unrecorded: true, exists: broker.Part}, noRecord, noRecord},
+		"somebody else's":        {scene{unrecorded: true, foreign: true, exists: broker.Whole, held: "ready", object: object}, "", ""},
 		"another state":          {readyBinding.with(func(s *scene) { s.state, s.says = platform.Polling, Ready }), "1 its state is polling, and its record says ready", "2 its record is still polling"},
-		"without instance":       {scene{state: platform.Wanted, restless: true, exists: Whole, instance: "-"}, alone, wanting + "; " + alone},
-		"instance deleting":      {scene{state: platform.Wanted, restless: true, exists: Whole, instance: "deleting"}, alone, wanting + "; " + alone},
+		"without instance":       {scene{state: platform.Wanted, restless: true, exists: broker.Whole, instance: "-"}, alone, wanting + "; " + alone},
+		"instance deleting":      {scene{state: platform.Wanted, restless: true, exists: broker.Whole, instance: "deleting"}, alone, wanting + "; " + alone},
 		"instance failed":        {scene{state: platform.Wanted, restless: true, held: "provision", instance: "failed"}, unheld, wanting + "; " + unheld},
 		"instance being deleted": {scene{state: platform.Wanted, restless: true, held: "provision", instance: "deprovision"}, unheld, wanting + "; " + unheld},
-		"came before the end":    {scene{state: platform.Wanted, restless: true, exists: Whole, came: true, instance: "-"}, "", wanting},
+		"came before the end":    {scene{state: platform.Wanted, restless: true, exists: broker.Whole, came: true, instance: "-"}, "", wanting},
 		"ended without instance": {scene{state: Gone, held: "tombstone", instance: "-"}, "", ""},
 		"instance recorded gone": {readyBinding.with(func(s *scene) { s.instanceState = Gone }), "", "3 its record says ready, and that of its instance says gone"},
 	})
@@ -222,27 +222,27 @@ func TestBindings(t *testing.T) {
 
 // A finding is what has to be found of a scene.
 type finding struct {
-	scene     scene
-	found     string // while the storm goes on
-	foundLeft string
+	scene  scene
+	during string // while the storm goes on
+	atEnd  string
 }
 
 func checkScenes(t *testing.T, key Key, scenes map[string]finding) {
 	t.Helper()
 	for name, test := range scenes {
 		t.Run(name, func(t *testing.T) {
-			s := test.scene.sight(t, key)
-			diff.Equal(t, texts(s.Wrong(), key), test.found, "while the storm goes on")
-			diff.Equal(t, left(t, s, key), test.foundLeft, "at the end")
+			r := test.scene.reading(t, key)
+			diff.Equal(t, texts(r.Compare(), key), test.during, "while the storm goes on")
+			diff.Equal(t, differencesAtEnd(t, r, key), test.atEnd, "at the end")
 		})
 	}
 }
 
 // A binding at another plan than its instance is found.
 func TestAnotherPlan(t *testing.T) {
-	s := scene{state: platform.Wanted, restless: true, held: "provision"}.sight(t, bound)
-	s.Held[one] = Row{Holding: row(t, "ready", otherPlan)}
-	if found := texts(s.Wrong(), bound); !strings.Contains(found, "at the same plan") {
+	r := scene{state: platform.Wanted, restless: true, held: "provision"}.reading(t, bound)
+	r.Held[one] = Row{Holding: row(t, "ready", otherPlan)}
+	if found := texts(r.Compare(), bound); !strings.Contains(found, "at the same plan") {
 		t.Errorf("got %q, want two at the same plan", found)
 	}
 }
@@ -256,25 +256,25 @@ func TestInstances(t *testing.T) {
 		other  = "1 its record says ready, and the broker's row says something else"
 	)
 	checkScenes(t, one, map[string]finding{
-		"ready":             {scene{state: Ready, held: "ready", exists: Whole}, "", ""},
+		"ready":             {scene{state: Ready, held: "ready", exists: broker.Whole}, "", ""},
 		"gone":              {scene{state: Gone}, "", ""},
 		"withdrawn":         {scene{state: platform.Withdrawn}, "", ""},
-		"abandoned, exists": {scene{state: platform.Abandoned, says: platform.Cleaning, held: "ready", exists: Whole}, "", ""},
+		"abandoned, exists": {scene{state: platform.Abandoned, says: platform.Cleaning, held: "ready", exists: broker.Whole}, "", ""},
 		"abandoned":         {scene{state: platform.Abandoned, says: platform.Cleaning}, "", ""},
-		"wanted":            {scene{state: platform.Wanted, restless: true, held: "ready", exists: Whole}, "", "2 its record is still wanted"},
-		"unsettled, exists": {scene{state: platform.Unsettled, exists: Whole}, "", "2 its record is still unsettled"},
-		"withdrawn, exists": {scene{state: platform.Withdrawn, exists: Whole}, "", "0 it exists, and its record says withdrawn"},
+		"wanted":            {scene{state: platform.Wanted, restless: true, held: "ready", exists: broker.Whole}, "", "2 its record is still wanted"},
+		"unsettled, exists": {scene{state: platform.Unsettled, exists: broker.Whole}, "", "2 its record is still unsettled"},
+		"withdrawn, exists": {scene{state: platform.Withdrawn, exists: broker.Whole}, "", "0 it exists, and its record says withdrawn"},
 		"an empty row":      {scene{unrecorded: true, held: "empty"}, "", ""},
 		"only a tombstone": {scene{unrecorded: true, held: "tombstone"},
 			"3 the broker has a row, and the platform has no record", "3 the broker has a row, and the platform has no record"},
 		"gone, held":   {scene{state: Gone, held: "ready"}, holds, holds},
-		"gone, exists": {scene{state: Gone, exists: Whole}, stands, stands},
-		"gone, both":   {scene{state: Gone, held: "ready", exists: Part}, stands + "; " + holds, stands + "; " + holds},
+		"gone, exists": {scene{state: Gone, exists: broker.Whole}, stands, stands},
+		"gone, both":   {scene{state: Gone, held: "ready", exists: broker.Part}, stands + "; " + holds, stands + "; " + holds},
 		"absent":       {scene{state: Ready, held: "ready"}, absent, absent},
-		"no row":       {scene{state: Ready, exists: Whole}, other, other},
+		"no row":       {scene{state: Ready, exists: broker.Whole}, other, other},
 	})
-	s := scene{state: Ready, held: "ready", exists: Whole}.sight(t, one)
-	if all, err := s.Left(context.Background(), usable{is: false}); err != nil || len(all) != 1 {
+	r := scene{state: Ready, held: "ready", exists: broker.Whole}.reading(t, one)
+	if all, err := r.CompareAtEnd(context.Background(), usable{is: false}); err != nil || len(all) != 1 {
 		t.Errorf("a resource that can't be used: got %v %v, want 1", all, err)
 	}
 }
@@ -282,12 +282,12 @@ func TestInstances(t *testing.T) {
 // Only the records count that were in the state all the time.
 func TestCompared(t *testing.T) {
 	for state, wanted := range map[platform.State]int{Ready: 1, Gone: 0} {
-		s := readyBinding.sight(t, bound)
-		if of, instances := s.SteadyKeys(state, true), s.SteadyKeys(state, false); len(of) != wanted || len(instances) != wanted {
+		r := readyBinding.reading(t, bound)
+		if of, instances := r.SteadyKeys(state, true), r.SteadyKeys(state, false); len(of) != wanted || len(instances) != wanted {
 			t.Errorf("%s: got %v and %v, want %d of each", state, of, instances, wanted)
 		}
 	}
-	if of := readyBinding.with(func(s *scene) { s.moves = true }).sight(t, bound).SteadyKeys(Ready, true); len(of) != 0 {
+	if of := readyBinding.with(func(s *scene) { s.moves = true }).reading(t, bound).SteadyKeys(Ready, true); len(of) != 0 {
 		t.Errorf("one that changes: got %v, want none", of)
 	}
 }
@@ -314,14 +314,14 @@ func TestFolders(t *testing.T) {
 	write(t, filepath.Join(top, bindings, partPrefix+guid(1)+"-"+guid(6)), "{")
 	write(t, filepath.Join(top, bindings, "other"), token)
 	whole := Key{Instance: guid(1), Binding: guid(5)}
-	wanted := There{Of: map[Key]Existence{
-		{Instance: guid(1)}: Whole, {Instance: guid(2)}: Part, {Instance: guid(3)}: Whole, whole: Whole,
-		{Instance: guid(1), Binding: guid(6)}: Part,
+	wanted := Stock{Of: map[Key]broker.There{
+		{Instance: guid(1)}: broker.Whole, {Instance: guid(2)}: broker.Part, {Instance: guid(3)}: broker.Whole, whole: broker.Whole,
+		{Instance: guid(1), Binding: guid(6)}: broker.Part,
 	}, Credentials: map[Key]json.RawMessage{whole: json.RawMessage(token)}}
-	there := diff.Value((Folders{top}).Look(background, every))(t)
-	diff.Check(t, there, wanted, "what exists")
-	if there, err := (Folders{top + "/none"}).Look(background, every); err != nil || len(there.Of) > 0 {
-		t.Errorf("got the error %v and %v, want nothing", err, there)
+	stock := diff.Value((Folders{top}).Look(background, every))(t)
+	diff.Check(t, stock, wanted, "what exists")
+	if stock, err := (Folders{top + "/none"}).Look(background, every); err != nil || len(stock.Of) > 0 {
+		t.Errorf("got the error %v and %v, want nothing", err, stock)
 	}
 }
 
@@ -420,9 +420,9 @@ func TestDatabases(t *testing.T) {
 	binding := diff.Value(BrokerKey(bound))(t)
 	name, role, password := postgres.NameOf(instance), postgres.NameOf(binding), postgres.PasswordOf(secret, instance)
 	ours := func(id string) bool { return id == one.Instance }
-	look := func() map[Key]Existence {
-		there := diff.Value(d.Look(background, ours))(t)
-		return there.Of
+	look := func() map[Key]broker.There {
+		stock := diff.Value(d.Look(background, ours))(t)
+		return stock.Of
 	}
 	given := func(change func(map[string]any)) json.RawMessage {
 		all := map[string]any{
@@ -443,13 +443,13 @@ func TestDatabases(t *testing.T) {
 		t.Error("before: got something that exists, want nothing")
 	}
 	pgtest.Exec(t, db, "CREATE ROLE "+name+" LOGIN PASSWORD '"+password+"'")
-	if fmt.Sprint(look()) != fmt.Sprint(map[Key]Existence{one: Part}) {
+	if fmt.Sprint(look()) != fmt.Sprint(map[Key]broker.There{one: broker.Part}) {
 		t.Errorf("a role alone: got %v, want a part", look())
 	}
 	pgtest.Exec(t, db, "CREATE DATABASE "+name+" OWNER "+name, "CREATE ROLE "+role+" LOGIN PASSWORD 'secret'")
-	diff.Check(t, look(), map[Key]Existence{one: Whole, bound: Whole}, "the instance and the binding")
-	if there, err := d.Look(background, func(string) bool { return false }); err != nil || len(there.Of) > 0 {
-		t.Errorf("somebody else's: got %v %v, want none", there, err)
+	diff.Check(t, look(), map[Key]broker.There{one: broker.Whole, bound: broker.Whole}, "the instance and the binding")
+	if stock, err := d.Look(background, func(string) bool { return false }); err != nil || len(stock.Of) > 0 {
+		t.Errorf("somebody else's: got %v %v, want none", stock, err)
 	}
 	if is, err := d.IsUsable(background, one, Record{}); err != nil || !is {
 		t.Errorf("IsUsable: got false (%v), want true", err)
@@ -471,7 +471,7 @@ func TestDatabases(t *testing.T) {
 	_, err := d.Works(background, bound, given(func(all map[string]any) { all["port"] = 1 }))
 	diff.Error(t, err, "a server that is away")
 	pgtest.Exec(t, db, "ALTER ROLE "+role+" NOLOGIN", "ALTER ROLE "+name+" PASSWORD 'other'")
-	if is, err := d.IsUsable(background, one, Record{}); works(same) || look()[bound] != Part || is || err != nil {
+	if is, err := d.IsUsable(background, one, Record{}); works(same) || look()[bound] != broker.Part || is || err != nil {
 		t.Errorf("without the right to log in: got %v %v, want a part that can't be used", look(), err)
 	}
 	if err := d.Clear(background, ours); err != nil || len(look()) > 0 {
