@@ -103,7 +103,7 @@ func (s *brokerSettings) open(running context.Context, stderr io.Writer) (opened
 	if err := s.fill(&s.config.Config); err != nil {
 		return opened, err
 	}
-	of, err := run.New(s.config)
+	of, err := run.NewBroker(s.config)
 	if err != nil {
 		return opened, err
 	}

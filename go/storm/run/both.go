@@ -100,8 +100,8 @@ func (c BothConfig) time() time.Duration {
 	return longest
 }
 
-// A Both drives osb-broker and osb-platform through faults, kills and pauses. Use one goroutine.
-type Both struct {
+// A BothStorm drives osb-broker and osb-platform through faults, kills and pauses. Use one goroutine.
+type BothStorm struct {
 	config           BothConfig
 	folder           string
 	addresses        []*url.URL // of the brokers
@@ -122,15 +122,15 @@ type Both struct {
 	ids              *conform.Runner
 }
 
-// NewBoth returns a Both that runs in a new folder. Close deletes the folder.
+// NewBoth returns a BothStorm that runs in a new folder. Close deletes the folder.
 //
 // Errors: a limit isn't above 0; a program can't be run; those of the folder and of the platform's store.
-func NewBoth(ctx context.Context, config BothConfig) (*Both, error) {
+func NewBoth(ctx context.Context, config BothConfig) (*BothStorm, error) {
 	config.Unruly = config.Unruly || isRule(config.Without) && !config.Calm
 	if err := config.check(); err != nil {
 		return nil, err
 	}
-	b := &Both{config: config, journal: fault.NewJournal(), password: config.password}
+	b := &BothStorm{config: config, journal: fault.NewJournal(), password: config.password}
 	if b.password == "" {
 		password := make([]byte, 16)
 		if _, err := rand.Read(password); err != nil {
@@ -145,7 +145,7 @@ func NewBoth(ctx context.Context, config BothConfig) (*Both, error) {
 }
 
 // open makes the folder and the storage, chooses the addresses and the faults, and prepares the programs.
-func (b *Both) open(ctx context.Context) (err error) {
+func (b *BothStorm) open(ctx context.Context) (err error) {
 	if b.folder, err = os.MkdirTemp(b.config.Folder, "osb-storm-"); err != nil {
 		return err
 	}
@@ -193,7 +193,7 @@ func freeAddresses(count int) (all []*url.URL, err error) {
 }
 
 // openProxy starts the proxy, and HAProxy behind it.
-func (b *Both) openProxy(ctx context.Context) (err error) {
+func (b *BothStorm) openProxy(ctx context.Context) (err error) {
 	first, others := b.addresses[0], b.addresses[1:]
 	if b.config.HAProxy {
 		if first, err = b.startHAProxy(ctx); err != nil {
@@ -209,7 +209,7 @@ func (b *Both) openProxy(ctx context.Context) (err error) {
 }
 
 // writeFiles writes what the programs read: a key, the password and the catalogue.
-func (b *Both) writeFiles(ctx context.Context) error {
+func (b *BothStorm) writeFiles(ctx context.Context) error {
 	key, err := exec.CommandContext(ctx, b.config.Platform, "key").Output()
 	if err != nil {
 		return fmt.Errorf("%s key: %w", b.config.Platform, err)
@@ -225,7 +225,7 @@ func (b *Both) writeFiles(ctx context.Context) error {
 }
 
 // startHAProxy starts HAProxy in front of the brokers, and returns where it listens.
-func (b *Both) startHAProxy(ctx context.Context) (*url.URL, error) {
+func (b *BothStorm) startHAProxy(ctx context.Context) (*url.URL, error) {
 	entrances, err := freeAddresses(1)
 	if err != nil {
 		return nil, err
@@ -238,10 +238,10 @@ func (b *Both) startHAProxy(ctx context.Context) (*url.URL, error) {
 	return entrances[0], err
 }
 
-func (b *Both) file(name string) string { return filepath.Join(b.folder, name) }
+func (b *BothStorm) file(name string) string { return filepath.Join(b.folder, name) }
 
 // addPlatform adds the broker to the platform, opens the platform's store, and prepares to look at everything.
-func (b *Both) addPlatform(ctx context.Context) error {
+func (b *BothStorm) addPlatform(ctx context.Context) error {
 	journal, err := b.journalOptions("platform")
 	if err != nil {
 		return err
@@ -269,7 +269,7 @@ func (b *Both) addPlatform(ctx context.Context) error {
 }
 
 // look prepares to look at everything, and the client that keeps no rules.
-func (b *Both) look() {
+func (b *BothStorm) look() {
 	if b.config.Unruly {
 		b.unruly = &unruly{
 			url: b.proxy.URL(), password: b.password, records: b.commands.book.Records, held: b.storage.holdings.Read,
@@ -289,10 +289,10 @@ func (b *Both) look() {
 }
 
 // isOurs returns whether an instance that the platform doesn't have may be the storm's.
-func (b *Both) isOurs(instance string) bool { return strings.HasPrefix(instance, b.ids.Prefix()) }
+func (b *BothStorm) isOurs(instance string) bool { return strings.HasPrefix(instance, b.ids.Prefix()) }
 
 // foreign returns the bindings that somebody else than the platform has created.
-func (b *Both) foreign() map[Key]bool {
+func (b *BothStorm) foreign() map[Key]bool {
 	if b.unruly == nil {
 		return nil
 	}
@@ -300,7 +300,7 @@ func (b *Both) foreign() map[Key]bool {
 }
 
 // Close ends what runs, and deletes everything that the storm has created.
-func (b *Both) Close() error {
+func (b *BothStorm) Close() error {
 	together(b.programs(), (*victim).kill)
 	if b.proxy != nil {
 		b.proxy.Close()
@@ -328,12 +328,12 @@ func (b *Both) Close() error {
 }
 
 // platformLine is the program osb-platform with the options of its store.
-func (b *Both) platformLine() []string {
+func (b *BothStorm) platformLine() []string {
 	return []string{b.config.Platform, "--store", b.storage.storeName, "--key-file", b.file("key")}
 }
 
 // tries is how many ids the order of an instance, or of a binding of it, may use up: one, or three.
-func (b *Both) tries(key Key) int {
+func (b *BothStorm) tries(key Key) int {
 	subject, _ := b.keys.Subject(key.Instance, "")
 	return 1 + 2*(subject.Instance/len(plans)%2)
 }
@@ -341,13 +341,13 @@ func (b *Both) tries(key Key) int {
 // plans are those of the instances of a storm.
 var plans = []string{goods.AtOnce, goods.Later, goods.LaterWithBinds, goods.OnlyBindsLater}
 
-func (b *Both) plan(key Key) string {
+func (b *BothStorm) plan(key Key) string {
 	subject, _ := b.keys.Subject(key.Instance, "")
 	return plans[subject.Instance%len(plans)]
 }
 
 // prepare says how both programs are started.
-func (b *Both) prepare() error {
+func (b *BothStorm) prepare() error {
 	for number, address := range b.addresses {
 		words := []string{
 			b.config.Broker, "serve", "--listen", address.Host, "--catalog", b.file("catalogue.json"), "--sweep-seconds", "0.5",
@@ -383,7 +383,7 @@ func (b *Both) prepare() error {
 }
 
 // journalOptions returns the options with which a side writes its journal, and makes the folder of the journal.
-func (b *Both) journalOptions(side string) ([]string, error) {
+func (b *BothStorm) journalOptions(side string) ([]string, error) {
 	if b.config.Journal == "" {
 		return nil, nil
 	}
@@ -400,7 +400,7 @@ func programNumber(at, count int) int {
 }
 
 // share gives each of some programs its share of the crash points to visit.
-func (b *Both) share(among []*victim, points []string) {
+func (b *BothStorm) share(among []*victim, points []string) {
 	chance := fault.Chance(b.config.Seed, "points", among[0].name)
 	for at, point := range shuffle(chance, points) {
 		to := among[at%len(among)]
@@ -408,10 +408,12 @@ func (b *Both) share(among []*victim, points []string) {
 	}
 }
 
-func (b *Both) programs() []*victim { return append(append([]*victim{}, b.brokers...), b.workers...) }
+func (b *BothStorm) programs() []*victim {
+	return append(append([]*victim{}, b.brokers...), b.workers...)
+}
 
 // victim returns a program that is to be killed. With PostgreSQL, its store may be away.
-func (b *Both) victim(name string, number int, line []string, environment ...string) (*victim, error) {
+func (b *BothStorm) victim(name string, number int, line []string, environment ...string) (*victim, error) {
 	journal, err := b.journalOptions(name)
 	if err != nil {
 		return nil, err
@@ -458,7 +460,7 @@ func together[T any](all []T, call func(T)) {
 
 // checkPoints returns an error if crash points are to be visited, and a program was built without them. A program with
 // crash points doesn't start if it is to be killed at one that it doesn't have.
-func (b *Both) checkPoints(ctx context.Context) error {
+func (b *BothStorm) checkPoints(ctx context.Context) error {
 	if b.config.CrashPoints == "" {
 		return nil
 	}

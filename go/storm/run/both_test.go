@@ -41,8 +41,8 @@ func fakes(t *testing.T) BothConfig {
 	}
 }
 
-// openFakes returns a Both of such programs, which ends with the test.
-func openFakes(t *testing.T, change func(*BothConfig)) *Both {
+// openFakes returns a BothStorm of such programs, which ends with the test.
+func openFakes(t *testing.T, change func(*BothConfig)) *BothStorm {
 	t.Helper()
 	config := fakes(t)
 	change(&config)
@@ -140,7 +140,7 @@ func TestSubjectOrNew(t *testing.T) {
 
 // The rounds of a storm have other instances.
 func TestRounds(t *testing.T) {
-	b := &Both{config: BothConfig{Instances: 20, Config: Config{Time: time.Second}}}
+	b := &BothStorm{config: BothConfig{Instances: 20, Config: Config{Time: time.Second}}}
 	seen := map[int]bool{}
 	for round := 0; round < 3; round++ {
 		for _, life := range b.lives(round) {

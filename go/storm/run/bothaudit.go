@@ -220,7 +220,7 @@ type Programs struct {
 	Odd            []string       `json:"odd"`               // ends that nobody had a hand in, and errors that a program didn't expect
 }
 
-func (b *Both) newReport() *Report {
+func (b *BothStorm) newReport() *Report {
 	report := NewReport(b.proxy.URL(), b.config.Seed, "platform", b.password)
 	report.Prefix, report.Service, report.Plan = b.ids.Prefix(), "osb-storm", "all plans"
 	report.Inventory = b.config.describe()
@@ -233,7 +233,7 @@ func (b *Both) newReport() *Report {
 }
 
 // add adds what the storm has done to the programs.
-func (b *Both) add(report *Report, found *Result) {
+func (b *BothStorm) add(report *Report, found *Result) {
 	p, hide := report.Programs, report.hider(found)
 	for _, test := range []struct {
 		of            []*victim

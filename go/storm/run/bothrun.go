@@ -18,7 +18,7 @@ import (
 // Run runs the storm, and returns what was lost. If ctx is done, it ends at once.
 //
 // Errors: a program can't be started, or, if crash points are to be visited, was built without them.
-func (b *Both) Run(ctx context.Context) (*Report, error) {
+func (b *BothStorm) Run(ctx context.Context) (*Report, error) {
 	into := b.newReport()
 	once := func(ctx context.Context, of *Candidate) (*Result, error) {
 		if of == nil {
@@ -34,7 +34,7 @@ func (b *Both) Run(ctx context.Context) (*Report, error) {
 	return into, err
 }
 
-func (b *Both) once(ctx context.Context) (*Result, error) {
+func (b *BothStorm) once(ctx context.Context) (*Result, error) {
 	if err := b.begin(ctx); err != nil {
 		return &Result{Keys: b.keys}, err
 	}
@@ -47,7 +47,7 @@ func (b *Both) once(ctx context.Context) (*Result, error) {
 }
 
 // again is a further run, which is calm, with the faults of a candidate.
-func (b *Both) again(ctx context.Context, of Candidate) (*Result, error) {
+func (b *BothStorm) again(ctx context.Context, of Candidate) (*Result, error) {
 	config := b.config
 	config.Calm, config.CrashPoints, config.Unruly, config.password = true, "", false, b.password
 	config.List, config.only = append([]fault.Entry{}, of.List...), of.Only
@@ -60,7 +60,7 @@ func (b *Both) again(ctx context.Context, of Candidate) (*Result, error) {
 }
 
 // begin starts the brokers and a worker once without faults, until the platform has the catalogue.
-func (b *Both) begin(ctx context.Context) error {
+func (b *BothStorm) begin(ctx context.Context) error {
 	if err := Either(b.checkPoints(ctx), b.checkTag(ctx)); err != nil {
 		return err
 	}
@@ -88,7 +88,7 @@ func (b *Both) begin(ctx context.Context) error {
 }
 
 // lives are those of a round, with numbers of their own. If only some instances are lived, all begin at once.
-func (b *Both) lives(round int) (all []life) {
+func (b *BothStorm) lives(round int) (all []life) {
 	if b.config.only == nil {
 		return b.livesOf(round, nil)
 	}
@@ -109,7 +109,7 @@ func (b *Both) lives(round int) (all []life) {
 }
 
 // livesOf are those of a round. If only isn't nil, they are those of these instances, by their numbers in the round.
-func (b *Both) livesOf(round int, only map[int]bool) []life {
+func (b *BothStorm) livesOf(round int, only map[int]bool) []life {
 	all := lives(b.config.Seed+int64(round), b.config.Instances, b.config.Time, true, only)
 	for at := range all {
 		all[at].number += round * b.config.Instances
@@ -117,7 +117,7 @@ func (b *Both) livesOf(round int, only map[int]bool) []life {
 	return all
 }
 
-func (b *Both) remainingPoints() (points []string) {
+func (b *BothStorm) remainingPoints() (points []string) {
 	for _, program := range b.programs() {
 		points = append(points, program.counts().remainingPoints()...)
 	}
@@ -129,7 +129,7 @@ func (b *Both) remainingPoints() (points []string) {
 }
 
 // course lets the lives and the kills go on, waits until everything has converged, and compares at the end.
-func (b *Both) course(ctx context.Context) *Result {
+func (b *BothStorm) course(ctx context.Context) *Result {
 	endUnruly := b.runUnruly(ctx)
 	troubles := b.trouble(ctx)
 	begun := b.journal.Now()
@@ -161,7 +161,7 @@ func (b *Both) course(ctx context.Context) *Result {
 }
 
 // runUnruly starts the client that keeps no rules, if there is one, and returns what ends it.
-func (b *Both) runUnruly(ctx context.Context) (end func()) {
+func (b *BothStorm) runUnruly(ctx context.Context) (end func()) {
 	if b.unruly == nil {
 		return func() {}
 	}
@@ -178,7 +178,7 @@ func (b *Both) runUnruly(ctx context.Context) (end func()) {
 }
 
 // compare compares everything at the end, unless ctx is done: then only what was found before counts.
-func (b *Both) compare(ctx context.Context, found *Result) {
+func (b *BothStorm) compare(ctx context.Context, found *Result) {
 	isWhole := ctx.Err() == nil
 	ctx = context.Background()
 	if isWhole {
@@ -207,7 +207,7 @@ func (b *Both) compare(ctx context.Context, found *Result) {
 }
 
 // comparePrinted compares what osb-platform prints with its records.
-func (b *Both) comparePrinted(ctx context.Context, records map[Key]Record) {
+func (b *BothStorm) comparePrinted(ctx context.Context, records map[Key]Record) {
 	listed, err := b.commands.ListStates(ctx)
 	if err != nil {
 		b.commands.note(err.Error())
@@ -239,7 +239,7 @@ type troubles struct {
 	group  sync.WaitGroup
 }
 
-func (b *Both) trouble(ctx context.Context) *troubles {
+func (b *BothStorm) trouble(ctx context.Context) *troubles {
 	ctx, cancel := context.WithCancel(ctx)
 	t := &troubles{cancel: cancel}
 	calls := []func(context.Context){b.keyring.run}
@@ -271,7 +271,7 @@ func (b *Both) trouble(ctx context.Context) *troubles {
 }
 
 // calm ends the troubles, and starts all programs for the last time, unless ctx is done.
-func (b *Both) calm(ctx context.Context, t *troubles) {
+func (b *BothStorm) calm(ctx context.Context, t *troubles) {
 	t.cancel()
 	t.group.Wait()
 	b.commands.kill(false)
@@ -291,7 +291,7 @@ func (b *Both) calm(ctx context.Context, t *troubles) {
 }
 
 // endSessions ends a session with PostgreSQL every few seconds.
-func (b *Both) endSessions(ctx context.Context) {
+func (b *BothStorm) endSessions(ctx context.Context) {
 	chance := fault.Chance(b.config.Seed, "sessions")
 	for fault.Sleep(ctx, between(chance, 500*time.Millisecond, 3*time.Second)) {
 		if isEnded, err := b.storage.database.EndSession(ctx); err == nil && isEnded {
@@ -306,7 +306,7 @@ func between(chance *rand.Rand, least, most time.Duration) time.Duration {
 
 // strike kills PostgreSQL as often as the configuration says, and starts it again after some seconds. It pauses it as
 // often, for longer than a request lasts.
-func (b *Both) strike(ctx context.Context) {
+func (b *BothStorm) strike(ctx context.Context) {
 	begun, chance, count := time.Now(), fault.Chance(b.config.Seed, "database"), b.config.KillDatabase
 	at := func(number int, least, most float64) time.Duration {
 		share := (float64(number) + least + chance.Float64()*(most-least)) / float64(count)
@@ -345,7 +345,7 @@ var (
 	isAbandoned = map[platform.State]float64{platform.Cleaning: 0.005, platform.CleaningPolling: 0.005}
 )
 
-func (b *Both) meddle(ctx context.Context) {
+func (b *BothStorm) meddle(ctx context.Context) {
 	chance := fault.Chance(b.config.Seed, "operator")
 	for fault.Sleep(ctx, meddleEach) {
 		records, err := b.commands.Records(ctx)
@@ -360,7 +360,7 @@ func (b *Both) meddle(ctx context.Context) {
 }
 
 // bindOne now and then creates a binding of an instance that is ready: half as many as there are instances.
-func (b *Both) bindOne(ctx context.Context, chance *rand.Rand, records map[Key]Record) {
+func (b *BothStorm) bindOne(ctx context.Context, chance *rand.Rand, records map[Key]Record) {
 	if chance.Float64() > float64(b.config.Instances)/2*float64(meddleEach)/float64(b.config.Time) {
 		return
 	}
@@ -380,7 +380,7 @@ func (b *Both) bindOne(ctx context.Context, chance *rand.Rand, records map[Key]R
 
 // meddleWith does one of these things with a record, or nothing. One instance in eight stays, so that some are left at
 // the end.
-func (b *Both) meddleWith(ctx context.Context, chance *rand.Rand, key Key, record Record) {
+func (b *BothStorm) meddleWith(ctx context.Context, chance *rand.Rand, key Key, record Record) {
 	do := func(what string, call func() error) {
 		operator := &operator{events: b.events}
 		operator.do(ctx, key, what, call)
@@ -402,7 +402,7 @@ func (b *Both) meddleWith(ctx context.Context, chance *rand.Rand, key Key, recor
 const leastCompared = 20
 
 // omissions returns what has to happen in every storm that isn't calm, and hasn't yet, or too seldom.
-func (b *Both) omissions() (all []string) {
+func (b *BothStorm) omissions() (all []string) {
 	if b.config.Calm {
 		return nil
 	}
@@ -434,7 +434,7 @@ func (b *Both) omissions() (all []string) {
 	return all
 }
 
-func (b *Both) unmetFaults() (all []string) {
+func (b *BothStorm) unmetFaults() (all []string) {
 	if b.config.List != nil || b.config.Share == 0 {
 		return nil
 	}

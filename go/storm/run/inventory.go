@@ -107,7 +107,7 @@ const (
 
 // tryLists runs the commands that list what exists, while these keys exist. It returns what is wrong with them. If
 // running is done, nobody knows.
-func (s *Storm) tryLists(running, ctx context.Context, keys []Key) error {
+func (s *BrokerStorm) tryLists(running, ctx context.Context, keys []Key) error {
 	if !s.isListed {
 		return nil
 	}

@@ -172,7 +172,7 @@ var ErrTrial = errors.New("the broker can't create and delete an instance withou
 // try creates an instance and deletes it, without faults. It learns what the broker answers about an instance that
 // exists, and about one that was deleted, and whether a repeated deletion is answered with 410. While the instance
 // exists, the commands must list it.
-func (s *Storm) try(running, ctx context.Context) error {
+func (s *BrokerStorm) try(running, ctx context.Context) error {
 	keys, remove, problem := s.trial(ctx)
 	if problem != "" {
 		return fmt.Errorf("%w: %s", ErrTrial, problem)
@@ -205,7 +205,7 @@ func (s *Storm) try(running, ctx context.Context) error {
 // trial creates an instance, and a binding of it if bindings are listed and the broker creates one. It returns their
 // keys, what begins their deletion and ends the trial, and what is wrong, or "". With a journal, the platform creates
 // and deletes them, so that its journal has that.
-func (s *Storm) trial(ctx context.Context) (keys []Key, remove func() string, problem string) {
+func (s *BrokerStorm) trial(ctx context.Context) (keys []Key, remove func() string, problem string) {
 	if s.journals != nil {
 		return s.trialByPlatform(ctx)
 	}
@@ -224,12 +224,12 @@ func (s *Storm) trial(ctx context.Context) (keys []Key, remove func() string, pr
 }
 
 // listsBindings returns whether there is a command that lists bindings, and a plan that has some.
-func (s *Storm) listsBindings() bool {
+func (s *BrokerStorm) listsBindings() bool {
 	return s.config.Commands.ListBindings != "" && s.target.Bindable && s.target.HasCatalogue
 }
 
 // ends waits for the end of a creation, and returns what is wrong with it, or "".
-func (s *Storm) ends(ctx context.Context, key Key, answer conform.Answer) string {
+func (s *BrokerStorm) ends(ctx context.Context, key Key, answer conform.Answer) string {
 	switch answer.Status {
 	case http.StatusOK, http.StatusCreated:
 		return ""
@@ -240,7 +240,7 @@ func (s *Storm) ends(ctx context.Context, key Key, answer conform.Answer) string
 }
 
 // trialByPlatform is trial by the platform of a run without faults.
-func (s *Storm) trialByPlatform(ctx context.Context) (keys []Key, remove func() string, problem string) {
+func (s *BrokerStorm) trialByPlatform(ctx context.Context) (keys []Key, remove func() string, problem string) {
 	folder, err := os.MkdirTemp(s.config.Folder, "osb-storm-")
 	if err != nil {
 		return nil, nil, err.Error()
@@ -279,7 +279,7 @@ func (s *Storm) trialByPlatform(ctx context.Context) (keys []Key, remove func() 
 }
 
 // bindByPlatform has the platform create a binding, and returns its key if the binding is ready.
-func (s *Storm) bindByPlatform(ctx context.Context, o *operator, of Key) []Key {
+func (s *BrokerStorm) bindByPlatform(ctx context.Context, o *operator, of Key) []Key {
 	key := o.keys.binding(of)
 	s.broker.Owe(conform.Debt{Instance: key.Instance, Binding: key.Binding})
 	binds := func() error { return o.orders.Bind(ctx, key) }
@@ -290,7 +290,7 @@ func (s *Storm) bindByPlatform(ctx context.Context, o *operator, of Key) []Key {
 }
 
 // await polls until a creation has ended, and returns what is wrong, or "".
-func (s *Storm) await(ctx context.Context, key Key, operation string) string {
+func (s *BrokerStorm) await(ctx context.Context, key Key, operation string) string {
 	ctx, cancel := context.WithTimeout(ctx, s.config.Broker.OperationTime)
 	defer cancel()
 	for {
@@ -312,7 +312,7 @@ func (s *Storm) await(ctx context.Context, key Key, operation string) string {
 }
 
 // deletionsOf asks for the deletion of each key, and returns what existed by the answers. Bindings come first.
-func (s *Storm) deletionsOf(ctx context.Context, keys []Key) map[Key]Existence {
+func (s *BrokerStorm) deletionsOf(ctx context.Context, keys []Key) map[Key]Existence {
 	found := map[Key]Existence{}
 	if !s.deletionsTell {
 		return found

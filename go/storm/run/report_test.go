@@ -509,7 +509,7 @@ func TestNoJournals(t *testing.T) {
 	config := configFor(t, url)
 	config.Journal = filepath.Join(t.TempDir(), "file")
 	check(t, os.WriteFile(config.Journal, nil, 0o600))
-	if _, err := New(config); err == nil {
+	if _, err := NewBroker(config); err == nil {
 		t.Error("a file: got no error, want that it is no folder")
 	}
 }

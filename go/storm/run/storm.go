@@ -25,8 +25,8 @@ import (
 	"pippinterm/storm/run/audit"
 )
 
-// A Storm drives a broker through faults. Use one goroutine.
-type Storm struct {
+// A BrokerStorm drives a broker through faults. Use one goroutine.
+type BrokerStorm struct {
 	config        BrokerConfig
 	address       *url.URL
 	broker        *conform.Runner // asks the broker itself, without faults
@@ -39,10 +39,10 @@ type Storm struct {
 	journals      *journals    // of the platform and of the requests that osb-storm sends itself, or nil
 }
 
-// New returns a Storm.
+// NewBroker returns a BrokerStorm.
 //
 // Errors: those of conform.New; a limit isn't above 0; options contradict each other; the journal can't be opened.
-func New(config BrokerConfig) (*Storm, error) {
+func NewBroker(config BrokerConfig) (*BrokerStorm, error) {
 	if err := config.check(); err != nil {
 		return nil, err
 	}
@@ -62,11 +62,11 @@ func New(config BrokerConfig) (*Storm, error) {
 		journals.close()
 		return nil, err
 	}
-	return &Storm{config: config, address: address, broker: broker, left: map[Key]bool{}, journals: journals}, nil
+	return &BrokerStorm{config: config, address: address, broker: broker, left: map[Key]bool{}, journals: journals}, nil
 }
 
-// Prefix returns the first eight characters of each id of an instance and a binding that the Storm creates.
-func (s *Storm) Prefix() string { return s.broker.Prefix() }
+// Prefix returns the first eight characters of each id of an instance and a binding that the storm creates.
+func (s *BrokerStorm) Prefix() string { return s.broker.Prefix() }
 
 // Run runs the storm, deletes what it has created, and returns what was lost. If MinimizeTime is above 0 and something
 // was lost, further runs shrink the list of faults. If running is done, no further request is sent with faults. If
@@ -74,7 +74,7 @@ func (s *Storm) Prefix() string { return s.broker.Prefix() }
 //
 // Errors: those of conform's Runner.Open; ErrTrial; ErrList; what the storm itself failed at. The Report is never nil,
 // and says what couldn't be deleted.
-func (s *Storm) Run(running, deleting context.Context) (into *Report, err error) {
+func (s *BrokerStorm) Run(running, deleting context.Context) (into *Report, err error) {
 	into = NewReport(s.config.Broker.URL, s.config.Seed, s.config.Broker.User, s.config.Broker.Password)
 	into.Prefix = s.Prefix()
 	hide := conform.NewHider(s.config.Broker.User, s.config.Broker.Password)
@@ -113,7 +113,7 @@ func (s *Storm) Run(running, deleting context.Context) (into *Report, err error)
 }
 
 // open reads the catalogue, and prepares to ask what exists.
-func (s *Storm) open(ctx context.Context, report *Report) error {
+func (s *BrokerStorm) open(ctx context.Context, report *Report) error {
 	target, err := s.broker.Open(ctx)
 	if err != nil {
 		return err
@@ -150,7 +150,7 @@ func catalogueOf(target conform.Target) []byte {
 	return text
 }
 
-func (s *Storm) describe() string {
+func (s *BrokerStorm) describe() string {
 	if s.isListed {
 		return ByListCommand
 	}
@@ -160,14 +160,14 @@ func (s *Storm) describe() string {
 // ByListCommand is how osb-storm finds out what exists if there is a command for it.
 const ByListCommand = "the list command was run"
 
-func (s *Storm) deletion() url.Values {
+func (s *BrokerStorm) deletion() url.Values {
 	names := s.standard.names()
 	names.Set("accepts_incomplete", "true")
 	return names
 }
 
 // once is one run. If only isn't nil, only these instances are created.
-func (s *Storm) once(running, deleting context.Context, source *fault.Source, only map[int]bool) (*Result, error) {
+func (s *BrokerStorm) once(running, deleting context.Context, source *fault.Source, only map[int]bool) (*Result, error) {
 	folder, err := os.MkdirTemp(s.config.Folder, "osb-storm-")
 	if err != nil {
 		return &Result{Keys: newKeys(nil)}, err
@@ -194,7 +194,7 @@ func (s *Storm) once(running, deleting context.Context, source *fault.Source, on
 
 // end returns the records of the end. With a journal, the platform then deletes everything that they name: nobody
 // else's deletion is in the journal of a platform.
-func (s *Storm) end(deleting context.Context, r *running, found *Result) map[Key]Record {
+func (s *BrokerStorm) end(deleting context.Context, r *brokerRun, found *Result) map[Key]Record {
 	records, err := r.platform.Records(context.Background())
 	if err != nil {
 		return nil // the comparison has failed, too
@@ -209,7 +209,7 @@ func (s *Storm) end(deleting context.Context, r *running, found *Result) map[Key
 
 // byDeletion asks for the deletion of what nobody could ask for, and returns what the answers show. records and last
 // are those of the end. Since begun, the platform may have deleted it.
-func (s *Storm) byDeletion(
+func (s *BrokerStorm) byDeletion(
 	ctx context.Context, records map[Key]Record, last Sight, begun time.Duration, found *Result,
 ) []Difference {
 	if ctx.Err() != nil {
@@ -261,7 +261,7 @@ func hasCreation(exchanges []fault.Exchange, key Key) bool {
 	return false
 }
 
-// A BrokerConfig says which broker a Storm is about, and within which limits. Folder is that of the platform's store.
+// A BrokerConfig says which broker a BrokerStorm is about, and within which limits. Folder is that of the platform's store.
 type BrokerConfig struct {
 	Config
 	Broker      conform.Config // Instances is how many instances a run may create. Pause is the time between two polls
@@ -294,8 +294,8 @@ func (c BrokerConfig) check() error {
 	return Either(c.Commands.Lists.Check(), c.Config.Check(noRestart, c.CleanUpTime))
 }
 
-type running struct {
-	*Storm
+type brokerRun struct {
+	*BrokerStorm
 	journal  *fault.Journal
 	source   *fault.Source
 	keys     *Keys
@@ -315,8 +315,8 @@ const readEach = 50 * time.Millisecond
 // lookEach is how often the records are compared with what exists while the storm goes on.
 const lookEach = 500 * time.Millisecond
 
-func (s *Storm) startRun(ctx, deleting context.Context, folder string, source *fault.Source) (*running, error) {
-	r := &running{Storm: s, journal: fault.NewJournal(), source: source, keys: newKeys(s.broker.NewID)}
+func (s *BrokerStorm) startRun(ctx, deleting context.Context, folder string, source *fault.Source) (*brokerRun, error) {
+	r := &brokerRun{BrokerStorm: s, journal: fault.NewJournal(), source: source, keys: newKeys(s.broker.NewID)}
 	r.events = &events{now: r.journal.Now, keyOf: keyOf}
 	restart := s.config.Commands.restart(s.address)
 	if restart != nil {
@@ -348,7 +348,7 @@ func (s *Storm) startRun(ctx, deleting context.Context, folder string, source *f
 
 // noting notes each restart. A restart goes on although the proxy is closed: the broker has to be there for the
 // deletions.
-func (r *running) noting(
+func (r *brokerRun) noting(
 	running, deleting context.Context, restart func(context.Context) error,
 ) func(context.Context) error {
 	return func(context.Context) error {
@@ -361,7 +361,7 @@ func (r *running) noting(
 	}
 }
 
-func (r *running) fail(what string) {
+func (r *brokerRun) fail(what string) {
 	r.mutex.Lock()
 	defer r.mutex.Unlock()
 	r.failed = append(r.failed, what)
@@ -369,7 +369,7 @@ func (r *running) fail(what string) {
 
 // storm lives all lives, ends the faults, waits until everything has converged, and compares. If ctx is done, it
 // doesn't wait. If deleting is done, it doesn't ask what exists.
-func (r *running) storm(ctx, deleting context.Context, only map[int]bool) *Result {
+func (r *brokerRun) storm(ctx, deleting context.Context, only map[int]bool) *Result {
 	found := &Result{Keys: r.keys}
 	course := &course{
 		orders: r.platform, keys: r.keys, events: r.events, look: r.watch.look, source: r.source, now: r.journal.Now,
@@ -397,7 +397,7 @@ func (r *running) storm(ctx, deleting context.Context, only map[int]bool) *Resul
 
 // clear has the platform delete everything that these records name. It waits until that is done, for at most the time
 // to converge.
-func (r *running) clear(ctx context.Context, records map[Key]Record) error {
+func (r *brokerRun) clear(ctx context.Context, records map[Key]Record) error {
 	within, cancel := context.WithTimeout(ctx, r.config.SettleTime)
 	defer cancel()
 	r.events.add(Key{}, "osb-storm", "has the platform delete everything")
@@ -413,7 +413,7 @@ func (r *running) clear(ctx context.Context, records map[Key]Record) error {
 }
 
 // isQuiet returns whether no request is on its way to the broker.
-func (r *running) isQuiet() bool { return r.proxy.Pending() == 0 }
+func (r *brokerRun) isQuiet() bool { return r.proxy.Pending() == 0 }
 
 // A course is how a run goes: the lives, the end of the faults, and the time until everything has converged.
 type course struct {
@@ -517,7 +517,7 @@ func lives(seed int64, count int, within time.Duration, isBindable bool, only ma
 
 // deleteAll deletes everything that a run may have created, and returns what couldn't be deleted, except what an
 // earlier run has returned.
-func (s *Storm) deleteAll(running, deleting context.Context, found *Result) []conform.Leftover {
+func (s *BrokerStorm) deleteAll(running, deleting context.Context, found *Result) []conform.Leftover {
 	for _, key := range found.Keys.inOrder() {
 		if it, isOwed := debtOf(key, found, s.config.Broker.RequestTime); isOwed {
 			s.broker.Owe(it)
@@ -537,7 +537,7 @@ func (s *Storm) deleteAll(running, deleting context.Context, found *Result) []co
 	return news
 }
 
-func (s *Storm) cleanUp(ctx context.Context) []conform.Leftover {
+func (s *BrokerStorm) cleanUp(ctx context.Context) []conform.Leftover {
 	within, cancel := context.WithTimeout(ctx, s.config.CleanUpTime)
 	defer cancel()
 	return s.broker.CleanUp(within)
@@ -566,7 +566,7 @@ func isRejection(d fault.Delivery) bool {
 }
 
 // stillListed returns what the list command prints after the deletions, besides what is known to be left.
-func (s *Storm) stillListed(ctx context.Context, known []conform.Leftover) (left []conform.Leftover) {
+func (s *BrokerStorm) stillListed(ctx context.Context, known []conform.Leftover) (left []conform.Leftover) {
 	if !s.isListed || ctx.Err() != nil {
 		return nil
 	}

@@ -35,9 +35,9 @@ func configFor(t *testing.T, url string) BrokerConfig {
 	}
 }
 
-func opened(t *testing.T, config BrokerConfig) *Storm {
+func opened(t *testing.T, config BrokerConfig) *BrokerStorm {
 	t.Helper()
-	storm := diff.Value(New(config))(t)
+	storm := diff.Value(NewBroker(config))(t)
 	return storm
 }
 
@@ -341,7 +341,7 @@ func TestConfigRejected(t *testing.T) {
 		t.Run(name, func(t *testing.T) {
 			config := configFor(t, "http://127.0.0.1:1")
 			change(&config)
-			_, err := New(config)
+			_, err := NewBroker(config)
 			diff.Error(t, err, "%s", name)
 		})
 	}

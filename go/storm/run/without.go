@@ -80,7 +80,7 @@ func (c BothConfig) share() float64 {
 
 // isKilled returns whether a program is killed again and again: none is in a calm storm. A platform without attempts
 // isn't: one that is killed hears no late answer.
-func (b *Both) isKilled(v *victim) bool {
+func (b *BothStorm) isKilled(v *victim) bool {
 	return !b.config.Calm && (b.config.Without != withoutAttempts || v.name != whoPlatform)
 }
 
@@ -98,7 +98,7 @@ func (c BothConfig) withoutOf(program string) []string {
 
 // checkTag returns an error if a part is to be taken out, and a program was built without the tag storm. A program with
 // the tag doesn't start without a part that it doesn't have.
-func (b *Both) checkTag(ctx context.Context) error {
+func (b *BothStorm) checkTag(ctx context.Context) error {
 	for _, program := range []*victim{b.brokers[0], b.workers[0]} {
 		if len(b.config.withoutOf(program.name)) == 0 {
 			continue
@@ -112,7 +112,7 @@ func (b *Both) checkTag(ctx context.Context) error {
 }
 
 // probe starts a program with something at which it ends if it was built with a tag, and otherwise returns an error.
-func (b *Both) probe(ctx context.Context, of *victim, environment []string, point, tag string) error {
+func (b *BothStorm) probe(ctx context.Context, of *victim, environment []string, point, tag string) error {
 	probe := &victim{process: of.process, chance: of.chance, events: of.events, times: of.times}
 	probe.environment = environment
 	if !probe.start(point) {
