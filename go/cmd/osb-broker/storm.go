@@ -15,11 +15,11 @@ import (
 // part of the design that OSB_WITHOUT names.
 func (p *parts) forStorm(ctx context.Context, s *settings) (err error) {
 	if of, ok := p.backend.(*folders.Folders); ok {
-		if p.backend, err = without.Slow(of, s.state); err != nil {
+		if p.backend, err = without.SlowFolders(of, s.state); err != nil {
 			return cli.Unusable(err)
 		}
 	}
-	store, locks, err := without.Without(ctx, os.Getenv("OSB_WITHOUT"), p.store, p.locks)
+	store, locks, err := without.StoreAndLocks(ctx, os.Getenv("OSB_WITHOUT"), p.store, p.locks)
 	if err != nil {
 		return cli.Unusable(err)
 	}

@@ -15,7 +15,7 @@ import (
 // storeForStorm returns the store of the engine: one of a platform as platforms are usually written if OSB_WITHOUT says so.
 func storeForStorm(store platform.Store) platform.Store {
 	if os.Getenv("OSB_WITHOUT") == "platform" {
-		return without.Forgetful(store)
+		return without.ForgetfulStore(store)
 	}
 	return store
 }
@@ -36,7 +36,7 @@ func forStorm(
 	case "", "platform": // of which storeForStorm takes care
 		return with, options, nil
 	case "attempts":
-		return without.WithoutAttempts(with, store), options, nil
+		return without.ClientWithoutAttempts(with, store), options, nil
 	default:
 		return nil, options, cli.Unusable(fmt.Errorf("storm: a platform can't run without %q", part))
 	}

@@ -67,7 +67,7 @@ func (r *Runner) accessTo(k key, creates, polls, fetches string, isFetched bool)
 	r.accessToPolls(polls, k, x)
 	isThere := r.settle(k, x)
 	if isThere && isFetched {
-		r.askAnonymously(fetches, fetching(k, r.target.Pair))
+		r.askAnonymously(fetches, fetchOf(k, r.target.Pair))
 	}
 	return isThere
 }
@@ -169,10 +169,10 @@ func (r *Runner) judgeFirst(name string, any, first *exchange, problem string) {
 
 const wrongRetry = "Retry-After is no number of seconds and no date of HTTP"
 
-// A general keeps the first answers that break what counts for all of them, and the first ones that it counts for.
-type general struct{ any, noObject, noType, noStrings, retry, noRetry *exchange }
+// generalCases keeps the first answers that break what counts for all of them, and the first ones that it counts for.
+type generalCases struct{ any, noObject, noType, noStrings, retry, noRetry *exchange }
 
-func (g *general) judge(x *exchange) {
+func (g *generalCases) judge(x *exchange) {
 	if x.err != nil {
 		return
 	}

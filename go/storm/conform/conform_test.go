@@ -40,8 +40,8 @@ func runnerFor(t *testing.T, c Config) *Runner {
 	return r
 }
 
-// opened returns the target of a Runner that has read the catalogue.
-func opened(t *testing.T, r *Runner) Target {
+// openTarget returns the target of a Runner that has read the catalogue.
+func openTarget(t *testing.T, r *Runner) Target {
 	t.Helper()
 	target, err := r.Open(context.Background())
 	check(t, err)
@@ -60,8 +60,8 @@ func cleansUp(t *testing.T, r *Runner, m *model) {
 	t.Helper()
 	within, cancel := context.WithTimeout(context.Background(), time.Minute)
 	defer cancel()
-	if left := r.CleanUp(within); len(left) > 0 || m.left() > 0 {
-		t.Errorf("got %v left and %d that exist, want none", left, m.left())
+	if left := r.CleanUp(within); len(left) > 0 || m.countExisting() > 0 {
+		t.Errorf("got %v left and %d that exist, want none", left, m.countExisting())
 	}
 }
 
@@ -123,7 +123,7 @@ func TestMistakes(t *testing.T) {
 			within, cancel := context.WithTimeout(context.Background(), 5*time.Second)
 			defer cancel()
 			left := r.CleanUp(within)
-			if exist := m.left(); exist > len(left) {
+			if exist := m.countExisting(); exist > len(left) {
 				t.Errorf("got %d that exist, want them listed: %v", exist, left)
 			}
 		})
@@ -712,7 +712,7 @@ func (m *model) poll(c *call) {
 	c.give(200, object{"state": state, "description": "about half", "instance_usable": true})
 }
 
-func (m *model) left() (count int) {
+func (m *model) countExisting() (count int) {
 	m.turn.Lock()
 	defer m.turn.Unlock()
 	for _, life := range m.lives {

@@ -23,18 +23,18 @@ var rejected = []rejection{
 	{"provision-without-plan-id", Must, "400 without plan_id", lacks("plan_id")},
 	{"provision-without-organization", Must, "400 without organization_guid", lacks("organization_guid")},
 	{"provision-without-space", Must, "400 without space_guid", lacks("space_guid")},
-	{"provision-empty-organization", Must, "400 to an empty organization_guid", empties("organization_guid")},
-	{"provision-empty-space", Must, "400 to an empty space_guid", empties("space_guid")},
+	{"provision-empty-organization", Must, "400 to an empty organization_guid", setEmpty("organization_guid")},
+	{"provision-empty-space", Must, "400 to an empty space_guid", setEmpty("space_guid")},
 	{"provision-malformed", Must, "400 to a body that isn't JSON", nil},
-	{"provision-unknown-service", Should, "400 to a service_id that isn't in the catalogue", unknown("service_id")},
-	{"provision-unknown-plan", Should, "400 to a plan_id that isn't in the catalogue", unknown("plan_id")},
+	{"provision-unknown-service", Should, "400 to a service_id that isn't in the catalogue", setUnknown("service_id")},
+	{"provision-unknown-plan", Should, "400 to a plan_id that isn't in the catalogue", setUnknown("plan_id")},
 }
 
-func empties(member string) func(*Runner, object) {
+func setEmpty(member string) func(*Runner, object) {
 	return func(_ *Runner, body object) { body[member] = "" }
 }
 
-func unknown(member string) func(*Runner, object) {
+func setUnknown(member string) func(*Runner, object) {
 	return func(r *Runner, body object) { body[member] = r.id() }
 }
 
@@ -230,12 +230,12 @@ var asyncCases = scenario{
 		}
 		k := key{instance: r.id()}
 		if first := r.begins("async-", key{instance: r.id()}, k); first.is(202) {
-			r.duringProvision(k, first.string("operation"))
+			r.testDuringProvision(k, first.string("operation"))
 		}
 	},
 }
 
-func (r *Runner) duringProvision(k key, operation string) {
+func (r *Runner) testDuringProvision(k key, operation string) {
 	r.conflicts("async-conflict", k)
 	if r.target.InstancesRetrievable {
 		x := r.fetch(k)

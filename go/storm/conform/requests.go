@@ -32,8 +32,8 @@ func (r *Runner) creation(k key, change func(object)) request {
 // with returns a change that sets a member.
 func with(member string, value any) func(object) { return func(body object) { body[member] = value } }
 
-// notAsync returns the request as one that doesn't accept an asynchronous operation.
-func notAsync(sent request) request {
+// asSynchronous returns the request as one that doesn't accept an asynchronous operation.
+func asSynchronous(sent request) request {
 	query := url.Values{}
 	for name, values := range sent.query {
 		if name != "accepts_incomplete" {
@@ -61,7 +61,7 @@ func (r *Runner) deleteBy(k key, sent request) *exchange {
 	return x
 }
 
-func (r *Runner) fetch(k key) *exchange { return r.send(fetching(k, r.target.Pair)) }
+func (r *Runner) fetch(k key) *exchange { return r.send(fetchOf(k, r.target.Pair)) }
 
 // wants judges a case: the answer has one of these statuses. It returns the exchange.
 func (r *Runner) wants(name string, x *exchange, statuses ...int) *exchange {
@@ -211,7 +211,7 @@ func (r *Runner) ends(name string, k key, first *exchange) bool {
 // begins judges the creation of one key that accepts no asynchronous operation, and then, if another one is created
 // asynchronously, the repetition of that. It returns the first answer about the other one. The cases begin with prefix.
 func (r *Runner) begins(prefix string, one, other key) *exchange {
-	x := r.create(one, r.target.Pair, notAsync(r.creation(one, nil)))
+	x := r.create(one, r.target.Pair, asSynchronous(r.creation(one, nil)))
 	r.judge(prefix+"required", x, x.wantOr("AsyncRequired", 201))
 	first := r.put(other, nil)
 	if first.is(202) {
@@ -241,7 +241,7 @@ func (r *Runner) deletes(kind string, k, unknown key, again func() (key, bool)) 
 	isGone := x.is(200)
 	if x.is(202) {
 		state, _ := r.await(k, x.string("operation"))
-		isGone = notDeleted(state) == ""
+		isGone = whyNotDeleted(state) == ""
 	}
 	if isGone {
 		r.wants(kind+"-repeated", r.delete(k), 410)
@@ -268,8 +268,8 @@ func (r *Runner) deletesLater(kind, name string, k key) {
 	x = r.delete(k)
 	r.judgeDuring("async-"+kind+"-repeated", k, operation, x, repeats(first, x))
 	state, last := r.await(k, operation)
-	r.judge("async-"+kind+"-ends", last, notDeleted(state))
-	if notDeleted(state) != "" {
+	r.judge("async-"+kind+"-ends", last, whyNotDeleted(state))
+	if whyNotDeleted(state) != "" {
 		return
 	}
 	if k.binding == "" {
@@ -278,7 +278,7 @@ func (r *Runner) deletesLater(kind, name string, k key) {
 	r.wants("async-"+kind+"-gone", r.delete(k), 410)
 }
 
-func notDeleted(state string) string {
+func whyNotDeleted(state string) string {
 	if state == "gone" || state == "succeeded" {
 		return ""
 	}
@@ -581,7 +581,7 @@ func (r *Runner) Ask(ctx context.Context, method, instance, binding, path string
 // Create asks for an instance of the target, or a binding of it. CleanUp deletes it.
 func (r *Runner) Create(ctx context.Context, instance, binding string) Answer {
 	k := key{instance, binding}
-	r.ledger.sending(k, r.target.Pair)
+	r.ledger.noteSending(k, r.target.Pair)
 	x := r.client.send(ctx, r.creation(k, nil))
 	r.ledger.noteCreation(k, x)
 	return Answer{x.status, x.object, x.requestLine(), x.came()}
@@ -597,7 +597,7 @@ type Debt struct {
 // Owe has CleanUp delete an instance or a binding.
 func (r *Runner) Owe(it Debt) {
 	k := key{it.Instance, it.Binding}
-	r.ledger.sending(k, r.target.Pair)
+	r.ledger.noteSending(k, r.target.Pair)
 	owed := r.ledger.entry(k)
 	owed.rejected, owed.unanswered = it.Rejected, it.Unanswered
 }
@@ -653,7 +653,7 @@ func (s Observation) Judge() (failed []Result) {
 	if x.header == nil {
 		x.header = http.Header{}
 	}
-	var g general
+	var g generalCases
 	g.judge(x)
 	isPoll := strings.HasSuffix(x.path, "/last_operation")
 	k, fields, texts := key{}, "provision-fields", []string{"operation", "dashboard_url"}

@@ -57,11 +57,11 @@ type Runner struct {
 	ledger  ledger
 	ctx     context.Context // of Run
 	results map[string]*Result
-	because string    // why the rest of a scenario isn't run
-	ended   string    // why a request wasn't sent that a case needs, or empty
-	silent  int       // requests in a row without an answer
-	general general   // what is judged over all answers
-	fetched *exchange // of the catalogue
+	because string       // why the rest of a scenario isn't run
+	ended   string       // why a request wasn't sent that a case needs, or empty
+	silent  int          // requests in a row without an answer
+	general generalCases // what is judged over all answers
+	fetched *exchange    // of the catalogue
 	target  Target
 	// What the answers have shown: whether the target is created and bound asynchronously, and an instance that exists.
 	isAsync, bindsAsync bool
@@ -168,8 +168,8 @@ func (r *Runner) create(k key, p Pair, sent request) *exchange {
 	if err := r.stopReason(); err != nil {
 		return &exchange{request: sent, err: err, unsent: true}
 	}
-	r.ledger.sending(k, r.target.Pair)
-	r.ledger.sending(k, p)
+	r.ledger.noteSending(k, r.target.Pair)
+	r.ledger.noteSending(k, p)
 	x := r.send(sent)
 	r.ledger.noteCreation(k, x)
 	return x
@@ -329,7 +329,7 @@ const (
 // not answered. If a creation wasn't answered, it may still arrive: CleanUp repeats its deletion for twice the time of
 // a request. If it has to wait, it reports once for what, and until when.
 func (r *Runner) CleanUp(ctx context.Context) []Leftover {
-	c := &cleaning{Runner: r, begun: time.Now(), tell: r.config.Tell, bindings: map[string][]*removal{}}
+	c := &cleanUp{Runner: r, begun: time.Now(), tell: r.config.Tell, bindings: map[string][]*removal{}}
 	c.late = c.begun.Add(2 * r.config.RequestTime)
 	for _, entry := range r.ledger.rest() {
 		made := &removal{entry: entry, reason: reasonTime}
@@ -372,7 +372,7 @@ const (
 	failed // it was tried for long enough
 )
 
-type cleaning struct {
+type cleanUp struct {
 	*Runner
 	all         []*removal
 	bindings    map[string][]*removal // of each instance
@@ -381,7 +381,7 @@ type cleaning struct {
 }
 
 // pass sends one request for each removal that isn't over. An instance waits until its bindings are gone.
-func (c *cleaning) pass(ctx context.Context) {
+func (c *cleanUp) pass(ctx context.Context) {
 	for _, removal := range c.all {
 		if ctx.Err() == nil && (removal.state == gone || removal.state == pending && !c.hasPending(removal)) {
 			begun := time.Now()
@@ -392,7 +392,7 @@ func (c *cleaning) pass(ctx context.Context) {
 	c.announce(ctx, true, time.Since(c.begun) > quietTime)
 }
 
-func (c *cleaning) hasPending(of *removal) bool {
+func (c *cleanUp) hasPending(of *removal) bool {
 	if of.binding != "" {
 		return false
 	}
@@ -404,9 +404,9 @@ func (c *cleaning) hasPending(of *removal) bool {
 	return false
 }
 
-func (c *cleaning) isOpen() bool { return c.count(pending)+c.count(gone) > 0 }
+func (c *cleanUp) isOpen() bool { return c.count(pending)+c.count(gone) > 0 }
 
-func (c *cleaning) count(state removalState) (count int) {
+func (c *cleanUp) count(state removalState) (count int) {
 	for _, removal := range c.all {
 		if removal.state == state {
 			count++
@@ -416,7 +416,7 @@ func (c *cleaning) count(state removalState) (count int) {
 }
 
 // step sends the next request for a removal.
-func (c *cleaning) step(ctx context.Context, it *removal) {
+func (c *cleanUp) step(ctx context.Context, it *removal) {
 	if it.until.IsZero() {
 		it.until = time.Now().Add(c.config.OperationTime + 2*c.config.RequestTime)
 	}
@@ -432,7 +432,7 @@ func (c *cleaning) step(ctx context.Context, it *removal) {
 	}
 }
 
-func (c *cleaning) sendDeletion(ctx context.Context, it *removal) {
+func (c *cleanUp) sendDeletion(ctx context.Context, it *removal) {
 	it.sent = time.Now()
 	x := c.client.send(ctx, deletion(it.key, it.pairs[it.at], true))
 	for x.is(400) && !it.rejected && it.at+1 < len(it.pairs) {
@@ -456,7 +456,7 @@ func (c *cleaning) sendDeletion(ctx context.Context, it *removal) {
 	}
 }
 
-func (c *cleaning) pollDeletion(ctx context.Context, it *removal) {
+func (c *cleanUp) pollDeletion(ctx context.Context, it *removal) {
 	x := c.client.send(ctx, poll(it.key, it.pairs[it.at], it.operation))
 	state := x.string("state")
 	switch {
@@ -473,7 +473,7 @@ func (c *cleaning) pollDeletion(ctx context.Context, it *removal) {
 }
 
 // noteDeletion notes that a deletion has succeeded. If a creation may still arrive, the deletion is repeated.
-func (c *cleaning) noteDeletion(it *removal) {
+func (c *cleanUp) noteDeletion(it *removal) {
 	it.isPolled, it.tries = false, 0
 	if it.unanswered && it.sent.Before(c.late) {
 		it.state, it.reason = gone, reasonArrives
@@ -493,7 +493,7 @@ func (it *removal) fails(reason string) {
 // announce reports once for what CleanUp waits, and until when: creations that may still arrive after the first pass,
 // and deletions that take long. isWhole is whether a pass has ended, and isLong whether it, or else one request, took
 // long.
-func (c *cleaning) announce(ctx context.Context, isWhole, isLong bool) {
+func (c *cleanUp) announce(ctx context.Context, isWhole, isLong bool) {
 	if c.tell == nil || ctx.Err() != nil || !isWhole && !isLong {
 		return
 	}
@@ -536,7 +536,7 @@ func poll(k key, p Pair, operation string) request {
 	return request{method: "GET", path: pathOf(k) + "/last_operation", query: query}
 }
 
-func fetching(k key, p Pair) request {
+func fetchOf(k key, p Pair) request {
 	return request{method: "GET", path: pathOf(k), query: namesOf(p)}
 }
 
@@ -587,7 +587,7 @@ type ledger struct {
 	all     map[string]bool // the ids of all instances that were ever asked for
 }
 
-func (l *ledger) sending(k key, p Pair) {
+func (l *ledger) noteSending(k key, p Pair) {
 	if l.all == nil {
 		l.all = map[string]bool{}
 	}

@@ -34,7 +34,7 @@ func TestEndedRun(t *testing.T) {
 				if sent := atomic.LoadInt64(&count); sent != after || report.Ended == "" {
 					t.Errorf("got %d requests, want %d; the end: %q", sent, after, report.Ended)
 				}
-				if after > 16 && m.left() == 0 {
+				if after > 16 && m.countExisting() == 0 {
 					t.Error("got nothing that exists, want something")
 				}
 				cleansUp(t, r, m)
@@ -65,7 +65,7 @@ func TestDeletionsThatFail(t *testing.T) {
 			m := newModel(test.async)
 			r := runnerFor(t, configFor(serve(t, m)))
 			ran(t, r)
-			exist := m.left()
+			exist := m.countExisting()
 			m.turn.Lock()
 			m.spoil = test.spoil
 			m.deletesForEver = test.async
@@ -104,8 +104,8 @@ func TestHangingBroker(t *testing.T) {
 	}
 	time.AfterFunc(50*time.Millisecond, func() { close(hangs) }) // now the creations arrive
 	left := r.CleanUp(context.Background())
-	if len(left) > 0 || m.left() > 0 {
-		t.Errorf("got %v left and %d that exist, want none", left, m.left())
+	if len(left) > 0 || m.countExisting() > 0 {
+		t.Errorf("got %v left and %d that exist, want none", left, m.countExisting())
 	}
 	if m.count == 0 {
 		t.Error("got no creation, want one")
@@ -114,12 +114,12 @@ func TestHangingBroker(t *testing.T) {
 
 // owing returns a Runner that owes instances at a model: first one whose creation wasn't answered and that doesn't
 // exist, and then some that exist.
-func owing(t *testing.T, m *model, change func(*Config), exist ...string) *Runner {
+func runnerThatOwes(t *testing.T, m *model, change func(*Config), exist ...string) *Runner {
 	t.Helper()
 	c := configFor(serve(t, m))
 	change(&c)
 	r := runnerFor(t, c)
-	opened(t, r)
+	openTarget(t, r)
 	r.Owe(Debt{Instance: "late", Unanswered: true})
 	for _, id := range exist {
 		m.lives[key{instance: id}] = &life{state: "ready", asked: object{"plan": "a"}}
@@ -133,12 +133,12 @@ func owing(t *testing.T, m *model, change func(*Config), exist ...string) *Runne
 func TestUnansweredKeepsNothing(t *testing.T) {
 	for _, async := range []bool{false, true} {
 		m, told := newModel(async), make(chan string, 10)
-		r := owing(t, m, func(c *Config) {
+		r := runnerThatOwes(t, m, func(c *Config) {
 			c.RequestTime, c.Pause, c.Tell = time.Second, 10*time.Millisecond, func(line string) { told <- line }
 		}, "one", "two")
 		begun, left := time.Now(), make(chan []Leftover, 1)
 		go func() { left <- r.CleanUp(context.Background()) }()
-		for m.left() > 0 && time.Since(begun) < time.Minute {
+		for m.countExisting() > 0 && time.Since(begun) < time.Minute {
 			time.Sleep(time.Millisecond)
 		}
 		if took := time.Since(begun); took >= 2*time.Second { // a creation may arrive until then
@@ -148,8 +148,8 @@ func TestUnansweredKeepsNothing(t *testing.T) {
 		m.lives[key{instance: "late"}] = &life{state: "ready", asked: object{"plan": "a"}}
 		m.turn.Unlock()
 		rest := <-left
-		if took := time.Since(begun); took < 2*time.Second || len(rest) > 0 || m.left() > 0 {
-			t.Errorf("async %v: got %v left after %v and %d that exist, want none after 2 s", async, rest, took, m.left())
+		if took := time.Since(begun); took < 2*time.Second || len(rest) > 0 || m.countExisting() > 0 {
+			t.Errorf("async %v: got %v left after %v and %d that exist, want none after 2 s", async, rest, took, m.countExisting())
 		}
 		wanted := regexp.MustCompile(`^[13] of 3 .* are deleted\. Creations .*: 1\. They may still arrive, .* until (\d\d:\d\d:\d\d)\.`)
 		if len(told) != 1 {
@@ -168,10 +168,10 @@ func TestEndedWait(t *testing.T) {
 	ctx, end := context.WithTimeout(context.Background(), time.Minute)
 	defer end()
 	m := newModel(false)
-	r := owing(t, m, func(c *Config) { c.Tell = func(string) { end() } }, "one", "two")
+	r := runnerThatOwes(t, m, func(c *Config) { c.Tell = func(string) { end() } }, "one", "two")
 	left := r.CleanUp(ctx)
-	if len(left) != 1 || left[0].Instance != "late" || !strings.Contains(left[0].Reason, "may still arrive") || m.left() > 0 {
-		t.Errorf("got %v left and %d that exist, want the late one left, and none", left, m.left())
+	if len(left) != 1 || left[0].Instance != "late" || !strings.Contains(left[0].Reason, "may still arrive") || m.countExisting() > 0 {
+		t.Errorf("got %v left and %d that exist, want the late one left, and none", left, m.countExisting())
 	}
 }
 
@@ -185,7 +185,7 @@ func TestLastDeletion(t *testing.T) {
 			time.Sleep(150 * time.Millisecond)
 		}
 	}
-	r := owing(t, m, func(c *Config) { c.RequestTime = 200 * time.Millisecond })
+	r := runnerThatOwes(t, m, func(c *Config) { c.RequestTime = 200 * time.Millisecond })
 	begun = time.Now()
 	left := r.CleanUp(context.Background())
 	if sent := time.Duration(last.Load()); len(left) > 0 || sent < 400*time.Millisecond {
@@ -201,7 +201,7 @@ func TestBindingsFirst(t *testing.T) {
 			t.Error("got the deletion of the instance before the end of that of its binding, want it after that")
 		}
 	}
-	r := owing(t, m, func(c *Config) { c.RequestTime = 100 * time.Millisecond }, "one")
+	r := runnerThatOwes(t, m, func(c *Config) { c.RequestTime = 100 * time.Millisecond }, "one")
 	m.lives[key{"one", "b"}] = &life{state: "ready", asked: object{"plan": "a"}}
 	r.Owe(Debt{Instance: "one", Binding: "b"})
 	cleansUp(t, r, m)
@@ -319,7 +319,7 @@ func TestInstanceThatIsNeverFree(t *testing.T) {
 	if len(left) != 1 || left[0].Instance != stuck || !strings.Contains(left[0].Reason, "ConcurrencyError") {
 		t.Errorf("got %v left, want only %s", left, stuck)
 	}
-	diff.Equal(t, m.left(), 1, "that exist")
+	diff.Equal(t, m.countExisting(), 1, "that exist")
 }
 
 // Many quick deletions are no news, although they take long together. A slow one is.
@@ -334,7 +334,7 @@ func TestManyDeletions(t *testing.T) {
 			c := configFor(serve(t, m))
 			c.Tell = func(line string) { told = append(told, line) }
 			r := runnerFor(t, c)
-			opened(t, r)
+			openTarget(t, r)
 			for n := 0; n < 10; n++ {
 				id := fmt.Sprint(n)
 				m.lives[key{instance: id}] = &life{state: "ready", asked: object{"plan": "a"}}
@@ -375,10 +375,10 @@ func TestOwe(t *testing.T) {
 func TestProvision(t *testing.T) {
 	m := newModel(false)
 	r := runnerFor(t, configFor(serve(t, m)))
-	opened(t, r)
+	openTarget(t, r)
 	id := r.NewID(1)
-	if answer := r.Create(context.Background(), id, ""); answer.Status != 201 || m.left() != 1 {
-		t.Errorf("got %+v and %d that exist, want 201 and 1", answer, m.left())
+	if answer := r.Create(context.Background(), id, ""); answer.Status != 201 || m.countExisting() != 1 {
+		t.Errorf("got %+v and %d that exist, want 201 and 1", answer, m.countExisting())
 	}
 	answer := r.Ask(context.Background(), http.MethodGet, id, "", "/last_operation", nil)
 	if answer.Text("state") != "succeeded" {
@@ -388,7 +388,7 @@ func TestProvision(t *testing.T) {
 }
 
 // retrying returns what was seen with a Retry-After.
-func retrying(seen Observation, after string) Observation {
+func withRetryAfter(seen Observation, after string) Observation {
 	seen.Header.Set("Retry-After", after)
 	return seen
 }
@@ -416,11 +416,11 @@ func TestSeen(t *testing.T) {
 		{seen("GET", binding+"/last_operation", 200, `{"state": "failed", "description": 1}`),
 			"binding-last-operation-fields"},
 		{seen("GET", instance+"/last_operation", 200, `{"state": "failed", "description": "because"}`), ""},
-		{retrying(seen("DELETE", instance, 422, `{}`), "soon"), "retry-after"},
-		{retrying(seen("DELETE", instance, 422, `{}`), "-5"), "retry-after"},
-		{retrying(seen("DELETE", instance, 422, `{}`), "1.5"), "retry-after"},
-		{retrying(seen("DELETE", instance, 422, `{}`), "120"), ""},
-		{retrying(seen("DELETE", instance, 422, `{}`), "Sat, 28 Nov 2026 19:00:00 GMT"), ""},
+		{withRetryAfter(seen("DELETE", instance, 422, `{}`), "soon"), "retry-after"},
+		{withRetryAfter(seen("DELETE", instance, 422, `{}`), "-5"), "retry-after"},
+		{withRetryAfter(seen("DELETE", instance, 422, `{}`), "1.5"), "retry-after"},
+		{withRetryAfter(seen("DELETE", instance, 422, `{}`), "120"), ""},
+		{withRetryAfter(seen("DELETE", instance, 422, `{}`), "Sat, 28 Nov 2026 19:00:00 GMT"), ""},
 		{Observation{Method: "DELETE", Target: instance, Status: 200, Came: []byte(`{}`)}, "answers-content-type"},
 	} {
 		t.Run(fmt.Sprint(test.seen.Method, test.seen.Status, test.fails), func(t *testing.T) {

@@ -152,11 +152,11 @@ func (p *Proxy) accept() {
 }
 
 func (p *Proxy) serve(connection net.Conn) {
-	request, body, err := read(connection)
+	request, body, err := readRequest(connection)
 	if err != nil || p.ctx.Err() != nil {
 		return
 	}
-	defer p.carrying()()
+	defer p.countPending()()
 	if strings.HasSuffix(request.URL.Path, "/v2/catalog") && !p.ForwardsOthers {
 		_, _ = connection.Write((&answer{http.StatusOK, p.CatalogueHeader, p.Catalogue}).bytes())
 		return
@@ -191,8 +191,8 @@ func (p *Proxy) fault(subject Subject, isOurs bool) Fault {
 	return Fault{Kind: None, Pick: p.others}
 }
 
-// carrying counts a request that may still reach the broker, until the function that it returns is called.
-func (p *Proxy) carrying() func() {
+// countPending counts a request that may still reach the broker, until the function that it returns is called.
+func (p *Proxy) countPending() func() {
 	p.mutex.Lock()
 	defer p.mutex.Unlock()
 	p.pending++
@@ -217,7 +217,7 @@ func (p *Proxy) restart() {
 	}
 }
 
-func read(connection net.Conn) (*http.Request, []byte, error) {
+func readRequest(connection net.Conn) (*http.Request, []byte, error) {
 	request, err := http.ReadRequest(bufio.NewReader(connection))
 	if err != nil {
 		return nil, nil, err
@@ -261,24 +261,24 @@ type carriage struct {
 }
 
 var (
-	gotCut    = Got{Words: "a cut connection"}
-	gotNobody = Got{Words: "no answer"}
+	cutReceipt = Receipt{Words: "a cut connection"}
+	noReceipt  = Receipt{Words: "no answer"}
 )
 
-func (c *carriage) carry() Got {
+func (c *carriage) carry() Receipt {
 	switch c.fault.Kind {
 	case RequestLost:
-		return gotCut
+		return cutReceipt
 	case RequestSwallowed:
 		c.waitForEnd(c.AnswerTime)
-		return gotNobody
+		return noReceipt
 	case RequestLate:
-		c.later()
+		c.sendLater()
 		c.waitForEnd(c.AnswerTime)
-		return gotNobody
+		return noReceipt
 	case RequestCut, RequestGarbled, HangUp:
 		_, _ = c.deliver(c.fault.Kind)
-		return gotCut
+		return cutReceipt
 	case GatewayBefore:
 		return c.give(page(gateway(c.fault)))
 	}
@@ -286,9 +286,9 @@ func (c *carriage) carry() Got {
 }
 
 // answer has the broker answer, and gives the platform what the fault leaves of that.
-func (c *carriage) answer() Got {
+func (c *carriage) answer() Receipt {
 	if c.fault.Kind == RepeatedLate {
-		c.later()
+		c.sendLater()
 	}
 	restarted := make(chan struct{})
 	go func() {
@@ -305,24 +305,24 @@ func (c *carriage) answer() Got {
 	}
 	<-restarted
 	if err != nil {
-		return gotCut
+		return cutReceipt
 	}
-	got := c.come(answer)
+	receipt := c.giveAnswer(answer)
 	if c.fault.Kind == RestartAfter {
 		c.restart()
 	}
-	return got
+	return receipt
 }
 
-// come gives the platform what the fault leaves of an answer.
-func (c *carriage) come(answer *answer) Got {
+// giveAnswer gives the platform what the fault leaves of an answer.
+func (c *carriage) giveAnswer(answer *answer) Receipt {
 	whole := answer.bytes()
 	switch c.fault.Kind {
 	case AnswerLost:
-		return gotCut
+		return cutReceipt
 	case AnswerLate, RepeatedUnread:
 		if !c.waitForEnd(c.delay()) {
-			return gotNobody
+			return noReceipt
 		}
 	case AnswerSlow:
 		return c.giveSlowly(whole)
@@ -343,9 +343,9 @@ func (c *carriage) come(answer *answer) Got {
 	return c.give(whole)
 }
 
-// later sends a copy of the request later. Nobody gets its answer.
-func (c *carriage) later() {
-	done := c.carrying()
+// sendLater sends a copy of the request later. Nobody gets its answer.
+func (c *carriage) sendLater() {
+	done := c.countPending()
 	c.group.Add(1)
 	go func() {
 		defer c.group.Done()
@@ -381,47 +381,47 @@ func (c *carriage) upstream(at int) upstream {
 }
 
 // give writes bytes to the platform, and returns what that is.
-func (c *carriage) give(text []byte) Got {
+func (c *carriage) give(text []byte) Receipt {
 	_ = c.connection.SetWriteDeadline(time.Now().Add(c.AnswerTime))
 	if _, err := c.connection.Write(text); err != nil {
-		return gotNobody
+		return noReceipt
 	}
-	return gotOf(text)
+	return receiptOf(text)
 }
 
-// gotOf returns what a platform got that got these bytes.
-func gotOf(text []byte) Got {
+// receiptOf returns what a platform got that got these bytes.
+func receiptOf(text []byte) Receipt {
 	const before, head = len("HTTP/1.1 "), len("HTTP/1.1 200")
 	if len(text) < head {
-		return Got{Words: "a few bytes of the answer"}
+		return Receipt{Words: "a few bytes of the answer"}
 	}
-	got := Got{Words: fmt.Sprintf("status %s, %d bytes", text[before:head], len(text))}
+	receipt := Receipt{Words: fmt.Sprintf("status %s, %d bytes", text[before:head], len(text))}
 	response, err := http.ReadResponse(bufio.NewReader(bytes.NewReader(text)), nil)
 	if err != nil { // the head was cut
-		return got
+		return receipt
 	}
 	defer response.Body.Close()
-	got.Status = response.StatusCode
-	got.Body, err = io.ReadAll(response.Body)
-	got.IsWhole = err == nil
-	return got
+	receipt.Status = response.StatusCode
+	receipt.Body, err = io.ReadAll(response.Body)
+	receipt.IsWhole = err == nil
+	return receipt
 }
 
 // giveSlowly writes bytes to the platform in pieces. The whole takes at most as long as the bound of delays.
-func (c *carriage) giveSlowly(text []byte) Got {
+func (c *carriage) giveSlowly(text []byte) Receipt {
 	const pieces = 10
 	pause := time.Duration(c.fault.Share * float64(c.Late) / pieces)
 	for at := 0; at < pieces; at++ {
 		from, to := bounds(len(text), pieces, at)
 		if _, err := c.connection.Write(text[from:to]); err != nil || !Sleep(c.ctx, pause) {
-			got := gotOf(text[:from])
-			got.Words = "a part of the answer"
-			return got
+			receipt := receiptOf(text[:from])
+			receipt.Words = "a part of the answer"
+			return receipt
 		}
 	}
-	got := gotOf(text)
-	got.Words += ", slowly"
-	return got
+	receipt := receiptOf(text)
+	receipt.Words += ", slowly"
+	return receipt
 }
 
 // waitForEnd waits for a time, and returns false at once if the platform has given up, or the Proxy is closed.
@@ -590,11 +590,11 @@ type Exchange struct {
 	Body              []byte
 	Begun, Ended      time.Duration // since the start of the Journal; Ended is 0 until the platform has what it gets
 	Deliveries        []Delivery
-	Got               Got // what the platform got
+	Receipt           Receipt // what the platform got
 }
 
-// A Got is what a platform got in answer to a request.
-type Got struct {
+// A Receipt is what a platform got in answer to a request.
+type Receipt struct {
 	Status  int // 0 if there was no status
 	Body    []byte
 	IsWhole bool // all of an answer arrived
@@ -644,10 +644,10 @@ func (j *Journal) begin(x Exchange) *Exchange {
 	return &x
 }
 
-func (j *Journal) end(x *Exchange, got Got) {
+func (j *Journal) end(x *Exchange, receipt Receipt) {
 	j.mutex.Lock()
 	defer j.mutex.Unlock()
-	x.Ended, x.Got = j.Now(), got
+	x.Ended, x.Receipt = j.Now(), receipt
 }
 
 // deliver notes that a copy is being sent. It returns the index of the delivery.

@@ -23,8 +23,8 @@ const (
 	path        = "/v2/service_instances/ours"
 )
 
-// A counting broker counts the requests that have arrived whole.
-type counting struct {
+// A countingBroker counts the requests that have arrived whole.
+type countingBroker struct {
 	mutex   sync.Mutex
 	bodies  []string
 	broken  int // requests whose body was cut
@@ -34,7 +34,7 @@ type counting struct {
 	pause   time.Duration // before an answer
 }
 
-func (c *counting) ServeHTTP(w http.ResponseWriter, r *http.Request) {
+func (c *countingBroker) ServeHTTP(w http.ResponseWriter, r *http.Request) {
 	body, err := io.ReadAll(r.Body)
 	c.mutex.Lock()
 	if err != nil {
@@ -57,14 +57,14 @@ func (c *counting) ServeHTTP(w http.ResponseWriter, r *http.Request) {
 	_, _ = io.WriteString(w, `{"operation": "one"}`)
 }
 
-func (c *counting) counts() (whole, broken, hangUps int) {
+func (c *countingBroker) counts() (whole, broken, hangUps int) {
 	c.mutex.Lock()
 	defer c.mutex.Unlock()
 	return len(c.bodies), c.broken, c.hangUps
 }
 
 // between returns a Proxy before a broker, with one fault for the first request.
-func between(t *testing.T, broker *counting, kind Kind, change func(*Config)) *Proxy {
+func between(t *testing.T, broker *countingBroker, kind Kind, change func(*Config)) *Proxy {
 	t.Helper()
 	server := httptest.NewServer(broker)
 	t.Cleanup(server.Close)
@@ -82,8 +82,8 @@ func between(t *testing.T, broker *counting, kind Kind, change func(*Config)) *P
 	return p
 }
 
-// A got is what the platform gets.
-type got struct {
+// A result is what the platform gets, and how long that took.
+type result struct {
 	status int
 	body   string
 	err    error
@@ -91,10 +91,10 @@ type got struct {
 }
 
 // put waits for the answer as long as a busy machine may need.
-func put(p *Proxy, path string) got { return putWithin(p, path, 25*requestTime) }
+func put(p *Proxy, path string) result { return putWithin(p, path, 25*requestTime) }
 
 // putOf waits no longer than the proxy thinks if the fault is that the answer is too late, or missing.
-func putOf(p *Proxy, kind Kind) got {
+func putOf(p *Proxy, kind Kind) result {
 	switch kind {
 	case RequestSwallowed, RequestLate, RepeatedUnread, AnswerLate:
 		return putWithin(p, path, requestTime)
@@ -103,64 +103,64 @@ func putOf(p *Proxy, kind Kind) got {
 	}
 }
 
-func putWithin(p *Proxy, path string, limit time.Duration) got {
+func putWithin(p *Proxy, path string, limit time.Duration) result {
 	ctx, cancel := context.WithTimeout(context.Background(), limit)
 	defer cancel()
 	begun := time.Now()
 	sent, err := http.NewRequestWithContext(ctx, http.MethodPut, p.URL()+path, strings.NewReader(`{"plan_id": "a"}`))
 	if err != nil {
-		return got{err: err}
+		return result{err: err}
 	}
 	client := &http.Client{Transport: &http.Transport{DisableKeepAlives: true}}
 	answer, err := client.Do(sent)
 	if err != nil {
-		return got{err: err, took: time.Since(begun)}
+		return result{err: err, took: time.Since(begun)}
 	}
 	defer answer.Body.Close()
 	body, err := io.ReadAll(answer.Body)
-	return got{answer.StatusCode, string(body), err, time.Since(begun)}
+	return result{answer.StatusCode, string(body), err, time.Since(begun)}
 }
 
-func (g got) isLate() bool { return errors.Is(g.err, context.DeadlineExceeded) }
-func (g got) isCut() bool  { return g.err != nil && !g.isLate() }
+func (r result) isLate() bool { return errors.Is(r.err, context.DeadlineExceeded) }
+func (r result) isCut() bool  { return r.err != nil && !r.isLate() }
 
 // Each fault does what its name says: to the broker, and to the platform.
 func TestKinds(t *testing.T) {
-	answered := func(g got) bool { return g.err == nil && g.status == 201 && g.body == `{"operation": "one"}` }
-	html := func(statuses ...int) func(got) bool {
-		return func(g got) bool {
+	answered := func(r result) bool { return r.err == nil && r.status == 201 && r.body == `{"operation": "one"}` }
+	html := func(statuses ...int) func(result) bool {
+		return func(r result) bool {
 			for _, status := range statuses {
-				if g.err == nil && g.status == status && g.body == "<html></html>" {
+				if r.err == nil && r.status == status && r.body == "<html></html>" {
 					return true
 				}
 			}
 			return false
 		}
 	}
-	slow := func(g got) bool { return answered(g) || g.err != nil } // the pauses may be longer than a request
+	slow := func(r result) bool { return answered(r) || r.err != nil } // the pauses may be longer than a request
 	for _, test := range []struct {
 		kind          Kind
 		whole, broken int // whole requests when the platform has what it gets, if known, and cut ones in the end
 		later         int // whole requests in the end
-		gets          func(got) bool
+		gets          func(result) bool
 	}{
 		{None, 1, 0, 1, answered},
-		{RequestLost, 0, 0, 0, got.isCut},
-		{RequestSwallowed, 0, 0, 0, got.isLate},
-		{RequestLate, 0, 0, 1, got.isLate},
-		{RequestCut, 0, 1, 0, got.isCut},
-		{RequestGarbled, -1, 0, 1, got.isCut},
+		{RequestLost, 0, 0, 0, result.isCut},
+		{RequestSwallowed, 0, 0, 0, result.isLate},
+		{RequestLate, 0, 0, 1, result.isLate},
+		{RequestCut, 0, 1, 0, result.isCut},
+		{RequestGarbled, -1, 0, 1, result.isCut},
 		{RequestSlow, -1, 0, 1, slow},
 		{Repeated, 2, 0, 2, answered},
 		{RepeatedLate, 1, 0, 2, answered},
-		{RepeatedUnread, 2, 0, 2, got.isLate},
-		{HangUp, -1, 0, 1, got.isCut},
-		{AnswerLost, 1, 0, 1, got.isCut},
-		{AnswerLate, 1, 0, 1, got.isLate},
+		{RepeatedUnread, 2, 0, 2, result.isLate},
+		{HangUp, -1, 0, 1, result.isCut},
+		{AnswerLost, 1, 0, 1, result.isCut},
+		{AnswerLate, 1, 0, 1, result.isLate},
 		{AnswerSlow, 1, 0, 1, slow},
-		{AnswerGarbled, 1, 0, 1, func(g got) bool { return g.err == nil && g.status == 201 && g.body[0] == 0 }},
-		{AnswerBodyCut, 1, 0, 1, func(g got) bool { return g.status == 201 && g.body == `{"operatio` && g.err != nil }},
-		{AnswerHeadCut, 1, 0, 1, got.isCut},
+		{AnswerGarbled, 1, 0, 1, func(r result) bool { return r.err == nil && r.status == 201 && r.body[0] == 0 }},
+		{AnswerBodyCut, 1, 0, 1, func(r result) bool { return r.status == 201 && r.body == `{"operatio` && r.err != nil }},
+		{AnswerHeadCut, 1, 0, 1, result.isCut},
 		{GatewayBefore, 0, 0, 0, html(502, 503, 504)},
 		{GatewayAfter, 1, 0, 1, html(502, 503, 504)},
 		{PageAfter, 1, 0, 1, html(404, 429)},
@@ -168,11 +168,11 @@ func TestKinds(t *testing.T) {
 		it := test
 		t.Run(string(it.kind), func(t *testing.T) {
 			t.Parallel()
-			broker := &counting{}
+			broker := &countingBroker{}
 			p := between(t, broker, it.kind, nil)
-			g := putOf(p, it.kind)
-			if !it.gets(g) {
-				t.Errorf("the platform: got %+v, want what the fault gives", g)
+			r := putOf(p, it.kind)
+			if !it.gets(r) {
+				t.Errorf("the platform: got %+v, want what the fault gives", r)
 			}
 			if whole, _, _ := broker.counts(); it.whole >= 0 && whole != it.whole {
 				t.Errorf("the broker: got %d requests, want %d", whole, it.whole)
@@ -183,7 +183,7 @@ func TestKinds(t *testing.T) {
 				return whole == it.later && broken == it.broken
 			})
 			all := p.Journal.Exchanges()
-			if len(all) != 1 || all[0].Fault != it.kind || all[0].Number.String() != "1.1" || all[0].Got.Words == "" {
+			if len(all) != 1 || all[0].Fault != it.kind || all[0].Number.String() != "1.1" || all[0].Receipt.Words == "" {
 				t.Fatalf("the journal: got %+v, want the fault of 1.1", all)
 			}
 			if again := put(p, path); !answered(again) {
@@ -202,8 +202,8 @@ func until(t *testing.T, is func() bool) {
 	}
 }
 
-// longBetween returns a Proxy whose first request has a fault with a long time, and its share of the longest one.
-func longBetween(t *testing.T, broker *counting, kind Kind) (p *Proxy, share float64) {
+// startLong starts a Proxy whose first request has a fault with a long time, and its share of the longest one.
+func startLong(t *testing.T, broker *countingBroker, kind Kind) (p *Proxy, share float64) {
 	t.Helper()
 	seed := int64(0)
 	for ; share < 0.7; seed++ {
@@ -238,7 +238,7 @@ func TestSlow(t *testing.T) {
 // slowParts returns whether the request and the answer took as long as those that are slow.
 func slowParts(t *testing.T, kind Kind) (request, answer bool) {
 	t.Helper()
-	p, share := longBetween(t, &counting{}, kind)
+	p, share := startLong(t, &countingBroker{}, kind)
 	put(p, path)
 	until(t, func() bool { return p.Pending() == 0 })
 	x := p.Journal.Exchanges()[0]
@@ -254,8 +254,8 @@ func TestLateWithinBound(t *testing.T) {
 	for _, kind := range []Kind{RequestLate, RepeatedLate} {
 		last := bound + 1
 		for end := time.Now().Add(time.Minute); last > bound && time.Now().Before(end); {
-			broker := &counting{}
-			p, _ := longBetween(t, broker, kind)
+			broker := &countingBroker{}
+			p, _ := startLong(t, broker, kind)
 			begun := time.Now()
 			putOf(p, kind)
 			until(t, func() bool { return p.Pending() == 0 })
@@ -270,7 +270,7 @@ func TestLateWithinBound(t *testing.T) {
 // The broker sees that the connection is cut before its answer, and only then.
 func TestHangUp(t *testing.T) {
 	for kind, wanted := range map[Kind]int{HangUp: 1, AnswerLost: 0} {
-		broker := &counting{pause: 100 * time.Millisecond}
+		broker := &countingBroker{pause: 100 * time.Millisecond}
 		p := between(t, broker, kind, nil)
 		put(p, path)
 		until(t, func() bool { _, _, hangUps := broker.counts(); return hangUps >= wanted })
@@ -283,7 +283,7 @@ func TestHangUp(t *testing.T) {
 
 // A request that is garbled is no JSON at the broker.
 func TestGarbledRequest(t *testing.T) {
-	broker := &counting{}
+	broker := &countingBroker{}
 	p := between(t, broker, RequestGarbled, nil)
 	put(p, path)
 	until(t, func() bool { whole, _, _ := broker.counts(); return whole == 1 })
@@ -293,7 +293,7 @@ func TestGarbledRequest(t *testing.T) {
 // A restart is run while the broker has the request, or once the platform has its answer.
 func TestRestarts(t *testing.T) {
 	for _, kind := range []Kind{RestartDuring, RestartAfter} {
-		broker := &counting{pause: time.Second}
+		broker := &countingBroker{pause: time.Second}
 		var at time.Time
 		p := between(t, broker, kind, func(c *Config) {
 			c.RequestTime = 20 * time.Second
@@ -305,11 +305,11 @@ func TestRestarts(t *testing.T) {
 			}
 		})
 		begun := time.Now()
-		g := putWithin(p, path, 20*time.Second)
+		r := putWithin(p, path, 20*time.Second)
 		until(t, func() bool { return p.Pending() == 0 })
-		if isDuring := at.Sub(begun) < broker.pause; isDuring != (kind == RestartDuring) || g.status != 201 {
+		if isDuring := at.Sub(begun) < broker.pause; isDuring != (kind == RestartDuring) || r.status != 201 {
 			t.Errorf("%s: got a restart after %v and %+v at the platform, want 201, and the restart in time", kind,
-				at.Sub(begun), g)
+				at.Sub(begun), r)
 		}
 		diff.Equal(t, p.Restarts(), 1, "%s: restarts", kind)
 	}
@@ -317,15 +317,15 @@ func TestRestarts(t *testing.T) {
 
 // What isn't of the run doesn't reach the broker, and the catalogue is the one of the Config.
 func TestOthersUntouched(t *testing.T) {
-	broker := &counting{}
+	broker := &countingBroker{}
 	p := between(t, broker, None, nil)
 	for _, path := range []string{"/v2/service_instances/theirs", "/v2/service_instances/", "/v2/x", "/"} {
-		if g := put(p, path); g.status != 502 {
-			t.Errorf("%s: got %+v, want the status 502", path, g)
+		if r := put(p, path); r.status != 502 {
+			t.Errorf("%s: got %+v, want the status 502", path, r)
 		}
 	}
-	if g := put(p, "/v2/catalog"); g.body != `{"services": []}` {
-		t.Errorf("the catalogue: got %+v, want no services", g)
+	if r := put(p, "/v2/catalog"); r.body != `{"services": []}` {
+		t.Errorf("the catalogue: got %+v, want no services", r)
 	}
 	if whole, broken, _ := broker.counts(); whole+broken > 0 {
 		t.Errorf("the broker: got %q, want nothing", broker.paths)
@@ -335,7 +335,7 @@ func TestOthersUntouched(t *testing.T) {
 // The path of the broker's URL is a prefix, and the query stays.
 // Several brokers each get some of the requests, with a subject and without one. A copy may reach another broker.
 func TestSeveralBrokers(t *testing.T) {
-	one, other := &counting{}, &counting{}
+	one, other := &countingBroker{}, &countingBroker{}
 	p := between(t, one, None, func(c *Config) {
 		server := httptest.NewServer(other)
 		t.Cleanup(server.Close)
@@ -364,7 +364,7 @@ func TestSeveralBrokers(t *testing.T) {
 }
 
 func TestPrefix(t *testing.T) {
-	broker := &counting{}
+	broker := &countingBroker{}
 	p := between(t, broker, None, func(c *Config) { c.Broker.Path = "/postgres/" })
 	put(p, path+"?service_id=s&operation=a%2Fb")
 	if broker.paths[0] != "/postgres"+path+"?service_id=s&operation=a%2Fb" {
@@ -374,7 +374,7 @@ func TestPrefix(t *testing.T) {
 
 // Close drops what is late, and waits for what the broker has.
 func TestClose(t *testing.T) {
-	broker := &counting{pause: 200 * time.Millisecond}
+	broker := &countingBroker{pause: 200 * time.Millisecond}
 	p := between(t, broker, RequestLate, func(c *Config) { c.Late = time.Hour; c.RequestTime = time.Hour })
 	put(p, path)
 	go put(p, path)
@@ -389,7 +389,7 @@ func TestClose(t *testing.T) {
 // The journal has what the platform got: which status, and whether all of the answer arrived.
 func TestGot(t *testing.T) {
 	const whole = `{"operation": "one"}`
-	for kind, wanted := range map[Kind]Got{
+	for kind, wanted := range map[Kind]Receipt{
 		None:          {Status: 201, Body: []byte(whole), IsWhole: true},
 		Repeated:      {Status: 201, Body: []byte(whole), IsWhole: true},
 		RequestLost:   {},
@@ -404,10 +404,10 @@ func TestGot(t *testing.T) {
 		kind, wanted := kind, wanted
 		t.Run(string(kind), func(t *testing.T) {
 			t.Parallel()
-			p := between(t, &counting{}, kind, nil)
+			p := between(t, &countingBroker{}, kind, nil)
 			putOf(p, kind)
 			until(t, func() bool { return p.Pending() == 0 })
-			got := p.Journal.Exchanges()[0].Got
+			got := p.Journal.Exchanges()[0].Receipt
 			if got.Status != wanted.Status || string(got.Body) != string(wanted.Body) || got.IsWhole != wanted.IsWhole {
 				t.Errorf("got %+v, want %+v", got, wanted)
 			}
@@ -418,7 +418,7 @@ func TestGot(t *testing.T) {
 // With ForwardsOthers, the broker gets the other requests and those for the catalogue, without faults. The journal has
 // their headers without the login.
 func TestForwardsOthers(t *testing.T) {
-	broker := &counting{}
+	broker := &countingBroker{}
 	p := between(t, broker, None, func(c *Config) {
 		c.ForwardsOthers, c.Source = true, BySeed(1, 1, Weights{{RequestLost, 1}})
 	})
@@ -446,7 +446,7 @@ func TestForwardsOthers(t *testing.T) {
 
 // A platform that waits for 100 Continue gets it, and then sends the body.
 func TestExpectContinue(t *testing.T) {
-	broker := &counting{}
+	broker := &countingBroker{}
 	p := between(t, broker, None, nil)
 	connection := diff.Value(net.Dial("tcp", strings.TrimPrefix(p.URL(), "http://")))(t)
 	defer connection.Close()
@@ -474,7 +474,7 @@ func TestExpectContinue(t *testing.T) {
 
 // A connection on which nothing has arrived isn't a request that may still reach the broker.
 func TestSilentConnection(t *testing.T) {
-	p := between(t, &counting{}, None, nil)
+	p := between(t, &countingBroker{}, None, nil)
 	connection := diff.Value(net.Dial("tcp", strings.TrimPrefix(p.URL(), "http://")))(t)
 	defer connection.Close()
 	time.Sleep(50 * time.Millisecond)

@@ -385,7 +385,7 @@ func linesOf(x fault.Exchange, hide Hider) []Line {
 	if x.Ended == 0 { // it is still in flight
 		return all
 	}
-	return append(all, line(x.Ended, "proxy", "gives the platform "+x.Got.Words))
+	return append(all, line(x.Ended, "proxy", "gives the platform "+x.Receipt.Words))
 }
 
 func answerOf(x fault.Exchange, d fault.Delivery, hide Hider) string {

@@ -188,7 +188,7 @@ func (p *Page) Write(w io.Writer) error {
 // mostLanes is how many lives are drawn of a run in which nothing was found.
 const mostLanes = 12
 
-// Course returns the lives of the instances and bindings whose requests have had the most faults, in the order of their
+// Course returns the lives of the instances and bindings whose requests had the most faults, in the order of their
 // numbers. They are drawn if nothing was found.
 func (r Run) Course() []Finding {
 	all := r.countFaults()
@@ -198,25 +198,25 @@ func (r Run) Course() []Finding {
 	}
 	sort.SliceStable(all, func(one, other int) bool { return all[one].subject.Less(all[other].subject) })
 	course := make([]Finding, 0, len(all))
-	for _, faulty := range all {
-		life := LifeOf(faulty.key, r.Exchanges, r.Events, r.Hide)
+	for _, faultCount := range all {
+		life := LifeOf(faultCount.key, r.Exchanges, r.Events, r.Hide)
 		course = append(course, Finding{
-			Number: faulty.subject.String(), Instance: faulty.key.Instance, Binding: faulty.key.Binding, Life: life,
+			Number: faultCount.subject.String(), Instance: faultCount.key.Instance, Binding: faultCount.key.Binding, Life: life,
 		})
 	}
 	return course
 }
 
-// A faulty is how many faults an instance or a binding has had.
-type faulty struct {
+// A faultCount is how many requests of an instance or a binding had a fault.
+type faultCount struct {
 	key     Key
 	subject fault.Subject
 	faults  int
 }
 
 // countFaults counts the faults of each instance and binding of the run, in the order of their first requests.
-func (r Run) countFaults() (all []*faulty) {
-	of := map[Key]*faulty{}
+func (r Run) countFaults() (all []*faultCount) {
+	of := map[Key]*faultCount{}
 	for _, x := range r.Exchanges {
 		key := Key{x.Instance, x.Binding}
 		if of[key] == nil {
@@ -224,7 +224,7 @@ func (r Run) countFaults() (all []*faulty) {
 			if !is {
 				continue
 			}
-			of[key] = &faulty{key: key, subject: subject}
+			of[key] = &faultCount{key: key, subject: subject}
 			all = append(all, of[key])
 		}
 		if x.Fault != fault.None {

@@ -46,7 +46,7 @@ func TestLifeOf(t *testing.T) {
 	if wanted := "ready|PUT /x|doesn't get the request|is paused"; strings.Join(got, "|") != wanted {
 		t.Errorf("got %q, want %q", got, wanted)
 	}
-	x.Ended, x.Got.Words = 7*time.Second, "no answer"
+	x.Ended, x.Receipt.Words = 7*time.Second, "no answer"
 	life := LifeOf(key, []fault.Exchange{x}, events, Hider{})
 	if last := life[len(life)-1]; len(life) != len(got)+1 || last.What != "gives the platform no answer" {
 		t.Errorf("got %+v, want one more line, that the platform gets no answer", life)

@@ -117,7 +117,7 @@ type BothStorm struct {
 	commands         *commands // of osb-platform, with which the operator orders
 	auditor          *auditor
 	keyring          *keyring
-	unruly           *unruly // or nil
+	unruly           *unrulyClient // or nil
 	brokers, workers []*victim
 	ids              *conform.Runner
 }
@@ -139,7 +139,7 @@ func NewBoth(ctx context.Context, config BothConfig) (*BothStorm, error) {
 		b.password = hex.EncodeToString(password)
 	}
 	if err := b.open(ctx); err != nil {
-		return nil, Either(err, b.Close())
+		return nil, FirstError(err, b.Close())
 	}
 	return b, nil
 }
@@ -271,7 +271,7 @@ func (b *BothStorm) addPlatform(ctx context.Context) error {
 // look prepares to look at everything, and the client that keeps no rules.
 func (b *BothStorm) look() {
 	if b.config.Unruly {
-		b.unruly = &unruly{
+		b.unruly = &unrulyClient{
 			url: b.proxy.URL(), password: b.password, records: b.commands.book.Records, held: b.storage.holdings.Read,
 			newID: func() string { return b.ids.NewID(0) }, client: http.Client{Timeout: unrulyRequest},
 			perSecond: float64(b.config.Instances) / 2 / b.config.Time.Seconds(),
@@ -284,15 +284,15 @@ func (b *BothStorm) look() {
 	}
 	b.auditor = newAuditor(audit.Reader{
 		Records: b.commands.book.Records, Holdings: b.storage.holdings, Resources: b.storage.resources, Given: b.keyring.all,
-		Foreign: b.foreign, IsOurs: b.isOurs,
+		Foreign: b.foreignBindings, IsOurs: b.isOurs,
 	}, b.events)
 }
 
 // isOurs returns whether an instance that the platform doesn't have may be the storm's.
 func (b *BothStorm) isOurs(instance string) bool { return strings.HasPrefix(instance, b.ids.Prefix()) }
 
-// foreign returns the bindings that somebody else than the platform has created.
-func (b *BothStorm) foreign() map[Key]bool {
+// foreignBindings returns the bindings that somebody else than the platform has created.
+func (b *BothStorm) foreignBindings() map[Key]bool {
 	if b.unruly == nil {
 		return nil
 	}
@@ -301,7 +301,7 @@ func (b *BothStorm) foreign() map[Key]bool {
 
 // Close ends what runs, and deletes everything that the storm has created.
 func (b *BothStorm) Close() error {
-	together(b.programs(), (*victim).kill)
+	atOnce(b.programs(), (*victim).kill)
 	if b.proxy != nil {
 		b.proxy.Close()
 	}
@@ -324,7 +324,7 @@ func (b *BothStorm) Close() error {
 	if b.storage != nil {
 		all = append(all, b.storage.close(isOurs))
 	}
-	return Either(append(all, os.RemoveAll(b.folder))...)
+	return FirstError(append(all, os.RemoveAll(b.folder))...)
 }
 
 // platformLine is the program osb-platform with the options of its store.
@@ -444,8 +444,8 @@ func workerPoints() (points []string) {
 	return points
 }
 
-// together calls for each program, or something else, at once, and returns once all calls have returned.
-func together[T any](all []T, call func(T)) {
+// atOnce calls for each program, or something else, at once, and returns once all calls have returned.
+func atOnce[T any](all []T, call func(T)) {
 	var group sync.WaitGroup
 	for _, one := range all {
 		it := one
@@ -509,7 +509,7 @@ func openStorage(ctx context.Context, c BothConfig, folder, prefix string) (*sto
 		return s, nil
 	}
 	if err := s.openDatabase(ctx, c, "storm_"+prefix); err != nil {
-		return nil, Either(err, s.close(nil))
+		return nil, FirstError(err, s.close(nil))
 	}
 	s.useDatabase(c)
 	return s, nil
@@ -565,8 +565,8 @@ func (c BothConfig) describe() string {
 	return where[c.Backend] + " were read, and the rows of the broker and the platform"
 }
 
-// together returns the keys at which two have worked at once, as far as a broker with the tag storm sees it.
-func (s *storage) together() []string {
+// collisions returns the keys at which two have worked at once, as far as a broker with the tag storm sees it.
+func (s *storage) collisions() []string {
 	text, err := os.ReadFile(filepath.Join(s.state, "together"))
 	if err != nil {
 		return nil
@@ -581,10 +581,10 @@ func (s *storage) close(isOurs func(string) bool) (err error) {
 		err = s.resources.Clear(context.Background(), isOurs)
 	}
 	if s.database != nil && s.server == nil {
-		err = Either(err, s.database.Close())
+		err = FirstError(err, s.database.Close())
 	}
 	if s.server != nil { // everything ends with it
-		err = Either(err, s.server.Close())
+		err = FirstError(err, s.server.Close())
 	}
 	return err
 }

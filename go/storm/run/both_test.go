@@ -207,15 +207,15 @@ func TestProgramsInReport(t *testing.T) {
 	}
 }
 
-// A site is a platform with one binding, and a resource that lets its credentials in or not.
-type site struct {
+// A bindingState is that of a platform with one binding, and of a resource that lets its credentials in or not.
+type bindingState struct {
 	state  platform.State
 	object string
 	letsIn bool
 	away   error
 }
 
-func (s *site) keyring() *keyring {
+func (s *bindingState) keyring() *keyring {
 	return &keyring{
 		read: func(context.Context, Key) (json.RawMessage, error) {
 			if s.state != audit.Ready || s.object == "" {
@@ -238,18 +238,18 @@ func TestKeyring(t *testing.T) {
 	t.Parallel()
 	const object = `{"credentials":{"token":"t"}}`
 	for name, test := range map[string]struct {
-		first, then site
+		first, then bindingState
 		wrong       string
 	}{
-		"right":       {site{"ready", object, true, nil}, site{"ready", object, true, nil}, ""},
-		"gone":        {site{"ready", object, true, nil}, site{"gone", object, false, nil}, ""},
-		"never ready": {site{"polling", object, true, nil}, site{"gone", object, true, nil}, ""},
-		"no access":   {site{"ready", object, false, nil}, site{"gone", object, false, nil}, "give no access"},
-		"at the end":  {site{"polling", object, false, nil}, site{"ready", object, false, nil}, "give no access"},
-		"not printed": {site{"polling", "", true, nil}, site{"ready", "", true, nil}, "prints no credentials"},
-		"changed": {site{"ready", object, true, nil}, site{"ready", `{"credentials":{"token":"t"},"x":1}`, true, nil},
+		"right":       {bindingState{"ready", object, true, nil}, bindingState{"ready", object, true, nil}, ""},
+		"gone":        {bindingState{"ready", object, true, nil}, bindingState{"gone", object, false, nil}, ""},
+		"never ready": {bindingState{"polling", object, true, nil}, bindingState{"gone", object, true, nil}, ""},
+		"no access":   {bindingState{"ready", object, false, nil}, bindingState{"gone", object, false, nil}, "give no access"},
+		"at the end":  {bindingState{"polling", object, false, nil}, bindingState{"ready", object, false, nil}, "give no access"},
+		"not printed": {bindingState{"polling", "", true, nil}, bindingState{"ready", "", true, nil}, "prints no credentials"},
+		"changed": {bindingState{"ready", object, true, nil}, bindingState{"ready", `{"credentials":{"token":"t"},"x":1}`, true, nil},
 			"or other ones than before"},
-		"gone, and give access": {site{"ready", object, true, nil}, site{"gone", object, true, nil},
+		"gone, and give access": {bindingState{"ready", object, true, nil}, bindingState{"gone", object, true, nil},
 			"its record says gone, and its credentials give access"},
 	} {
 		t.Run(name, func(t *testing.T) {
@@ -269,7 +269,7 @@ func TestKeyring(t *testing.T) {
 			}
 		})
 	}
-	s := site{"ready", object, false, errors.New("away")}
+	s := bindingState{"ready", object, false, errors.New("away")}
 	k := s.keyring()
 	if err := k.finish(context.Background()); err == nil || len(k.list()) > 0 {
 		t.Errorf("a server that is away: got %v and %v, want an error and no difference", err, k.list())
@@ -391,15 +391,15 @@ func TestWithoutBoth(t *testing.T) {
 	}
 }
 
-// A leaving broker holds what was bound until it was unbound twice.
-type leaving struct {
+// A leavingBroker holds what was bound until it was unbound twice.
+type leavingBroker struct {
 	mutex sync.Mutex
 	left  map[Key]int
 	polls int
 	bad   []string
 }
 
-func (l *leaving) ServeHTTP(w http.ResponseWriter, r *http.Request) {
+func (l *leavingBroker) ServeHTTP(w http.ResponseWriter, r *http.Request) {
 	l.mutex.Lock()
 	defer l.mutex.Unlock()
 	parts := strings.Split(r.URL.Path, "/")
@@ -427,7 +427,7 @@ func (l *leaving) ServeHTTP(w http.ResponseWriter, r *http.Request) {
 	}
 }
 
-func (l *leaving) holdings(t *testing.T) map[Key]audit.Row {
+func (l *leavingBroker) holdings(t *testing.T) map[Key]audit.Row {
 	const ready = `{"attributes":"%064d","row":{"phase":"ready","plan":"%s","service":"%s"},"tombstone":false,` +
 		`"version":2,"work":null}`
 	var holding osb.Holding
@@ -447,14 +447,14 @@ func (l *leaving) holdings(t *testing.T) map[Key]audit.Row {
 // The unruly client binds whatever exists, and unbinds all that the broker holds once it is calm.
 func TestUnruly(t *testing.T) {
 	t.Parallel()
-	broker := &leaving{left: map[Key]int{}}
+	broker := &leavingBroker{left: map[Key]int{}}
 	server := httptest.NewServer(broker)
 	defer server.Close()
 	plan := diff.Value(osb.IDOfText(goods.Later))(t)
 	made, states := 0, map[string]platform.State{
 		"cleaning": platform.Cleaning, "withdrawn": platform.Withdrawn, "gone": platform.Gone, "ordered": platform.Ordered,
 	}
-	u := &unruly{
+	u := &unrulyClient{
 		url: server.URL, password: "secret", perSecond: 400, client: http.Client{Timeout: time.Second},
 		held: func(context.Context) (map[Key]audit.Row, error) { return broker.holdings(t), nil },
 		records: func(context.Context) (map[Key]Record, error) {

@@ -252,14 +252,14 @@ func (b *BothStorm) add(report *Report, found *Result) {
 	kills, visited, _ := b.commands.points()
 	p.CommandKills, p.Visited = kills, append(p.Visited, visited...)
 	p.Unvisited = append(p.Unvisited, b.remainingPoints()...)
-	for _, line := range b.commands.odd() {
+	for _, line := range b.commands.oddities() {
 		p.Odd = append(p.Odd, hide.In(line))
 	}
 	if b.storage.server != nil {
 		p.DatabaseKills, p.DatabasePauses = b.storage.server.Counts()
 	}
 	p.Compared, p.Credentials = b.auditor.counts(), len(b.keyring.all())
-	p.Together = append(p.Together, b.storage.together()...)
+	p.Together = append(p.Together, b.storage.collisions()...)
 	p.Without = b.config.Without
 	if b.unruly != nil {
 		p.UnrulyBindings = len(b.unruly.all())

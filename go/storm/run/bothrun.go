@@ -41,7 +41,7 @@ func (b *BothStorm) once(ctx context.Context) (*Result, error) {
 	b.commands.kill(b.config.CrashPoints != "")
 	found := b.course(ctx)
 	for _, all := range [][]*victim{b.workers, b.brokers} {
-		together(all, (*victim).end)
+		atOnce(all, (*victim).end)
 	}
 	return found, nil
 }
@@ -56,19 +56,19 @@ func (b *BothStorm) again(ctx context.Context, of Candidate) (*Result, error) {
 		return nil, err
 	}
 	again, err := trial.once(ctx)
-	return again, Either(err, trial.Close())
+	return again, FirstError(err, trial.Close())
 }
 
 // begin starts the brokers and a worker once without faults, until the platform has the catalogue.
 func (b *BothStorm) begin(ctx context.Context) error {
-	if err := Either(b.checkPoints(ctx), b.checkTag(ctx)); err != nil {
+	if err := FirstError(b.checkPoints(ctx), b.checkTag(ctx)); err != nil {
 		return err
 	}
 	first, end := append([]*victim{b.workers[0]}, b.brokers...), (*victim).kill
 	if b.config.Calm {
 		end = (*victim).end
 	}
-	defer together(first, end)
+	defer atOnce(first, end)
 	for _, victim := range first {
 		if !victim.start("") {
 			return fmt.Errorf("a program can't be started: %v", victim.odd)
@@ -200,7 +200,7 @@ func (b *BothStorm) compare(ctx context.Context, found *Result) {
 		found.Failed = append(found.Failed, err.Error())
 		return
 	}
-	found.Differences = append(found.Differences, b.commands.undone(records)...)
+	found.Differences = append(found.Differences, b.commands.missingDeeds(records)...)
 	if found.Converged {
 		b.comparePrinted(ctx, records)
 	}
@@ -287,7 +287,7 @@ func (b *BothStorm) calm(ctx context.Context, t *troubles) {
 			killed = append(killed, program)
 		}
 	}
-	together(killed, (*victim).startCalmly)
+	atOnce(killed, (*victim).startCalmly)
 }
 
 // endSessions ends a session with PostgreSQL every few seconds.

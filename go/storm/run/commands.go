@@ -226,8 +226,8 @@ func (c *commands) counts() (instances, bindings int) {
 	return instances, bindings
 }
 
-// undone returns what the records don't show of the operator's deeds.
-func (c *commands) undone(records map[Key]Record) (all report.Differences) {
+// missingDeeds returns what the records don't show of the operator's deeds.
+func (c *commands) missingDeeds(records map[Key]Record) (all report.Differences) {
 	c.turn.Lock()
 	defer c.turn.Unlock()
 	for key := range c.deeds.ordered {
@@ -357,7 +357,7 @@ func (c *commands) note(what string) {
 	c.wrong = append(c.wrong, what)
 }
 
-func (c *commands) odd() []string {
+func (c *commands) oddities() []string {
 	c.turn.Lock()
 	defer c.turn.Unlock()
 	return append([]string{}, c.wrong...)
@@ -382,7 +382,7 @@ type operator struct {
 
 // run lives all lives, until ctx is done.
 func (o *operator) run(ctx context.Context, all []life) {
-	together(all, func(l life) { o.live(ctx, l) })
+	atOnce(all, func(l life) { o.live(ctx, l) })
 }
 
 func (o *operator) live(ctx context.Context, l life) {

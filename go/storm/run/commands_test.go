@@ -93,7 +93,7 @@ func TestCommandsThatLie(t *testing.T) {
 		t.Run(script, func(t *testing.T) {
 			c, one, _ := commandsOver(t, script)
 			err := test.call(c, one)
-			if odd := strings.Join(c.odd(), "\n"); (err != nil) != test.fails || !strings.Contains(odd, test.wrong) ||
+			if odd := strings.Join(c.oddities(), "\n"); (err != nil) != test.fails || !strings.Contains(odd, test.wrong) ||
 				(odd == "") != (test.wrong == "") {
 				t.Errorf("%s: got %v and odd %q, want %q", script, err, odd, test.wrong)
 			}
@@ -124,7 +124,7 @@ exit 0`)
 	for try := 0; try < 60; try++ {
 		_ = c.Create(context.Background(), one)
 	}
-	if odd := c.odd(); len(odd) == 0 || !strings.Contains(odd[0], "an id was used twice: create") {
+	if odd := c.oddities(); len(odd) == 0 || !strings.Contains(odd[0], "an id was used twice: create") {
 		t.Errorf("got %v, want that an id was used twice", odd)
 	}
 }
@@ -142,7 +142,7 @@ func TestUndone(t *testing.T) {
 	c.deeds.ordered[key(0)], c.deeds.ordered[key(9)] = true, true
 	c.deeds.abandoned[key(3)], c.deeds.abandoned[key(4)] = true, true
 	var found []string
-	for _, difference := range c.undone(records) {
+	for _, difference := range c.missingDeeds(records) {
 		found = append(found, difference.Key.Instance+" "+difference.What)
 	}
 	wanted := "0 it was to be removed, and its record says ready; 4 it was to be removed, and its record says cleaning; " +

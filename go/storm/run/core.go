@@ -133,8 +133,8 @@ func (c Core) Run(ctx context.Context) error {
 	return err
 }
 
-// Either returns the first error that isn't nil.
-func Either(all ...error) error {
+// FirstError returns the first error that isn't nil.
+func FirstError(all ...error) error {
 	for _, err := range all {
 		if err != nil {
 			return err

@@ -111,7 +111,7 @@ func (s *BrokerStorm) tryLists(running, ctx context.Context, keys []Key) error {
 	if !s.isListed {
 		return nil
 	}
-	within, cancel := lingering(running, ctx)
+	within, cancel := linger(running, ctx)
 	defer cancel()
 	of := listing{commands: s.config.Commands, prefix: s.Prefix()}
 	for _, test := range []struct {
@@ -150,14 +150,14 @@ func (l listing) awaits(ctx context.Context, command string, ids int, keys []Key
 		if err != nil {
 			return "", err
 		}
-		if missing = lacking(rows, ids, keys); missing == "" || time.Now().After(until) || !fault.Sleep(ctx, listEach) {
+		if missing = firstMissing(rows, ids, keys); missing == "" || time.Now().After(until) || !fault.Sleep(ctx, listEach) {
 			return missing, nil
 		}
 	}
 }
 
-// lacking returns the first key with so many ids that isn't one of some others, or "".
-func lacking(others []Key, ids int, keys []Key) string {
+// firstMissing returns the first key with so many ids that isn't one of some others, or "".
+func firstMissing(others []Key, ids int, keys []Key) string {
 	for _, key := range keys {
 		if isBinding := key.Binding != ""; isBinding == (ids == 2) && !hasKey(others, key) {
 			return ofKey(key)

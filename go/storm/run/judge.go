@@ -316,10 +316,9 @@ func compareSteady(before, after map[Key]Record, sight Sight) (all []Difference)
 	return all
 }
 
-// standard asks the broker itself for each instance and binding, without faults: by a fetch if the catalogue promises
-// that, and otherwise by the last operation. The answers for an instance that exists and for one that was deleted have
-// textsOf what an answer means.
-type standard struct {
+// A standardInventory asks the broker itself for each instance and binding, without faults: by a fetch if the catalogue
+// promises that, and otherwise by the last operation.
+type standardInventory struct {
 	broker *conform.Runner
 	target conform.Target
 	// existing and deleted are the answers to the last operation of such instances. They are empty if the two answers
@@ -328,18 +327,18 @@ type standard struct {
 }
 
 // Look asks for each key.
-func (s *standard) Look(ctx context.Context, keys []Key) (Sight, error) {
+func (s *standardInventory) Look(ctx context.Context, keys []Key) (Sight, error) {
 	sight := Sight{Of: map[Key]Existence{}}
 	for _, key := range keys {
 		if ctx.Err() != nil {
 			return sight, ctx.Err()
 		}
-		sight.Of[key] = s.of(ctx, key)
+		sight.Of[key] = s.look(ctx, key)
 	}
 	return sight, nil
 }
 
-func (s *standard) of(ctx context.Context, key Key) Existence {
+func (s *standardInventory) look(ctx context.Context, key Key) Existence {
 	switch {
 	case key.Binding != "" && s.target.BindingsRetrievable, key.Binding == "" && s.target.InstancesRetrievable:
 		return byFetch(s.broker.Ask(ctx, http.MethodGet, key.Instance, key.Binding, "", s.names()).Status)
@@ -364,7 +363,7 @@ func byFetch(status int) Existence {
 	return Unknown
 }
 
-func (s *standard) lastOperation(ctx context.Context, key Key) string {
+func (s *standardInventory) lastOperation(ctx context.Context, key Key) string {
 	answer := s.broker.Ask(ctx, http.MethodGet, key.Instance, key.Binding, "/last_operation", s.names())
 	if answer.Status != http.StatusOK {
 		return fmt.Sprint(answer.Status)
@@ -372,11 +371,11 @@ func (s *standard) lastOperation(ctx context.Context, key Key) string {
 	return fmt.Sprint(answer.Status, " ", answer.Text("state"))
 }
 
-func (s *standard) names() url.Values {
+func (s *standardInventory) names() url.Values {
 	return url.Values{"service_id": {s.target.Service}, "plan_id": {s.target.Plan}}
 }
 
-func (s *standard) describe() string {
+func (s *standardInventory) describe() string {
 	switch {
 	case s.target.InstancesRetrievable:
 		return "the broker was asked for each instance (instances_retrievable)"
@@ -516,8 +515,8 @@ func (e *events) list() []Event {
 	return append([]Event(nil), e.all...)
 }
 
-// foundGone returns the events of instances and bindings that existed though they were recorded as gone.
-func (e *events) foundGone() []Event {
+// orphans returns the events of instances and bindings that existed though they were recorded as gone.
+func (e *events) orphans() []Event {
 	e.mutex.Lock()
 	defer e.mutex.Unlock()
 	return append([]Event(nil), e.found...)

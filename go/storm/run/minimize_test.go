@@ -108,7 +108,7 @@ func TestShrink(t *testing.T) {
 			if test.first == "" {
 				candidates = candidates[1:]
 			}
-			got.shrink(expiring{ctx}, candidates, func(_ context.Context, of Candidate) (*Result, error) {
+			got.shrink(expiringContext{ctx}, candidates, func(_ context.Context, of Candidate) (*Result, error) {
 				if len(of.List) > 0 && !of.Only[of.List[0].Number.Instance] {
 					t.Errorf("got %v tried with the lives of %v, want its own", of.List, of.Only)
 				}
@@ -151,10 +151,10 @@ func TestShrink(t *testing.T) {
 	}
 }
 
-// An expiring context is one whose end is that of a time.
-type expiring struct{ context.Context }
+// An expiringContext is one whose end is that of a time.
+type expiringContext struct{ context.Context }
 
-func (e expiring) Err() error {
+func (e expiringContext) Err() error {
 	if e.Context.Err() == nil {
 		return nil
 	}

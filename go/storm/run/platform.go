@@ -53,13 +53,13 @@ func startPlatform(
 ) (*platformRig, error) {
 	rig := &platformRig{book: bookOf(target), writer: writer, ended: make(chan error, 1)}
 	if err := rig.open(ctx, c, folder, url, observer); err != nil {
-		return nil, Either(err, rig.closeFiles())
+		return nil, FirstError(err, rig.closeFiles())
 	}
 	rig.resume()
 	within, cancel := context.WithTimeout(ctx, 30*time.Second)
 	defer cancel()
 	if reason, isThere := awaitCatalogue(within, rig.store); !isThere {
-		return nil, Either(fmt.Errorf("the platform can't read the catalogue: %s", reason), rig.close())
+		return nil, FirstError(fmt.Errorf("the platform can't read the catalogue: %s", reason), rig.close())
 	}
 	return rig, nil
 }
@@ -149,7 +149,7 @@ func (p *platformRig) halt() error {
 func (p *platformRig) close() error {
 	err := p.halt()
 	p.client.Close()
-	return Either(err, p.closeFiles())
+	return FirstError(err, p.closeFiles())
 }
 
 // closeFiles closes the store and the journal, as far as they are open.
@@ -180,7 +180,7 @@ func (s *BrokerStorm) try(running, ctx context.Context) error {
 	key := keys[0]
 	wrong := s.tryLists(running, ctx, keys)
 	existing := s.standard.lastOperation(ctx, key)
-	if s.inventory == Inventory(s.standard) && s.target.InstancesRetrievable && s.standard.of(ctx, key) != Exists {
+	if s.inventory == Inventory(s.standard) && s.target.InstancesRetrievable && s.standard.look(ctx, key) != Exists {
 		s.target.InstancesRetrievable, s.standard.target.InstancesRetrievable = false, false
 	}
 	problem = remove()

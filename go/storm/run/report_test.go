@@ -118,16 +118,16 @@ func TestNoSecretsInErrors(t *testing.T) {
 	config := configFor(t, server.URL)
 	config.Broker.Pause = time.Millisecond
 	config.Commands.List = "echo " + password + " >&2; exit 3"
-	storm := opened(t, config)
+	storm := openStorm(t, config)
 	got, failed := storm.Run(context.Background(), context.Background())
 	if !errors.Is(failed, ErrTrial) || len(got.Leftovers) != 1 {
 		t.Fatalf("got the error %v and the leftovers %v, want %v and one", failed, got.Leftovers, ErrTrial)
 	}
 	m, url := newModel(t, false, mistakes{})
 	config.Broker.URL = url
-	storm = opened(t, config)
+	storm = openStorm(t, config)
 	_, listed := storm.Run(context.Background(), context.Background())
-	if !errors.Is(listed, ErrList) || len(m.left(t)) > 0 {
+	if !errors.Is(listed, ErrList) || len(m.existing(t)) > 0 {
 		t.Fatalf("got the error %v, want %v", listed, ErrList)
 	}
 	login := base64.StdEncoding.EncodeToString([]byte("platform:" + password))
@@ -382,7 +382,7 @@ func TestJournals(t *testing.T) {
 			if !report.IsClean() || len(report.Failed) > 0 || len(report.Leftovers) > 0 {
 				t.Errorf("got\n%s\nwant a clean report and nothing left", textOf(t, report))
 			}
-			if left := m.left(t); len(left) > 0 {
+			if left := m.existing(t); len(left) > 0 {
 				t.Errorf("got %v left, want none", left)
 			}
 			stormtest.Empty(t, config.Folder)
@@ -472,7 +472,7 @@ func TestJournalsByDeletion(t *testing.T) {
 		config := configFor(t, url)
 		config.Seed, config.Journal = seed, t.TempDir()
 		report := runStorm(t, config)
-		if left := m.left(t); !report.IsClean() || report.Unknown > 0 || len(left) > 0 {
+		if left := m.existing(t); !report.IsClean() || report.Unknown > 0 || len(left) > 0 {
 			return textOf(t, report)
 		}
 		return ""

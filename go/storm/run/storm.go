@@ -31,7 +31,7 @@ type BrokerStorm struct {
 	address       *url.URL
 	broker        *conform.Runner // asks the broker itself, without faults
 	target        conform.Target
-	standard      *standard
+	standard      *standardInventory
 	inventory     Inventory
 	isListed      bool
 	left          map[Key]bool // what couldn't be deleted
@@ -127,7 +127,7 @@ func (s *BrokerStorm) open(ctx context.Context, report *Report) error {
 		s.target.Catalogue = catalogueOf(target)
 		report.Notes = append(report.Notes, "the broker has no catalogue: no binding was created")
 	}
-	s.standard = &standard{broker: s.broker, target: s.target}
+	s.standard = &standardInventory{broker: s.broker, target: s.target}
 	s.inventory = s.standard
 	if s.config.Commands.List != "" {
 		s.inventory, s.isListed = listing{s.config.Commands, s.Prefix(), s.standard, s.left}, true
@@ -291,7 +291,7 @@ func (c BrokerConfig) check() error {
 	if !c.Commands.restarts() {
 		noRestart = "give a command for it"
 	}
-	return Either(c.Commands.Lists.Check(), c.Config.Check(noRestart, c.CleanUpTime))
+	return FirstError(c.Commands.Lists.Check(), c.Config.Check(noRestart, c.CleanUpTime))
 }
 
 type brokerRun struct {
@@ -320,7 +320,7 @@ func (s *BrokerStorm) startRun(ctx, deleting context.Context, folder string, sou
 	r.events = &events{now: r.journal.Now, keyOf: keyOf}
 	restart := s.config.Commands.restart(s.address)
 	if restart != nil {
-		restart = r.noting(ctx, deleting, restart)
+		restart = r.noteRestarts(ctx, deleting, restart)
 	}
 	var err error
 	r.proxy, err = fault.Listen(fault.Config{
@@ -346,13 +346,13 @@ func (s *BrokerStorm) startRun(ctx, deleting context.Context, folder string, sou
 	return r, nil
 }
 
-// noting notes each restart. A restart goes on although the proxy is closed: the broker has to be there for the
-// deletions.
-func (r *brokerRun) noting(
+// noteRestarts returns a restart that is noted. It goes on although the proxy is closed: the broker has to be there for
+// the deletions.
+func (r *brokerRun) noteRestarts(
 	running, deleting context.Context, restart func(context.Context) error,
 ) func(context.Context) error {
 	return func(context.Context) error {
-		ctx, cancel := lingering(running, deleting)
+		ctx, cancel := linger(running, deleting)
 		defer cancel()
 		r.events.add(Key{}, whoBroker, "is killed and started again")
 		err := restart(ctx)
@@ -382,12 +382,12 @@ func (r *brokerRun) storm(ctx, deleting context.Context, only map[int]bool) *Res
 	if err := r.platform.halt(); err != nil {
 		r.fail("the platform failed: " + err.Error())
 	}
-	looking, cancel := lingering(ctx, deleting)
+	looking, cancel := linger(ctx, deleting)
 	defer cancel()
 	end := r.watch.end(looking, ctx.Err() == nil)
 	r.last, found.Differences = end.last, end.differences
 	if r.deletionsTell {
-		for _, event := range r.events.foundGone() {
+		for _, event := range r.events.orphans() {
 			found.Differences.Add(event.Key, Lost, event.What)
 		}
 	}
@@ -524,9 +524,9 @@ func (s *BrokerStorm) deleteAll(running, deleting context.Context, found *Result
 		}
 	}
 	left := s.cleanUp(deleting)
-	looking, cancel := lingering(running, deleting)
+	looking, cancel := linger(running, deleting)
 	defer cancel()
-	left = append(left, s.stillListed(looking, left)...)
+	left = append(left, s.leftoversInList(looking, left)...)
 	var news []conform.Leftover
 	for _, leftover := range left {
 		if key := (Key{Instance: leftover.Instance, Binding: leftover.Binding}); !s.left[key] {
@@ -565,8 +565,8 @@ func isRejection(d fault.Delivery) bool {
 	return d.Status >= 400 && d.Status < 500 && d.Status != http.StatusRequestTimeout
 }
 
-// stillListed returns what the list command prints after the deletions, besides what is known to be left.
-func (s *BrokerStorm) stillListed(ctx context.Context, known []conform.Leftover) (left []conform.Leftover) {
+// leftoversInList returns what the list command prints after the deletions, besides what is known to be left.
+func (s *BrokerStorm) leftoversInList(ctx context.Context, known []conform.Leftover) (left []conform.Leftover) {
 	if !s.isListed || ctx.Err() != nil {
 		return nil
 	}

@@ -35,7 +35,7 @@ func configFor(t *testing.T, url string) BrokerConfig {
 	}
 }
 
-func opened(t *testing.T, config BrokerConfig) *BrokerStorm {
+func openStorm(t *testing.T, config BrokerConfig) *BrokerStorm {
 	t.Helper()
 	storm := diff.Value(NewBroker(config))(t)
 	return storm
@@ -43,7 +43,7 @@ func opened(t *testing.T, config BrokerConfig) *BrokerStorm {
 
 func runStorm(t *testing.T, config BrokerConfig) *Report {
 	t.Helper()
-	storm := opened(t, config)
+	storm := openStorm(t, config)
 	report := diff.Value(storm.Run(context.Background(), context.Background()))(t)
 	return report
 }
@@ -65,7 +65,7 @@ func inOneStorm(t *testing.T, look func(seed int64) string) {
 
 func textOf(t *testing.T, report *Report) string {
 	t.Helper()
-	return stormtest.Written(t, report.WriteText)
+	return stormtest.TextOf(t, report.WriteText)
 }
 
 // A broker without a mistake loses nothing, whether what exists is listed or asked for by the standard.
@@ -86,7 +86,7 @@ func TestNothingLost(t *testing.T) {
 					if !report.IsClean() || len(report.Broken) > 0 || len(report.Failed) > 0 || len(report.Leftovers) > 0 {
 						t.Errorf("got\n%s\nwant a clean report with nothing broken, failed or left", textOf(t, report))
 					}
-					if left := m.left(t); len(left) > 0 {
+					if left := m.existing(t); len(left) > 0 {
 						t.Errorf("got %v left, want none", left)
 					}
 					return stormtest.Tally{report.Instances, report.Bindings, report.Requests, len(report.Given)}
@@ -134,7 +134,7 @@ func TestMistakes(t *testing.T) {
 					return fmt.Sprintf("nothing is lost because %q:\n%s", it.lost, text)
 				case it.false != "" && !strings.Contains(stormtest.Whats(report.False), it.false):
 					return fmt.Sprintf("no record is false because %q:\n%s", it.false, text)
-				case it.broken != "" && !stormtest.HasBroken(report.Broken, it.broken):
+				case it.broken != "" && !stormtest.HasViolation(report.Broken, it.broken):
 					return fmt.Sprintf("no answer breaks %s:\n%s", it.broken, text)
 				case report.IsClean():
 					return "the report is clean"
@@ -190,7 +190,7 @@ func TestMinimize(t *testing.T) {
 		if len(report.Minimal) != 1 || len(report.MinimalLost) == 0 {
 			return fmt.Sprintf("%v is left:\n%s", report.Minimal, textOf(t, report))
 		}
-		list := listOf(t, stormtest.Written(t, report.WriteFaults))
+		list := listOf(t, stormtest.TextOf(t, report.WriteFaults))
 		config.List, config.MinimizeTime = list, 0
 		if again := runStorm(t, config); len(again.Lost) != 1 || len(again.Given) != 1 {
 			return fmt.Sprintf("with %v, %s", list, textOf(t, again))
@@ -203,7 +203,7 @@ func TestMinimize(t *testing.T) {
 func TestNoCatalogue(t *testing.T) {
 	server := httptest.NewServer(http.NotFoundHandler())
 	defer server.Close()
-	storm := opened(t, configFor(t, server.URL))
+	storm := openStorm(t, configFor(t, server.URL))
 	_, err := storm.Run(context.Background(), context.Background())
 	if !errors.Is(err, conform.ErrNoPlan) || !strings.Contains(err.Error(), "give --service and --plan with ids") {
 		t.Errorf("got %v, want %v and which options to give", err, conform.ErrNoPlan)
@@ -216,10 +216,10 @@ func TestCleanUpAfterSignal(t *testing.T) {
 	m, url := newModel(t, true, mistakes{})
 	config := configFor(t, url)
 	config.Commands, config.Time, config.Broker.RequestTime = m.commands(), 15*time.Second, time.Second
-	storm := opened(t, config)
+	storm := openStorm(t, config)
 	running, signal := context.WithCancel(context.Background())
 	go func() {
-		for len(m.left(t)) < 5 {
+		for len(m.existing(t)) < 5 {
 			time.Sleep(10 * time.Millisecond)
 		}
 		signal()
@@ -232,7 +232,7 @@ func TestCleanUpAfterSignal(t *testing.T) {
 	if len(report.Lost)+len(report.False)+len(report.Stuck) > 0 {
 		t.Errorf("got\n%s\nwant nothing lost, false or stuck before everything converged", textOf(t, report))
 	}
-	if left := m.left(t); len(left) > 0 {
+	if left := m.existing(t); len(left) > 0 {
 		t.Errorf("got %v left, want none", left)
 	}
 	if time.Since(begun) > 30*time.Second {
@@ -247,11 +247,11 @@ func TestSecondSignal(t *testing.T) {
 	m, url := newModel(t, false, mistakes{})
 	config := configFor(t, url)
 	config.Commands, config.Time = m.commands(), 15*time.Second
-	storm := opened(t, config)
+	storm := openStorm(t, config)
 	running, first := context.WithCancel(context.Background())
 	deleting, second := context.WithCancel(context.Background())
 	go func() {
-		for len(m.left(t)) < 5 {
+		for len(m.existing(t)) < 5 {
 			time.Sleep(10 * time.Millisecond)
 		}
 		second()
@@ -262,12 +262,12 @@ func TestSecondSignal(t *testing.T) {
 	for _, leftover := range report.Leftovers {
 		listed[strings.Trim(leftover.Instance+"_"+leftover.Binding, "_")] = true
 	}
-	for _, name := range m.left(t) {
+	for _, name := range m.existing(t) {
 		if !listed[name] {
 			t.Errorf("%s: got it left, and not listed, want it listed", name)
 		}
 	}
-	if len(m.left(t)) == 0 {
+	if len(m.existing(t)) == 0 {
 		t.Error("got everything deleted, want something left")
 	}
 }
@@ -278,7 +278,7 @@ func TestOthersUntouched(t *testing.T) {
 	m, url := newModel(t, false, mistakes{})
 	config := configFor(t, url)
 	config.Commands, config.Time, config.Broker.Instances = m.commands(), 2*time.Second, 8
-	storm := opened(t, config)
+	storm := openStorm(t, config)
 	other := "0" + storm.Prefix()[1:]
 	if other == storm.Prefix() {
 		other = "1" + storm.Prefix()[1:]
@@ -292,12 +292,12 @@ func TestOthersUntouched(t *testing.T) {
 		m.create(key)
 		m.rows[key] = &row{}
 	}
-	before := m.left(t)
+	before := m.existing(t)
 	report, err := storm.Run(context.Background(), context.Background())
 	if err != nil || !report.IsClean() || len(report.Leftovers) > 0 {
 		t.Errorf("got the error %v, want a clean report without leftovers:\n%s", err, textOf(t, report))
 	}
-	diff.Check(t, m.left(t), before, "what is left, and what was there before")
+	diff.Check(t, m.existing(t), before, "what is left, and what was there before")
 	if report.Instances > config.Broker.Instances {
 		t.Errorf("got %d instances created, want at most %v", report.Instances, config.Broker.Instances)
 	}
@@ -314,7 +314,7 @@ func TestTrial(t *testing.T) {
 			check(t, os.RemoveAll(filepath.Join(m.folder, "instances")))
 			config := configFor(t, url)
 			config.Broker.RequestTime, config.Journal = time.Second, folder
-			storm := opened(t, config)
+			storm := openStorm(t, config)
 			if _, err := storm.Run(context.Background(), context.Background()); !errors.Is(err, ErrTrial) {
 				t.Errorf("got the error %v, want %v", err, ErrTrial)
 			}
@@ -498,7 +498,7 @@ func TestWrongLists(t *testing.T) {
 					if hasJournal {
 						config.Journal = t.TempDir()
 					}
-					storm := opened(t, config)
+					storm := openStorm(t, config)
 					report, err := storm.Run(context.Background(), context.Background())
 					if errors.Is(err, ErrList) != (it.wanted != "") {
 						t.Fatalf("got the error %v, want %q:\n%s", err, it.wanted, textOf(t, report))
@@ -511,7 +511,7 @@ func TestWrongLists(t *testing.T) {
 					if err != nil && report.Requests > 0 {
 						t.Error("got a storm, want none")
 					}
-					if left := m.left(t); len(left)+len(report.Leftovers) > 0 || len(m.rows) > 0 {
+					if left := m.existing(t); len(left)+len(report.Leftovers) > 0 || len(m.rows) > 0 {
 						t.Errorf("got %v %v left, want none", left, report.Leftovers)
 					}
 					stormtest.Empty(t, config.Folder)
@@ -545,13 +545,13 @@ func TestHangingCommands(t *testing.T) {
 				config.Commands, config.Time = m.commands(), 30*time.Second
 				flag := filepath.Join(t.TempDir(), "hang")
 				change(&config.Commands, "! test -e "+flag)
-				storm := opened(t, config)
+				storm := openStorm(t, config)
 				running, first := context.WithCancel(context.Background())
 				deleting, end := context.WithCancel(context.Background())
 				defer end()
 				begun := make(chan time.Time, 1)
 				go func() {
-					for wanted := map[bool]int{true: 1, false: 5}[name == "trial"]; len(m.left(t)) < wanted; {
+					for wanted := map[bool]int{true: 1, false: 5}[name == "trial"]; len(m.existing(t)) < wanted; {
 						time.Sleep(10 * time.Millisecond)
 					}
 					_ = os.WriteFile(flag, nil, 0o600)
@@ -571,7 +571,7 @@ func TestHangingCommands(t *testing.T) {
 				if err != nil || report.Ended == "" || took > most {
 					t.Errorf("got %v after %v, want its end in time\n%s", err, took, textOf(t, report))
 				}
-				if left := m.left(t); !second && len(left) > 0 {
+				if left := m.existing(t); !second && len(left) > 0 {
 					t.Errorf("got %v left, want none", left)
 				}
 			})

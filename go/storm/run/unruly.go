@@ -28,9 +28,9 @@ const (
 	unknownShare   = 0.05 // of the Binds: their instance was never ordered
 )
 
-// An unruly is a client of bindings that keeps no rules, and no records. Only the broker's two rules keep an instance
+// An unrulyClient is a client of bindings that keeps no rules, and no records. Only the broker's two rules keep an instance
 // that isn't ready from having credentials, and one that has bindings from being deleted.
-type unruly struct {
+type unrulyClient struct {
 	url, password string // where the broker is reached
 	records       func(context.Context) (map[Key]Record, error)
 	held          func(context.Context) (map[Key]audit.Row, error)
@@ -46,7 +46,7 @@ type unruly struct {
 }
 
 // run sends Binds and Unbinds of any instance at any time, until ctx is done.
-func (u *unruly) run(ctx context.Context) {
+func (u *unrulyClient) run(ctx context.Context) {
 	begun, group := time.Now(), sync.WaitGroup{}
 	for fault.Sleep(ctx, unrulyEach) {
 		records, err := u.records(ctx)
@@ -72,7 +72,7 @@ type bindingRequest struct {
 }
 
 // due returns what is to be sent now, and notes it.
-func (u *unruly) due(ctx context.Context, records map[Key]Record, since time.Duration) (all []bindingRequest) {
+func (u *unrulyClient) due(ctx context.Context, records map[Key]Record, since time.Duration) (all []bindingRequest) {
 	unbound := u.toUnbind(ctx)
 	u.mutex.Lock()
 	defer u.mutex.Unlock()
@@ -116,12 +116,12 @@ func sentOf(records map[Key]Record) (ids []string) {
 }
 
 // toUnbind returns some of what was bound, or in the calm what the broker holds of it.
-func (u *unruly) toUnbind(ctx context.Context) (keys []Key) {
+func (u *unrulyClient) toUnbind(ctx context.Context) (keys []Key) {
 	u.mutex.Lock()
 	isCalm := u.isCalm
 	u.mutex.Unlock()
 	if isCalm {
-		keys, _ = u.left(ctx) // while the store is away, nothing is unbound
+		keys, _ = u.heldKeys(ctx) // while the store is away, nothing is unbound
 		return keys
 	}
 	for _, key := range sortedKeys(u.all()) {
@@ -141,8 +141,8 @@ func sortedKeys[V any](of map[Key]V) (keys []Key) {
 	return keys
 }
 
-// left returns what the broker still holds of what was bound.
-func (u *unruly) left(ctx context.Context) (keys []Key, err error) {
+// heldKeys returns what the broker still holds of what was bound.
+func (u *unrulyClient) heldKeys(ctx context.Context) (keys []Key, err error) {
 	held, err := u.held(ctx)
 	bound := u.all()
 	for key, row := range held {
@@ -153,19 +153,19 @@ func (u *unruly) left(ctx context.Context) (keys []Key, err error) {
 	return keys, err
 }
 
-func (u *unruly) isDone(ctx context.Context) bool {
-	keys, err := u.left(ctx)
+func (u *unrulyClient) isDone(ctx context.Context) bool {
+	keys, err := u.heldKeys(ctx)
 	return err == nil && len(keys) == 0
 }
 
 // calm ends the Binds, and has all that the broker holds unbound.
-func (u *unruly) calm() {
+func (u *unrulyClient) calm() {
 	u.mutex.Lock()
 	defer u.mutex.Unlock()
 	u.isCalm = true
 }
 
-func (u *unruly) all() map[Key]bool {
+func (u *unrulyClient) all() map[Key]bool {
 	u.mutex.Lock()
 	defer u.mutex.Unlock()
 	all := make(map[Key]bool, len(u.bound))
@@ -176,7 +176,7 @@ func (u *unruly) all() map[Key]bool {
 }
 
 // send sends a request, and polls if work goes on: no creation begins before its first Poll.
-func (u *unruly) send(ctx context.Context, it bindingRequest) {
+func (u *unrulyClient) send(ctx context.Context, it bindingRequest) {
 	defer func() {
 		u.mutex.Lock()
 		defer u.mutex.Unlock()
@@ -201,7 +201,7 @@ func (u *unruly) send(ctx context.Context, it bindingRequest) {
 }
 
 // ask returns the status of the answer, or 0 if none arrived.
-func (u *unruly) ask(ctx context.Context, method, target, body string) int {
+func (u *unrulyClient) ask(ctx context.Context, method, target, body string) int {
 	request, err := http.NewRequestWithContext(ctx, method, u.url+target, strings.NewReader(body))
 	if err != nil {
 		panic(err) // the target is one of ours

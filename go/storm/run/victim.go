@@ -304,9 +304,9 @@ const commandTime = time.Minute
 // lastTime is for how long a command of the user's may go on after the first signal.
 const lastTime = 10 * time.Second
 
-// lingering returns the context of a command. Once running is done, the command has lastTime. Once deleting is done, it
+// linger returns the context of a command. Once running is done, the command has lastTime. Once deleting is done, it
 // has none.
-func lingering(running, deleting context.Context) (ctx context.Context, cancel func()) {
+func linger(running, deleting context.Context) (ctx context.Context, cancel func()) {
 	ctx, cancel = context.WithCancel(deleting)
 	go func() {
 		select {

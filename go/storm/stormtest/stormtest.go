@@ -24,12 +24,12 @@ type Report interface {
 func Forms(t testing.TB, of Report) map[string]string {
 	t.Helper()
 	return map[string]string{
-		"text": Written(t, of.WriteText), "JSON": Written(t, of.WriteJSON), "HTML": Written(t, of.WriteHTML),
+		"text": TextOf(t, of.WriteText), "JSON": TextOf(t, of.WriteJSON), "HTML": TextOf(t, of.WriteHTML),
 	}
 }
 
-// Written returns what a function writes.
-func Written(t testing.TB, write func(io.Writer) error) string {
+// TextOf returns what a function writes.
+func TextOf(t testing.TB, write func(io.Writer) error) string {
 	t.Helper()
 	var text bytes.Buffer
 	diff.Must(t, write(&text))
@@ -55,8 +55,8 @@ func HasBinding(all []report.Finding) bool {
 	return false
 }
 
-// HasBroken returns whether a rule was broken.
-func HasBroken(all []report.Violation, name string) bool {
+// HasViolation returns whether a rule was broken.
+func HasViolation(all []report.Violation, name string) bool {
 	for _, violation := range all {
 		if violation.Name == name {
 			return true
@@ -65,7 +65,7 @@ func HasBroken(all []report.Violation, name string) bool {
 	return false
 }
 
-// A Tally is how many instances, bindings, requests and faults a storm has had.
+// A Tally is how many instances, bindings, requests and faults a storm had.
 type Tally [4]int
 
 // UntilEnough calls run with one seed after the other, until enough has happened in all storms together: on a slow

@@ -14,7 +14,7 @@ import (
 	"pippinterm/storm/run/goods"
 )
 
-// Without returns the store and the locks of a broker that lacks a part of the design:
+// StoreAndLocks returns the store and the locks of a broker that lacks a part of the design:
 //
 //	(empty)     nothing is taken out
 //	available   a Bind begins although its instance isn't available
@@ -22,12 +22,12 @@ import (
 //	tombstones  nothing is kept of what has ended
 //	work        no work becomes pending: it is done, and then written down
 //	busy        while work is pending, a request is judged as if none were
-//	locks       whoever asks for a lock has it
+//	locks       whoever asks for a lock gets it
 //	broker      the broker as it is usually written: the work first and then its row, with no tombstones and no locks.
 //	            The unfinished work of the last process has failed
 //
 // Errors: if it is no such part; with broker, those of the store.
-func Without(
+func StoreAndLocks(
 	ctx context.Context, part string, store broker.NamedStore, locks broker.Locks,
 ) (broker.NamedStore, broker.Locks, error) {
 	switch part {
@@ -74,7 +74,7 @@ func bindsAnyway(key broker.Key, step broker.Step, snapshot broker.Snapshot) (*b
 	}
 	for _, plan := range []string{goods.AtOnce, goods.Later, goods.LaterWithBinds, goods.OnlyBindsLater} {
 		available := snapshot
-		if available.Instance.Holding, err = ready(key, osb.MustParseID(goods.Service), osb.MustParseID(plan)); err != nil {
+		if available.Instance.Holding, err = availableHolding(key, osb.MustParseID(goods.Service), osb.MustParseID(plan)); err != nil {
 			return nil, err
 		}
 		if next, err := step(available); err == nil && next != nil && next.Holding.IsHeld() {
@@ -84,8 +84,8 @@ func bindsAnyway(key broker.Key, step broker.Step, snapshot broker.Snapshot) (*b
 	return step(snapshot)
 }
 
-// ready is the holding of a binding's instance that is available.
-func ready(of broker.Key, service, plan osb.ID) (osb.Holding, error) {
+// availableHolding returns the holding of a binding's instance that is available.
+func availableHolding(of broker.Key, service, plan osb.ID) (osb.Holding, error) {
 	request := osb.Request{ID: of.Instance, Kind: osb.KindProvision, Service: service, Plan: plan}
 	begun, _, err := osb.Holding{}.Begin(osb.ModeSync, request, osb.Rules{})
 	if err != nil {
@@ -124,23 +124,23 @@ type noLock struct{}
 func (noLock) Context(ctx context.Context) context.Context { return ctx }
 func (noLock) Unlock()                                     {}
 
-// listens is for how much longer WithoutAttempts listens for an answer.
+// listens is for how much longer ClientWithoutAttempts listens for an answer.
 const listens = 15 * time.Second
 
-// WithoutAttempts returns the client of a platform that ignores the numbers of requests. It goes on listening for the
-// answer to a request that is given up, and takes the answer for that to whatever request of the instance is in flight
-// by then. Of bindings nothing is changed.
-func WithoutAttempts(client platform.Client, store platform.Store) platform.Client {
-	return withoutAttempts{Client: client, store: store}
+// ClientWithoutAttempts returns the client of a platform that ignores the numbers of requests. It goes on listening for
+// the answer to a request that has timed out, and takes the answer for that to whatever request of the instance is in
+// flight by then. Of bindings nothing is changed.
+func ClientWithoutAttempts(client platform.Client, store platform.Store) platform.Client {
+	return clientWithoutAttempts{Client: client, store: store}
 }
 
-type withoutAttempts struct {
+type clientWithoutAttempts struct {
 	platform.Client
 	store platform.Store
 }
 
 // Exchange sends a request as the client does, and listens for longer.
-func (c withoutAttempts) Exchange(ctx context.Context, out platform.Outgoing) platform.Incoming {
+func (c clientWithoutAttempts) Exchange(ctx context.Context, out platform.Outgoing) platform.Incoming {
 	if out.Entry.Key.IsBinding {
 		return c.Client.Exchange(ctx, out)
 	}
@@ -167,7 +167,7 @@ func (c withoutAttempts) Exchange(ctx context.Context, out platform.Outgoing) pl
 }
 
 // takeLate takes an answer for that to the request in flight, whichever it is.
-func (c withoutAttempts) takeLate(ctx context.Context, key platform.Key, in platform.Incoming) {
+func (c clientWithoutAttempts) takeLate(ctx context.Context, key platform.Key, in platform.Incoming) {
 	if in.Lost != nil {
 		return
 	}
@@ -189,15 +189,15 @@ func (c withoutAttempts) takeLate(ctx context.Context, key platform.Key, in plat
 	})
 }
 
-// Forgetful returns the store of a platform as platforms are usually written: a creation that has failed, or of which
-// no answer says how it has ended, is recorded as gone, and forgotten. Package platform has it deleted. Creations that
-// are to be removed, and deletions, go on as they do there.
-func Forgetful(store platform.Store) platform.Store { return forgettingStore{store} }
+// ForgetfulStore returns the store of a platform as platforms are usually written: a creation that has failed, or of
+// which no answer says how it has ended, is recorded as gone, and forgotten. Package platform has it deleted. Creations
+// that are to be removed, and deletions, go on as they do there.
+func ForgetfulStore(store platform.Store) platform.Store { return forgetfulStore{store} }
 
-type forgettingStore struct{ platform.Store }
+type forgetfulStore struct{ platform.Store }
 
 // Claim has the step decide once more about what is forgotten, so that it sends nothing.
-func (s forgettingStore) Claim(
+func (s forgetfulStore) Claim(
 	ctx context.Context, brokers []string, most int, step platform.Step,
 ) ([]platform.ClaimedRow, error) {
 	return s.Store.Claim(ctx, brokers, most, func(now time.Time, snapshot platform.Snapshot) (*platform.Change, error) {
@@ -211,7 +211,7 @@ func (s forgettingStore) Claim(
 }
 
 // Change writes that a creation is forgotten in place of its deletion.
-func (s forgettingStore) Change(ctx context.Context, key platform.Key, step platform.Step) error {
+func (s forgetfulStore) Change(ctx context.Context, key platform.Key, step platform.Step) error {
 	return s.Store.Change(ctx, key, func(now time.Time, snapshot platform.Snapshot) (*platform.Change, error) {
 		change, _, err := forget(now, snapshot, step)
 		return change, err
@@ -249,7 +249,7 @@ func goneOf(key platform.Key, record osb.Record) (osb.Record, error) {
 	return record.Answer(record.Attempt(), answer)
 }
 
-// isMitigation returns whether a row comes from a creation to a deletion for which nobody has asked.
+// isMitigation returns whether a row changes from a creation to a deletion for which nobody has asked.
 func isMitigation(before platform.State, after platform.Entry) bool {
 	isCreated := before == platform.Wanted || before == platform.Polling
 	return isCreated && after.State == platform.Cleaning && after.Removal == platform.NotRemoved

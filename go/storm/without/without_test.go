@@ -22,7 +22,7 @@ import (
 func TestALifeWithoutAPart(t *testing.T) {
 	for _, part := range []string{"", "available", "held", "tombstones", "work", "busy", "locks", "broker"} {
 		t.Run("without "+part, func(t *testing.T) {
-			s := newSite(t, part, broker.Rules{})
+			s := newTestBroker(t, part, broker.Rules{})
 			s.provision(201, now)
 			s.provision(200, now)
 			s.bind(201, now)
@@ -43,7 +43,7 @@ func TestALifeWithoutAPart(t *testing.T) {
 func TestALaterLifeWithoutAPart(t *testing.T) {
 	for _, part := range []string{"", "tombstones", "work", "busy", "locks", "broker"} {
 		t.Run("without "+part, func(t *testing.T) {
-			s := newSite(t, part, broker.Rules{})
+			s := newTestBroker(t, part, broker.Rules{})
 			s.provision(202, later) // and its operation ends in Touch
 			s.provision(200, later)
 			s.bind(202, later)
@@ -57,21 +57,21 @@ func TestALaterLifeWithoutAPart(t *testing.T) {
 }
 
 func TestUnknownPart(t *testing.T) {
-	if _, _, err := Without(context.Background(), "everything", openEmpty(t), withoutLocks{}); err == nil {
+	if _, _, err := StoreAndLocks(context.Background(), "everything", openEmpty(t), withoutLocks{}); err == nil {
 		t.Error("a broker without everything: got no error, want one")
 	}
 }
 
 func TestTombstones(t *testing.T) {
 	for _, part := range []string{"tombstones", "broker"} {
-		s := newSite(t, part, broker.Rules{})
+		s := newTestBroker(t, part, broker.Rules{})
 		s.remove(410, instance, now)
 		s.remove(410, binding, now)
 		wantHolding(t, s.store, instance, osb.Holding{})
 		wantHolding(t, s.store, binding, osb.Holding{})
 		s.provision(201, now) // which a tombstone would forbid
 	}
-	s := newSite(t, "", broker.Rules{})
+	s := newTestBroker(t, "", broker.Rules{})
 	s.remove(410, instance, now)
 	s.provision(409, now)
 }
@@ -79,14 +79,14 @@ func TestTombstones(t *testing.T) {
 // A Bind begins although its instance doesn't exist, or isn't ready. The Unbind is judged as ever.
 func TestAvailable(t *testing.T) {
 	for part, statuses := range map[string][3]int{"available": {201, 200, 202}, "": {503, 410, 503}} {
-		s := newSite(t, part, broker.Rules{})
+		s := newTestBroker(t, part, broker.Rules{})
 		s.provision(201, now)
 		write(t, s.store, instance, osb.Holding{})
 		s.bind(statuses[0], now)
 		s.remove(statuses[1], binding, now)
 		s.remove(410, binding, now)
 		for _, firstPoll := range []bool{false, true} {
-			s = newSite(t, part, broker.Rules{FirstPoll: firstPoll, WaitForPoll: time.Minute})
+			s = newTestBroker(t, part, broker.Rules{FirstPoll: firstPoll, WaitForPoll: time.Minute})
 			write(t, s.store, instance, holding(t, in("making"), "null", false))
 			s.bind(statuses[2], later)
 		}
@@ -95,7 +95,7 @@ func TestAvailable(t *testing.T) {
 
 func TestHeld(t *testing.T) {
 	for part, status := range map[string]int{"held": 200, "": 422} {
-		s := newSite(t, part, broker.Rules{})
+		s := newTestBroker(t, part, broker.Rules{})
 		s.provision(201, now)
 		s.bind(201, now)
 		s.remove(status, instance, now)
@@ -104,7 +104,7 @@ func TestHeld(t *testing.T) {
 
 func TestLocks(t *testing.T) {
 	ctx := context.Background()
-	_, locks, err := Without(ctx, "locks", openEmpty(t), nil)
+	_, locks, err := StoreAndLocks(ctx, "locks", openEmpty(t), nil)
 	check(t, err)
 	for n := 0; n < 2; n++ {
 		if lock, err := locks.TryLock(ctx, instance); err != nil || lock == nil {
@@ -122,7 +122,7 @@ func TestUnfinishedHasFailed(t *testing.T) {
 	other := broker.InstanceKey(bound)
 	write(t, store, instance, making)
 	write(t, store, other, deleting)
-	usual, _, err := Without(ctx, "broker", store, nil)
+	usual, _, err := StoreAndLocks(ctx, "broker", store, nil)
 	check(t, err)
 	wantHolding(t, store, instance, holding(t, in("failed"), "null", false))
 	wantHolding(t, store, other, holding(t, in("delete-failed"), "null", false))
@@ -132,22 +132,22 @@ func TestUnfinishedHasFailed(t *testing.T) {
 	}
 }
 
-// A late client answers once the test lets it.
-type late struct {
+// A lateClient answers once the test lets it.
+type lateClient struct {
 	answers chan platform.Incoming
 	until   chan time.Time // of each request
 }
 
-func (c late) Exchange(_ context.Context, out platform.Outgoing) platform.Incoming {
+func (c lateClient) Exchange(_ context.Context, out platform.Outgoing) platform.Incoming {
 	c.until <- out.Until
 	return <-c.answers
 }
 
-func (late) Catalogue(context.Context, platform.Broker) (json.RawMessage, int, error) {
+func (lateClient) Catalogue(context.Context, platform.Broker) (json.RawMessage, int, error) {
 	return nil, 0, context.Canceled
 }
 
-func (late) Clock() time.Time { return time.Now() }
+func (lateClient) Clock() time.Time { return time.Now() }
 
 // inFlight is a store with an instance whose request is in flight.
 func inFlight(t *testing.T) (platform.Store, platform.Entry) {
@@ -173,10 +173,10 @@ func inFlight(t *testing.T) (platform.Store, platform.Entry) {
 // An answer in time is the client's own, and changes nothing.
 func TestAnswerInTime(t *testing.T) {
 	store, entry := inFlight(t)
-	client := late{make(chan platform.Incoming, 1), make(chan time.Time, 1)}
+	client := lateClient{make(chan platform.Incoming, 1), make(chan time.Time, 1)}
 	client.answers <- platform.Incoming{Status: http.StatusCreated}
 	out := platform.Outgoing{Entry: entry, Until: time.Now().Add(time.Minute)}
-	if in := WithoutAttempts(client, store).Exchange(context.Background(), out); in.Status != http.StatusCreated {
+	if in := ClientWithoutAttempts(client, store).Exchange(context.Background(), out); in.Status != http.StatusCreated {
 		t.Errorf("got %+v, want the status 201", in)
 	}
 	if until := <-client.until; !until.Equal(out.Until.Add(listens)) {
@@ -191,9 +191,9 @@ func TestAnswerInTime(t *testing.T) {
 func TestLateAnswerIsTaken(t *testing.T) {
 	ctx := context.Background()
 	store, entry := inFlight(t)
-	client := late{make(chan platform.Incoming), make(chan time.Time, 1)}
+	client := lateClient{make(chan platform.Incoming), make(chan time.Time, 1)}
 	out := platform.Outgoing{Entry: entry, Until: time.Now()}
-	if in := WithoutAttempts(client, store).Exchange(ctx, out); in.Lost == nil {
+	if in := ClientWithoutAttempts(client, store).Exchange(ctx, out); in.Lost == nil {
 		t.Fatalf("got %+v, want no answer", in)
 	}
 	check(t, store.Change(ctx, entry.Key, func(_ time.Time, snapshot platform.Snapshot) (*platform.Change, error) {
@@ -244,7 +244,7 @@ func TestForgets(t *testing.T) {
 		t.Run(name, func(t *testing.T) {
 			store, entry := inFlight(t)
 			var steps []platform.State
-			check(t, change(Forgetful(store), entry.Key, givenUp(t, &steps)))
+			check(t, change(ForgetfulStore(store), entry.Key, givenUp(t, &steps)))
 			read, err := store.Read(ctx, entry.Key)
 			check(t, err)
 			if read.State != platform.Gone || !read.Record.IsGone() || !read.Due.IsZero() || read.Lease.Worker != "" {
@@ -277,7 +277,7 @@ func TestForgetsNothingElse(t *testing.T) {
 	} {
 		t.Run(name, func(t *testing.T) {
 			store, entry := inFlight(t)
-			check(t, Forgetful(store).Change(ctx, entry.Key, func(_ time.Time, snapshot platform.Snapshot) (*platform.Change, error) {
+			check(t, ForgetfulStore(store).Change(ctx, entry.Key, func(_ time.Time, snapshot platform.Snapshot) (*platform.Change, error) {
 				e := snapshot.Entry
 				var err error
 				e.Record, err = test.step(e.Record)

@@ -51,7 +51,7 @@ func ignoreWork(_ broker.Key, step broker.Step, snapshot broker.Snapshot) (*brok
 	if !isPending(snapshot.Entry) {
 		return step(snapshot)
 	}
-	without, err := idle(snapshot.Holding)
+	without, err := idleHolding(snapshot.Holding)
 	if err != nil {
 		return nil, err
 	}
@@ -72,8 +72,8 @@ func isPending(entry broker.Entry) bool {
 	return isPending
 }
 
-// idle is a holding without its pending work. The texts of instances serve for both kinds.
-func idle(holding osb.Holding) (without osb.Holding, err error) {
+// idleHolding returns a holding without its pending work. The texts of instances serve for both kinds.
+func idleHolding(holding osb.Holding) (without osb.Holding, err error) {
 	if _, isHeld := holding.Row(); !isHeld {
 		return osb.Holding{}, nil
 	}
@@ -98,7 +98,7 @@ type idleStore struct{ broker.NamedStore }
 
 func (idleStore) UnfinishedKeys(context.Context) ([]broker.Key, error) { return nil, nil }
 
-// failUnfinished has each operation fail that the last process hadn't finished.
+// failUnfinished has each operation fail that the last process left unfinished.
 func failUnfinished(ctx context.Context, store broker.Store) error {
 	keys, err := store.UnfinishedKeys(ctx)
 	if err != nil {
@@ -131,15 +131,15 @@ const (
 	usual    = 50 * time.Millisecond   // at most, of any other
 )
 
-// slow is the folders, where each creation and each deletion pauses before and after it is done, and sometimes fails
+// slowFolders are folders where each creation and each deletion pauses before and after it is done, and sometimes fails
 // then. It writes down the key of two that work at it at once, in the file together of the state folder.
-type slow struct {
+type slowFolders struct {
 	*folders.Folders
 	state string
 	pause func(context.Context) error
 }
 
-// backendCalls are the calls of slow but that of its credentials.
+// backendCalls are the calls of slowFolders but that of its credentials.
 type backendCalls interface {
 	broker.BindingBackend
 	broker.LockBackend
@@ -147,37 +147,37 @@ type backendCalls interface {
 	broker.TiedBackend
 }
 
-// forgetful can't tell the credentials of a binding that exists, so broken-off work creates that binding again.
-type forgetful struct{ backendCalls }
+// forgetfulFolders don't know the credentials of a binding that exists, so interrupted work creates that binding again.
+type forgetfulFolders struct{ backendCalls }
 
-// Slow returns folders that are slow and fail, and by chance can't tell credentials. The state folder is that of all
-// brokers of a storm: two that work at one key are seen in it.
+// SlowFolders returns folders that are slow and fail, and by chance don't know credentials. The state folder is that of
+// all brokers of a storm: two that work at one key are seen in it.
 //
 // Errors: those of creating a folder in the state folder.
-func Slow(of *folders.Folders, state string) (broker.Backend, error) {
+func SlowFolders(of *folders.Folders, state string) (broker.Backend, error) {
 	if err := os.MkdirAll(filepath.Join(state, "alone"), 0o700); err != nil {
 		return nil, fmt.Errorf("storm: %w", err)
 	}
 	chance := newChance(time.Now().UnixNano()) // another one each time that a broker starts
-	made := &slow{Folders: of, state: state, pause: chance.pause}
+	made := &slowFolders{Folders: of, state: state, pause: chance.pause}
 	if chance.next() < 0.5 {
 		return made, nil
 	}
-	return forgetful{made}, nil
+	return forgetfulFolders{made}, nil
 }
 
 // Create creates as the folders do.
-func (s *slow) Create(ctx context.Context, request broker.Request) error {
+func (s *slowFolders) Create(ctx context.Context, request broker.Request) error {
 	return s.work(ctx, request.Key, func() error { return s.Folders.Create(ctx, request) })
 }
 
 // Delete deletes as the folders do.
-func (s *slow) Delete(ctx context.Context, request broker.Request) error {
+func (s *slowFolders) Delete(ctx context.Context, request broker.Request) error {
 	return s.work(ctx, request.Key, func() error { return s.Folders.Delete(ctx, request) })
 }
 
 // CreateBinding creates a binding as the folders do.
-func (s *slow) CreateBinding(ctx context.Context, request broker.Request) (made json.RawMessage, err error) {
+func (s *slowFolders) CreateBinding(ctx context.Context, request broker.Request) (made json.RawMessage, err error) {
 	err = s.work(ctx, request.Key, func() error {
 		made, err = s.Folders.CreateBinding(ctx, request)
 		return err
@@ -186,12 +186,12 @@ func (s *slow) CreateBinding(ctx context.Context, request broker.Request) (made 
 }
 
 // DeleteBinding deletes a binding as the folders do.
-func (s *slow) DeleteBinding(ctx context.Context, request broker.Request) error {
+func (s *slowFolders) DeleteBinding(ctx context.Context, request broker.Request) error {
 	return s.work(ctx, request.Key, func() error { return s.Folders.DeleteBinding(ctx, request) })
 }
 
 // work pauses before and after a call, and sees whether somebody else works at the key meanwhile.
-func (s *slow) work(ctx context.Context, key broker.Key, call func() error) error {
+func (s *slowFolders) work(ctx context.Context, key broker.Key, call func() error) error {
 	name := strings.ReplaceAll(key.String(), "/", "-")
 	file, err := os.Create(filepath.Join(s.state, "alone", name))
 	if err != nil {
@@ -215,7 +215,7 @@ func (s *slow) work(ctx context.Context, key broker.Key, call func() error) erro
 }
 
 // writeDown adds the key to those at which two have worked at once.
-func (s *slow) writeDown(key broker.Key) error {
+func (s *slowFolders) writeDown(key broker.Key) error {
 	file, err := os.OpenFile(filepath.Join(s.state, "together"), os.O_APPEND|os.O_CREATE|os.O_WRONLY, 0o600)
 	if err != nil {
 		return err

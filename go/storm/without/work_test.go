@@ -40,7 +40,7 @@ func end(store broker.Store, key broker.Key) error {
 
 func TestWorkIsWrittenOnceItIsDone(t *testing.T) {
 	store := openEmpty(t)
-	wrapped, _, err := Without(context.Background(), "work", store, nil)
+	wrapped, _, err := StoreAndLocks(context.Background(), "work", store, nil)
 	check(t, err)
 	diff.ErrorIs(t, end(wrapped, instance), broker.ErrLostWork, "work that nobody began")
 	begin(t, wrapped, instance, holding(t, "null", pending("provision", instance), false))
@@ -52,7 +52,7 @@ func TestWorkIsWrittenOnceItIsDone(t *testing.T) {
 // While work is pending, a step sees what is held without it.
 func TestBusy(t *testing.T) {
 	ctx, store := context.Background(), openEmpty(t)
-	wrapped, _, err := Without(ctx, "busy", store, nil)
+	wrapped, _, err := StoreAndLocks(ctx, "busy", store, nil)
 	check(t, err)
 	creating := holding(t, "null", pending("provision", instance), false)
 	deleting := holding(t, in("ready"), pending("deprovision", instance), false)
@@ -80,7 +80,7 @@ func TestBusy(t *testing.T) {
 
 func TestBusyBinding(t *testing.T) {
 	ctx, store := context.Background(), openEmpty(t)
-	wrapped, _, err := Without(ctx, "busy", store, nil)
+	wrapped, _, err := StoreAndLocks(ctx, "busy", store, nil)
 	check(t, err)
 	write(t, store, binding, holding(t, in("ready"), pending("deprovision", binding), false))
 	check(t, wrapped.Change(ctx, binding, 0, func(snapshot broker.Snapshot) (*broker.Entry, error) {
@@ -91,13 +91,13 @@ func TestBusyBinding(t *testing.T) {
 	}))
 }
 
-func newSlow(t *testing.T) (*slow, string) {
+func newSlowFolders(t *testing.T) (*slowFolders, string) {
 	t.Helper()
 	state := t.TempDir()
 	of := diff.Value(folders.New(filepath.Join(state, "instances")))(t)
-	_, err := Slow(of, state)
+	_, err := SlowFolders(of, state)
 	check(t, err)
-	return &slow{Folders: of, state: state, pause: func(context.Context) error { return nil }}, state
+	return &slowFolders{Folders: of, state: state, pause: func(context.Context) error { return nil }}, state
 }
 
 func request(key broker.Key) broker.Request {
@@ -116,7 +116,7 @@ func failingAt(n int) func(context.Context) error {
 // Each call fails before it was done, or after it.
 func TestFailures(t *testing.T) {
 	ctx := context.Background()
-	s, _ := newSlow(t)
+	s, _ := newSlowFolders(t)
 	createBinding := func(ctx context.Context, request broker.Request) error {
 		_, err := s.CreateBinding(ctx, request)
 		return err
@@ -149,7 +149,7 @@ func TestFailures(t *testing.T) {
 // Two that work at a key at once are written down, and two at different keys aren't.
 func TestTogether(t *testing.T) {
 	ctx := context.Background()
-	s, state := newSlow(t)
+	s, state := newSlowFolders(t)
 	check(t, s.Create(ctx, request(instance)))
 	within := func(other broker.Key) {
 		s.pause = func(context.Context) error {
@@ -177,8 +177,8 @@ func TestTogether(t *testing.T) {
 
 // A backend that forgets has every interface of the folders but the one of credentials.
 func TestForgetful(t *testing.T) {
-	s, _ := newSlow(t)
-	var made broker.Backend = forgetful{s}
+	s, _ := newSlowFolders(t)
+	var made broker.Backend = forgetfulFolders{s}
 	if _, ok := made.(broker.CredentialsBackend); ok {
 		t.Error("got credentials, want none")
 	}
@@ -250,19 +250,19 @@ func wantHolding(t *testing.T, store broker.Store, key broker.Key, want osb.Hold
 	diff.Equal(t, snapshot.Holding, want, "%v: written", key)
 }
 
-// A site is a broker over a store and folders of its own.
-type site struct {
+// A testBroker is a broker over a store and folders of its own.
+type testBroker struct {
 	t       *testing.T
 	top     string
 	handler *broker.Handler
 	store   broker.NamedStore
 }
 
-func newSite(t *testing.T, part string, rules broker.Rules) *site {
+func newTestBroker(t *testing.T, part string, rules broker.Rules) *testBroker {
 	t.Helper()
-	ctx, s := context.Background(), &site{t: t, top: t.TempDir()}
+	ctx, s := context.Background(), &testBroker{t: t, top: t.TempDir()}
 	sold := diff.Value(folders.New(s.top))(t)
-	store, locks, err := Without(ctx, part, openEmpty(t), sold.Locks())
+	store, locks, err := StoreAndLocks(ctx, part, openEmpty(t), sold.Locks())
 	check(t, err)
 	read := diff.Value(broker.NewCatalogue(goods.Document(), true))(t)
 	users := diff.Value(broker.NewUsers(map[string][]string{"u": {"p"}}))(t)
@@ -277,7 +277,7 @@ func newSite(t *testing.T, part string, rules broker.Rules) *site {
 }
 
 // ask sends a request below an instance, and returns the status of its answer.
-func (s *site) ask(method, target, body string) int {
+func (s *testBroker) ask(method, target, body string) int {
 	request := httptest.NewRequest(method, "/v2/service_instances/"+one.String()+target, strings.NewReader(body))
 	request.SetBasicAuth("u", "p")
 	request.Header.Set(osb.VersionHeader, osb.VersionSent)
@@ -286,24 +286,24 @@ func (s *site) ask(method, target, body string) int {
 	return given.Code
 }
 
-func (s *site) want(status int, method, target, body string) {
+func (s *testBroker) want(status int, method, target, body string) {
 	s.t.Helper()
 	diff.Equal(s.t, s.ask(method, target, body), status, "%s %s", method, target)
 }
 
-func (s *site) provision(status int, plan osb.ID) {
+func (s *testBroker) provision(status int, plan osb.ID) {
 	s.t.Helper()
 	body := `{"service_id":%q,"plan_id":%q,"organization_guid":"o","space_guid":"s"}`
 	s.want(status, http.MethodPut, "?accepts_incomplete=true", fmt.Sprintf(body, service, plan))
 }
 
-func (s *site) bind(status int, plan osb.ID) {
+func (s *testBroker) bind(status int, plan osb.ID) {
 	s.t.Helper()
 	body := fmt.Sprintf(`{"service_id":%q,"plan_id":%q}`, service, plan)
 	s.want(status, http.MethodPut, "/service_bindings/"+bound.String()+"?accepts_incomplete=true", body)
 }
 
-func (s *site) remove(status int, of broker.Key, plan osb.ID) {
+func (s *testBroker) remove(status int, of broker.Key, plan osb.ID) {
 	s.t.Helper()
 	target := fmt.Sprintf("?service_id=%v&plan_id=%v&accepts_incomplete=true", service, plan)
 	if of.IsBinding {

@@ -141,12 +141,12 @@ func (s scene) reading(t *testing.T, key Key) Reading {
 	return reading
 }
 
-type usable struct {
+type resourceStub struct {
 	Resources
 	is bool
 }
 
-func (u usable) IsUsable(context.Context, Key, Record) (bool, error) { return u.is, nil }
+func (r resourceStub) IsUsable(context.Context, Key, Record) (bool, error) { return r.is, nil }
 
 func texts(all report.Differences, key Key) string {
 	var found []string
@@ -160,7 +160,7 @@ func texts(all report.Differences, key Key) string {
 
 func differencesAtEnd(t *testing.T, r Reading, key Key) string {
 	t.Helper()
-	all := diff.Value(r.CompareAtEnd(context.Background(), usable{is: true}))(t)
+	all := diff.Value(r.CompareAtEnd(context.Background(), resourceStub{is: true}))(t)
 	return texts(all, key)
 }
 
@@ -274,7 +274,7 @@ func TestInstances(t *testing.T) {
 		"no row":       {scene{state: Ready, exists: broker.Whole}, other, other},
 	})
 	r := scene{state: Ready, held: "ready", exists: broker.Whole}.reading(t, one)
-	if all, err := r.CompareAtEnd(context.Background(), usable{is: false}); err != nil || len(all) != 1 {
+	if all, err := r.CompareAtEnd(context.Background(), resourceStub{is: false}); err != nil || len(all) != 1 {
 		t.Errorf("a resource that can't be used: got %v %v, want 1", all, err)
 	}
 }

@@ -53,14 +53,14 @@ func (v view) after(x fault.Exchange) view {
 	next, tried := v.belief, v.tried
 	switch kind := kindOf(x); kind {
 	case provision, bind:
-		next = afterCreation(v.belief, x.Got)
+		next = afterCreation(v.belief, x.Receipt)
 	case deprovision, unbind:
-		next = afterDeletion(v.belief, x.Got)
+		next = afterDeletion(v.belief, x.Receipt)
 		tried = next == doubtful
 	case poll, pollBinding:
-		next = v.afterPoll(x.Got)
+		next = v.afterPoll(x.Receipt)
 	case fetch, fetchBinding:
-		if x.Got.Status == http.StatusOK && objectOf(x.Got) != nil && isUncertain(v.belief) {
+		if x.Receipt.Status == http.StatusOK && objectOf(x.Receipt) != nil && isUncertain(v.belief) {
 			next = ready
 		}
 	}
@@ -74,38 +74,38 @@ func (v view) after(x fault.Exchange) view {
 }
 
 // afterCreation returns what the platform can know after the answer to a Provision or a Bind.
-func afterCreation(before belief, got fault.Got) belief {
-	next := creationAnswered(got)
+func afterCreation(before belief, receipt fault.Receipt) belief {
+	next := beliefAfterCreation(receipt)
 	if isRepeat := before == creating || before == ready || before == doubtful; isRepeat && next == rejected {
 		return before // such as 409 or 422: what the first one has created may exist
 	}
 	return next
 }
 
-// creationAnswered is the table of the section Orphan Mitigation.
-func creationAnswered(got fault.Got) belief {
-	isReadable := objectOf(got) != nil
+// beliefAfterCreation is the table of the section Orphan Mitigation.
+func beliefAfterCreation(receipt fault.Receipt) belief {
+	isReadable := objectOf(receipt) != nil
 	switch {
-	case got.Status == http.StatusOK && !isReadable:
+	case receipt.Status == http.StatusOK && !isReadable:
 		return unclear
-	case got.Status == http.StatusOK, got.Status == http.StatusCreated && isReadable:
+	case receipt.Status == http.StatusOK, receipt.Status == http.StatusCreated && isReadable:
 		return ready
-	case got.Status == http.StatusAccepted && isReadable:
+	case receipt.Status == http.StatusAccepted && isReadable:
 		return creating
-	case got.Status == http.StatusRequestTimeout:
+	case receipt.Status == http.StatusRequestTimeout:
 		return unclear
-	case got.Status >= 400 && got.Status < 500:
+	case receipt.Status >= 400 && receipt.Status < 500:
 		return rejected
 	}
 	return doubtful // 201 or 202 that can't be read, any other 2xx, 5xx, and no answer
 }
 
 // afterDeletion returns what the platform can know after the answer to a Deprovision or an Unbind.
-func afterDeletion(before belief, got fault.Got) belief {
+func afterDeletion(before belief, receipt fault.Receipt) belief {
 	switch {
-	case got.Status == http.StatusOK || got.Status == http.StatusGone:
+	case receipt.Status == http.StatusOK || receipt.Status == http.StatusGone:
 		return nothing
-	case got.Status == http.StatusAccepted && objectOf(got) != nil:
+	case receipt.Status == http.StatusAccepted && objectOf(receipt) != nil:
 		return deleting
 	case before == creating || before == ready || before == deleting:
 		return undeleted
@@ -115,13 +115,13 @@ func afterDeletion(before belief, got fault.Got) belief {
 
 // afterPoll returns what the platform can know after the answer to a Poll. After a deletion was sent, a 410 says that
 // it has succeeded, whatever the answer to the deletion was.
-func (v view) afterPoll(got fault.Got) belief {
-	state, _ := objectOf(got)["state"].(string)
-	hasSucceeded := got.Status == http.StatusOK && state == "succeeded"
-	hasFailed := got.Status == http.StatusOK && state == "failed"
+func (v view) afterPoll(receipt fault.Receipt) belief {
+	state, _ := objectOf(receipt)["state"].(string)
+	hasSucceeded := receipt.Status == http.StatusOK && state == "succeeded"
+	hasFailed := receipt.Status == http.StatusOK && state == "failed"
 	isDeleted := v.belief == deleting || v.belief == undeleted || v.tried
 	switch {
-	case isDeleted && got.Status == http.StatusGone, v.belief == deleting && hasSucceeded:
+	case isDeleted && receipt.Status == http.StatusGone, v.belief == deleting && hasSucceeded:
 		return nothing
 	case v.belief == deleting && hasFailed:
 		return undeleted
@@ -136,8 +136,8 @@ func (v view) afterPoll(got fault.Got) belief {
 func isUncertain(it belief) bool { return it == doubtful || it == unclear || it == rejected }
 
 // objectOf returns the object that an answer is, or nil if the platform can't read one.
-func objectOf(got fault.Got) (object map[string]any) {
-	if !got.IsWhole || json.Unmarshal(got.Body, &object) != nil {
+func objectOf(receipt fault.Receipt) (object map[string]any) {
+	if !receipt.IsWhole || json.Unmarshal(receipt.Body, &object) != nil {
 		return nil
 	}
 	return object
@@ -234,7 +234,7 @@ func (v view) reason() string {
 	case doubtful:
 		if v.tried {
 			return fmt.Sprintf("%s, and so the standard asks for a deletion. The last one, %s, got %s, and wasn't repeated",
-				got, v.last.Number, v.last.Got.Words)
+				got, v.last.Number, v.last.Receipt.Words)
 		}
 		return got + ", and so the standard asks for a deletion. None was sent"
 	case rejected, unclear:
@@ -252,8 +252,8 @@ func (v view) lastRequest() string {
 // answerText says what the platform got in answer to a request.
 func answerText(x fault.Exchange) string {
 	unread := ""
-	if x.Got.Status >= 200 && x.Got.Status < 300 && objectOf(x.Got) == nil {
+	if x.Receipt.Status >= 200 && x.Receipt.Status < 300 && objectOf(x.Receipt) == nil {
 		unread = " that can't be read"
 	}
-	return fmt.Sprintf("%s (%s) got %s%s", x.Number, x.Method, x.Got.Words, unread)
+	return fmt.Sprintf("%s (%s) got %s%s", x.Number, x.Method, x.Receipt.Words, unread)
 }

@@ -19,7 +19,7 @@ func requestWith(method, path string, status int, body string) fault.Exchange {
 	x := fault.Exchange{
 		Number: fault.Number{Subject: fault.Subject{Instance: 1}, Request: 1}, Method: method, Instance: "one",
 		Target: "/v2/service_instances/one" + path, Fault: fault.None,
-		Got: fault.Got{Status: status, Body: []byte(body), IsWhole: body != "", Words: "something"},
+		Receipt: fault.Receipt{Status: status, Body: []byte(body), IsWhole: body != "", Words: "something"},
 	}
 	if strings.Contains(path, "/service_bindings/") {
 		x.Binding = "two"
@@ -63,7 +63,7 @@ func TestOrphanMitigation(t *testing.T) {
 
 // An answer that was cut can't be read, even if what has arrived is an object.
 func TestCutObject(t *testing.T) {
-	if got := creationAnswered(fault.Got{Status: 201, Body: []byte("{}")}); got != doubtful {
+	if got := beliefAfterCreation(fault.Receipt{Status: 201, Body: []byte("{}")}); got != doubtful {
 		t.Errorf("got the belief %d, want %d", got, doubtful)
 	}
 }

@@ -66,7 +66,7 @@ func openShop(ctx context.Context, c Config, folder string) (s *shop, err error)
 		err = s.serve(ctx, broker.NewService(catalogue, store, sold, s.backend.Locks(), rules, s), config)
 	}
 	if err != nil {
-		return nil, run.Either(err, s.closeFiles())
+		return nil, run.FirstError(err, s.closeFiles())
 	}
 	return s, nil
 }
@@ -125,7 +125,7 @@ func (s *shop) serve(ctx context.Context, service *broker.Service, config broker
 
 func (s *shop) close() error {
 	s.stop()
-	return run.Either(<-s.served, s.closeFiles())
+	return run.FirstError(<-s.served, s.closeFiles())
 }
 
 func (s *shop) closeFiles() error {

@@ -135,7 +135,7 @@ func (b *breaches) add(of conform.Case, why string, x fault.Exchange) {
 		number = x.Number.String()
 	}
 	b.Add(conform.Result{
-		Case: of, Verdict: conform.Fail, Reason: why, Sent: sentBy(x), Came: conform.Printable(x.Got.Words),
+		Case: of, Verdict: conform.Fail, Reason: why, Sent: sentBy(x), Came: conform.Printable(x.Receipt.Words),
 	}, number, "about no instance")
 }
 
@@ -150,7 +150,7 @@ func (b *breaches) addMitigations(now map[report.Key]view) {
 	for _, view := range open {
 		switch {
 		case view.tried:
-			b.add(repeats, fmt.Sprintf("%s got %s, and no further one followed", view.last.Method, view.last.Got.Words), view.last)
+			b.add(repeats, fmt.Sprintf("%s got %s, and no further one followed", view.last.Method, view.last.Receipt.Words), view.last)
 		case view.because.Binding != "":
 			b.add(mitigatesBind, "no Unbind followed", view.because)
 		default:

@@ -51,7 +51,7 @@ func Start(ctx context.Context, config Config) (s *Storm, err error) {
 		return nil, err
 	}
 	if s.shop, err = openShop(ctx, config, s.folder); err != nil {
-		return nil, run.Either(err, os.RemoveAll(s.folder))
+		return nil, run.FirstError(err, os.RemoveAll(s.folder))
 	}
 	s.proxy, err = fault.Listen(fault.Config{
 		Address: config.Address, Broker: s.shop.address, Source: s.source, Journal: s.journal, Subject: s.keys.SubjectOrNew,
@@ -59,7 +59,7 @@ func Start(ctx context.Context, config Config) (s *Storm, err error) {
 		AnswerTime: config.RequestTime + config.RequestTime/10 + config.OperationTime + time.Second,
 	})
 	if err != nil {
-		return nil, run.Either(err, s.shop.close(), os.RemoveAll(s.folder))
+		return nil, run.FirstError(err, s.shop.close(), os.RemoveAll(s.folder))
 	}
 	return s, nil
 }
@@ -70,7 +70,7 @@ func (s *Storm) URL() string { return s.proxy.URL() }
 // Close ends the broker, and deletes all that it has sold. No request is answered any more.
 func (s *Storm) Close() error {
 	s.proxy.Close()
-	return run.Either(s.shop.close(), os.RemoveAll(s.folder))
+	return run.FirstError(s.shop.close(), os.RemoveAll(s.folder))
 }
 
 // Run starts the order command, waits for the first request about an instance, has faults befall the requests for a
@@ -310,7 +310,7 @@ func (c Config) check() error {
 	if c.MinimizeTime > 0 && c.Commands.Order == "" {
 		return errors.New("--minimize needs --order-command: in each further run, the platform has to order the same again")
 	}
-	return run.Either(c.Commands.Lists.Check(), c.Config.Check("this broker isn't restarted", c.WaitTime, c.OperationTime))
+	return run.FirstError(c.Commands.Lists.Check(), c.Config.Check("this broker isn't restarted", c.WaitTime, c.OperationTime))
 }
 
 // urlVariable is the variable in which the order command gets the URL of the broker, without /v2.

@@ -83,9 +83,9 @@ func TestNothingAbandoned(t *testing.T) {
 				config.Seed, config.FirstPoll = seed, firstPoll
 				report := runStorm(t, config, mistakes{}, isListed)
 				if !report.IsClean() || len(report.Broken) > 0 || !report.Converged {
-					t.Errorf("got\n%s\nwant a clean report that has converged", stormtest.Written(t, report.WriteText))
+					t.Errorf("got\n%s\nwant a clean report that has converged", stormtest.TextOf(t, report.WriteText))
 				}
-				diff.Equal(t, strings.Count(stormtest.Written(t, report.WriteHTML), "<svg"), 1, "pictures of the storm")
+				diff.Equal(t, strings.Count(stormtest.TextOf(t, report.WriteHTML), "<svg"), 1, "pictures of the storm")
 				if isListed != (len(report.Exists) == 0) {
 					t.Errorf("got %d to be compared, want none exactly if they are listed", len(report.Exists))
 				}
@@ -169,12 +169,12 @@ func TestMistakes(t *testing.T) {
 			config := configFor(t)
 			config.List, config.Time, config.RequestTime = listOf(it.kinds), time.Second, unhurried
 			if report := runStorm(t, config, mistakes{}, it.isListed); !report.IsClean() || len(report.Broken) > 0 {
-				t.Errorf("without the mistake: got\n%s\nwant a clean report", stormtest.Written(t, report.WriteText))
+				t.Errorf("without the mistake: got\n%s\nwant a clean report", stormtest.TextOf(t, report.WriteText))
 			}
 			config.SettleTime = time.Second
 			report := runStorm(t, config, it.wrong, it.isListed)
 			if missing := lacks(report, it.abandoned, it.false, it.broken); missing != "" {
-				t.Errorf("got a report without %s, want it there:\n%s", missing, stormtest.Written(t, report.WriteText))
+				t.Errorf("got a report without %s, want it there:\n%s", missing, stormtest.TextOf(t, report.WriteText))
 			}
 		})
 	}
@@ -187,7 +187,7 @@ func lacks(report *run.Report, abandoned, false, broken string) string {
 		return fmt.Sprintf("nothing is abandoned because %q", abandoned)
 	case !strings.Contains(stormtest.Whats(report.False), false) || false != "" && len(report.False) == 0:
 		return fmt.Sprintf("no record is false because %q", false)
-	case broken != "" && !stormtest.HasBroken(report.Broken, broken):
+	case broken != "" && !stormtest.HasViolation(report.Broken, broken):
 		return "no request breaks " + broken
 	case report.IsClean() != (abandoned+false == ""):
 		return "the verdict is wrong"
@@ -212,8 +212,8 @@ func TestRules(t *testing.T) {
 				config.SettleTime = time.Second
 			}
 			got := runStorm(t, config, wrong, true)
-			if !stormtest.HasBroken(got.Broken, rule) {
-				t.Fatalf("got\n%s\nwant the rule broken", stormtest.Written(t, got.WriteText))
+			if !stormtest.HasViolation(got.Broken, rule) {
+				t.Fatalf("got\n%s\nwant the rule broken", stormtest.TextOf(t, got.WriteText))
 			}
 			first := got.Broken[0]
 			if first.Name != rule || first.Count < 2 || first.Sent == "" || first.Came == "" {
@@ -224,7 +224,7 @@ func TestRules(t *testing.T) {
 			}
 			isMust := rule != "content-type" && rule != "accepts-incomplete"
 			if report.BreaksMust(got.Broken) != isMust || got.IsClean() == isMust {
-				t.Errorf("got\n%s\nwant the verdict of the rule's level", stormtest.Written(t, got.WriteText))
+				t.Errorf("got\n%s\nwant the verdict of the rule's level", stormtest.TextOf(t, got.WriteText))
 			}
 		})
 	}
@@ -272,7 +272,7 @@ func TestUntried(t *testing.T) {
 			config.Share, config.List, config.Time, config.RequestTime = it.share, it.list, time.Second, unhurried
 			report := runStorm(t, config, mistakes{}, true)
 			if report.IsClean() != (it.says == "") || len(report.Lost)+len(report.False)+len(report.Stuck) > 0 {
-				t.Errorf("got\n%s\nwant the verdict of the list, and nothing lost, false or stuck", stormtest.Written(t, report.WriteText))
+				t.Errorf("got\n%s\nwant the verdict of the list, and nothing lost, false or stuck", stormtest.TextOf(t, report.WriteText))
 			}
 			for form, text := range stormtest.Forms(t, report) {
 				before := map[string]string{
@@ -293,7 +293,7 @@ func TestEnded(t *testing.T) {
 	storm := diff.Value(Start(context.Background(), config))(t)
 	report := storm.Run(context.Background())
 	if report.IsClean() || !strings.HasPrefix(report.Ended, "no request about an instance came") {
-		t.Errorf("got\n%s\nwant an end because no request came", stormtest.Written(t, report.WriteText))
+		t.Errorf("got\n%s\nwant an end because no request came", stormtest.TextOf(t, report.WriteText))
 	}
 	diff.NoError(t, storm.Close(), "")
 	config.WaitTime = time.Minute
@@ -308,7 +308,7 @@ func TestEnded(t *testing.T) {
 	report = storm.Run(ctx) // nobody waits for what the platform does next
 	if report.IsClean() || report.Ended != "the run was ended before" || sent.status != 202 || len(report.Stuck) > 0 {
 		t.Errorf("got the status %d and %d that are stuck, want 202 and none, in a run that was ended:\n%s",
-			sent.status, len(report.Stuck), stormtest.Written(t, report.WriteText))
+			sent.status, len(report.Stuck), stormtest.TextOf(t, report.WriteText))
 	}
 	diff.NoError(t, storm.Close(), "")
 	stormtest.Empty(t, config.Folder)
@@ -346,7 +346,7 @@ func TestListIsSlow(t *testing.T) {
 	storm.restTime = 200 * time.Millisecond
 	if report := storm.Run(context.Background()); len(report.Failed) > 0 || !report.Converged || !report.IsClean() {
 		t.Errorf("got the failures %q, want a clean report of a storm that has converged:\n%s",
-			report.Failed, stormtest.Written(t, report.WriteText))
+			report.Failed, stormtest.TextOf(t, report.WriteText))
 	}
 }
 
@@ -362,7 +362,7 @@ func TestListIsCutOff(t *testing.T) {
 	report, took := runOrders(t, ctx, config)
 	if len(report.Failed) > 0 || report.Ended != run.EndedBefore || report.Inventory != knownByList || took > time.Minute {
 		t.Errorf("got an end after %v with the failures %q, want one by the signal within a minute, without any:\n%s",
-			took, report.Failed, stormtest.Written(t, report.WriteText))
+			took, report.Failed, stormtest.TextOf(t, report.WriteText))
 	}
 }
 
@@ -403,10 +403,10 @@ func TestNoSecrets(t *testing.T) {
 	}
 	report := runStorm(t, config, mistakes{forgetsTimeout: true, noType: true}, false)
 	if !stormtest.HasBinding(report.Lost) || len(report.Broken) == 0 {
-		t.Fatalf("got\n%s\nwant a binding that is lost, and a rule that is broken", stormtest.Written(t, report.WriteText))
+		t.Fatalf("got\n%s\nwant a binding that is lost, and a rule that is broken", stormtest.TextOf(t, report.WriteText))
 	}
 	if len(report.Stuck) == 0 || stormtest.HasBinding(report.Stuck) { // the instances can't be deleted before their bindings
-		t.Errorf("got\n%s\nwant instances that are stuck, and no binding", stormtest.Written(t, report.WriteText))
+		t.Errorf("got\n%s\nwant instances that are stuck, and no binding", stormtest.TextOf(t, report.WriteText))
 	}
 	for form, text := range stormtest.Forms(t, report) {
 		for part, isWanted := range map[string]bool{
@@ -432,12 +432,12 @@ func TestList(t *testing.T) {
 		t.Errorf("got the faults %v, want 1.1 answer-lost", report.Given)
 	}
 	if len(report.Lost) != 1 || report.Lost[0].Number != "1" {
-		t.Errorf("got\n%s\nwant instance 1 lost", stormtest.Written(t, report.WriteText))
+		t.Errorf("got\n%s\nwant instance 1 lost", stormtest.TextOf(t, report.WriteText))
 	}
 	for form, text := range stormtest.Forms(t, report) {
 		diff.Contains(t, text, "99.1 answer-lost", "%s", form)
 	}
-	if text := stormtest.Written(t, report.WriteText); !strings.Contains(text, "1 fault of the list met no request: 99.1 answer-lost\n") {
+	if text := stormtest.TextOf(t, report.WriteText); !strings.Contains(text, "1 fault of the list met no request: 99.1 answer-lost\n") {
 		t.Errorf("got %q, want %q in it", text, "1 fault of the list met no request: 99.1 answer-lost\n")
 	}
 }
@@ -528,8 +528,8 @@ func runOrders(t *testing.T, ctx context.Context, config Config) (*run.Report, t
 	return report, time.Since(begun)
 }
 
-// A told is what a report and the warnings say of a storm with an order command.
-type told struct {
+// A summary is what a report and the warnings say of a storm with an order command.
+type summary struct {
 	failed, notes        string
 	ended, minimizeEnded string
 	minimal              string
@@ -553,15 +553,15 @@ exit 3`
 		faults string
 		order  string // the order command, in which ORDERS are those of the usual one, and FOLDER is the folder of its files
 		change func(*Config)
-		wanted told
+		wanted summary
 	}{
 		// Nothing is shrunk after a run that has failed. What was abandoned before stays in the report.
-		"fails": {"1.1 answer-lost", "ORDERS exit 3", minimizing, told{
+		"fails": {"1.1 answer-lost", "ORDERS exit 3", minimize, summary{
 			failed: "the order command has failed: exit status 3", lost: 1,
 		}},
 		// A request about anything else than an instance doesn't count.
-		"orders nothing": {"", asks, unlisted, told{ended: nothing, warned: warning + "  nothing\n"}},
-		"orders nothing, and fails": {"", "echo nothing; exit 4", unlisted, told{
+		"orders nothing": {"", asks, dropLists, summary{ended: nothing, warned: warning + "  nothing\n"}},
+		"orders nothing, and fails": {"", "echo nothing; exit 4", dropLists, summary{
 			failed: "the order command has failed: exit status 4", ended: nothing, warned: warning + "  nothing\n",
 		}},
 		// The command goes on after its time, and fails because the broker is gone at the end of the run. That is no
@@ -570,24 +570,24 @@ exit 3`
 			"1.1 answer-lost", "ORDERS while curl -s -o FOLDER/body $OSB_STORM_URL/v2/catalog; do sleep 0.05; done; " +
 				"echo gone >>FOLDER/gone; exit 7",
 			func(c *Config) {
-				minimizing(c)
+				minimize(c)
 				c.Commands.List, c.Time = "sleep 0.5; "+c.Commands.List, 500*time.Millisecond
-			}, told{minimal: "1.1 answer-lost", runs: 3, lost: 1},
+			}, summary{minimal: "1.1 answer-lost", runs: 3, lost: 1},
 		},
 		// The last lines don't have the credentials that the broker has answered.
-		"prints credentials": {"", "ORDERS " + binds, func(*Config) {}, told{
+		"prints credentials": {"", "ORDERS " + binds, func(*Config) {}, summary{
 			failed: "the order command has failed: exit status 3", bindings: 1,
 			warned: warning + `  {"credentials":{"folder":"(left out)","token":"(left out)"}}` + "\n",
 		}},
 		"fails in a further run": {
-			"1.1 answer-lost", "ORDERS [ $(wc -l <FOLDER/urls) = 1 ] || { echo broken secret; exit 3; }", minimizing, told{
+			"1.1 answer-lost", "ORDERS [ $(wc -l <FOLDER/urls) = 1 ] || { echo broken secret; exit 3; }", minimize, summary{
 				failed: "--minimize: the order command has failed: exit status 3", minimizeEnded: notFound, lost: 1,
 				warned: warning + "  broken (left out)\n",
 			},
 		},
 		// The report doesn't say that nothing was abandoned in it.
 		"orders nothing in a further run": {
-			"1.1 answer-lost", "[ ! -e FOLDER/urls ] || exit 0; ORDERS", minimizing, told{
+			"1.1 answer-lost", "[ ! -e FOLDER/urls ] || exit 0; ORDERS", minimize, summary{
 				notes: "--minimize: in a further run, " + nothing, minimizeEnded: notFound, lost: 1,
 			},
 		},
@@ -602,7 +602,7 @@ exit 3`
 			var warned bytes.Buffer
 			config.Warnings = &warned
 			report, took := runOrders(t, context.Background(), config)
-			got := told{
+			got := summary{
 				strings.Join(report.Failed, "\n"), strings.Join(report.Notes, "\n"), report.Ended, report.MinimizeEnded,
 				strings.Join(report.Minimal, "\n"), report.MinimizeRuns, len(report.Lost), report.Bindings,
 				warned.String(),
@@ -617,11 +617,11 @@ exit 3`
 	}
 }
 
-// minimizing has a list of faults shrunk.
-func minimizing(c *Config) { c.MinimizeTime = time.Minute }
+// minimize has a list of faults shrunk.
+func minimize(c *Config) { c.MinimizeTime = time.Minute }
 
-// unlisted has neither a list command nor a list of faults.
-func unlisted(c *Config) { c.Commands, c.List = Commands{}, nil }
+// dropLists leaves out the list commands and the list of faults.
+func dropLists(c *Config) { c.Commands, c.List = Commands{}, nil }
 
 // The faults end with the order command, or after their time if the command goes on then. At the end of the run, the
 // command is killed with its children, and so is what a command has left behind that has ended. Neither is a failure.
@@ -642,7 +642,7 @@ func TestOrderEnds(t *testing.T) {
 			report, took := runOrders(t, context.Background(), config)
 			if len(report.Failed) > 0 || !report.IsClean() || !report.Converged || took > 50*time.Second {
 				t.Errorf("got an end after %v, want a clean report of a storm that has converged within 50 s:\n%s",
-					took, stormtest.Written(t, report.WriteText))
+					took, stormtest.TextOf(t, report.WriteText))
 			}
 			text := diff.Value(os.ReadFile(filepath.Join(folder, "child")))(t)
 			stormtest.Await(t, 5*time.Second, "the child of the order command ends", func() bool {
@@ -717,7 +717,7 @@ func TestNoJournal(t *testing.T) {
 func formsOf(t *testing.T, report *run.Report) map[string]string {
 	t.Helper()
 	all := stormtest.Forms(t, report)
-	all["list"] = stormtest.Written(t, report.WriteFaults)
+	all["list"] = stormtest.TextOf(t, report.WriteFaults)
 	return all
 }
 
@@ -726,14 +726,14 @@ func formsOf(t *testing.T, report *run.Report) map[string]string {
 func TestMinimize(t *testing.T) {
 	t.Parallel()
 	config, folder := orderingConfig(t, 3, "1.1 answer-slow", "2.1 answer-lost", "3.1 request-lost")
-	minimizing(&config)
+	minimize(&config)
 	config.Late = 100 * time.Millisecond
 	report, _ := runOrders(t, context.Background(), config)
 	if !reflect.DeepEqual(report.Minimal, []string{"2.1 answer-lost"}) || report.MinimizeEnded+report.Ended != "" {
-		t.Fatalf("got\n%s\nwant the list 2.1 answer-lost", stormtest.Written(t, report.WriteText))
+		t.Fatalf("got\n%s\nwant the list 2.1 answer-lost", stormtest.TextOf(t, report.WriteText))
 	}
 	if len(report.Lost) != 1 || len(report.MinimalLost) != 1 || len(report.Given) != 3 || len(report.Failed) > 0 {
-		t.Errorf("got\n%s\nwant one life lost, with and without the minimal list", stormtest.Written(t, report.WriteText))
+		t.Errorf("got\n%s\nwant one life lost, with and without the minimal list", stormtest.TextOf(t, report.WriteText))
 	}
 	again := report.MinimalLost[0]
 	if first := report.Lost[0]; again.Number != "2" || first.Number != "2" || again.Instance == first.Instance {
@@ -788,15 +788,15 @@ func TestMinimizeNotes(t *testing.T) {
 		t.Run(name, func(t *testing.T) {
 			t.Parallel()
 			config, folder := orderingConfig(t, 1, it.list...)
-			minimizing(&config)
+			minimize(&config)
 			config.Late = 100 * time.Millisecond
 			config.Commands.Order += strings.ReplaceAll(it.after, "FOLDER", folder)
 			report, _ := runOrders(t, context.Background(), config)
 			if notes := strings.Join(report.Notes, ""); report.MinimizeRuns != it.runs || notes != it.note {
-				t.Errorf("got %d runs and %s, want %d and %q\n%s", report.MinimizeRuns, notes, it.runs, it.note, stormtest.Written(t, report.WriteText))
+				t.Errorf("got %d runs and %s, want %d and %q\n%s", report.MinimizeRuns, notes, it.runs, it.note, stormtest.TextOf(t, report.WriteText))
 			}
 			if report.IsClean() != (it.note == "") || report.NeedsNoFault() != isWithout {
-				t.Errorf("got\n%s\nwant the verdict of the note", stormtest.Written(t, report.WriteText))
+				t.Errorf("got\n%s\nwant the verdict of the note", stormtest.TextOf(t, report.WriteText))
 			}
 			for form, text := range formsOf(t, report) {
 				isNone := strings.Contains(text, "none: something is abandoned without any fault")
@@ -825,7 +825,7 @@ func TestMinimizeEnds(t *testing.T) {
 		t.Run(name, func(t *testing.T) {
 			t.Parallel()
 			config, folder := orderingConfig(t, 1, "1.1 answer-lost", "1.2 answer-lost")
-			minimizing(&config)
+			minimize(&config)
 			config.Commands.Order += strings.ReplaceAll("curl -s -m 5 -u platform:secret -H 'X-Broker-API-Version: 2.17' "+
 				"$OSB_STORM_URL/v2/service_instances/$id; [ $(wc -l <FOLDER/urls) != "+it.hangs+
 				" ] || { touch FOLDER/hangs; sleep 1000; }; true", "FOLDER", folder)
@@ -839,7 +839,7 @@ func TestMinimizeEnds(t *testing.T) {
 			report, took := runOrders(t, ctx, config)
 			if !reflect.DeepEqual(report.Minimal, it.minimal) || report.MinimizeEnded != it.ended || took > time.Minute {
 				t.Errorf("got an end after %v, want the list %q and the end %q:\n%s",
-					took, it.minimal, it.ended, stormtest.Written(t, report.WriteText))
+					took, it.minimal, it.ended, stormtest.TextOf(t, report.WriteText))
 			}
 			if (report.Ended == run.EndedBefore) != it.isSignal || len(report.Failed)+len(report.Notes) > 0 || report.IsClean() {
 				t.Errorf("got the end %q and the failures %q, want an end by the signal: %v, and no failure",

@@ -195,7 +195,7 @@ func (p *Postgres) begin(program string, words ...string) (ended <-chan error, e
 
 func (p *Postgres) start(ctx context.Context) error {
 	words := []string{"-p", strconv.Itoa(p.port), "-k", p.folder}
-	for _, setting := range append(p.further(), settings...) {
+	for _, setting := range append(p.laterSettings(), settings...) {
 		words = append(words, "-c", setting)
 	}
 	ctx, cancel := context.WithTimeout(ctx, startsWithin)
@@ -216,9 +216,9 @@ func (p *Postgres) start(ctx context.Context) error {
 	}
 }
 
-// further returns the settings that only later versions have. After a kill, the server syncs all of its files before it
-// starts. With many databases that takes minutes file by file, and seconds at once.
-func (p *Postgres) further() []string {
+// laterSettings returns the settings that only later versions have. After a kill, the server syncs all of its files
+// before it starts. With many databases that takes minutes file by file, and seconds at once.
+func (p *Postgres) laterSettings() []string {
 	const since = 14
 	printed, err := exec.Command(filepath.Join(p.programs, "postgres"), "--version").Output()
 	if err != nil {

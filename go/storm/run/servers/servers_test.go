@@ -49,7 +49,7 @@ func states(p *Postgres) (all string) {
 func TestPostgres(t *testing.T) {
 	pgtest.URL(t) // PostgreSQL is installed
 	ctx, folder := context.Background(), t.TempDir()
-	p := diff.Value(StartPostgres(ctx, openedTo(t, folder)))(t)
+	p := diff.Value(StartPostgres(ctx, openToPostgres(t, folder)))(t)
 	url := p.URL("postgres")
 	check(t, execute(ctx, url, "CREATE TABLE kept (number integer)"))
 	for kills := 1; kills <= 2; kills++ {
@@ -82,8 +82,8 @@ func TestPostgres(t *testing.T) {
 	stormtest.Empty(t, folder)
 }
 
-// openedTo gives the user postgres access to a folder of a test.
-func openedTo(t *testing.T, folder string) string {
+// openToPostgres gives the user postgres access to a folder of a test.
+func openToPostgres(t *testing.T, folder string) string {
 	t.Helper()
 	for at := folder; strings.HasPrefix(at, os.TempDir()+"/"); at = at[:strings.LastIndexByte(at, '/')] {
 		check(t, os.Chmod(at, 0o755))
