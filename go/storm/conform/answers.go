@@ -54,7 +54,7 @@ func (r *Runner) accessToInstances() {
 }
 
 // accessTo judges the answers to requests without a password about what it then creates: a creation, a Poll and, if the
-// service allows it, a Fetch. It returns whether that exists.
+// service allows it, a Fetch. It reports whether that exists.
 func (r *Runner) accessTo(k key, creates, polls, fetches string, isFetched bool) bool {
 	r.wants(creates, r.create(k, r.target.Pair, anonymous(r.creation(k, nil))), 401)
 	x := r.put(k, nil)
@@ -126,7 +126,7 @@ func (r *Runner) wrongPassword() map[string]string {
 
 func wrong(password string) string { return password + "-wrong" }
 
-// hasPlan returns whether there is a plan to order. If there is none, the rest of the scenario isn't run.
+// hasPlan reports whether there is a plan to order. If there is none, the rest of the scenario isn't run.
 func (r *Runner) hasPlan() bool {
 	if r.target.Plan == "" || r.target.Service == "" {
 		r.because = "the catalogue has no plan that can be ordered. Give --service and --plan with ids"
@@ -191,7 +191,7 @@ func (g *generalCases) judge(x *exchange) {
 	first(&g.noStrings, x.status >= 400 && (!isText(x.object, "error") || !isText(x.object, "description")))
 }
 
-// isRetry returns whether each value of Retry-After has one of the forms that HTTP knows.
+// isRetry reports whether each value of Retry-After has one of the forms that HTTP knows.
 func isRetry(values []string) bool {
 	for _, value := range values {
 		isSeconds := value != "" && strings.Trim(value, "0123456789") == ""
@@ -202,7 +202,7 @@ func isRetry(values []string) bool {
 	return true
 }
 
-// isText returns whether a member is missing, or is a string that isn't empty.
+// isText reports whether a member is missing, or is a string that isn't empty.
 func isText(object map[string]any, member string) bool {
 	value, has := object[member]
 	text, is := value.(string)

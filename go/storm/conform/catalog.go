@@ -136,7 +136,7 @@ func checkUnique(services []object, member, plans string, isOfService bool) stri
 // stringSet are the strings that have been met.
 type stringSet map[string]bool
 
-// again returns whether a value is a string that has been met before.
+// again reports whether a value is a string that has been met before.
 func (s stringSet) again(value any) bool {
 	text, is := value.(string)
 	before := s[text]

@@ -69,7 +69,7 @@ func (r *Runner) wants(name string, x *exchange, statuses ...int) *exchange {
 	return x
 }
 
-// settle waits until what a creation was answered with has ended, and returns whether it has succeeded.
+// settle waits until what a creation was answered with has ended, and reports whether it has succeeded.
 func (r *Runner) settle(k key, x *exchange) bool {
 	if !x.is(202) {
 		return x.is(200, 201)
@@ -194,7 +194,7 @@ func (r *Runner) rejects(rejections []rejection, newKey func() key) {
 	}
 }
 
-// ends judges the end of an asynchronous creation, and returns whether what was asked for exists.
+// ends judges the end of an asynchronous creation, and reports whether what was asked for exists.
 func (r *Runner) ends(name string, k key, first *exchange) bool {
 	if !first.is(202) {
 		return first.is(200, 201)

@@ -491,7 +491,7 @@ func (it *removal) fails(reason string) {
 }
 
 // announce reports once for what CleanUp waits, and until when: creations that may still arrive after the first pass,
-// and deletions that take long. isWhole is whether a pass has ended, and isLong whether it, or else one request, took
+// and deletions that take long. isWhole says that a pass has ended, and isLong that it, or else one request, took
 // long.
 func (c *cleanUp) announce(ctx context.Context, isWhole, isLong bool) {
 	if c.tell == nil || ctx.Err() != nil || !isWhole && !isLong {

@@ -83,7 +83,7 @@ func TestDeletionsThatFail(t *testing.T) {
 	}
 }
 
-// A broker that hangs during a creation is given up after some requests. A creation that had no answer may arrive
+// A broker that hangs during a creation is abandoned after some requests. A creation without an answer may arrive
 // later: it is deleted then, too.
 func TestHangingBroker(t *testing.T) {
 	m, hangs := newModel(false), make(chan struct{})

@@ -133,7 +133,7 @@ func Kinds() (kinds []Kind) {
 	return kinds
 }
 
-// IsRestart returns whether a kind restarts the broker.
+// IsRestart reports whether a kind restarts the broker.
 func (k Kind) IsRestart() bool { return k == RestartDuring || k == RestartAfter }
 
 func isKind(kind Kind) bool {
@@ -172,7 +172,7 @@ func (s Subject) String() string {
 	return fmt.Sprintf("%d/%d", s.Instance, s.Binding)
 }
 
-// Less returns whether a subject comes first in a list.
+// Less reports whether a subject is before another one in a list.
 func (s Subject) Less(other Subject) bool {
 	return s.Instance < other.Instance || s.Instance == other.Instance && s.Binding < other.Binding
 }
@@ -278,7 +278,7 @@ func (s *Source) End() {
 	s.ended = true
 }
 
-// Faults returns the faults that requests have had, in the order of their numbers.
+// Faults returns the faults that have befallen requests, in the order of their numbers.
 func (s *Source) Faults() []Entry {
 	s.mutex.Lock()
 	defer s.mutex.Unlock()
@@ -287,7 +287,7 @@ func (s *Source) Faults() []Entry {
 	return given
 }
 
-// Unmet returns the faults of the list that no request has had, in the order of their numbers.
+// Unmet returns the faults of the list that have befallen no request, in the order of their numbers.
 func (s *Source) Unmet() (unmet []Entry) {
 	s.mutex.Lock()
 	defer s.mutex.Unlock()
@@ -304,7 +304,7 @@ func (s *Source) Unmet() (unmet []Entry) {
 	return unmet
 }
 
-// WantsFaults returns whether a run should have faults: those of a list, or of this share of all requests if the list
+// WantsFaults reports whether a run should have faults: those of a list, or of this share of all requests if the list
 // is nil.
 func WantsFaults(share float64, list []Entry) bool {
 	return list == nil && share > 0 || len(list) > 0

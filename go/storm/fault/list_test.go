@@ -87,7 +87,7 @@ func TestByList(t *testing.T) {
 	}
 }
 
-// A fault of a list that no request has had, or only after the end, is unmet. Faults by a seed never are.
+// A fault of a list that befalls no request, or only after the end, is unmet. Faults by a seed never are.
 func TestUnmet(t *testing.T) {
 	list, err := ReadList(strings.NewReader("9.1 hang-up\n2.1 hang-up\n2/1.1 hang-up\n1.2 answer-lost\n1.1 answer-lost"))
 	check(t, err)

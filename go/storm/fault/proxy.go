@@ -32,8 +32,8 @@ type Config struct {
 	Others  []*url.URL
 	Source  *Source
 	Journal *Journal
-	// Subject returns the Subject of an instance, or of a binding of it. The request of an instance that isn't one of the
-	// run's is answered with 502, and doesn't reach the broker.
+	// Subject returns the Subject of an instance, or of a binding of it. The request of an instance that isn't one of
+	// the run's is answered with 502, and doesn't reach the broker.
 	Subject func(instance, binding string) (Subject, bool)
 	// Catalogue answers the requests for the catalogue in the broker's place, without faults.
 	Catalogue []byte
@@ -356,7 +356,7 @@ func (c *carriage) sendLater() {
 	}()
 }
 
-// delay is how late something is. It is within the bound, and if the bound allows it, the platform has given up.
+// delay is how late something is. It is within the bound, and if the bound allows it, the platform has timed out.
 func (c *carriage) delay() time.Duration {
 	least := c.RequestTime + c.RequestTime/10
 	if least > c.Late {
@@ -365,8 +365,8 @@ func (c *carriage) delay() time.Duration {
 	return least + time.Duration(c.fault.Share*float64(c.Late-least))
 }
 
-// deliver sends the request to the broker, as far as the kind says, and notes the answer. That counts whatever happens to
-// the Proxy.
+// deliver sends the request to the broker, as far as the kind says, and notes the answer. That counts whatever happens
+// to the Proxy.
 func (c *carriage) deliver(kind Kind) (*answer, error) {
 	at := c.Journal.deliver(c.exchange)
 	answer, err := c.upstream(at).send(context.Background(), c.request, c.body, kind, c.fault.Share)
@@ -424,7 +424,7 @@ func (c *carriage) giveSlowly(text []byte) Receipt {
 	return receipt
 }
 
-// waitForEnd waits for a time, and returns false at once if the platform has given up, or the Proxy is closed.
+// waitForEnd waits for a time, and returns false at once if the platform has timed out, or the Proxy is closed.
 func (c *carriage) waitForEnd(rest time.Duration) bool {
 	_ = c.connection.SetReadDeadline(time.Now().Add(rest))
 	_, err := c.connection.Read(make([]byte, 1))

@@ -235,7 +235,7 @@ func TestSlow(t *testing.T) {
 	}
 }
 
-// slowParts returns whether the request and the answer took as long as those that are slow.
+// slowParts reports whether the request and the answer took as long as those that are slow.
 func slowParts(t *testing.T, kind Kind) (request, answer bool) {
 	t.Helper()
 	p, share := startLong(t, &countingBroker{}, kind)
@@ -247,7 +247,7 @@ func slowParts(t *testing.T, kind Kind) (request, answer bool) {
 	return delivery.Ended-delivery.Begun >= least*9/10, x.Ended-delivery.Ended >= requestTime/2*9/10
 }
 
-// A copy that is late arrives after the platform has given up, and within the bound. If it arrives later, a busy
+// A copy that is late arrives after the platform has timed out, and within the bound. If it arrives later, a busy
 // machine may be the cause: that is tried again.
 func TestLateWithinBound(t *testing.T) {
 	const bound = late + 100*time.Millisecond

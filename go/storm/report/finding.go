@@ -41,7 +41,7 @@ const (
 	Present              // it exists, and by its requests the platform has it
 )
 
-// IsOneOf returns whether a kind is one of some.
+// IsOneOf reports whether a kind is one of some.
 func (k Kind) IsOneOf(kinds ...Kind) bool {
 	for _, kind := range kinds {
 		if kind == k {
@@ -184,7 +184,7 @@ func (b Violation) WithoutSecrets(hide Hider) Violation {
 	return b
 }
 
-// BreaksMust returns whether something broke what the standard demands.
+// BreaksMust reports whether something broke what the standard demands.
 func BreaksMust(all []Violation) bool {
 	for _, violation := range all {
 		if violation.Level == conform.Must {
@@ -215,7 +215,7 @@ func Quantity(count int, noun string, plural ...string) string {
 	return fmt.Sprintf("%d %ss", count, noun)
 }
 
-// A KindCount is how many requests had a kind of fault.
+// A KindCount is how many requests a kind of fault befell.
 type KindCount struct {
 	Kind  fault.Kind `json:"kind"`
 	Count int        `json:"count"`
@@ -261,8 +261,8 @@ func ListLines(list []fault.Entry) []string {
 	return all
 }
 
-// Omissions returns what a run with some faults hasn't tried, for people: nothing if a request had a fault, or none was
-// wanted. more says how a run gets more requests.
+// Omissions returns what a run with some faults hasn't tried, for people: nothing if a fault befell a request, or none
+// was wanted. more says how a run gets more requests.
 func Omissions(given []fault.Entry, share float64, list []fault.Entry, more string) []string {
 	switch {
 	case len(given) > 0 || !fault.WantsFaults(share, list):
@@ -304,7 +304,7 @@ type Key struct{ Instance, Binding string }
 // InstanceKey returns the key of the instance.
 func (k Key) InstanceKey() Key { return Key{Instance: k.Instance} }
 
-// Less returns whether a key comes first in the order of the ids.
+// Less reports whether a key is before another one in the order of the ids.
 func (k Key) Less(other Key) bool {
 	return k.Instance < other.Instance || k.Instance == other.Instance && k.Binding < other.Binding
 }
@@ -325,7 +325,7 @@ const (
 // A Line is one thing in the life of an instance or a binding.
 type Line struct {
 	Seconds float64 `json:"seconds"`           // since the start of the run
-	Until   float64 `json:"until,omitempty"`   // of a request: when the platform had its answer
+	Until   float64 `json:"until,omitempty"`   // of a request: when the platform got its answer
 	Number  string  `json:"request,omitempty"` // the number of the request, or empty
 	Who     string  `json:"who"`               // operator, record, platform, request, proxy, broker or osb-storm
 	What    string  `json:"what"`

@@ -32,7 +32,7 @@ type picture struct {
 type lane struct {
 	Label  string
 	Y      float64
-	Spans  []span // requests, each until the platform had its answer
+	Spans  []span // requests, each until the platform got its answer
 	Points []mark // answers of the broker, and changes of the record
 }
 
@@ -188,7 +188,7 @@ func (p *Page) Write(w io.Writer) error {
 // mostLanes is how many lives are drawn of a run in which nothing was found.
 const mostLanes = 12
 
-// Course returns the lives of the instances and bindings whose requests had the most faults, in the order of their
+// Course returns the lives of the instances and bindings whose requests the most faults befell, in the order of their
 // numbers. They are drawn if nothing was found.
 func (r Run) Course() []Finding {
 	all := r.countFaults()
@@ -207,7 +207,7 @@ func (r Run) Course() []Finding {
 	return course
 }
 
-// A faultCount is how many requests of an instance or a binding had a fault.
+// A faultCount is how many faults befell the requests of an instance or a binding.
 type faultCount struct {
 	key     Key
 	subject fault.Subject

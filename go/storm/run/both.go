@@ -288,7 +288,7 @@ func (b *BothStorm) look() {
 	}, b.events)
 }
 
-// isOurs returns whether an instance that the platform doesn't have may be the storm's.
+// isOurs reports whether an instance that the platform doesn't have may be the storm's.
 func (b *BothStorm) isOurs(instance string) bool { return strings.HasPrefix(instance, b.ids.Prefix()) }
 
 // foreignBindings returns the bindings that somebody else than the platform has created.

@@ -179,7 +179,7 @@ func TestBothRejected(t *testing.T) {
 	}
 }
 
-// A crash point that wasn't visited, or an end that nobody had a hand in, isn't clean, and is in the reports.
+// A crash point that wasn't visited, or an end that nobody caused, isn't clean, and is in the reports.
 func TestProgramsInReport(t *testing.T) {
 	for name, programs := range map[string]*Programs{
 		"": {BrokerKills: 2, PlatformPauses: 1, Visited: []string{"a"}},

@@ -217,7 +217,7 @@ type Programs struct {
 	Without        string         `json:"without,omitempty"` // the part of the design that was taken out
 	UnrulyBindings int            `json:"unruly_bindings"`   // of the client that keeps no rules
 	Untried        []string       `json:"untried"`           // what has to happen in every storm, and hasn't
-	Odd            []string       `json:"odd"`               // ends that nobody had a hand in, and errors that a program didn't expect
+	Odd            []string       `json:"odd"`               // ends that nobody caused, and errors that a program didn't expect
 }
 
 func (b *BothStorm) newReport() *Report {

@@ -432,7 +432,7 @@ func (o *operator) remove(ctx context.Context, key Key, withBindings bool) bool 
 	return o.do(ctx, key, what, func() error { return o.orders.Remove(ctx, key, withBindings && key.Binding == "") })
 }
 
-// do does something, and notes it. It returns whether it was done.
+// do does something, and notes it. It reports whether it was done.
 func (o *operator) do(ctx context.Context, key Key, what string, call func() error) bool {
 	if ctx.Err() != nil {
 		return false
@@ -456,7 +456,7 @@ func (o *operator) rest(ctx context.Context, key Key) Record {
 }
 
 // settle waits until every record rests and nothing is in flight any more. It removes what waits for an operator. It
-// returns whether that was reached before ctx was done.
+// reports whether that was reached before ctx was done.
 func (o *operator) settle(ctx context.Context, isQuiet func() bool) bool {
 	for {
 		records, err := o.orders.Records(ctx)

@@ -76,7 +76,7 @@ type Result struct {
 	Restarts    int
 	Ended       string // why the run was ended before, or empty
 	Converged   bool
-	Took        time.Duration // until everything had converged, after the faults
+	Took        time.Duration // until everything converged, after the faults
 	Failed      []string      // what went wrong with the run itself
 	Leftovers   []conform.Leftover
 	Unknown     int // how many instances and bindings nobody could ask for
@@ -89,7 +89,7 @@ type Result struct {
 // losses are the differences in which something is lost or false.
 var losses = []report.Kind{Lost, False, Disagree}
 
-// IsLoser returns whether something was lost, or a record was false.
+// IsLoser reports whether something was lost, or a record was false.
 func (r *Result) IsLoser() bool {
 	for _, difference := range r.Differences {
 		if difference.Kind.IsOneOf(losses...) {

@@ -11,7 +11,7 @@ import (
 	"pippinterm/storm/run/shell"
 )
 
-// An Existence is whether something exists.
+// An Existence says that something exists, or that it doesn't.
 type Existence int
 
 // The values of Existence. Unknown is the zero value.

@@ -122,7 +122,7 @@ func learn(all []*delivery, deleted time.Duration) {
 	}
 }
 
-// overlaps returns whether a request that changes something was with the broker at the same time as a delivery. Nobody
+// overlaps reports whether a request that changes something was with the broker at the same time as a delivery. Nobody
 // knows until when the broker works on a request that it doesn't answer.
 func overlaps(all []*delivery, at int) bool {
 	for other, delivery := range all {
@@ -199,7 +199,7 @@ func (s *delivery) pollOperation() string {
 	return values.Get("operation")
 }
 
-// judge returns the cases that the answer fails, by itself and by what was known before. isLost is whether the thing
+// judge returns the cases that the answer fails, by itself and by what was known before. isLost says that the thing
 // exists in the end though its record says otherwise.
 func (s *delivery) judge(isLost bool) []conform.Result {
 	if !s.isAnswered {
@@ -439,7 +439,7 @@ type ending struct {
 	failed      []string // what went wrong with the comparison
 }
 
-// end compares at the end, and adds what was found before. isWhole is whether the run has waited until the records
+// end compares at the end, and adds what was found before. isWhole says that the run has waited until the records
 // converged.
 func (w *watch) end(ctx context.Context, isWhole bool) (e ending) {
 	e.differences = w.list()

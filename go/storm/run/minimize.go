@@ -92,7 +92,7 @@ func whyMinimizeEnded(ctx context.Context) string {
 	return "--minimize was ended"
 }
 
-// loses returns whether one of some runs loses something. If so, its life is kept. A run that ctx has cut off doesn't
+// loses reports whether one of some runs loses something. If so, its life is kept. A run that ctx has cut off doesn't
 // count.
 func (r *Report) loses(ctx context.Context, once func() (*Result, error)) bool {
 	for try := 0; try < tries && ctx.Err() == nil; try++ {
@@ -108,7 +108,7 @@ func (r *Report) loses(ctx context.Context, once func() (*Result, error)) bool {
 	return false
 }
 
-// NeedsNoFault returns whether something is lost without any fault.
+// NeedsNoFault reports whether something is lost without any fault.
 func (s *Minimum) NeedsNoFault() bool { return s.Minimal != nil && len(s.Minimal) == 0 }
 
 // minimalTitle is what the list is called that was shrunk.

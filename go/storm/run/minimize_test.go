@@ -28,9 +28,9 @@ func contains(list []fault.Entry, needed string) bool {
 	return true
 }
 
-// The faults of each lost instance are tried alone, the fewest first, and of five instances at most. Then come those of
-// all, and the restarts. An instance whose number isn't one of a life isn't tried: in another run, another instance may
-// have that number.
+// The faults of each lost instance are tried alone, the fewest first, and of five instances at most. The next are those
+// of all, and the restarts. An instance whose number isn't one of a life isn't tried: in another run, another instance
+// may have that number.
 func TestCandidates(t *testing.T) {
 	k := newKeys(func(number int) string { return fmt.Sprint("id-", number) })
 	found := &Result{Keys: k}

@@ -224,7 +224,7 @@ func (m *model) put(r *http.Request, k Key) (int, any) {
 	return 201, object{}
 }
 
-// isUnread waits a little, and returns whether the connection was cut meanwhile.
+// isUnread waits a little, and reports whether the connection was cut meanwhile.
 func (m *model) isUnread(r *http.Request) bool {
 	m.mutex.Unlock()
 	defer m.mutex.Lock()

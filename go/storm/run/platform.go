@@ -125,7 +125,7 @@ func awaitCatalogue(ctx context.Context, store platform.Store) (reason string, i
 	}
 }
 
-// isDoubtful returns whether a transaction that has failed with an error may have been committed.
+// isDoubtful reports whether a transaction that has failed with an error may have been committed.
 func isDoubtful(err error) bool { return errors.Is(err, sqlitefile.ErrUnknownCommit) }
 
 // resume has the engine work, at first and after halt.
@@ -223,7 +223,7 @@ func (s *BrokerStorm) trial(ctx context.Context) (keys []Key, remove func() stri
 	return keys, remove, ""
 }
 
-// listsBindings returns whether there is a command that lists bindings, and a plan that has some.
+// listsBindings reports whether there is a command that lists bindings, and a plan that has some.
 func (s *BrokerStorm) listsBindings() bool {
 	return s.config.Commands.ListBindings != "" && s.target.Bindable && s.target.HasCatalogue
 }
@@ -311,7 +311,7 @@ func (s *BrokerStorm) await(ctx context.Context, key Key, operation string) stri
 	}
 }
 
-// deletionsOf asks for the deletion of each key, and returns what existed by the answers. Bindings come first.
+// deletionsOf asks for the deletion of each key, and returns what existed by the answers. It begins with the bindings.
 func (s *BrokerStorm) deletionsOf(ctx context.Context, keys []Key) map[Key]Existence {
 	found := map[Key]Existence{}
 	if !s.deletionsTell {
@@ -536,7 +536,7 @@ type (
 	Finding = report.Finding
 	// A Violation is a rule that an answer of the broker breaks.
 	Violation = report.Violation
-	// A KindCount is how many requests had a kind of fault.
+	// A KindCount is how many requests a kind of fault befell.
 	KindCount = report.KindCount
 )
 

@@ -165,11 +165,11 @@ func (r *Report) runOf(found *Result) report.Run {
 	}
 }
 
-// BreaksMust returns whether an answer broke what the standard demands.
+// BreaksMust reports whether an answer broke what the standard demands.
 func (r *Report) BreaksMust() bool { return report.BreaksMust(r.Broken) }
 
-// IsClean returns whether the storm has found nothing, and was run to its end. If a part of the design was taken out,
-// it returns whether the storm has found what is left behind.
+// IsClean reports whether the storm has found nothing, and was run to its end. If a part of the design was taken out,
+// it reports whether the storm has found what is left behind.
 func (r *Report) IsClean() bool {
 	switch {
 	case r.Ended != "" || len(r.Untried) > 0 || r.Programs != nil && len(r.Programs.Odd) > 0:
@@ -181,7 +181,7 @@ func (r *Report) IsClean() bool {
 		(r.Programs == nil || len(r.Programs.problems()) == 0)
 }
 
-// hasLoss returns whether something was lost, a record was false, something disagrees, or two have worked at once.
+// hasLoss reports whether something was lost, a record was false, something disagrees, or two have worked at once.
 func (r *Report) hasLoss() bool {
 	together := r.Programs != nil && len(r.Programs.Together) > 0
 	return len(r.Lost)+len(r.False)+len(r.Disagree) > 0 || together

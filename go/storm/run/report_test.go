@@ -240,7 +240,7 @@ func TestUnmet(t *testing.T) {
 	}
 }
 
-// A storm in which no request had a fault isn't clean, unless no fault was wanted or the storm was ended. Each form
+// A storm in which no fault befell a request isn't clean, unless no fault was wanted or the storm was ended. Each form
 // says what to do.
 func TestUntriedFaults(t *testing.T) {
 	list := listOf(t, "99.1 answer-lost")

@@ -261,7 +261,8 @@ func hasCreation(exchanges []fault.Exchange, key Key) bool {
 	return false
 }
 
-// A BrokerConfig says which broker a BrokerStorm is about, and within which limits. Folder is that of the platform's store.
+// A BrokerConfig says which broker a BrokerStorm is about, and within which limits. Folder is that of the platform's
+// store.
 type BrokerConfig struct {
 	Config
 	Broker      conform.Config // Instances is how many instances a run may create. Pause is the time between two polls
@@ -412,7 +413,7 @@ func (r *brokerRun) clear(ctx context.Context, records map[Key]Record) error {
 	return r.platform.halt()
 }
 
-// isQuiet returns whether no request is on its way to the broker.
+// isQuiet reports whether no request is on its way to the broker.
 func (r *brokerRun) isQuiet() bool { return r.proxy.Pending() == 0 }
 
 // A course is how a run goes: the lives, the end of the faults, and the time until everything has converged.
@@ -433,7 +434,7 @@ type course struct {
 }
 
 // run lives all lives, ends the faults, and waits until everything has converged. If ctx is done, it doesn't wait. It
-// returns whether everything has converged, and how long that took.
+// reports whether everything has converged, and how long that took.
 func (c *course) run(ctx context.Context) (converged bool, took time.Duration) {
 	looking, endLooks := context.WithCancel(ctx)
 	var looks sync.WaitGroup

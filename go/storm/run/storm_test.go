@@ -615,7 +615,7 @@ func TestCalm(t *testing.T) {
 	}
 }
 
-// The lives of a trial are those that these instances had in the storm, in whichever round, except that all begin at
+// The lives of a trial are those of these instances in the storm, in whichever round, except that all begin at
 // once.
 func TestLivesOfTrial(t *testing.T) {
 	b := openFakes(t, func(c *BothConfig) { c.Instances = 3 })

@@ -28,8 +28,8 @@ const (
 	unknownShare   = 0.05 // of the Binds: their instance was never ordered
 )
 
-// An unrulyClient is a client of bindings that keeps no rules, and no records. Only the broker's two rules keep an instance
-// that isn't ready from having credentials, and one that has bindings from being deleted.
+// An unrulyClient is a client of bindings that keeps no rules, and no records. Only the broker's two rules keep an
+// instance that isn't ready from having credentials, and one that has bindings from being deleted.
 type unrulyClient struct {
 	url, password string // where the broker is reached
 	records       func(context.Context) (map[Key]Record, error)

@@ -46,7 +46,7 @@ type victim struct {
 
 	running *exec.Cmd
 	ended   <-chan error // of running; it is closed once that has ended
-	// wasKilled is whether the process that has ended last was killed.
+	// wasKilled says that the process that has ended last was killed.
 	wasKilled bool
 
 	mutex sync.Mutex
@@ -60,7 +60,7 @@ type tally struct {
 	open          []string // the crash points that are still to be visited, besides trying
 	trying        string   // the crash point that the process is to reach now, or empty
 	visited       []string
-	odd           []string // ends that nobody had a hand in, and errors that the program didn't expect
+	odd           []string // ends that nobody caused, and errors that the program didn't expect
 }
 
 // lifetimes are between which times something lasts.
@@ -165,7 +165,7 @@ func (v *victim) startCalmly() {
 	}
 }
 
-// dies waits until the process has ended, at most for a time, and returns whether it has. wasKilled is about that.
+// dies waits until the process has ended, at most for a time, and reports whether it has. wasKilled is about that.
 func (v *victim) dies(ctx context.Context, within time.Duration) bool {
 	timer := time.NewTimer(within)
 	defer timer.Stop()

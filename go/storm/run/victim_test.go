@@ -131,7 +131,7 @@ func TestVictimVisitsPoints(t *testing.T) {
 	}
 }
 
-// An end that nobody had a hand in is noted, and so is a program that ends with an error at SIGTERM, or not at all.
+// An end that nobody caused is noted, and so is a program that ends with an error at SIGTERM, or not at all.
 func TestVictimIsOdd(t *testing.T) {
 	t.Parallel()
 	v, folder := victimOf(t, "exit 3")

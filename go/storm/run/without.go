@@ -78,7 +78,7 @@ func (c BothConfig) share() float64 {
 	return c.Share
 }
 
-// isKilled returns whether a program is killed again and again: none is in a calm storm. A platform without attempts
+// isKilled reports whether a program is killed again and again: none is in a calm storm. A platform without attempts
 // isn't: one that is killed hears no late answer.
 func (b *BothStorm) isKilled(v *victim) bool {
 	return !b.config.Calm && (b.config.Without != withoutAttempts || v.name != whoPlatform)

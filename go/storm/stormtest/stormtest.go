@@ -45,7 +45,7 @@ func Whats(all []report.Finding) string {
 	return strings.Join(text, "\n")
 }
 
-// HasBinding returns whether something was found of a binding.
+// HasBinding reports whether something was found of a binding.
 func HasBinding(all []report.Finding) bool {
 	for _, finding := range all {
 		if finding.Binding != "" {
@@ -55,7 +55,7 @@ func HasBinding(all []report.Finding) bool {
 	return false
 }
 
-// HasViolation returns whether a rule was broken.
+// HasViolation reports whether a rule was broken.
 func HasViolation(all []report.Violation, name string) bool {
 	for _, violation := range all {
 		if violation.Name == name {
@@ -65,7 +65,7 @@ func HasViolation(all []report.Violation, name string) bool {
 	return false
 }
 
-// A Tally is how many instances, bindings, requests and faults a storm had.
+// A Tally counts the instances, the bindings, the requests and the faults of a storm.
 type Tally [4]int
 
 // UntilEnough calls run with one seed after the other, until enough has happened in all storms together: on a slow

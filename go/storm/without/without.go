@@ -249,7 +249,7 @@ func goneOf(key platform.Key, record osb.Record) (osb.Record, error) {
 	return record.Answer(record.Attempt(), answer)
 }
 
-// isMitigation returns whether a row changes from a creation to a deletion for which nobody has asked.
+// isMitigation reports whether a row changes from a creation to a deletion for which nobody has asked.
 func isMitigation(before platform.State, after platform.Entry) bool {
 	isCreated := before == platform.Wanted || before == platform.Polling
 	return isCreated && after.State == platform.Cleaning && after.Removal == platform.NotRemoved

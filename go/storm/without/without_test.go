@@ -229,7 +229,7 @@ func givenUp(t *testing.T, steps *[]platform.State) platform.Step {
 	}
 }
 
-// A creation that is given up is forgotten, by a claim and by an answer, and nothing is sent.
+// A creation that is abandoned is forgotten, by a claim and by an answer, and nothing is sent.
 func TestForgets(t *testing.T) {
 	ctx := context.Background()
 	for name, change := range map[string]func(platform.Store, platform.Key, platform.Step) error{

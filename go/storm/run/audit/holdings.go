@@ -155,8 +155,8 @@ type Databases struct {
 
 var _ Resources = Databases{}
 
-// exist are the names of roles and databases, and whether each can be used: a role that may log in, and if it is that
-// of an instance, whose database can be connected to.
+// exist selects the names of roles and databases, and whether each can be used: a role that may log in, and if it is
+// that of an instance, whose database can be connected to.
 const exist = `
 SELECT rolname, rolcanlogin AND (rolname ~ '_.*_' OR EXISTS (SELECT FROM pg_database
     WHERE datname = rolname AND datallowconn AND datconnlimit <> -2)) FROM pg_roles WHERE rolname ~ '^osb_'
@@ -211,7 +211,7 @@ func BrokerKey(key Key) (named broker.Key, err error) {
 	return named, err
 }
 
-// IsUsable returns whether the database of an instance lets its role in, and takes a table from it.
+// IsUsable reports whether the database of an instance lets its role in, and takes a table from it.
 func (d Databases) IsUsable(ctx context.Context, key Key, _ Record) (bool, error) {
 	named, err := BrokerKey(key)
 	if err != nil {
@@ -223,7 +223,7 @@ func (d Databases) IsUsable(ctx context.Context, key Key, _ Record) (bool, error
 	})
 }
 
-// Works returns whether the user of a binding can log in to the database of its instance, and create a table.
+// Works reports whether the user of a binding can log in to the database of its instance, and create a table.
 func (d Databases) Works(ctx context.Context, key Key, credentials json.RawMessage) (bool, error) {
 	var given struct {
 		Host, Database, Username, Password string
@@ -246,7 +246,7 @@ func (d Databases) Works(ctx context.Context, key Key, credentials json.RawMessa
 	})
 }
 
-// takes returns whether a session that is opened so may create a table. If the server is away, it returns an error.
+// takes reports whether a session that is opened so may create a table. If the server is away, it returns an error.
 func takes(ctx context.Context, address string, as pg.Options) (bool, error) {
 	as.Most, as.Lock, as.Statement, as.Idle = 1, 10*time.Second, 10*time.Second, time.Minute
 	db, err := pg.Open(address, as)
@@ -261,7 +261,7 @@ func takes(ctx context.Context, address string, as pg.Options) (bool, error) {
 	return err == nil, nil
 }
 
-// isClosedTo returns whether a database doesn't take connections, or the role isn't let in.
+// isClosedTo reports whether a database doesn't take connections, or the role isn't let in.
 func isClosedTo(err error) bool {
 	const objectNotInState = "55000"
 	return pg.IsCode(err, objectNotInState)
@@ -323,7 +323,7 @@ func (f Folders) Look(context.Context, func(string) bool) (Stock, error) {
 			key, isKey := keyOfName(name, folder != "")
 			switch isPart := name != file.Name(); {
 			case !isKey:
-			case isPart: // the whole, if there is one, comes later: the names are sorted
+			case isPart: // the whole, if there is one, is later: the names are sorted
 				stock.Of[key] = broker.Part
 			default:
 				stock.Of[key] = broker.Whole
@@ -359,7 +359,7 @@ func keyOfName(name string, isBinding bool) (Key, bool) {
 	return Key{}, false
 }
 
-// IsUsable returns whether the label of the folder says what was ordered, in an attribute or in a file.
+// IsUsable reports whether the label of the folder says what was ordered, in an attribute or in a file.
 func (f Folders) IsUsable(_ context.Context, key Key, record Record) (bool, error) {
 	folder := filepath.Join(f.Top, key.Instance)
 	attribute := make([]byte, 4096)
@@ -381,7 +381,7 @@ func (f Folders) IsUsable(_ context.Context, key Key, record Record) (bool, erro
 
 func digits(id osb.ID) string { return strings.ReplaceAll(id.String(), "-", "") }
 
-// Works returns whether the file of a binding has these credentials, which are for the folder of its instance.
+// Works reports whether the file of a binding has these credentials, which are for the folder of its instance.
 func (f Folders) Works(_ context.Context, key Key, credentials json.RawMessage) (bool, error) {
 	text, err := os.ReadFile(f.binding(key))
 	if err != nil {

@@ -58,7 +58,7 @@ func (r Reading) Compare() report.Differences {
 	return f.InOrder()
 }
 
-// IsEnded returns whether a record says that nothing exists.
+// IsEnded reports whether a record says that nothing exists.
 func (r Record) IsEnded() bool { return !r.Known || r.State == Gone || r.State == platform.Withdrawn }
 
 func (r Record) isOfNoRecord() bool {
@@ -79,7 +79,7 @@ func (f *finder) findUnrecorded() {
 	}
 }
 
-// isEmpty returns whether a row keeps nothing: PostgreSQL gets such a row for an instance of which only a binding was
+// isEmpty reports whether a row keeps nothing: PostgreSQL gets such a row for an instance of which only a binding was
 // ever asked for.
 func (h Row) isEmpty() bool {
 	_, isHeld := h.Holding.Row()
@@ -113,7 +113,7 @@ func (f *finder) checkGone(key Key, says string) {
 	}
 }
 
-// isHeldReady returns whether the broker holds an instance or a binding, complete, with that service and plan, and no
+// isHeldReady reports whether the broker holds an instance or a binding, complete, with that service and plan, and no
 // work is pending. If the object of a binding was given out, the broker has the same.
 func (r Reading) isHeldReady(key Key, record Record) bool {
 	held := r.Held[key]
@@ -127,8 +127,8 @@ func (r Reading) isHeldReady(key Key, record Record) bool {
 	return key.Binding == "" || held.Object != nil && (!isGiven || isSame(held.Object, given))
 }
 
-// findWithoutInstance finds each binding that exists or is held while its instance isn't held ready. A broker never lets
-// that can happen, whatever it is asked.
+// findWithoutInstance finds each binding that exists or is held while its instance isn't held ready. A broker never
+// lets that can happen, whatever it is asked.
 func (f *finder) findWithoutInstance() {
 	for key := range f.Stock.Of {
 		if key.Binding == "" || !f.Before.Some(key) || !f.Stock.Some(key) {
@@ -169,7 +169,7 @@ func CredentialsOf(object json.RawMessage) json.RawMessage {
 	return read.Credentials
 }
 
-// isSame returns whether two texts are the same value of JSON.
+// isSame reports whether two texts are the same value of JSON.
 func isSame(one, other json.RawMessage) bool {
 	a, isA := canonical(one)
 	b, isB := canonical(other)
@@ -225,7 +225,7 @@ type Stock struct {
 	Credentials map[Key]json.RawMessage
 }
 
-// Some returns whether anything of a key exists.
+// Some reports whether anything of a key exists.
 func (s Stock) Some(key Key) bool { return s.Of[key] != broker.None }
 
 // A Reading is what was seen, in the order of the members. What is the same in two members was so all the time between
@@ -248,11 +248,12 @@ type Holdings interface {
 
 // Resources are what a broker sells in a storm.
 type Resources interface {
-	// Look returns what exists. isOurs reports whether an instance is one of the storm's, where the server may have others.
+	// Look returns what exists. isOurs reports whether an instance is one of the storm's, where the server may have
+	// others.
 	Look(ctx context.Context, isOurs func(instance string) bool) (Stock, error)
-	// IsUsable returns whether the resource of an instance that is ready can be used, and is what was ordered.
+	// IsUsable reports whether the resource of an instance that is ready can be used, and is what was ordered.
 	IsUsable(ctx context.Context, key Key, record Record) (bool, error)
-	// Works returns whether the credentials of a binding give access to its instance.
+	// Works reports whether the credentials of a binding give access to its instance.
 	Works(ctx context.Context, key Key, credentials json.RawMessage) (bool, error)
 	// Clear deletes what exists of the storm's instances, if the end of the storm doesn't.
 	Clear(ctx context.Context, isOurs func(instance string) bool) error
@@ -294,8 +295,8 @@ func (r Reader) Read(ctx context.Context) (reading Reading, err error) {
 }
 
 // CompareAtEnd returns what the three disagree in at the end: each instance and each binding has to be ready in all
-// three, or in none. Nobody knows of the instances that were abandoned. It tries each resource that is ready, and returns
-// the first error of that.
+// three, or in none. Nobody knows of the instances that were abandoned. It tries each resource that is ready, and
+// returns the first error of that.
 func (r Reading) CompareAtEnd(ctx context.Context, resources Resources) (report.Differences, error) {
 	f := &finder{Reading: r}
 	f.findUnrecorded()
@@ -316,7 +317,7 @@ func (r Reading) CompareAtEnd(ctx context.Context, resources Resources) (report.
 	return f.InOrder(), failed
 }
 
-// isFinal returns whether a record may stay in a state at the end of a storm. One that is unsettled waits for an
+// isFinal reports whether a record may stay in a state at the end of a storm. One that is unsettled waits for an
 // operator, and the storm's operator removes it.
 func isFinal(state platform.State) bool {
 	switch state {

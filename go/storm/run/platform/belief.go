@@ -220,7 +220,7 @@ func compare(found *result, keys []report.Key, existing map[report.Key]bool, lis
 	})
 }
 
-// isGoing returns whether the platform waits for the end of an operation, or tries to delete.
+// isGoing reports whether the platform waits for the end of an operation, or tries to delete.
 func (v view) isGoing() bool {
 	return v.belief == creating || v.belief == deleting || v.belief == undeleted || v.tried
 }

@@ -213,7 +213,7 @@ func (s *Storm) settle(ctx context.Context, calm time.Duration) (took time.Durat
 	}
 }
 
-// isSettled returns whether nothing would be found now, and the platform doesn't wait for an operation.
+// isSettled reports whether nothing would be found now, and the platform doesn't wait for an operation.
 func (s *Storm) isSettled(ctx context.Context, calm time.Duration) bool {
 	exchanges := s.journal.Exchanges()
 	for _, view := range viewsOf(exchanges) {
@@ -254,7 +254,7 @@ func (s *Storm) look(ctx context.Context, found *result) {
 // A list is what the platform has by its own word. Each of the two is nil if there is no command for it.
 type list struct{ instances, bindings map[report.Key]bool }
 
-// of returns whether the platform has a key, and whether that is known.
+// of reports whether the platform has a key, and whether that is known.
 func (l list) of(key report.Key) (has, isKnown bool) {
 	if key.Binding != "" {
 		return l.bindings[key], l.bindings != nil
@@ -321,8 +321,8 @@ const nothingOrdered = "no request about an instance came until the order comman
 
 func failedOrders(err error) error { return fmt.Errorf("the order command has failed: %w", err) }
 
-// endOrders kills what is left of the order command. If the command had ended while the broker listened, endOrders
-// notes if it had failed: one that fails later may fail because the broker is gone. If the command had failed, or has
+// endOrders kills what is left of the order command. If the command ended while the broker listened, endOrders
+// notes if it failed: one that fails later may fail because the broker is gone. If the command failed, or has
 // ordered nothing, endOrders writes what it has printed last.
 func (s *Storm) endOrders(o *shell.Command, hadEnded bool, found *result) {
 	if o == nil {

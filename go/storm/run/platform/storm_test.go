@@ -253,7 +253,7 @@ func TestIsClean(t *testing.T) {
 	}
 }
 
-// A storm in which no request had a fault isn't clean, unless no fault was wanted. Each form says what to do.
+// A storm in which no fault befell a request isn't clean, unless no fault was wanted. Each form says what to do.
 func TestUntried(t *testing.T) {
 	for name, test := range map[string]struct {
 		share float64
@@ -652,7 +652,7 @@ func TestOrderEnds(t *testing.T) {
 	}
 }
 
-// isRunning returns whether a process runs. One that has ended may wait for its parent.
+// isRunning reports whether a process runs. One that has ended may wait for its parent.
 func isRunning(pid string) bool {
 	text, err := os.ReadFile("/proc/" + pid + "/stat")
 	return err == nil && !strings.Contains(string(text), ") Z ")

@@ -392,11 +392,11 @@ func (d *Database) ForPrograms() (address string, environment []string) {
 	return parsed.String(), environment
 }
 
-// A busy session comes first: then a commit breaks off of which nobody knows the result.
+// A busy session is the first choice: then a commit breaks off of which nobody knows the result.
 const endSession = `SELECT pg_terminate_backend(pid) FROM pg_stat_activity WHERE application_name = $1
 AND datname = current_database() ORDER BY state = 'idle', random() LIMIT 1`
 
-// EndSession ends one of the sessions that the programs have, and returns whether there was one.
+// EndSession ends one of the sessions that the programs have, and reports whether there was one.
 func (d *Database) EndSession(ctx context.Context) (isEnded bool, err error) {
 	err = d.db.QueryRowContext(ctx, endSession, sessionName).Scan(&isEnded)
 	if err == sql.ErrNoRows {

@@ -44,7 +44,7 @@ func states(p *Postgres) (all string) {
 	return all
 }
 
-// A server is killed, the first process alone and then all, and still has what it had committed. It is paused, and goes
+// A server is killed, the first process alone and then all, and still has what it committed. It is paused, and goes
 // on. At the end nothing is left.
 func TestPostgres(t *testing.T) {
 	pgtest.URL(t) // PostgreSQL is installed

@@ -118,8 +118,8 @@ func killAll(command *exec.Cmd) {
 
 var nothing = io.NopCloser(strings.NewReader(""))
 
-// readAll returns what is written until nobody has the pipe open, or until it is closed. If it is too much, readAll calls
-// kill, and returns a part of it that is too much, too.
+// readAll returns what is written until nobody has the pipe open, or until it is closed. If it is too much, readAll
+// calls kill, and returns a part of it that is too much, too.
 func readAll(from io.Reader, kill func()) []byte {
 	all, _ := io.ReadAll(io.LimitReader(from, mostPrinted+1))
 	if isTooMuch(all) {
@@ -183,10 +183,10 @@ func (c *Command) Done() <-chan struct{} {
 	return c.ended
 }
 
-// HasEnded returns whether the shell has ended.
+// HasEnded reports whether the shell has ended.
 func (c *Command) HasEnded() bool { return isClosed(c.Done(), 0) }
 
-// End kills the command with all processes of its group. It returns an error if the command had failed before.
+// End kills the command with all processes of its group. It returns an error if the command failed before.
 func (c *Command) End() error {
 	hasEnded := c.HasEnded()
 	killAll(c.process)
@@ -227,7 +227,7 @@ func awaitExit(pid int) {
 	}
 }
 
-// isClosed returns whether a channel is closed within some time.
+// isClosed reports whether a channel is closed within some time.
 func isClosed(done <-chan struct{}, within time.Duration) bool {
 	select {
 	case <-done:
@@ -253,7 +253,7 @@ const (
 // A tail is the end of what is written to it.
 type tail struct {
 	text  []byte
-	isCut bool // whether the text begins within a line
+	isCut bool // the text begins within a line
 }
 
 // Write keeps the last mostKept bytes.

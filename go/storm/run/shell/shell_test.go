@@ -112,7 +112,7 @@ func TestKillsGroup(t *testing.T) {
 	stormtest.Await(t, 5*time.Second, "what the command has started ends", func() bool { return !isRunning(pid) })
 }
 
-// isRunning returns whether a process runs. One that has ended may wait for its parent.
+// isRunning reports whether a process runs. One that has ended may wait for its parent.
 func isRunning(pid int) bool {
 	text, err := os.ReadFile(fmt.Sprintf("/proc/%d/stat", pid))
 	return err == nil && !strings.Contains(string(text), ") Z ")
