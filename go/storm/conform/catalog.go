@@ -239,7 +239,7 @@ type Target struct {
 	BindingsRetrievable   bool
 	Catalogue             []byte      // the body of the answer
 	CatalogueHeader       http.Header // its header but the request's identity, if it could be read
-	HasCatalogue          bool        // whether the catalogue could be read
+	HasCatalogue          bool        // the catalogue could be read
 
 	other Pair // another plan, or an empty one
 }

@@ -78,7 +78,7 @@ func TestShrink(t *testing.T) {
 		first   string // the list of a candidate before the other one, or empty
 		needed  string // without these faults, nothing is lost
 		cutAt   int    // the number of the run that is cut off, or 0
-		lost    bool   // whether that run has lost something before
+		lost    bool   // that run has lost something before
 		fails   bool   // each run fails
 		runs    int    // those that count
 		minimal []string
