@@ -7,7 +7,7 @@ from typing import Any
 
 import pytest
 from audit.journals import BOUND, INSTANCE, Journal
-from osb_audit.lines import MEMBERS, BadLine, Line, Place, read
+from osb_audit.lines import MEMBERS, BadLine, Line, Position, read
 from osb_audit.rules import NoText, held_in, recorded_in
 from osb_audit.settings import settings_in
 from osb_audit.story import story
@@ -41,7 +41,7 @@ def story_of(told: list[dict[str, Any]]) -> None:
     for number, members in enumerate(told):
         text = json.dumps(members).encode()
         if members["event"] != "started":
-            lines.append(read(Place(0, number), text))
+            lines.append(read(Position(0, number), text))
         elif members["side"] == "broker":
             settings[members["process"]] = settings_in(text)
     story(INSTANCE, lines, settings, {})
@@ -72,10 +72,10 @@ def test_known_members_have_a_type() -> None:
             continue
         known = MEMBERS[members["side"], members["event"]]
         assert set(members) - {"side", "event"} <= set(known), members
-        read(Place(0, 0), json.dumps(members).encode())
+        read(Position(0, 0), json.dumps(members).encode())
         for member in set(known) & set(members):
             with pytest.raises(BadLine, match=f"{member} of {members['event']} of a {members['side']} has to be "):
-                read(Place(0, 0), json.dumps({**members, member: []}).encode())
+                read(Position(0, 0), json.dumps({**members, member: []}).encode())
 
 
 @pytest.mark.parametrize("name", WRONG)

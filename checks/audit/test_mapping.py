@@ -32,7 +32,7 @@ from audit.journals import (
 )
 from osb_audit.broker_side import ALTERED, FAILED, FOREIGN, UNCOMPARED, UNRECORDED
 from osb_audit.events import Story
-from osb_audit.lines import Place, read
+from osb_audit.lines import Position, read
 from osb_audit.platform_side import BRIDGED, LATE
 from osb_audit.settings import settings_in
 from osb_audit.story import story
@@ -46,7 +46,7 @@ def story_of(journal: Journal) -> Story:
         for number, text in enumerate(texts):
             members = json.loads(text)
             if members["event"] != "started":
-                lines.append(read(Place(at, number), text.encode()))
+                lines.append(read(Position(at, number), text.encode()))
             elif members["side"] == "broker":
                 settings[members["process"]] = settings_in(text.encode())
     return story(INSTANCE, lines, settings, {})

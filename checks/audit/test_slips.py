@@ -40,7 +40,7 @@ class Slip(NamedTuple):
     """A story, the line that shows its slip, as a part of a file's name and a number, and what is reported."""
 
     story: str
-    place: tuple[str, int]
+    position: tuple[str, int]
     why: str
     model: str
     journal: str
@@ -50,23 +50,23 @@ class Slip(NamedTuple):
 
 def slip(story: str, shown: str, plan: str = "sync", event: str = "") -> Slip:
     """`shown`: the line, why, and what the model and the journal have, with a bar between them."""
-    place, why, model, journal = (*(it.strip() for it in shown.split("|")), "", "")[:4]
-    file, line = place.split()
+    position, why, model, journal = (*(it.strip() for it in shown.split("|")), "", "")[:4]
+    file, line = position.split()
     return Slip(story, (file, int(line)), why, model, journal, plan, event)
 
 
 def skipped(story: str, shown: str, plan: str = "sync") -> Slip:
     """A slip that shows as an event that can't happen. `shown`: the line, and the event."""
-    place, event = shown.split(" | ")
-    return slip(story, f"{place} | the event can't happen here | step skipped | step applied", plan, event)
+    position, event = shown.split(" | ")
+    return slip(story, f"{position} | the event can't happen here | step skipped | step applied", plan, event)
 
 
 def differing(story: str, shown: str, plan: str = "sync") -> Slip:
     """A slip that shows after its event: the model has something else than the journal. `shown`: the line, the event,
     and what both have.
     """
-    place, event, both = shown.split(" | ", 2)
-    return slip(story, f"{place} | after the event, the model has something else | {both}", plan, event)
+    position, event, both = shown.split(" | ", 2)
+    return slip(story, f"{position} | after the event, the model has something else | {both}", plan, event)
 
 
 HELD_READY, HELD_MAKING = (held_text(it, "sync", INSTANCE) for it in ("ready", "making"))
@@ -531,7 +531,7 @@ def difference(report: dict[str, Any], name: str) -> dict[str, Any]:
 @pytest.mark.parametrize("name", SLIPS)
 def test_slip(report: dict[str, Any], name: str) -> None:
     slip, found = SLIPS[name], difference(report, name)
-    path, line = slip.place
+    path, line = slip.position
     assert (found["line"], found["event"]) == (line, slip.event), found
     assert f"/{INSTANCES[name]}/{path}-" in found["file"] and slip.why in found["why"], found
     assert not slip.model or found["model"] == slip.model, found

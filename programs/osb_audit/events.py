@@ -3,7 +3,7 @@ from __future__ import annotations
 
 from typing import Mapping, NamedTuple
 
-from osb_audit.lines import Place
+from osb_audit.lines import Position
 from osb_audit.rules import Said
 from osb_audit.tails import Change
 
@@ -31,7 +31,7 @@ class Event(NamedTuple):
     """A line of a schedule, the journal's line that it comes from, and what the trace has to show after it."""
 
     text: str
-    place: Place
+    position: Position
     wanted: Wanted = ((STEP, "applied"),)
 
 
@@ -40,7 +40,7 @@ class Stop(NamedTuple):
     something that can't be judged.
     """
 
-    place: Place
+    position: Position
     is_difference: bool
     why: str
     model: str = ""

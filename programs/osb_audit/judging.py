@@ -11,7 +11,7 @@ from itertools import chain, combinations, islice
 from typing import Collection, Iterator, Mapping, NamedTuple, Sequence
 
 from osb_audit.events import COLUMNS, STEP, Event, Stop, Story
-from osb_audit.lines import INSTANCE, BadLine, Line, Place, read
+from osb_audit.lines import INSTANCE, BadLine, Line, Position, read
 from osb_audit.ordering import shown
 from osb_audit.settings import Settings
 from osb_audit.story import story
@@ -59,7 +59,7 @@ class Difference(NamedTuple):
     """The first difference of an instance."""
 
     instance: str
-    place: Place
+    position: Position
     event: str
     """The event of the model, or empty if none is known."""
     why: str
@@ -79,10 +79,10 @@ class Judged:
     differences: list[Difference] = field(default_factory=list)
     disagreements: list[tuple[str, str]] = field(default_factory=list)
     """The instance, and what both sides disagree about at the end."""
-    unjudged: list[tuple[str, Place, str, bool]] = field(default_factory=list)
+    unjudged: list[tuple[str, Position, str, bool]] = field(default_factory=list)
     """The instance, from where on, why, and whether nothing of it was judged."""
     notes: Counter[str] = field(default_factory=Counter)
-    bad: tuple[Place, str] | None = None
+    bad: tuple[Position, str] | None = None
 
 
 class _Batch:
@@ -128,7 +128,7 @@ def _difference(story_: Story, lines: Sequence[str]) -> Difference | None:
     stop = story_.stop
     if stop is None or not stop.is_difference:
         return None
-    return Difference(story_.instance, stop.place, "", stop.why, stop.model, stop.journal, _numbered(lines))
+    return Difference(story_.instance, stop.position, "", stop.why, stop.model, stop.journal, _numbered(lines))
 
 
 def _of_event(story_: Story, event: Event, columns: Sequence[str], lines: Sequence[str]) -> Difference:
@@ -140,7 +140,7 @@ def _of_event(story_: Story, event: Event, columns: Sequence[str], lines: Sequen
         why = "after the event, the model has something else than the journal"
     model = ", ".join(f"{COLUMNS[column]} {columns[column]}" for column, _ in wrong)
     journal = ", ".join(f"{COLUMNS[column]} {wanted}" for column, wanted in wrong)
-    return Difference(story_.instance, event.place, event.text, why, model, journal, _numbered(lines))
+    return Difference(story_.instance, event.position, event.text, why, model, journal, _numbered(lines))
 
 
 def _numbered(lines: Sequence[str]) -> tuple[str, ...]:
@@ -187,11 +187,11 @@ class _Judge:
         """What the lines of an instance have come to; None if one of them can't be read."""
         lines = []
         for text in texts:
-            place, rest = _placed(text)
+            position, rest = _read_position(text)
             try:
-                lines.append(read(place, rest))
+                lines.append(read(position, rest))
             except BadLine as error:
-                self.found.bad = place, str(error)
+                self.found.bad = position, str(error)
                 return None
         found = self._told(instance, lines)
         if found.unshown:
@@ -207,9 +207,9 @@ class _Judge:
             found = story(instance, kept, self.bucket.settings, self.bucket.doubts, without)
         if len(kept) < len(lines) and (found.stop is None or not found.stop.is_difference):
             first = min((it for it in lines if it not in set(kept)), key=lambda it: it.time)
-            found = found._replace(stop=Stop(first.place, False, why), disagreements=[])
+            found = found._replace(stop=Stop(first.position, False, why), disagreements=[])
         if len(found.events) > MOST:
-            stop = Stop(found.events[MOST].place, False, TOO_MANY)
+            stop = Stop(found.events[MOST].position, False, TOO_MANY)
             found = found._replace(events=found.events[:MOST], stop=stop, disagreements=[])
         return found
 
@@ -224,7 +224,7 @@ class _Judge:
             if difference is not None:
                 its.differences.append(difference)
             elif found.stop is not None:
-                its.unjudged.append((found.instance, found.stop.place, found.stop.why, not found.events))
+                its.unjudged.append((found.instance, found.stop.position, found.stop.why, not found.events))
             its.disagreements += [(found.instance, it) for it in found.disagreements]
         self.doubtful.clear()
 
@@ -233,7 +233,7 @@ class _Judge:
         then. A change that differs by itself stays: its process has made it, whether it was committed or not.
         """
         lines = self.doubtful[found.instance]
-        end = next((it.time for it in lines if difference is not None and it.place == difference.place), NEVER)
+        end = next((it.time for it in lines if difference is not None and it.position == difference.position), NEVER)
         for without in _choices([it for it, time in found.unshown.items() if time < end]):
             batch = _Batch(self.bucket)
             batch.add(self._told(found.instance, lines, without))
@@ -273,10 +273,10 @@ def _texts(bucket: Bucket, instances: Collection[str] | None = None) -> dict[str
     return found
 
 
-def _placed(text: bytes) -> tuple[Place, bytes]:
-    """A line of a bucket, and its place."""
+def _read_position(text: bytes) -> tuple[Position, bytes]:
+    """A line of a bucket, and its position."""
     stretch, number, rest = text.split(b":", 2)
-    return Place(int(stretch), int(number)), rest
+    return Position(int(stretch), int(number)), rest
 
 
 def _before_gaps(lines: list[Line], known: Sequence[Gap]) -> tuple[list[Line], str]:
@@ -305,7 +305,7 @@ def look(looking: Looking) -> dict[Change, bool]:
     found: dict[Change, bool] = {}
     for texts in _texts(bucket, looking.instances).values():
         try:
-            lines = [read(*_placed(it)) for it in texts]
+            lines = [read(*_read_position(it)) for it in texts]
         except BadLine:
             continue  # whoever judges the instance reports that
         found.update(shown(_before_gaps(lines, bucket.gaps)[0], bucket.doubts))

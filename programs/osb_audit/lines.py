@@ -24,7 +24,7 @@ OF_PROCESSES = frozenset((b"started", b"stopped", b"lost"))
 """The events of a process."""
 
 
-class Place(NamedTuple):
+class Position(NamedTuple):
     """Where a line stands: in which stretch of the files, and which of the lines it is there, from 0."""
 
     stretch: int
@@ -34,10 +34,10 @@ class Place(NamedTuple):
 class Line:
     """A line of an instance or of a binding."""
 
-    __slots__ = ("time", "process", "side", "event", "place", "key", "of")
+    __slots__ = ("time", "process", "side", "event", "position", "key", "of")
 
-    def __init__(self, place: Place, members: dict[str, Any]) -> None:
-        self.place = place
+    def __init__(self, position: Position, members: dict[str, Any]) -> None:
+        self.position = position
         self.time: int = members["time"]
         self.process: str = members["process"]
         self.side: str = members["side"]
@@ -168,7 +168,7 @@ def check(members: Mapping[str, Any], known: Mapping[str, _Value], of: str) -> N
             raise BadLine(f"{name} of {of} has to be {wanted.said}, and is {given}")
 
 
-def read(place: Place, text: bytes) -> Line:
+def read(position: Position, text: bytes) -> Line:
     """Reads a line that names an instance. Raises `BadLine`."""
     members = members_of(text)
     try:
@@ -185,7 +185,7 @@ def read(place: Place, text: bytes) -> Line:
     for it in needed:
         if it not in members:
             raise BadLine(f"{event} of a {side} has no {it}")
-    return Line(place, members)
+    return Line(position, members)
 
 
 def plain(text: bytes) -> bytes | None:

@@ -14,9 +14,9 @@ VisitName = tuple[str, int]
 
 
 class Given(NamedTuple):
-    """An answer that the model has given, and its place among all that it has given of a life."""
+    """An answer that the model has given, and its position among all that it has given of a life."""
 
-    place: int
+    position: int
     said: Said
 
 

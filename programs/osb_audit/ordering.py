@@ -68,7 +68,7 @@ def shown(lines: Iterable[Line], doubts: Doubts) -> Iterator[tuple[Change, bool]
 
 def _left(lines: Iterable[Line]) -> tuple[list[Line], frozenset[Change]]:
     """The lines by their times, without the changes that were surely undone, and the changes that others undo."""
-    found = sorted(lines, key=lambda it: (it.time, it.place))
+    found = sorted(lines, key=lambda it: (it.time, it.position))
     undone = {it.change: bool(it.of.get("doubtful")) for it in found if it.event == "undone"}
     left = [
         it for it in found if it.event != "undone" and not (it.event == "changed" and undone.get(it.change) is False)

@@ -183,10 +183,10 @@ class PlatformSide:
             return self._unheard(line, life, attempt, after)
         if life.is_binding and (life.record.state, life.record.out, said) == ("polling", "poll", (200, "succeeded")):
             return self._fetched(life, attempt, said)
-        given = [it.place for it in life.given.get(attempt, ()) if it.said == said]
+        given = [it.position for it in life.given.get(attempt, ()) if it.said == said]
         if given:
             return f"take {given[-1]}"
-        status = [it.place for it in life.given.get(attempt, ()) if it.said[0] == said[0]]
+        status = [it.position for it in life.given.get(attempt, ()) if it.said[0] == said[0]]
         if said[1] == "malformed" and status:
             return f"garble {status[-1]}"
         if 500 <= said[0] <= 599:
@@ -208,18 +208,18 @@ class PlatformSide:
                 if rules.taken(life.record, given.said, life.is_binding, True) == after:
                     if number == attempt:
                         raise differs(line, NOT_COME, "-", shown(given.said))
-                    return f"take {given.place}"
+                    return f"take {given.position}"
         return "timeout"
 
     def _fetched(self, life: Life, attempt: int, said: Said) -> str:
         """The answer to a Poll counts together with that to the Fetch that followed it."""
         fetches = self.known.fetches.get(life.key, [])
         heard = self.known.heard.get(fetches[-1]) if fetches else None
-        polls = [it.place for it in life.given.get(attempt, ()) if it.said == said]
-        places = [at for at, it in enumerate(life.fetched) if self.known.visits[it].request in fetches[-1:]]
-        if heard is None or heard.of.get("status") != 200 or "lost" in heard.of or not polls or not places:
+        polls = [it.position for it in life.given.get(attempt, ()) if it.said == said]
+        positions = [at for at, it in enumerate(life.fetched) if self.known.visits[it].request in fetches[-1:]]
+        if heard is None or heard.of.get("status") != 200 or "lost" in heard.of or not polls or not positions:
             return "timeout"
-        return f"take-fetched {polls[-1]} {places[-1]}"
+        return f"take-fetched {polls[-1]} {positions[-1]}"
 
     def _not_given(self, line: Line, life: Life, attempt: int, said: Said) -> str:
         """No broker has given this answer to this request."""

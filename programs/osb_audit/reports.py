@@ -7,7 +7,7 @@ from typing import Any, Iterator, NamedTuple
 
 from osb_audit.events import COLUMNS
 from osb_audit.judging import RECENT, Difference
-from osb_audit.lines import Place
+from osb_audit.lines import Position
 from osb_audit.work import Audited
 from osb_replay_log.faults import UNUSABLE, shown
 
@@ -24,7 +24,7 @@ class Unjudged(NamedTuple):
     instances: int
     whole: int
     """Of how many nothing was judged."""
-    first: Place
+    first: Position
     """Where the first of them stops."""
     instance: str
 
@@ -78,7 +78,7 @@ class Report:
         if self.unjudged:
             yield "Not judged:"
         for reason in self.unjudged:
-            path, line = self._found.places.told(reason.first)
+            path, line = self._found.positions.locate(reason.first)
             yield (
                 f"  {_many(reason.instances, 'instance')}, nothing of {reason.whole}: {reason.why}. "
                 f"The first is {reason.instance}, from {shown(path)}, line {line} on."
@@ -93,7 +93,7 @@ class Report:
         )
 
     def _of(self, it: Difference) -> Iterator[str]:
-        path, line = self._found.places.told(it.place)
+        path, line = self._found.positions.locate(it.position)
         yield f"Difference: instance {it.instance}"
         yield f"  {shown(path)}, line {line}"
         yield f"  {it.why}"
@@ -108,8 +108,8 @@ class Report:
 
     def _of_files(self) -> Iterator[str]:
         found = self._found
-        for place in found.torn:
-            yield f"{shown(place)}: the line was cut off"
+        for position in found.torn:
+            yield f"{shown(position)}: the line was cut off"
         if found.lost:
             yield f"{_many(found.lost, 'line')} could not be written when they happened, and are missing"
         yield from self._remarks()
@@ -150,24 +150,24 @@ class Report:
         return json.dumps(report, indent=1) + "\n"
 
     def _object(self, it: Difference) -> dict[str, Any]:
-        path, line = self._found.places.told(it.place)
-        told = {"instance": it.instance, "file": path, "line": line, "event": it.event, "why": it.why}
-        return {**told, "model": it.model, "journal": it.journal, "trace": ["\t".join(COLUMNS), *it.trace]}
+        path, line = self._found.positions.locate(it.position)
+        entry = {"instance": it.instance, "file": path, "line": line, "event": it.event, "why": it.why}
+        return {**entry, "model": it.model, "journal": it.journal, "trace": ["\t".join(COLUMNS), *it.trace]}
 
     def _reason(self, it: Unjudged) -> dict[str, Any]:
-        path, line = self._found.places.told(it.first)
-        place = {"instance": it.instance, "file": path, "line": line}
-        return {"why": it.why, "instances": it.instances, "whole": it.whole, "first": place}
+        path, line = self._found.positions.locate(it.first)
+        first = {"instance": it.instance, "file": path, "line": line}
+        return {"why": it.why, "instances": it.instances, "whole": it.whole, "first": first}
 
 
 def _unjudged(found: Audited) -> Iterator[Unjudged]:
-    by_reason: dict[str, list[tuple[Place, str, bool]]] = {}
+    by_reason: dict[str, list[tuple[Position, str, bool]]] = {}
     for judged in found.judged:
-        for instance, place, why, is_whole in judged.unjudged:
-            by_reason.setdefault(why, []).append((place, instance, is_whole))
+        for instance, position, why, is_whole in judged.unjudged:
+            by_reason.setdefault(why, []).append((position, instance, is_whole))
     for why, its in sorted(by_reason.items()):
-        place, instance, _ = min(its)
-        yield Unjudged(why, len(its), sum(it[2] for it in its), place, instance)
+        position, instance, _ = min(its)
+        yield Unjudged(why, len(its), sum(it[2] for it in its), position, instance)
 
 
 def _many(count: int, what: str) -> str:

@@ -107,8 +107,8 @@ class _Splitter:
                 found = INSTANCE.search(text)
             if found is None:
                 return f"{event.decode()} names no instance"
-            place = b"%d:%d:" % (self.found.number, self.found.lines)
-            self.buckets[crc32(found[1]) % self.many].append(place + text)
+            position = b"%d:%d:" % (self.found.number, self.found.lines)
+            self.buckets[crc32(found[1]) % self.many].append(position + text)
             self.found.events += 1
             (self.found.tails.get(process) or self._tail(process, time)).add(event, text, found[1])
         elif newer(side, event):

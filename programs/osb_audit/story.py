@@ -27,7 +27,7 @@ def story(
     found, unshown = ordered(lines, doubts, without)
     of_broker = settings_of(found, settings)
     if isinstance(of_broker, str):
-        return Story(instance, [], Stop(lines[0].place, False, of_broker), [], {})
+        return Story(instance, [], Stop(lines[0].position, False, of_broker), [], {})
     known = Known(instance, found, of_broker)
     broker, platform = BrokerSide(known), PlatformSide(known)
     stop = None
@@ -37,7 +37,7 @@ def story(
         except Stopped as stopped:
             stop = stopped.stop
         except NoText as error:
-            stop = Stop(line.place, True, str(error), "a text of the library", "another one")
+            stop = Stop(line.position, True, str(error), "a text of the library", "another one")
         if stop is not None:
             break
     return known.story(stop)._replace(unshown={it.change: it.time for it in unshown})

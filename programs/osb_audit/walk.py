@@ -24,12 +24,12 @@ class Stopped(Exception):
 
 def differs(line: Line, why: str, model: str, journal: str) -> Stopped:
     """A difference that shows without the model."""
-    return Stopped(Stop(line.place, True, why, model, journal))
+    return Stopped(Stop(line.position, True, why, model, journal))
 
 
 def unjudged(line: Line, why: str) -> Stopped:
     """What can't be judged from this line on."""
-    return Stopped(Stop(line.place, False, why))
+    return Stopped(Stop(line.position, False, why))
 
 
 class Known:
@@ -135,7 +135,7 @@ class Known:
             return
         verb, _, rest = words.partition(" ")
         text = f"{verb} {life.name} {rest}" if rest else f"{verb} {life.name}"
-        self.events.append(Event(text, line.place, ((STEP, "applied"), *wanted)))
+        self.events.append(Event(text, line.position, ((STEP, "applied"), *wanted)))
 
     def order(self, line: Line, life: Life, plan: Plan | None) -> None:
         """Takes a life in, once."""

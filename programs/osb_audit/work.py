@@ -10,7 +10,7 @@ from zlib import crc32
 
 from osb_audit import tails
 from osb_audit.judging import LOST, NEVER, RECENT, Bucket, Difference, Gap, Judged, Looking, judge, look
-from osb_audit.lines import BadLine, Place
+from osb_audit.lines import BadLine, Position
 from osb_audit.settings import Settings, settings_in
 from osb_audit.splitting import Heading, Split, Splitting, split
 from osb_audit.words import PROGRAM
@@ -43,15 +43,15 @@ class Work(NamedTuple):
 
 
 class Audited(NamedTuple):
-    """What came of it. Places are files with the numbers of lines, from 1."""
+    """What came of it. Positions are files with the numbers of lines, from 1."""
 
     judged: list[Judged]
     processes: Counter[str]
     """How many processes of each side there are."""
     lost: int
     torn: list[str]
-    """The places of lines that were cut off."""
-    places: Places
+    """The positions of lines that were cut off."""
+    positions: Positions
 
     @property
     def differences(self) -> list[Difference]:
@@ -59,7 +59,7 @@ class Audited(NamedTuple):
         return sorted((it for judged in self.judged for it in judged.differences), key=lambda it: it.instance)
 
 
-class Places:
+class Positions:
     """Which line of which file a line of a stretch is."""
 
     def __init__(self, body: Sequence[Stretch], splits: Sequence[Split], names: Mapping[str, str]) -> None:
@@ -68,9 +68,9 @@ class Places:
         firsts = {it.log.path: at for at, it in reversed(list(enumerate(body)))}
         self._before = [before[at] - before[firsts[it.log.path]] for at, it in enumerate(body)]
 
-    def told(self, place: Place) -> tuple[str, int]:
+    def locate(self, position: Position) -> tuple[str, int]:
         """The file, and the number of the line in it."""
-        return self._files[place.stretch], self._before[place.stretch] + place.line + 1
+        return self._files[position.stretch], self._before[position.stretch] + position.line + 1
 
 
 def files_in(paths: Sequence[str]) -> dict[Log, str]:
@@ -127,19 +127,19 @@ def audit(work: Work, engine: Engine) -> Audited:
     body = [stretch for log in work.logs for stretch in stretches(log, 0, work.chunk)]
     many = max(1, min(_MOST_BUCKETS, -(-sum(_size(it) for it in work.logs) // _BUCKET)))
     splits = _split(work, engine, body, many)
-    places = Places(body, splits, work.names)
-    _check(body, splits, places)
-    _check_copies(splits, places)
+    positions = Positions(body, splits, work.names)
+    _check(body, splits, positions)
+    _check_copies(splits, positions)
     headings = [it for split_ in splits for it in split_.headings]
-    settings = _settings(splits, places)
+    settings = _settings(splits, positions)
     gaps = tuple(_gaps(headings, work.until))
     counts = tuple(it.pieces for it in splits)
     buckets = [Bucket(work.room, number, counts, work.program, settings, gaps) for number in range(many)]
     doubts = _doubts(engine, splits, buckets)
     given = (it._replace(doubts=doubts) for it in buckets)
-    judged = _judge(work, engine, given, sum(it.events for it in splits), places)
-    torn = ["{}:{}".format(*places.told(Place(it.number, line))) for it in splits for line in it.torn]
-    return Audited(judged, _processes(headings), sum(it.missing for it in headings), torn, places)
+    judged = _judge(work, engine, given, sum(it.events for it in splits), positions)
+    torn = ["{}:{}".format(*positions.locate(Position(it.number, line))) for it in splits for line in it.torn]
+    return Audited(judged, _processes(headings), sum(it.missing for it in headings), torn, positions)
 
 
 def _gaps(headings: Sequence[Heading], until: int | None) -> Iterator[Gap]:
@@ -164,41 +164,41 @@ def _split(work: Work, engine: Engine, body: Sequence[Stretch], many: int) -> li
     return sorted(splits, key=lambda it: it.number)
 
 
-def _check(body: Sequence[Stretch], splits: Sequence[Split], places: Places) -> None:
+def _check(body: Sequence[Stretch], splits: Sequence[Split], positions: Positions) -> None:
     """Raises `Unreplayed` at the first line that is no line of a journal."""
     for it in splits:
         if it.bad is not None:
-            raise unusable(places, Place(it.number, it.bad[0]), it.bad[1])
+            raise unusable(positions, Position(it.number, it.bad[0]), it.bad[1])
     for one, other, stretch, following in zip(splits, splits[1:], body, body[1:]):
         is_within = stretch.log == following.log and other.lines > 0
         if is_within and one.ends_torn and not other.begins_anew:
-            raise unusable(places, Place(one.number, one.torn[-1]), "it is no line of a journal")
+            raise unusable(positions, Position(one.number, one.torn[-1]), "it is no line of a journal")
 
 
-def _check_copies(splits: Sequence[Split], places: Places) -> None:
+def _check_copies(splits: Sequence[Split], positions: Positions) -> None:
     """Raises `Unreplayed` if two lines `started` are the same: each process has a name of its own, and each file begins
     with a line of another time.
     """
-    seen: dict[tuple[str, int], Place] = {}
+    seen: dict[tuple[str, int], Position] = {}
     for split_ in splits:
         for it in split_.headings:
-            place = Place(split_.number, it.line)
-            first = seen.setdefault((it.process, it.time), place) if it.event == "started" else place
-            if first != place:
-                (one, line), (other, again) = places.told(first), places.told(place)
+            position = Position(split_.number, it.line)
+            first = seen.setdefault((it.process, it.time), position) if it.event == "started" else position
+            if first != position:
+                (one, line), (other, again) = positions.locate(first), positions.locate(position)
                 why = "one is a copy of the other. Name each journal once"
                 raise Unreplayed(
                     UNUSABLE, f"{one}: line {line}: {other}, line {again} is the same line `started`: {why}"
                 )
 
 
-def unusable(places: Places, place: Place, why: str) -> Unreplayed:
+def unusable(positions: Positions, position: Position, why: str) -> Unreplayed:
     """A line that can't be used."""
-    path, line = places.told(place)
+    path, line = positions.locate(position)
     return Unreplayed(UNUSABLE, f"{path}: line {line}: {why}")
 
 
-def _settings(splits: Sequence[Split], places: Places) -> dict[str, Settings]:
+def _settings(splits: Sequence[Split], positions: Positions) -> dict[str, Settings]:
     settings: dict[str, Settings] = {}
     for split_ in splits:
         for it in split_.headings:
@@ -206,7 +206,7 @@ def _settings(splits: Sequence[Split], places: Places) -> dict[str, Settings]:
                 try:
                     settings[it.process] = settings_in(it.text)
                 except BadLine as error:
-                    raise unusable(places, Place(split_.number, it.line), str(error)) from error
+                    raise unusable(positions, Position(split_.number, it.line), str(error)) from error
     return settings
 
 
@@ -232,13 +232,13 @@ def _doubts(engine: Engine, splits: Sequence[Split], buckets: Sequence[Bucket]) 
     return tails.doubts(left, shown)
 
 
-def _judge(work: Work, engine: Engine, buckets: Iterator[Bucket], lines: int, places: Places) -> list[Judged]:
+def _judge(work: Work, engine: Engine, buckets: Iterator[Bucket], lines: int, positions: Positions) -> list[Judged]:
     judged: list[Judged] = []
     done = 0
     work.progress.begin()
     for it in engine.each(judge, buckets):
         if it.bad is not None:
-            raise unusable(places, *it.bad)
+            raise unusable(positions, *it.bad)
         judged.append(it)
         done += it.lines
         work.progress.tell("judged", done, lines, True)
