@@ -270,5 +270,5 @@ def test_planted_without_locks(audit: Audit, broker: Path, platform: Path, tmp_p
 @pytest.mark.long(10)
 def test_planted_in_platform(audit: Audit, broker: Path, tmp_path: Path) -> None:
     """Each request is sent once before its claim is committed, and once after it."""
-    created(broker, built(EAGER, tmp_path, "osb-platform", "platform/step.go"), tmp_path)
+    created(broker, built(EAGER, tmp_path, "osb-platform", "platform/lease.go"), tmp_path)
     assert_found(audit(tmp_path / "journals"), EAGER)

@@ -596,3 +596,150 @@ func TestRestsBetweenQuestions(t *testing.T) {
 	const ms = time.Millisecond
 	diff.Check(t, got, []time.Duration{100 * ms, 200 * ms, 400 * ms, 800 * ms, 1600 * ms, 3200 * ms, 5000 * ms, 5000 * ms}, "")
 }
+
+// The settings of a broker may have their bounds, and nothing beyond them.
+func TestSettingsOfABroker(t *testing.T) {
+	for name, test := range map[string]struct {
+		set   func(*Settings, *time.Duration)
+		least time.Duration
+	}{
+		"hold":         {func(s *Settings, to *time.Duration) { s.Hold = to }, 0},
+		"first pace":   {func(s *Settings, to *time.Duration) { s.FirstPace = to }, time.Millisecond},
+		"longest pace": {func(s *Settings, to *time.Duration) { s.LongestPace = to }, time.Millisecond},
+		"longest poll": {func(s *Settings, to *time.Duration) { s.LongestPoll = to }, time.Second},
+	} {
+		t.Run(name, func(t *testing.T) {
+			for to, isAllowed := range map[time.Duration]bool{
+				test.least - 1: false, test.least: true, longestSetting: true, longestSetting + 1: false,
+			} {
+				d, to := newDesk(t), to
+				err := d.orders.SetBroker(background, "shelf", func(b *Broker) error { test.set(&b.Settings, &to); return nil }, nil)
+				if isAllowed {
+					check(t, err)
+				} else {
+					wantFault(t, err, Invalid, "the "+name+" of a broker")
+				}
+			}
+		})
+	}
+}
+
+func TestBrokers(t *testing.T) {
+	d := newDesk(t)
+	stored := d.store.brokers["shelf"]
+	password, err := seal{}.Open(stored.Password, PasswordContext(stored))
+	if err != nil || string(password) != "secret" || strings.Contains(stored.URL, "/v2") {
+		t.Errorf("the password: got %q (%v), want \"secret\" outside the URL", password, err)
+	}
+	minute, none := time.Minute, time.Duration(0)
+	check(t, d.orders.SetBroker(background, "shelf", func(b *Broker) error {
+		b.URL, b.Settings = "https://shelf/v/", Settings{Hold: &none, FirstPace: &minute}
+		return nil
+	}, nil))
+	changed := d.store.brokers["shelf"]
+	if changed.URL != "https://shelf/v" || *changed.Settings.Hold != 0 || changed.Catalogue == nil {
+		t.Errorf("got %+v, want the new URL and hold, and its catalogue", changed)
+	}
+	if password, err := (seal{}).Open(changed.Password, PasswordContext(changed)); string(password) != "secret" {
+		t.Errorf("the password at the new URL: got %q, %v, want the one before", password, err)
+	}
+	toUser := func(b *Broker) error { b.User = "another"; return nil }
+	wantFault(t, NewOrders(d.store, nil).SetBroker(background, "shelf", toUser, nil), Conflict, "give the program the key")
+	check(t, d.orders.SetBroker(background, "shelf", toUser, nil))
+	changed = d.store.brokers["shelf"]
+	if password, err := (seal{}).Open(changed.Password, PasswordContext(changed)); string(password) != "secret" {
+		t.Errorf("the password for the new user: got %q, %v, want the one before", password, err)
+	}
+	withoutKey := NewOrders(d.store, nil)
+	toSame := func(b *Broker) error { b.URL += "/"; return nil } // needs no key, as the URL stays
+	check(t, withoutKey.SetBroker(background, "shelf", toSame, nil))
+	if got := d.store.brokers["shelf"].URL; got != changed.URL {
+		t.Errorf("with a slash: got the URL %q, want %q", got, changed.URL)
+	}
+	moved := changed
+	moved.URL = "https://evil" // by somebody who can write the store
+	d.store.brokers["shelf"] = moved
+	toURL := func(url string) func(*Broker) error {
+		return func(b *Broker) error { b.URL = url; return nil }
+	}
+	wantFault(t, d.orders.SetBroker(background, "shelf", toURL("https://evil/v"), nil), Conflict, "Give it again")
+	check(t, d.orders.SetBroker(background, "shelf", toURL("https://shelf/v"), nil)) // where it belongs
+	changed = d.store.brokers["shelf"]
+	if password, err := (seal{}).Open(changed.Password, PasswordContext(changed)); string(password) != "secret" {
+		t.Errorf("the password back at its URL: got %q, %v, want the one before", password, err)
+	}
+	toFile := func(b *Broker) error { b.PasswordFile = "/run/p"; return nil }
+	check(t, d.orders.SetBroker(background, "shelf", toFile, nil))
+	if changed = d.store.brokers["shelf"]; changed.Password != nil || changed.PasswordFile != "/run/p" {
+		t.Errorf("got %+v, want the file instead of the password", changed)
+	}
+	check(t, d.orders.SetBroker(background, "shelf", func(*Broker) error { return nil }, []byte("new")))
+	if changed = d.store.brokers["shelf"]; changed.Password == nil || changed.PasswordFile != "" {
+		t.Errorf("got %+v, want the password instead of the file", changed)
+	}
+	file := Broker{Name: "file", URL: "http://there:1", User: "u", PasswordFile: "p"}
+	wantFault(t, d.orders.AddBroker(background, file, nil), Invalid, "reads the password")
+	move := func(b *Broker) error { b.URL = "http://there:2"; return nil }
+	wantFault(t, d.orders.SetBroker(background, "shelf", move, nil), Invalid, "reads the password")
+	d.orders.AllowHTTP(true)
+	check(t, d.orders.AddBroker(background, file, nil))
+	d.orders.AllowHTTP(false) // what was allowed before stays
+	check(t, d.orders.SetBroker(background, "file", func(b *Broker) error { b.User = "me"; return nil }, nil))
+	check(t, d.orders.DropBroker(background, "file"))
+	wantFault(t, d.orders.DropBroker(background, "file"), NotFound, "unknown")
+	d.put(rowIn(anInstance, Gone))
+	wantFault(t, d.orders.DropBroker(background, "shelf"), Conflict, "orders")
+}
+
+// A broker of version 0.2 has no password in the store, and may be changed. One that has a password keeps one.
+func TestSetBrokerWithoutPassword(t *testing.T) {
+	d := newDesk(t)
+	check(t, d.store.AddBroker(background, Broker{Name: "default", URL: "http://here", User: "platform"}))
+	move := func(b *Broker) error { b.URL = "https://there"; return nil }
+	check(t, d.orders.SetBroker(background, "default", move, nil))
+	if got := d.store.brokers["default"]; got.URL != "https://there" || got.Password != nil {
+		t.Errorf("got %+v, want the new URL and no password", got)
+	}
+	forget := func(b *Broker) error { b.Password = nil; return nil }
+	wantFault(t, d.orders.SetBroker(background, "shelf", forget, nil), Invalid, "no password")
+}
+
+func TestBrokersRejected(t *testing.T) {
+	d := newDesk(t)
+	minus, long := -time.Second, 400*24*time.Hour
+	good := Broker{Name: "b", URL: "https://b", User: "u"}
+	for part, change := range map[string]func(*Broker){
+		"the name":          func(b *Broker) { b.Name = "B" },
+		"1 to 63":           func(b *Broker) { b.Name = strings.Repeat("a", 64) },
+		"begin with https":  func(b *Broker) { b.URL = "ftp://b" },
+		"and a host":        func(b *Broker) { b.URL = "https://" },
+		"leave the /v2 out": func(b *Broker) { b.URL = "https://b/v2/" },
+		"no user":           func(b *Broker) { b.URL = "https://u:p@b" },
+		"no query":          func(b *Broker) { b.URL = "https://b?x" },
+		"neither a colon":   func(b *Broker) { b.User = "a:b" },
+		"not both":          func(b *Broker) { b.PasswordFile = "p" },
+		"the hold":          func(b *Broker) { b.Settings.Hold = &minus },
+		"the longest poll":  func(b *Broker) { b.Settings.LongestPoll = &long },
+	} {
+		t.Run(part, func(t *testing.T) {
+			broker := good
+			change(&broker)
+			wantFault(t, d.orders.AddBroker(background, broker, []byte("p")), Invalid, part)
+		})
+	}
+	wantFault(t, d.orders.AddBroker(background, good, nil), Invalid, "no password")
+	wantFault(t, d.orders.AddBroker(background, good, []byte{}), Invalid, "empty")
+	wantFault(t, NewOrders(d.store, nil).AddBroker(background, good, []byte("p")), Conflict, "no key")
+	good.Name = "shelf"
+	wantFault(t, d.orders.AddBroker(background, good, []byte("p")), Conflict, "already")
+	nothing := func(*Broker) error { return nil }
+	wantFault(t, d.orders.SetBroker(background, "x", nothing, nil), NotFound, "unknown")
+	wantFault(t, d.orders.SetBroker(background, "", nothing, nil), Invalid, "name the broker")
+	rename := func(b *Broker) error { b.Name = "y"; return nil }
+	wantFault(t, d.orders.SetBroker(background, "shelf", rename, nil), Invalid, "keeps its name")
+	refused := errors.New("refused")
+	refuse := func(b *Broker) error { b.URL = "https://there"; return refused }
+	if err := d.orders.SetBroker(background, "shelf", refuse, nil); err != refused || d.store.brokers["shelf"].URL != "https://shelf" {
+		t.Errorf("got %v and the URL %s, want %v and https://shelf", err, d.store.brokers["shelf"].URL, refused)
+	}
+}

@@ -37,14 +37,6 @@ type sending struct {
 // isLast is whether it is the last deletion, of which nothing is in the record.
 func (s sending) isLast() bool { return s.attempt == 0 }
 
-// hasLeased is whether a row has the lease that was decided on with the request. Otherwise that wasn't written, or the
-// row was leased again: then a request of the same number may be that of another claim, also of this worker and in the
-// same millisecond.
-func (s sending) hasLeased(e Entry) bool {
-	lease := s.out.Entry.Lease
-	return e.Lease.Worker == lease.Worker && e.Lease.Until.Equal(lease.Until) && e.Lease.Claim == lease.Claim
-}
-
 // A decision is what a worker does with a row that is due.
 type decision struct {
 	entry  Entry // the row as it is written
@@ -197,18 +189,6 @@ func decideRecord(now time.Time, e Entry, allGone bool, t terms) decision {
 	}
 	e.Record = record
 	return leaseFor(now, e, read.State, sent, t)
-}
-
-// leaseFor is the decision to send a request. Whole milliseconds outlive every database.
-func leaseFor(now time.Time, e Entry, before State, sent osb.Sent, t terms) decision {
-	until, since := now.Add(t.exchange+t.margin).Truncate(time.Millisecond), e.DueSince
-	if since.IsZero() {
-		since = e.Due
-	}
-	e.Lease, e.Due = Lease{Worker: t.worker, Until: until}, until
-	return decision{entry: e, before: before, send: &sending{
-		out: Outgoing{Entry: e, Request: sent.Request}, attempt: sent.Attempt, before: before, since: since, terms: t,
-	}}
 }
 
 // bringUp has in the record what a crash has left, what an operator asks for, and what time brings. isBound is whether

@@ -275,15 +275,6 @@ const (
 	RemovedWhole         // the instance is to be deleted, and all of its bindings first
 )
 
-// A Lease is the right of a worker to step a row until a time. The zero Lease is nobody's.
-type Lease struct {
-	Worker string
-	Until  time.Time
-	// Claim is an id that the claim has made up that recorded the lease. No two have the same, so a claim whose commit
-	// failed isn't taken for the next one. It is empty in a lease of version 0.2.
-	Claim string
-}
-
 // A Reason is what the broker, or the way to it, said last. The zero Reason says nothing.
 type Reason struct {
 	At          time.Time `json:"at"`

@@ -5,7 +5,6 @@ import (
 	"errors"
 	"fmt"
 	"net/http"
-	"sort"
 	"time"
 
 	"pippinterm/internal/crash"
@@ -17,85 +16,6 @@ var (
 	errUnsure  = errors.New("it wasn't sent: nobody knows whether it is recorded")
 	errNoVault = errors.New("there is no key to seal the credentials with")
 )
-
-// claimResult is the result of a claim.
-type claimResult struct {
-	sendings []*sending // what is to be sent
-	claimed  int        // the rows that were stepped
-	err      error
-}
-
-// claim is the first transaction of a step, over all rows that are due as far as there are free slots. The time of
-// their exchanges begins before it, so that a worker that is paused in or after it sends nothing that is late.
-func (e *Engine) claim(
-	ctx context.Context, registry *registry, names []string, most int, spare *spareSlots,
-) (found claimResult) {
-	until := e.client.Clock().Add(e.Exchange)
-	decisions := map[Key]decision{}
-	rows, err := e.store.Claim(ctx, names, most, func(now time.Time, snapshot Snapshot) (*Change, error) {
-		delete(decisions, snapshot.Key)
-		made, err := registry.decide(now, snapshot)
-		if err != nil || made == nil {
-			return nil, err
-		}
-		spare.useFor(now, snapshot.Entry, made, decisions)
-		decisions[snapshot.Key] = *made
-		crash.At("claim-next")
-		return made.change(), nil
-	})
-	found.err, found.claimed = err, len(rows)
-	if e.health.wrote(len(decisions) > 0, err) {
-		found.sendings = inDoubt(decisions, most, err)
-		return found
-	}
-	crash.At("claim-written")
-	for _, row := range rows {
-		made, isMade := decisions[row.Key]
-		e.stepFailed(row.Key, either(row.Err, made.err))
-		switch {
-		case !isMade || row.Err != nil:
-		case made.send != nil:
-			made.send.out.Until = until
-			found.sendings = append(found.sendings, made.send)
-		case made.entry.State != made.before:
-			e.observer.OnChange(row.Key, made.before, made.entry.State)
-		}
-	}
-	return found
-}
-
-// stepFailed reports a row of which nothing could be decided. It isn't due at once any more, so it keeps no other
-// waiting.
-func (e *Engine) stepFailed(key Key, err error) {
-	if err != nil {
-		e.observer.OnFailure(Failure{Event: "step_failed", Key: key, IsNamed: true, Err: brief(err)})
-	}
-}
-
-func either(one, other error) error {
-	if one != nil {
-		return one
-	}
-	return other
-}
-
-// inDoubt are the requests that may have been recorded as in flight though the transaction has failed. They aren't
-// sent: they are given up at once.
-func inDoubt(decisions map[Key]decision, most int, err error) (sendings []*sending) {
-	for _, decision := range decisions {
-		if decision.send != nil {
-			decision.send.unsure = err
-			sendings = append(sendings, decision.send)
-		}
-	}
-	sort.Slice(sendings, func(one, other int) bool {
-		return sendings[one].out.Entry.Key.String() < sendings[other].out.Entry.Key.String()
-	})
-	if len(sendings) > most {
-		sendings = sendings[:most]
-	}
-	return sendings
-}
 
 // exchange sends one request, and takes its result. In between it calls answered, with whether there is an answer.
 func (e *Engine) exchange(ctx context.Context, registry *registry, s *sending, answered func(isAnswered bool)) nextDue {

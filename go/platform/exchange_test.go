@@ -1,0 +1,232 @@
+package platform
+
+import (
+	"context"
+	"errors"
+	"fmt"
+	"strings"
+	"sync/atomic"
+	"testing"
+	"time"
+
+	"pippinterm/internal/diff"
+	"pippinterm/osb"
+)
+
+// What may have been recorded as in flight, though the claim has failed, is given up at once, and nothing is sent.
+func TestClaimInDoubt(t *testing.T) {
+	p := newPlant(t, Options{})
+	p.start(background)
+	p.until("the catalogue", func() bool { return p.hasCatalogue() })
+	p.store.mu.Lock()
+	p.store.doubt = ErrAway
+	p.store.mu.Unlock()
+	e, err := p.orders.Create(background, NewInstance{Service: "shelf", Plan: "now"})
+	for errors.Is(err, ErrAway) { // it was the order, or another claim, that was in doubt
+		p.store.mu.Lock()
+		p.store.doubt = nil
+		p.store.mu.Unlock()
+		e, err = p.orders.Create(background, NewInstance{Service: "shelf", Plan: "now"})
+	}
+	check(t, err)
+	p.until("an end", func() bool {
+		e, err := p.store.Read(background, e.Key)
+		return err == nil && (e.State == Ready || e.State == Gone)
+	})
+}
+
+// A claim that the database didn't write leaves the order as it was, and no lost lease is reported.
+func TestClaimNotWritten(t *testing.T) {
+	p := newPlant(t, Options{})
+	check(t, p.engine.RunOnce(background))
+	key := p.create(NewInstance{Tries: 1})
+	var isBroken atomic.Bool
+	p.store.between = func(point string, _ Key) {
+		if point == "claim-decided" && isBroken.CompareAndSwap(false, true) {
+			p.store.breakAll()
+		}
+	}
+	p.start(background)
+	p.untilState(key, Ready)
+	if !isBroken.Load() || p.hasFailed("store_failed") != 1 || p.hasFailed("lease_lost") != 0 {
+		t.Errorf("got broken %v, and the failures %v, want one of the store", isBroken.Load(), p.failures)
+	}
+	p.set(func() {
+		if got := len(p.sent); got != 1 {
+			t.Errorf("got %d requests, want 1: the one whose claim wasn't written isn't sent", got)
+		}
+	})
+}
+
+// A request whose time is over isn't sent: another worker may have its row by then.
+func TestNothingIsSentAfterItsTime(t *testing.T) {
+	p := newPlant(t, Options{})
+	p.exchange = func(context.Context, Outgoing) Incoming { return Incoming{Status: 201} }
+	late := &sending{out: Outgoing{Until: time.Now()}}
+	if in := p.engine.send(background, late, "provision"); !errors.Is(in.Lost, errLate) || len(p.sent) != 0 {
+		t.Errorf("got %v and %d requests, want %v and none", in.Lost, len(p.sent), errLate)
+	}
+}
+
+// Nothing is sent before the claim that records it is committed.
+func TestNothingIsSentBeforeItsClaim(t *testing.T) {
+	p := newPlant(t, Options{})
+	check(t, p.engine.RunOnce(background))
+	key := p.create(NewInstance{Tries: 1})
+	var requests, early atomic.Int64
+	usual := p.exchange
+	p.exchange = func(ctx context.Context, out Outgoing) Incoming {
+		requests.Add(1)
+		return usual(ctx, out)
+	}
+	var isDecided atomic.Bool
+	p.store.between = func(point string, _ Key) {
+		if point == "claim-decided" && isDecided.CompareAndSwap(false, true) {
+			early.Store(requests.Load())
+		}
+	}
+	p.start(background)
+	p.untilState(key, Ready)
+	if got := early.Load(); !isDecided.Load() || got != 0 {
+		t.Errorf("got %d requests before the first claim was committed, want none", got)
+	}
+}
+
+// Events are reported in their order. A state that passes within a step isn't.
+func TestTold(t *testing.T) {
+	p := newPlant(t, Options{})
+	check(t, p.engine.RunOnce(background))
+	key := p.create(NewInstance{})
+	check(t, p.engine.RunOnce(background))
+	_, err := p.orders.Remove(background, key, false)
+	check(t, err)
+	check(t, p.engine.RunOnce(background))
+	diff.Equal(t, strings.Join(p.told, ", "), "ordered to ready, ready to gone", "")
+	if len(p.sent) != 2 || len(p.answered) != 2 {
+		t.Fatalf("got %d requests sent, and %d answered, want 2 and 2", len(p.sent), len(p.answered))
+	}
+	for at, want := range []Exchange{
+		{Broker: "shelf", Key: key, Kind: "provision", Attempt: 1, Status: 201},
+		{Broker: "shelf", Key: key, Kind: "deprovision", Attempt: 2, Status: 200},
+	} {
+		if want.RequestID = p.sent[at].RequestID; want.RequestID == "" {
+			t.Error("got no identity of a request, want one")
+		}
+		diff.Check(t, p.answered[at], want, "the exchange %d", at)
+	}
+}
+
+// A broker without tombstones creates an instance once it has answered that it has none. The last deletion finds it.
+func TestLastDeletion(t *testing.T) {
+	p := newPlant(t, Options{})
+	p.line.catalogue = func(Broker) (string, int, error) {
+		return strings.Replace(sold, `"x-osb-tombstones": true`, `"x-osb-tombstones": false`, 1), 200, nil
+	}
+	hold := 30 * time.Millisecond
+	p.engine.Hold, p.engine.Exchange = hold, 200*time.Millisecond
+	var late, deletions atomic.Int32
+	var begun atomic.Int64
+	p.line.exchange = func(_ context.Context, out Outgoing) Incoming {
+		if kindOf(out.Request.Kind, out.Entry.Key) == "provision" {
+			begun.Store(time.Now().UnixNano())
+			return Incoming{Lost: errors.New("the answer is lost")}
+		}
+		if held := time.Since(time.Unix(0, begun.Load())); held < hold {
+			t.Errorf("a deletion: got it sent after %v, want at least %v", held, hold)
+		}
+		deletions.Add(1)
+		status := []int{410, 202, 404, 200}[late.Load()]
+		late.Add(1)
+		return (&reply{status, []byte(`{}`)}).incoming(out)
+	}
+	p.start(background)
+	key := p.create(NewInstance{Tries: 1})
+	p.until("the end", func() bool {
+		e, err := p.store.Read(background, key)
+		check(t, err)
+		var told int
+		p.set(func() { told = len(p.told) })
+		return e.State == Gone && e.Rests() && told == 5
+	})
+	want := "ordered to cleaning, cleaning to gone, orphan 202 true, orphan 404 false, orphan 200 true"
+	p.set(func() {
+		if got := strings.Join(p.told, ", "); got != want || deletions.Load() != 4 {
+			t.Errorf("got %s, by %d deletions, want %s, by 4", got, deletions.Load(), want)
+		}
+	})
+}
+
+// A Fetch that is answered without a binding counts as lost, and is sent again.
+func TestFetchWithoutABinding(t *testing.T) {
+	p := newPlant(t, Options{})
+	var isFound atomic.Bool
+	usual := p.line.exchange
+	p.line.exchange = func(ctx context.Context, out Outgoing) Incoming {
+		if out.IsFetch && !isFound.Load() {
+			return Incoming{Status: 404}
+		}
+		return usual(ctx, out)
+	}
+	p.start(background)
+	instance := p.create(NewInstance{Plan: "bind-later"})
+	p.untilState(instance, Ready)
+	bound, err := p.orders.Bind(background, NewBinding{Instance: instance.Instance.String()})
+	check(t, err)
+	want := Reason{Kind: "fetch", Status: 404, Lost: "status 404: " + osb.ErrNoBinding.Error()}
+	p.until("a Fetch", func() bool {
+		e, err := p.store.Read(background, bound.Key)
+		check(t, err)
+		got := e.Last
+		got.At = time.Time{}
+		return got == want && e.State == Polling
+	})
+	isFound.Store(true)
+	p.untilState(bound.Key, Ready)
+}
+
+// Without a vault no binding is recorded ready, and none is left behind.
+func TestWithoutVault(t *testing.T) {
+	p := newPlant(t, Options{})
+	p.engine.vault = nil
+	p.start(background)
+	instance := p.create(NewInstance{})
+	p.untilState(instance, Ready)
+	e, err := p.orders.Bind(background, NewBinding{Instance: instance.String()})
+	check(t, err)
+	p.untilState(e.Key, Gone)
+	if p.hasFailed("credentials_lost") == 0 {
+		t.Error("the reports: got none, want credentials_lost")
+	}
+}
+
+// What is reported and kept of an error isn't long, as that of a certificate with many names. What it wraps is found.
+func TestToldBriefly(t *testing.T) {
+	p := newPlant(t, Options{})
+	check(t, p.engine.RunOnce(background))
+	cut := errors.New("cut")
+	long := fmt.Errorf("%s: %w", strings.Repeat("ä", 30_000), cut)
+	p.line.exchange = func(context.Context, Outgoing) Incoming { return Incoming{Lost: long} }
+	key := p.create(NewInstance{Tries: 1})
+	check(t, p.engine.RunOnce(background))
+	p.untilState(key, Cleaning)
+	if len(p.answered) == 0 || len(p.answered[0].Lost.Error()) > longestText || !errors.Is(p.answered[0].Lost, cut) {
+		t.Errorf("got %v, want a short text of the lost answer", p.answered)
+	}
+	p.engine.Exchange = 50 * time.Millisecond
+	p.line.catalogue = func(Broker) (string, int, error) { return "", 0, long }
+	err := p.engine.RunOnce(background)
+	if !errors.Is(err, ErrUnreached) || len(err.Error()) > longestText+100 {
+		t.Errorf("got %v, want a short %v", err, ErrUnreached)
+	}
+	if len(p.failures) == 0 {
+		t.Fatal("the reports: got none, want one")
+	}
+	for _, failure := range p.failures {
+		if len(failure.Err.Error()) > longestText || !errors.Is(failure.Err, cut) {
+			t.Errorf("%s: got %d bytes, want at most %d", failure.Event, len(failure.Err.Error()), longestText)
+		}
+	}
+	if kept := p.brokerNamed("shelf").Reason.Lost; len(kept) != longestText {
+		t.Errorf("got %d bytes kept, want %d", len(kept), longestText)
+	}
+}
