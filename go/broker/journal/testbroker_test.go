@@ -1,0 +1,288 @@
+package journal
+
+import (
+	"context"
+	"encoding/json"
+	"errors"
+	"net/http"
+	"net/http/httptest"
+	"os"
+	"path/filepath"
+	"strings"
+	"sync"
+	"testing"
+
+	"pippinterm/broker"
+	"pippinterm/internal/diff"
+	"pippinterm/osb"
+)
+
+// What must not stand in a journal.
+const (
+	password   = "password-of-the-platform"
+	parameter  = "value-of-a-parameter"
+	credential = "secret-of-a-binding"
+)
+
+const (
+	service = "00000000-0000-0000-0000-0000000000a0"
+	atOnce  = "00000000-0000-0000-0000-0000000000b1"
+	later   = "00000000-0000-0000-0000-0000000000b2"
+	bound   = "00000000-0000-0000-0000-0000000000b3" // bindings later
+)
+
+// The last plan has a text as its id that is no GUID.
+const catalogue = `{"services": [{"id": "` + service + `", "name": "s", "description": "d", "bindable": true,
+	"bindings_retrievable": true, "plans": [
+	{"id": "` + atOnce + `", "name": "at-once", "description": "d"},
+	{"id": "` + later + `", "name": "later", "description": "d", "x-osb-asynchronous": true},
+	{"id": "` + bound + `", "name": "bound", "description": "d", "x-osb-asynchronous-bindings": true},
+	{"id": "unbound", "name": "unbound", "description": "d", "bindable": false}]}]}`
+
+var errFull = errors.New("the disk is full")
+
+// A memory is a store in memory.
+type memory struct {
+	broker.Store // has no other methods
+	turn         sync.Mutex
+	entries      map[broker.Key]broker.Entry
+	fails        error                    // of the next commit
+	tries        int                      // how often the next step is called, if it is more than once
+	stepped      func(next *broker.Entry) // is called after each step, before the commit
+}
+
+func (m *memory) snapshot(key broker.Key) broker.Snapshot {
+	snapshot := broker.Snapshot{Entry: m.entries[key]}
+	if key.IsBinding {
+		snapshot.Instance = m.entries[broker.InstanceKey(key.Instance)]
+		return snapshot
+	}
+	snapshot.AnyBinding = func() (bool, error) {
+		for other, entry := range m.entries {
+			if other.IsBinding && other.Instance == key.Instance && entry.Holding.IsHeld() {
+				return true, nil
+			}
+		}
+		return false, nil
+	}
+	return snapshot
+}
+
+func (m *memory) Read(_ context.Context, key broker.Key) (broker.Snapshot, error) {
+	m.turn.Lock()
+	defer m.turn.Unlock()
+	return m.snapshot(key), nil
+}
+
+func (m *memory) Change(_ context.Context, key broker.Key, _ int64, step broker.Step) error {
+	m.turn.Lock()
+	defer m.turn.Unlock()
+	next, err := step(m.snapshot(key))
+	for try := 1; err == nil && try < m.tries; try++ {
+		next, err = step(m.snapshot(key))
+	}
+	m.tries = 0
+	if err != nil || next == nil {
+		return err
+	}
+	if m.stepped != nil {
+		m.stepped(next)
+	}
+	if err, m.fails = m.fails, nil; err != nil {
+		return err
+	}
+	m.entries[key] = *next
+	return nil
+}
+
+func (m *memory) HeldBindings(_ context.Context, instance osb.ID) (ids []osb.ID, err error) {
+	m.turn.Lock()
+	defer m.turn.Unlock()
+	for key, entry := range m.entries {
+		if key.IsBinding && key.Instance == instance && entry.Holding.IsHeld() {
+			ids = append(ids, key.Binding)
+		}
+	}
+	return ids, nil
+}
+
+// A seller is a backend in memory.
+type seller struct {
+	things map[broker.Key]broker.There
+	called func(call string) // is called before each call
+	fails  error             // of each creation
+}
+
+func (s *seller) Look(_ context.Context, request broker.Request) (broker.There, error) {
+	s.called("look")
+	return s.things[request.Key], nil
+}
+
+func (s *seller) Create(_ context.Context, request broker.Request) error {
+	s.called("create")
+	if s.fails == nil {
+		s.things[request.Key] = broker.Whole
+	}
+	return s.fails
+}
+
+func (s *seller) Delete(_ context.Context, request broker.Request) error {
+	s.called("delete")
+	delete(s.things, request.Key)
+	return nil
+}
+
+func (s *seller) LookBinding(ctx context.Context, request broker.Request) (broker.There, error) {
+	return s.Look(ctx, request)
+}
+
+func (s *seller) CreateBinding(ctx context.Context, request broker.Request) (json.RawMessage, error) {
+	return json.RawMessage(`{"password":"` + credential + `"}`), s.Create(ctx, request)
+}
+
+func (s *seller) DeleteBinding(ctx context.Context, request broker.Request) error {
+	return s.Delete(ctx, request)
+}
+
+func (s *seller) Credentials(context.Context, broker.Request) (json.RawMessage, error) {
+	s.called("credentials")
+	return json.RawMessage(`{"password":"` + credential + `"}`), nil
+}
+
+func (s *seller) Sync(context.Context, broker.Request) error { return nil }
+
+// A line is one of a journal.
+type line struct {
+	Time                         int64
+	Event, Instance, Binding     string
+	InstanceID                   string `json:"instance_id"`
+	Visit, Change, Life          int64
+	LifeBefore                   *int64 `json:"life_before"`
+	Request, Kind, Service, Plan string
+	Accepts, Doubtful            bool
+	Attributes                   string
+	Committed                    int64
+	Before, After                string
+	Call, Stage, Found, Result   string
+	Status                       int
+	Body, Credentials, Saw       string
+	SawInstance                  *string `json:"saw_instance"`
+	Count                        int
+	Version                      string
+	FirstPoll                    bool    `json:"first_poll"`
+	WaitForPoll                  float64 `json:"wait_for_poll"`
+	IDsReturnAfter               float64 `json:"ids_return_after"`
+	LocksCanBeLost               bool    `json:"locks_can_be_lost"`
+	Plans                        []map[string]any
+}
+
+// A testBroker is a broker whose journal is read.
+type testBroker struct {
+	*broker.Handler
+	t       *testing.T
+	path    string
+	store   *memory
+	seller  *seller
+	service *broker.Service
+	writer  *Writer
+	failed  int // how often the journal has failed
+}
+
+var errDoubt = errors.New("nobody knows")
+
+func newTestBroker(t *testing.T) *testBroker {
+	t.Helper()
+	s := &testBroker{
+		t: t, path: filepath.Join(t.TempDir(), "journal"), store: &memory{entries: map[broker.Key]broker.Entry{}},
+		seller: &seller{things: map[broker.Key]broker.There{}, called: func(string) {}},
+	}
+	sold, err := broker.NewCatalogue([]byte(catalogue), true)
+	check(t, err)
+	locks, err := broker.NewFileLocks(filepath.Join(t.TempDir(), "locks"))
+	check(t, err)
+	s.writer, err = Open(Options{
+		Path: s.path, Most: 1 << 20, Failed: func(error) { s.failed++ },
+	})
+	check(t, err)
+	to := New(s.writer, func(err error) bool { return errors.Is(err, errDoubt) })
+	rules := broker.Rules{FirstPoll: true}
+	s.service = broker.NewService(sold, to.Store(s.store), to.Backend(s.seller), locks, rules, broker.Silent{})
+	users, err := broker.NewUsers(map[string][]string{"platform": {password}})
+	check(t, err)
+	s.Handler, err = broker.NewHandler(context.Background(), s.service, broker.Config{
+		Users: users, LongestBody: 1000, AtOnce: 4, Touch: func(broker.Key) {}, Observer: broker.Silent{}, Journal: to,
+	})
+	check(t, err)
+	return s
+}
+
+var check = diff.Must
+
+// ask sends a request, and returns the answer. An id is that of an instance, or of an instance and a binding.
+func (s *testBroker) ask(method, target, plan string) *httptest.ResponseRecorder {
+	given := httptest.NewRecorder()
+	s.ServeHTTP(given, s.request(method, target, plan))
+	return given
+}
+
+func (s *testBroker) request(method, target, plan string) *http.Request {
+	body := ""
+	path := "/v2/service_instances/" + strings.Replace(target, "/", "/service_bindings/", 1)
+	switch {
+	case method == "POLL":
+		method, path = "GET", path+"/last_operation"
+	case method == "PUT":
+		body = `{"service_id":"` + service + `","plan_id":"` + plan + `","organization_guid":"o","space_guid":"s",
+			"parameters":{"password":"` + parameter + `"}}`
+		path += "?accepts_incomplete=true"
+	case method == "DELETE":
+		path += "?accepts_incomplete=true&service_id=" + service + "&plan_id=" + plan
+	}
+	r := httptest.NewRequest(method, path, strings.NewReader(body))
+	r.SetBasicAuth("platform", password)
+	r.Header.Set("X-Broker-API-Version", "2.17")
+	r.Header.Set("X-Broker-API-Request-Identity", "request-1")
+	return r
+}
+
+// lines are those of the journal.
+func (s *testBroker) lines() (lines []line) {
+	s.t.Helper()
+	text, err := os.ReadFile(s.path)
+	check(s.t, err)
+	for _, text := range strings.Split(strings.TrimSuffix(string(text), "\n"), "\n") {
+		var read line
+		if err := json.Unmarshal([]byte(text), &read); err != nil {
+			s.t.Fatalf("%q: got the error %v, want none", text, err)
+		}
+		lines = append(lines, read)
+	}
+	return lines
+}
+
+// events are the events of the lines from one on, with what distinguishes them.
+func (s *testBroker) events(from int) string {
+	s.t.Helper()
+	var texts []string
+	for _, line := range s.lines()[from:] {
+		text := line.Event
+		switch line.Event {
+		case "work":
+			text = strings.Join(strings.Fields(line.Call+" "+line.Stage+" "+line.Found+" "+line.Result), " ")
+		case "answered":
+			text = strings.Join([]string{"answered", http.StatusText(line.Status), line.Body}, " ")
+		case "undone":
+			if line.Doubtful {
+				text += " doubtful"
+			}
+		}
+		texts = append(texts, text)
+	}
+	return strings.Join(texts, "; ")
+}
+
+func (s *testBroker) last() line {
+	s.t.Helper()
+	all := s.lines()
+	return all[len(all)-1]
+}
