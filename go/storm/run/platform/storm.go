@@ -31,7 +31,7 @@ type Storm struct {
 	keys    *run.Keys
 	events  []report.Event
 	// restTime is how long the operations of the broker may take once no request arrives, and how long the last look
-	// may take after a signal. Tests lower it.
+	// may take after a signal.
 	restTime time.Duration
 }
 

@@ -14,18 +14,20 @@ import (
 	"time"
 )
 
-// limit is how long a command may take, and mostPrinted how many bytes it may print on each output. Tests lower both.
-var (
-	limit       = time.Minute
-	mostPrinted = int64(64 << 20)
-)
+// limits are those of a command: how long it may take, and how many bytes it may print on each output.
+type limits struct {
+	time    time.Duration
+	printed int64
+}
+
+func usualLimits() limits { return limits{time: time.Minute, printed: 64 << 20} }
 
 // Run runs a command of the shell. Processes that it has started may go on once it has ended. A terminal's signals
 // don't reach them.
 //
 // If ctx is done, or after a minute, the command is killed with all processes of its group. Then Run returns an error.
 func Run(ctx context.Context, command string) error {
-	_, _, err := run(ctx, command, false)
+	_, _, err := usualLimits().run(ctx, command, false)
 	return err
 }
 
@@ -36,8 +38,12 @@ func Run(ctx context.Context, command string) error {
 // of its group.
 //
 // Errors: the command fails, or is killed; a line doesn't have as many ids as it should.
-func Rows(ctx context.Context, command string, ids int) (rows [][]string, err error) {
-	printed, said, err := run(ctx, command, true)
+func Rows(ctx context.Context, command string, ids int) ([][]string, error) {
+	return usualLimits().rows(ctx, command, ids)
+}
+
+func (l limits) rows(ctx context.Context, command string, ids int) (rows [][]string, err error) {
+	printed, said, err := l.run(ctx, command, true)
 	if err != nil {
 		return nil, fmt.Errorf("%w%s", err, lastLineOf(said))
 	}
@@ -56,8 +62,8 @@ func Rows(ctx context.Context, command string, ids int) (rows [][]string, err er
 }
 
 // run runs a command. If it is read, run returns what it prints on its standard output and on its standard error.
-func run(ctx context.Context, command string, isRead bool) (printed, said []byte, err error) {
-	within, cancel := context.WithTimeout(ctx, limit)
+func (l limits) run(ctx context.Context, command string, isRead bool) (printed, said []byte, err error) {
+	within, cancel := context.WithTimeout(ctx, l.time)
 	defer cancel()
 	process := shellOf(command)
 	var out, errors io.ReadCloser = nothing, nothing
@@ -81,16 +87,16 @@ func run(ctx context.Context, command string, isRead bool) (printed, said []byte
 	go func() {
 		// The shell keeps its process id, and so that of its group, until everything is read.
 		fromErrors := make(chan []byte, 1)
-		go func() { fromErrors <- readAll(errors, kill) }()
-		printed = readAll(out, kill)
+		go func() { fromErrors <- l.readAll(errors, kill) }()
+		printed = l.readAll(out, kill)
 		said = <-fromErrors
 		ended <- process.Wait()
 	}()
 	select {
 	case err = <-ended:
-		if isTooMuch(printed) || isTooMuch(said) {
+		if l.isTooMuch(printed) || l.isTooMuch(said) {
 			return nil, nil, fmt.Errorf("it printed more than %d bytes and was killed: let it print nothing but the ids",
-				mostPrinted)
+				l.printed)
 		}
 		return printed, said, err
 	case <-within.Done():
@@ -100,7 +106,7 @@ func run(ctx context.Context, command string, isRead bool) (printed, said []byte
 	if ctx.Err() != nil {
 		return nil, said, ctx.Err()
 	}
-	return nil, said, fmt.Errorf("it didn't end within %v", limit)
+	return nil, said, fmt.Errorf("it didn't end within %v", l.time)
 }
 
 // shellOf returns a command of the shell in a group of its own.
@@ -120,15 +126,15 @@ var nothing = io.NopCloser(strings.NewReader(""))
 
 // readAll returns what is written until nobody has the pipe open, or until it is closed. If it is too much, readAll
 // calls kill, and returns a part of it that is too much, too.
-func readAll(from io.Reader, kill func()) []byte {
-	all, _ := io.ReadAll(io.LimitReader(from, mostPrinted+1))
-	if isTooMuch(all) {
+func (l limits) readAll(from io.Reader, kill func()) []byte {
+	all, _ := io.ReadAll(io.LimitReader(from, l.printed+1))
+	if l.isTooMuch(all) {
 		kill()
 	}
 	return all
 }
 
-func isTooMuch(printed []byte) bool { return int64(len(printed)) > mostPrinted }
+func (l limits) isTooMuch(printed []byte) bool { return int64(len(printed)) > l.printed }
 
 // lastLineOf returns the last line that a command has printed on its standard error, in brackets.
 func lastLineOf(said []byte) string {

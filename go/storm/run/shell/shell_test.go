@@ -120,12 +120,16 @@ func isRunning(pid int) bool {
 
 // Each command has a limit of its own, and the error says so.
 func TestLimit(t *testing.T) {
-	defer func(before time.Duration) { limit = before }(limit)
-	limit = 100 * time.Millisecond
+	diff.Equal(t, usualLimits(), limits{time: time.Minute, printed: 64 << 20}, "the limits of Run and Rows")
+	short := usualLimits()
+	short.time = 100 * time.Millisecond
 	for name, run := range map[string]func() error{
-		"Run": func() error { return Run(context.Background(), "sleep 1000 | cat") },
+		"Run": func() error {
+			_, _, err := short.run(context.Background(), "sleep 1000 | cat", false)
+			return err
+		},
 		"Rows": func() error {
-			_, err := Rows(context.Background(), "sleep 1000 | cat", 1)
+			_, err := short.rows(context.Background(), "sleep 1000 | cat", 1)
 			return err
 		},
 	} {
@@ -142,8 +146,8 @@ func TestLimit(t *testing.T) {
 // A command that prints too much on either output is killed with its group, and the error says so. One that prints just
 // as much as it may isn't.
 func TestMostPrinted(t *testing.T) {
-	defer func(before int64) { mostPrinted = before }(mostPrinted)
-	mostPrinted = 10000
+	few := usualLimits()
+	few.printed = 10000
 	// Each command is bounded by itself, too: without the limit it would print 100 MB, and then end.
 	for name, command := range map[string]string{
 		"output":      "head -c 100000000 /dev/zero; sleep 1000",
@@ -156,7 +160,7 @@ func TestMostPrinted(t *testing.T) {
 		t.Run(name, func(t *testing.T) {
 			ctx, cancel := context.WithTimeout(context.Background(), 80*time.Second)
 			begun := time.Now()
-			rows, err := Rows(ctx, command, 1)
+			rows, err := few.rows(ctx, command, 1)
 			cancel()
 			took := time.Since(begun)
 			if err == nil || took > time.Minute || len(rows) > 0 || !strings.Contains(err.Error(), "more than 10000 bytes") {
@@ -164,7 +168,7 @@ func TestMostPrinted(t *testing.T) {
 			}
 		})
 	}
-	if rows, err := Rows(context.Background(), "yes 123456789 | head -c 10000", 1); err != nil || len(rows) != 1000 {
+	if rows, err := few.rows(context.Background(), "yes 123456789 | head -c 10000", 1); err != nil || len(rows) != 1000 {
 		t.Errorf("got %v and %d rows, want 1000", err, len(rows))
 	}
 }
