@@ -5,7 +5,6 @@ import (
 	"crypto/rand"
 	"encoding/hex"
 	"encoding/json"
-	"errors"
 	"fmt"
 	"net"
 	"net/http"
@@ -48,26 +47,28 @@ type BothConfig struct {
 	password string       // of the broker; empty for a new one
 }
 
-func (c BothConfig) check() error {
-	switch {
-	case c.Instances < 1:
-		return errors.New("a run needs an instance")
-	case c.Workers < 1 || c.Brokers < 1:
-		return errors.New("a run needs a worker and a broker")
-	case c.KillDatabase > 0 && !c.needsPostgreSQL():
-		return errors.New("a database is killed only if PostgreSQL is the store or the backend")
-	case c.needsPostgreSQL() && c.KillDatabase == 0 && c.PostgreSQL == "":
-		return errors.New("give the URL of a PostgreSQL server on which databases and roles may be created")
-	case c.Without != "" && !isPart(c.Without):
-		return fmt.Errorf("there is no part %q. Choose one of: %s", c.Without, strings.Join(Parts(), ", "))
-	case needsFolders(c.Without) && c.Backend != AsFolders:
-		return fmt.Errorf("without %s, the broker has to sell folders", c.Without)
-	case c.Calm && (c.Unruly || c.CrashPoints != ""):
-		return errors.New("a calm storm has no second client, and visits no crash points")
+func (c BothConfig) demands() Demands {
+	return Demands{
+		Conflicts: []Conflict{
+			{c.Instances < 1, "a run needs an instance"},
+			{c.Workers < 1 || c.Brokers < 1, "a run needs a worker and a broker"},
+			{c.KillDatabase > 0 && !c.needsPostgreSQL(),
+				"a database is killed only if PostgreSQL is the store or the backend"},
+			{c.needsPostgreSQL() && c.KillDatabase == 0 && c.PostgreSQL == "",
+				"give the URL of a PostgreSQL server on which databases and roles may be created"},
+			{c.Without != "" && !isPart(c.Without),
+				fmt.Sprintf("there is no part %q. Choose one of: %s", c.Without, strings.Join(Parts(), ", "))},
+			{needsFolders(c.Without) && c.Backend != AsFolders,
+				fmt.Sprintf("without %s, the broker has to sell folders", c.Without)},
+			{c.Calm && (c.Unruly || c.CrashPoints != ""),
+				"a calm storm has no second client, and visits no crash points"},
+		},
+		NoRestart: "both programs are killed at random moments",
 	}
-	if err := c.Config.Check("both programs are killed at random moments"); err != nil {
-		return err
-	}
+}
+
+// findPrograms returns an error if one of both programs can't be run.
+func (c BothConfig) findPrograms() error {
 	for _, program := range []string{c.Broker, c.Platform} {
 		if _, err := exec.LookPath(program); err != nil {
 			return fmt.Errorf("the program can't be run: %w", err)
@@ -127,7 +128,7 @@ type BothStorm struct {
 // Errors: a limit isn't above 0; a program can't be run; those of the folder and of the platform's store.
 func NewBoth(ctx context.Context, config BothConfig) (*BothStorm, error) {
 	config.Unruly = config.Unruly || isRule(config.Without) && !config.Calm
-	if err := config.check(); err != nil {
+	if err := FirstError(config.Check(config.demands()), config.findPrograms()); err != nil {
 		return nil, err
 	}
 	b := &BothStorm{config: config, journal: fault.NewJournal(), password: config.password}

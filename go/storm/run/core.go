@@ -21,25 +21,62 @@ type Config struct {
 	MinimizeTime      time.Duration // for the runs that shrink the list of faults; 0 for none
 	Folder            string        // in which the folders of the runs are created; empty for the system's
 	Journal           string        // the folder below which the journals are written, or empty for none
+	Commands          Commands
 }
 
-// Check returns an error if a limit isn't above 0, or the faults can't happen. more are further limits. noRestart is
-// why a fault can't restart the broker, or empty if it can.
-func (c Config) Check(noRestart string, more ...time.Duration) error {
-	if c.Share < 0 || c.Share > 1 {
-		return errors.New("the share of requests with a fault is between 0 and 1")
+// Commands are commands of the shell. Each may be empty. The lists are of what exists at a broker, or of what a platform
+// has.
+type Commands struct {
+	List         string // prints the id of each instance, one on a line
+	ListBindings string // prints the ids of the instance and the binding for each binding
+	Restart      string // kills the broker and starts it again
+	Kill, Start  string // of the broker
+	Order        string // has the platform create and delete instances and bindings
+}
+
+func (c Commands) restarts() bool { return c.Restart != "" || c.Kill != "" }
+
+// A Conflict is options that exclude each other, or an option that has no such value.
+type Conflict struct {
+	Exists bool
+	Reason string
+}
+
+// Demands are what the configurations of one kind of storm have to satisfy besides those of all kinds.
+type Demands struct {
+	Conflicts []Conflict
+	Limits    []time.Duration // above 0
+	NoRestart string          // why no fault can restart the broker, unless there is a command for that
+}
+
+// Check returns an error if options exclude each other, a limit isn't above 0, or the faults can't happen.
+func (c Config) Check(own Demands) error {
+	for _, conflict := range append(own.Conflicts, c.conflicts()...) {
+		if conflict.Exists {
+			return errors.New(conflict.Reason)
+		}
 	}
-	for _, limit := range append(more, c.RequestTime, c.Late, c.Time, c.SettleTime) {
+	for _, limit := range append(own.Limits, c.RequestTime, c.Late, c.Time, c.SettleTime) {
 		if limit <= 0 {
 			return errors.New("every limit must be above 0")
 		}
 	}
 	for _, numbered := range c.List {
-		if numbered.Kind.IsRestart() && noRestart != "" {
-			return errors.New("the list of faults has a restart: " + noRestart)
+		if numbered.Kind.IsRestart() && !c.Commands.restarts() {
+			return errors.New("the list of faults has a restart: " + own.NoRestart)
 		}
 	}
 	return nil
+}
+
+func (c Config) conflicts() []Conflict {
+	commands := c.Commands
+	return []Conflict{
+		{(commands.Kill == "") != (commands.Start == ""), "give a kill command and a start command, or neither"},
+		{commands.Restart != "" && commands.Kill != "", "give a restart command, or a kill command and a start command"},
+		{commands.ListBindings != "" && commands.List == "", "a list of bindings needs a list of instances"},
+		{c.Share < 0 || c.Share > 1, "the share of requests with a fault is between 0 and 1"},
+	}
 }
 
 // Source returns the faults of the run.
@@ -48,20 +85,6 @@ func (c Config) Source(weights fault.Weights) *fault.Source {
 		return fault.ByList(c.Seed, c.List)
 	}
 	return fault.BySeed(c.Seed, c.Share, weights)
-}
-
-// Lists are commands of the shell that print ids. Each may be empty.
-type Lists struct {
-	List         string // prints the id of each instance, one on a line
-	ListBindings string // prints the ids of the instance and the binding for each binding
-}
-
-// Check returns an error if bindings are listed, and instances aren't.
-func (l Lists) Check() error {
-	if l.ListBindings != "" && l.List == "" {
-		return errors.New("a list of bindings needs a list of instances")
-	}
-	return nil
 }
 
 // A Result is the result of one run.

@@ -68,10 +68,10 @@ func newModel(t *testing.T, isAsync bool, wrong mistakes) (*model, string) {
 }
 
 func (m *model) commands() Commands {
-	return Commands{Lists: Lists{
+	return Commands{
 		List:         "ls " + m.folder + "/instances | sed 's/~.*//'",
 		ListBindings: "ls " + m.folder + "/bindings | tr _ ' '",
-	}}
+	}
 }
 
 func (m *model) file(k Key) string {

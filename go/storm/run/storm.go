@@ -43,7 +43,7 @@ type BrokerStorm struct {
 //
 // Errors: those of conform.New; a limit isn't above 0; options contradict each other; the journal can't be opened.
 func NewBroker(config BrokerConfig) (*BrokerStorm, error) {
-	if err := config.check(); err != nil {
+	if err := config.Check(config.demands()); err != nil {
 		return nil, err
 	}
 	address, err := url.Parse(config.Broker.URL)
@@ -267,32 +267,15 @@ type BrokerConfig struct {
 	Config
 	Broker      conform.Config // Instances is how many instances a run may create. Pause is the time between two polls
 	CleanUpTime time.Duration  // for the deletions at the end of each run
-	Commands    Commands
 }
 
-// Commands are commands of the shell. Each may be empty. The lists are of what exists.
-type Commands struct {
-	Lists
-	Restart     string // kills the broker and starts it again
-	Kill, Start string
-}
-
-func (c Commands) restarts() bool { return c.Restart != "" || c.Kill != "" }
-
-func (c BrokerConfig) check() error {
-	switch {
-	case c.Broker.Instances < 2:
-		return errors.New("a run needs two instances: one of them is created without faults, to try the broker")
-	case (c.Commands.Kill == "") != (c.Commands.Start == ""):
-		return errors.New("give a kill command and a start command, or neither")
-	case c.Commands.Restart != "" && c.Commands.Kill != "":
-		return errors.New("give a restart command, or a kill command and a start command")
+func (c BrokerConfig) demands() Demands {
+	return Demands{
+		Conflicts: []Conflict{{
+			c.Broker.Instances < 2, "a run needs two instances: one of them is created without faults, to try the broker",
+		}},
+		Limits: []time.Duration{c.CleanUpTime}, NoRestart: "give a command for it",
 	}
-	noRestart := ""
-	if !c.Commands.restarts() {
-		noRestart = "give a command for it"
-	}
-	return FirstError(c.Commands.Lists.Check(), c.Config.Check(noRestart, c.CleanUpTime))
 }
 
 type brokerRun struct {

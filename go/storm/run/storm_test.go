@@ -421,7 +421,7 @@ func TestListingFails(t *testing.T) {
 		"echo broken >&2; exit 3": "(broken)", "echo one two": "doesn't have 1 ids",
 	} {
 		t.Run(command, func(t *testing.T) {
-			_, err := listing{commands: Commands{Lists: Lists{List: command}}}.Look(context.Background(), nil)
+			_, err := listing{commands: Commands{List: command}}.Look(context.Background(), nil)
 			if err == nil || !strings.Contains(err.Error(), wanted) {
 				t.Errorf("%s: got the error %v, want %q", command, err, wanted)
 			}
@@ -467,19 +467,19 @@ func TestLives(t *testing.T) {
 // error names the option, and says what the command must print. Nothing is left.
 func TestWrongLists(t *testing.T) {
 	t.Parallel()
-	right := Commands{Lists: Lists{List: "right", ListBindings: "right"}}
+	right := Commands{List: "right", ListBindings: "right"}
 	for name, test := range map[string]struct {
 		commands Commands
 		wanted   string // of the error, or empty for none
 	}{
 		"right":          {right, ""},
-		"fails":          {Commands{Lists: Lists{List: "ls /nonexistent"}}, "of --list-command has failed: exit status 2 (ls: "},
-		"prints nothing": {Commands{Lists: Lists{List: "true"}}, "of --list-command doesn't print the instance "},
+		"fails":          {Commands{List: "ls /nonexistent"}, "of --list-command has failed: exit status 2 (ls: "},
+		"prints nothing": {Commands{List: "true"}, "of --list-command doesn't print the instance "},
 		"prints bindings": {
-			Commands{Lists: Lists{List: "right", ListBindings: "echo one"}}, "of --list-bindings-command has failed: the line",
+			Commands{List: "right", ListBindings: "echo one"}, "of --list-bindings-command has failed: the line",
 		},
-		"bindings fail":  {Commands{Lists: Lists{List: "right", ListBindings: "exit 3"}}, "bindings-command has failed: exit status 3"},
-		"prints no pair": {Commands{Lists: Lists{List: "right", ListBindings: "true"}}, "bindings-command doesn't print the binding "},
+		"bindings fail":  {Commands{List: "right", ListBindings: "exit 3"}, "bindings-command has failed: exit status 3"},
+		"prints no pair": {Commands{List: "right", ListBindings: "true"}, "bindings-command doesn't print the binding "},
 	} {
 		for _, isAsync := range []bool{false, true} {
 			for _, hasJournal := range []bool{false, true} {
@@ -608,7 +608,7 @@ func TestCalm(t *testing.T) {
 	} {
 		t.Run(name, func(t *testing.T) {
 			wrong := b.config
-			if change(&wrong); wrong.check() == nil {
+			if change(&wrong); wrong.Check(wrong.demands()) == nil {
 				t.Errorf("%s: got no error of a calm storm, want one", name)
 			}
 		})

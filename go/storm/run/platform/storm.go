@@ -40,7 +40,7 @@ type Storm struct {
 // Errors: a limit isn't above 0; options contradict each other; the user or the password can't be sent; those of the
 // address and of the folder.
 func Start(ctx context.Context, config Config) (s *Storm, err error) {
-	if err := config.check(); err != nil {
+	if err := config.Check(config.demands()); err != nil {
 		return nil, err
 	}
 	s = &Storm{
@@ -288,7 +288,7 @@ func (s *Storm) readLists(ctx context.Context) (l list, err error) {
 }
 
 // A Config says where a Storm listens, and within which limits. Folder is the one in which that of the broker is
-// created.
+// created. The order command gets urlVariable in its environment.
 type Config struct {
 	run.Config
 	Address        string // HOST:PORT, where the platform reaches the broker
@@ -296,21 +296,17 @@ type Config struct {
 	FirstPoll      bool   // the broker creates an instance of an asynchronous plan only once it is polled
 	OperationTime  time.Duration
 	WaitTime       time.Duration // for the first request about an instance
-	Commands       Commands
-	Warnings       io.Writer // gets the last lines of an order command that fails, or orders nothing; or nil
+	Warnings       io.Writer     // gets the last lines of an order command that fails, or orders nothing; or nil
 }
 
-// Commands are commands of the shell. Each may be empty. The lists are of what the platform has.
-type Commands struct {
-	run.Lists
-	Order string // has the platform create and delete instances and bindings, with urlVariable in its environment
-}
-
-func (c Config) check() error {
-	if c.MinimizeTime > 0 && c.Commands.Order == "" {
-		return errors.New("--minimize needs --order-command: in each further run, the platform has to order the same again")
+func (c Config) demands() run.Demands {
+	return run.Demands{
+		Conflicts: []run.Conflict{{
+			Exists: c.MinimizeTime > 0 && c.Commands.Order == "",
+			Reason: "--minimize needs --order-command: in each further run, the platform has to order the same again",
+		}},
+		Limits: []time.Duration{c.WaitTime, c.OperationTime}, NoRestart: "this broker isn't restarted",
 	}
-	return run.FirstError(c.Commands.Lists.Check(), c.Config.Check("this broker isn't restarted", c.WaitTime, c.OperationTime))
 }
 
 // urlVariable is the variable in which the order command gets the URL of the broker, without /v2.

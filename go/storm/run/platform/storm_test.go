@@ -511,7 +511,7 @@ func orderingConfig(t *testing.T, count int, list ...string) (Config, string) {
 	config.List, err = fault.ReadList(strings.NewReader(strings.Join(list, "\n")))
 	check(t, err)
 	config.List = append([]fault.Entry{}, config.List...)
-	config.Commands = Commands{Order: command, Lists: run.Lists{List: "cat " + filepath.Join(folder, "listed")}}
+	config.Commands = run.Commands{Order: command, List: "cat " + filepath.Join(folder, "listed")}
 	config.Time, config.SettleTime = 5*time.Minute, 300*time.Millisecond
 	config.RequestTime, config.Journal = unhurried, filepath.Join(folder, "journals")
 	return config, folder
@@ -621,7 +621,7 @@ exit 3`
 func minimize(c *Config) { c.MinimizeTime = time.Minute }
 
 // dropLists leaves out the list commands and the list of faults.
-func dropLists(c *Config) { c.Commands, c.List = Commands{}, nil }
+func dropLists(c *Config) { c.Commands, c.List = run.Commands{}, nil }
 
 // The faults end with the order command, or after their time if the command goes on then. At the end of the run, the
 // command is killed with its children, and so is what a command has left behind that has ended. Neither is a failure.
@@ -920,8 +920,8 @@ func newModel(t *testing.T, url string, wrong mistakes, within time.Duration) *m
 	return m
 }
 
-func commandsOf(folder string) Commands {
-	return Commands{Lists: run.Lists{List: "cat " + folder + "/instances", ListBindings: "cat " + folder + "/bindings"}}
+func commandsOf(folder string) run.Commands {
+	return run.Commands{List: "cat " + folder + "/instances", ListBindings: "cat " + folder + "/bindings"}
 }
 
 func (m *model) set(key report.Key, has bool) {
