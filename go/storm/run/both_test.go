@@ -17,6 +17,7 @@ import (
 
 	"pippinterm/internal/crash"
 	"pippinterm/internal/diff"
+	"pippinterm/internal/waits"
 	"pippinterm/osb"
 	"pippinterm/platform"
 	"pippinterm/storm/fault"
@@ -473,9 +474,9 @@ func TestUnruly(t *testing.T) {
 		defer close(ended)
 		u.run(ctx)
 	}()
-	stormtest.Await(t, 20*time.Second, "nothing is bound", func() bool { return len(broker.holdings(t)) >= 24 })
+	waits.Until(t, "24 bindings are held", func() bool { return len(broker.holdings(t)) >= 24 })
 	u.calm()
-	stormtest.Await(t, 20*time.Second, "something is held", func() bool { return u.isDone(ctx) })
+	waits.Until(t, "nothing is held", func() bool { return u.isDone(ctx) })
 	bound := len(u.all())
 	cancel()
 	<-ended

@@ -69,11 +69,11 @@ func TestHTML(t *testing.T) {
 	text := regexp.MustCompile(`<(meta)([^>]*)>`).ReplaceAllString(page, "<$1$2/>")
 	decoder := xml.NewDecoder(strings.NewReader(text))
 	for {
-		if _, err := decoder.Token(); errors.Is(err, io.EOF) {
+		_, err := decoder.Token()
+		if errors.Is(err, io.EOF) {
 			break
-		} else if err != nil {
-			t.Fatal(err)
 		}
+		check(t, err)
 	}
 	diff.Equal(t, strings.Count(page, `<rect class="request fault"`), 4, "requests with a fault in the picture")
 }

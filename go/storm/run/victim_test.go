@@ -12,8 +12,8 @@ import (
 	"time"
 
 	"pippinterm/internal/diff"
+	"pippinterm/internal/waits"
 	"pippinterm/storm/fault"
-	"pippinterm/storm/stormtest"
 )
 
 // shortTimes are lifetimes of a test.
@@ -54,7 +54,7 @@ func runs(t *testing.T, v *victim, folder string, until func() bool) {
 	}()
 	defer group.Wait()
 	defer cancel()
-	stormtest.Await(t, 20*time.Second, "the condition", until)
+	waits.Until(t, "the condition is met", until)
 }
 
 func starts(t *testing.T, folder string) int {

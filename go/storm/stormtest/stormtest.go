@@ -7,7 +7,6 @@ import (
 	"os"
 	"strings"
 	"testing"
-	"time"
 
 	"pippinterm/internal/diff"
 	"pippinterm/storm/report"
@@ -93,15 +92,5 @@ func Empty(t testing.TB, folder string) {
 	t.Helper()
 	if names, err := os.ReadDir(folder); err != nil || len(names) > 0 {
 		t.Errorf("got %v in %s (%v), want none", names, folder, err)
-	}
-}
-
-// Await waits until a condition is met. It ends the test if that takes longer than a time.
-func Await(t testing.TB, within time.Duration, what string, is func() bool) {
-	t.Helper()
-	for end := time.Now().Add(within); !is(); time.Sleep(5 * time.Millisecond) {
-		if time.Now().After(end) {
-			t.Fatalf("got no end in time, want it: %s", what)
-		}
 	}
 }

@@ -12,10 +12,10 @@ import (
 	"time"
 
 	"pippinterm/broker"
+	"pippinterm/internal/waits"
 	"pippinterm/osb"
 	"pippinterm/platform"
 	"pippinterm/platform/sqlite"
-	"pippinterm/storm/stormtest"
 )
 
 // Whatever is taken out: a life over a calm network goes as it does with everything in.
@@ -205,7 +205,7 @@ func TestLateAnswerIsTaken(t *testing.T) {
 		return &platform.Change{Entry: e}, err
 	}))
 	client.answers <- platform.Incoming{Answer: osb.Answer{Status: http.StatusOK, Body: osb.BodyEmpty}}
-	stormtest.Await(t, time.Minute, "the state is gone", func() bool {
+	waits.Until(t, "the state is gone", func() bool {
 		read, err := store.Read(ctx, entry.Key)
 		check(t, err)
 		return read.State == platform.Gone

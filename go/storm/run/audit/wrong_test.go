@@ -511,9 +511,8 @@ func port(t *testing.T, address string) int {
 	_, text, err := pg.HostAndPort(address)
 	check(t, err)
 	var number int
-	if _, err := fmt.Sscan(text, &number); err != nil {
-		t.Fatal(err)
-	}
+	_, err = fmt.Sscan(text, &number)
+	check(t, err)
 	return number
 }
 

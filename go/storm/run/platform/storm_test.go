@@ -21,6 +21,7 @@ import (
 
 	"pippinterm/broker"
 	"pippinterm/internal/diff"
+	"pippinterm/internal/waits"
 	"pippinterm/storm/conform"
 	"pippinterm/storm/fault"
 	"pippinterm/storm/report"
@@ -645,7 +646,7 @@ func TestOrderEnds(t *testing.T) {
 					took, stormtest.TextOf(t, report.WriteText))
 			}
 			text := diff.Value(os.ReadFile(filepath.Join(folder, "child")))(t)
-			stormtest.Await(t, 5*time.Second, "the child of the order command ends", func() bool {
+			waits.Until(t, "the child of the order command ends", func() bool {
 				return !isRunning(string(bytes.TrimSpace(text)))
 			})
 		})

@@ -14,6 +14,7 @@ import (
 
 	"pippinterm/internal/diff"
 	"pippinterm/internal/pg/pgtest"
+	"pippinterm/internal/waits"
 	"pippinterm/storm/stormtest"
 )
 
@@ -67,7 +68,7 @@ func TestPostgres(t *testing.T) {
 		defer close(paused)
 		p.Pause(ctx, time.Second)
 	}()
-	stormtest.Await(t, 10*time.Second, "it is paused", func() bool { return states(p) == "T" })
+	waits.Until(t, "it is paused", func() bool { return states(p) == "T" })
 	<-paused
 	diff.Equal(t, rows(t, url, "SHOW recovery_init_sync_method"), "syncfs", "the synchronisation of files")
 	if found := rows(t, url, "SHOW fsync"); found != "on" || strings.Contains(states(p), "T") {

@@ -13,7 +13,7 @@ import (
 	"time"
 
 	"pippinterm/internal/diff"
-	"pippinterm/storm/stormtest"
+	"pippinterm/internal/waits"
 )
 
 // The words of each line are returned, except those of empty lines.
@@ -109,7 +109,7 @@ func TestKillsGroup(t *testing.T) {
 			_ = syscall.Kill(pid, syscall.SIGKILL)
 		}
 	})
-	stormtest.Await(t, 5*time.Second, "what the command has started ends", func() bool { return !isRunning(pid) })
+	waits.Until(t, "what the command has started ends", func() bool { return !isRunning(pid) })
 }
 
 // isRunning reports whether a process runs. One that has ended may wait for its parent.
@@ -244,7 +244,7 @@ time.sleep(1000)'`, // the command itself has left its group
 				t.Errorf("%s: got the child ended before, want it to run", name)
 			}
 			diff.NoError(t, c.End(), "%s", name)
-			stormtest.Await(t, 5*time.Second, "what the command has started ends", func() bool { return !isRunning(pid) })
+			waits.Until(t, "what the command has started ends", func() bool { return !isRunning(pid) })
 		})
 	}
 }
