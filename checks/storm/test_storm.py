@@ -14,7 +14,7 @@ from storm.build import TOP, build
 
 pytestmark = [pytest.mark.alone, pytest.mark.slow, pytest.mark.usefixtures("packages")]
 
-_LONGEST = 600.0  # seconds for a storm, and for the audit of its journals
+_LONGEST = 1800.0  # seconds for a storm, and for the audit of its journals
 _DIFFERS = re.compile(r"^\d+ instances?, [0-9,]+ events, [1-9]\d* differences?", re.MULTILINE)
 _AUDITED = re.compile(r"^(\d+) instances, [0-9,]+ events, 0 differences$", re.MULTILINE)
 

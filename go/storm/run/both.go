@@ -88,7 +88,7 @@ func (c BothConfig) needsPostgreSQL() bool {
 }
 
 // longest is how long a storm goes on at least, as long as something that has to be tried isn't.
-const longest = 4 * time.Minute
+const longest = 10 * time.Minute
 
 // time is how long the faults last at most.
 func (c BothConfig) time() time.Duration {
