@@ -183,11 +183,9 @@ func (o *Orders) Create(ctx context.Context, wanted NewInstance) (Entry, error) 
 	}
 	order := Order{
 		Key: InstanceKey(number), Broker: broker.Name, Service: service.Number, Plan: plan.Number,
-		IsOwnID: wanted.ID == "",
-		Names:   Names{Instance: text, Service: service.ID, Plan: plan.ID},
-		OrderTexts: OrderTexts{
-			Organization: orText(wanted.Organization, DefaultOrganization), Space: orText(wanted.Space, DefaultSpace),
-		},
+		IsOwnID:      wanted.ID == "",
+		Names:        Names{Instance: text, Service: service.ID, Plan: plan.ID},
+		Organization: orText(wanted.Organization, DefaultOrganization), Space: orText(wanted.Space, DefaultSpace),
 		Identity: wanted.Identity, Try: 1, Tries: tries, First: number,
 	}
 	order.Body, err = bodyOf(member{"parameters", wanted.Parameters}, member{"context", wanted.Context})
@@ -223,9 +221,9 @@ func (o *Orders) Bind(ctx context.Context, wanted NewBinding) (Entry, error) {
 	}
 	order := Order{
 		Key: BindingKey(of.Key.Instance, number), Broker: of.Broker, Service: of.Service, Plan: of.Plan,
-		IsOwnID:    wanted.ID == "",
-		Names:      Names{Instance: of.Names.Instance, Binding: text, Service: of.Names.Service, Plan: of.Names.Plan},
-		OrderTexts: of.OrderTexts, Identity: wanted.Identity, Try: 1, Tries: tries, First: number,
+		IsOwnID:      wanted.ID == "",
+		Names:        Names{Instance: of.Names.Instance, Binding: text, Service: of.Names.Service, Plan: of.Names.Plan},
+		Organization: of.Organization, Space: of.Space, Identity: wanted.Identity, Try: 1, Tries: tries, First: number,
 	}
 	order.Body, err = bodyOf(
 		member{"parameters", wanted.Parameters}, member{"context", wanted.Context},

@@ -69,8 +69,8 @@ func TestCreate(t *testing.T) {
 	check(t, err)
 	want := Order{
 		Key: InstanceKey(number), Broker: "shelf", Service: id("a0"), Plan: id("c2"), IsOwnID: true,
-		Names:      Names{Instance: e.Names.Instance, Service: id("a0").String(), Plan: id("c2").String()},
-		OrderTexts: OrderTexts{Organization: "osb-platform", Space: "osb-platform"}, Try: 1, Tries: 3, First: number,
+		Names:        Names{Instance: e.Names.Instance, Service: id("a0").String(), Plan: id("c2").String()},
+		Organization: "osb-platform", Space: "osb-platform", Try: 1, Tries: 3, First: number,
 	}
 	var body map[string]any
 	check(t, json.Unmarshal(e.Body, &body))

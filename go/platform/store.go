@@ -4,7 +4,6 @@ import (
 	"context"
 	"encoding/json"
 	"errors"
-	"reflect"
 	"strings"
 	"time"
 
@@ -257,7 +256,9 @@ type Order struct {
 	Service, Plan osb.ID
 	IsOwnID       bool // whether the id was made up here, so that nobody else can have it
 
-	OrderTexts
+	Organization string // organization_guid of a Provision, not empty
+	Space        string // space_guid of a Provision, not empty
+
 	Body     json.RawMessage // an object with further members of the body, such as parameters and context
 	Identity string          // the value of X-Broker-API-Originating-Identity, or empty
 
@@ -285,54 +286,9 @@ type Reason struct {
 	Lost        string    `json:"lost,omitempty"`        // why no answer was taken, or what is wrong with it, or empty
 }
 
-// OrderTexts are members of an order, and EntryTexts members of an Entry, that every Store keeps in the same way: as a
-// text in the column that the tag names. With omitempty, the column is NULL if the text is empty. A store reads and
-// writes them by Columns. If its tables lack a column, the store adds the column when it is opened, and each row that
-// is there has an empty text.
-type OrderTexts struct {
-	Organization string `json:"organization"` // organization_guid of a Provision, not empty
-	Space        string `json:"space"`        // space_guid of a Provision, not empty
-}
-
-// EntryTexts: see OrderTexts.
-type EntryTexts struct {
-	Dashboard string `json:"dashboard,omitempty"` // dashboard_url of the Provision's answer, or empty
-	Because   string `json:"because,omitempty"`   // why it was abandoned
-}
-
-// A Column is a text as a Store keeps it.
-type Column struct {
-	Name   string
-	IsNull bool // whether the column is NULL if the text is empty
-	Text   *string
-}
-
-// Columns returns the columns of texts.
-func Columns[T OrderTexts | EntryTexts](texts *T) (columns []Column) {
-	of := reflect.ValueOf(texts).Elem()
-	for at := 0; at < of.NumField(); at++ {
-		name, option, _ := strings.Cut(of.Type().Field(at).Tag.Get("json"), ",")
-		text := of.Field(at).Addr().Interface().(*string)
-		columns = append(columns, Column{Name: name, IsNull: option == "omitempty", Text: text})
-	}
-	return columns
-}
-
-// ColumnNames returns the names of the columns of an order, and of an Entry besides.
-func ColumnNames() (ofOrder, ofEntry []string) {
-	for _, column := range Columns(&OrderTexts{}) {
-		ofOrder = append(ofOrder, column.Name)
-	}
-	for _, column := range Columns(&EntryTexts{}) {
-		ofEntry = append(ofEntry, column.Name)
-	}
-	return ofOrder, ofEntry
-}
-
 // An Entry is a row: the order, and what has become of it.
 type Entry struct {
 	Order
-	EntryTexts
 	// Record decides, if IsSent. Its attempt is the number of the request in flight.
 	Record osb.Record
 	IsSent bool // whether a first request was recorded
@@ -361,54 +317,54 @@ type Entry struct {
 	// After is how long the broker of a passing Failure asked to wait.
 	After time.Duration
 
+	Dashboard   string          // dashboard_url of the Provision's answer, or empty
 	Metadata    json.RawMessage // metadata of the answer, or nil
 	Credentials []byte          // of a binding that is ready: its object, sealed; else nil
+	Because     string          // why it was abandoned
 
 	// Unreadable is why the row can't be read, or empty. Key, State and Since are as they are stored, and the rest is
 	// as far as it could be read. No step gets such a row.
 	Unreadable string
 }
 
-// A keptLast is what a Store keeps of Entry.Last, Entry.Lease.Claim and Entry.DueSince, in one column.
-type keptLast struct {
-	Reason
-	Claim    string `json:"claim,omitempty"`
-	DueSince int64  `json:"due_since,omitempty"` // in milliseconds since 1970
-}
-
-// LastText is what a Store keeps of Last, Lease.Claim and DueSince, in one column. It is nil if there is none of them.
-// DueSince is the number of the member due_since, in milliseconds since 1970, which comes last.
-func (e Entry) LastText() ([]byte, error) {
-	if e.Last == (Reason{}) && e.DueSince.IsZero() && e.Lease.Claim == "" {
-		return nil, nil
+// OrderColumns are the columns of an Order, which never change, and StateColumns those of what has become of it. A Store
+// has columns of its own for Key, Names and First.
+var (
+	OrderColumns = Columns{
+		column("broker", func(e *Entry) *string { return &e.Broker }).notNull(),
+		textColumn("service", func(e *Entry) *osb.ID { return &e.Service }),
+		textColumn("plan", func(e *Entry) *osb.ID { return &e.Plan }),
+		column("own_id", func(e *Entry) *bool { return &e.IsOwnID }),
+		column("organization", func(e *Entry) *string { return &e.Organization }).notNull(),
+		column("space", func(e *Entry) *string { return &e.Space }).notNull(),
+		textColumn("further", func(e *Entry) *jsonText { return (*jsonText)(&e.Body) }).notNull().long(),
+		column("identity", func(e *Entry) *string { return &e.Identity }),
+		column("try_number", func(e *Entry) *int { return &e.Try }),
+		column("most_tries", func(e *Entry) *int { return &e.Tries }),
 	}
-	kept := keptLast{Reason: e.Last, Claim: e.Lease.Claim}
-	kept.At = kept.At.UTC()
-	if !e.DueSince.IsZero() {
-		kept.DueSince = e.DueSince.UnixMilli()
+	StateColumns = Columns{
+		column("state", func(e *Entry) *string { return (*string)(&e.State) }).notNull(),
+		column("since", func(e *Entry) *time.Time { return &e.Since }),
+		textColumn("record", func(e *Entry) *recordText { return (*recordText)(e) }),
+		textColumn("operation", func(e *Entry) *operationText { return (*operationText)(e) }),
+		column("sent_until", func(e *Entry) *time.Time { return &e.SentUntil }),
+		column("polled_since", func(e *Entry) *time.Time { return &e.PolledSince }),
+		column("removal", func(e *Entry) *int { return (*int)(&e.Removal) }),
+		column("has_last", func(e *Entry) *bool { return &e.HasLast }),
+		column("due", func(e *Entry) *time.Time { return &e.Due }),
+		column("tries", func(e *Entry) *int { return &e.Unchanged }),
+		column("worker", func(e *Entry) *string { return &e.Lease.Worker }),
+		column("leased_until", func(e *Entry) *time.Time { return &e.Lease.Until }),
+		textColumn("last", func(e *Entry) *lastText { return (*lastText)(e) }), // behind worker
+		textColumn("failure", func(e *Entry) *ReasonText { return (*ReasonText)(&e.Failure) }),
+		column("passing", func(e *Entry) *bool { return &e.Passing }),
+		column("after", func(e *Entry) *time.Duration { return &e.After }),
+		column("dashboard", func(e *Entry) *string { return &e.Dashboard }),
+		textColumn("metadata", func(e *Entry) *jsonText { return (*jsonText)(&e.Metadata) }),
+		column("credentials", func(e *Entry) *[]byte { return &e.Credentials }).ofBinding().long(),
+		column("because", func(e *Entry) *string { return &e.Because }),
 	}
-	return json.Marshal(kept)
-}
-
-// ReadLast reads what LastText has written, also in version 0.2, which had no Claim and no DueSince. Lease.Worker is
-// read before: a lease that Free has ended leaves its Claim in the text.
-func (e *Entry) ReadLast(text []byte) error {
-	var kept keptLast
-	if err := json.Unmarshal(text, &kept); err != nil {
-		return err
-	}
-	e.Last = kept.Reason
-	if !e.Last.At.IsZero() {
-		e.Last.At = e.Last.At.UTC()
-	}
-	if e.Lease.Worker != "" {
-		e.Lease.Claim = kept.Claim
-	}
-	if kept.DueSince != 0 {
-		e.DueSince = time.UnixMilli(kept.DueSince).UTC()
-	}
-	return nil
-}
+)
 
 // Rests is whether nothing is to be done for a row until somebody asks.
 func (e Entry) Rests() bool { return e.Due.IsZero() }

@@ -366,30 +366,6 @@ func TestWalk(t *testing.T) {
 	}
 }
 
-// The columns are those of the tables of version 0.3. An empty text of an order is written as it is, and one of an
-// entry is NULL. A store reads into the texts themselves.
-func TestColumns(t *testing.T) {
-	ofOrder, ofEntry := ColumnNames()
-	if got, want := fmt.Sprint(ofOrder, ofEntry), "[organization space] [dashboard because]"; got != want {
-		t.Errorf("got the columns %s, want %s", got, want)
-	}
-	order, entry := OrderTexts{Organization: "o"}, EntryTexts{Dashboard: "d"}
-	for _, column := range Columns(&order) {
-		if column.IsNull {
-			t.Errorf("%s: got NULL for an empty text, want the text", column.Name)
-		}
-	}
-	for _, column := range Columns(&entry) {
-		if !column.IsNull {
-			t.Errorf("%s: got an empty text, want NULL", column.Name)
-		}
-		*column.Text += "+" + column.Name
-	}
-	if want := (EntryTexts{Dashboard: "d+dashboard", Because: "+because"}); entry != want {
-		t.Errorf("got %+v, want %+v", entry, want)
-	}
-}
-
 // A key is the id of an instance, or with a slash that of a binding of it. Each may be any text that an id can be.
 func TestParseKey(t *testing.T) {
 	one, other := id("1"), id("b1")
@@ -431,37 +407,5 @@ func TestBefore(t *testing.T) {
 		if got := (Entry{State: want.State, Since: want.Since}).Before(ended); len(got) != n {
 			t.Errorf("%v: got %v, want the first %d of %v", want, got, n, ended)
 		}
-	}
-}
-
-// What a Store keeps of the last reason is read again, with since when the row is due. A text of version 0.2 is read,
-// too.
-func TestLastText(t *testing.T) {
-	reason := Reason{At: at(1), Kind: "poll", Status: 503, Description: `"due_since":1`}
-	lease := Lease{Worker: "one", Claim: "a claim"}
-	for _, want := range []Entry{
-		{}, {Last: reason}, {DueSince: at(3)}, {Last: reason, DueSince: at(3)}, {Lease: lease},
-		{Last: reason, DueSince: at(3), Lease: lease},
-	} {
-		text, err := want.LastText()
-		check(t, err)
-		got := Entry{Lease: Lease{Worker: want.Lease.Worker}}
-		if text != nil {
-			check(t, got.ReadLast(text))
-		}
-		isNone := want.Last == Reason{} && want.DueSince.IsZero() && want.Lease == Lease{}
-		if (text == nil) != isNone || got.Lease != want.Lease || got.Last.Kind != want.Last.Kind ||
-			!got.Last.At.Equal(want.Last.At) || got.Last.Description != want.Last.Description ||
-			!got.DueSince.Equal(want.DueSince) {
-			t.Errorf("%s: got %+v, %v, want what was written", text, got.Last, got.DueSince)
-		}
-	}
-	var got Entry
-	check(t, got.ReadLast([]byte(`{"at": "2026-01-02T03:04:05Z", "kind": "poll"}`)))
-	if got.Last.Kind != "poll" || !got.DueSince.IsZero() {
-		t.Errorf("got %+v, due since %v, want poll, and no time", got.Last, got.DueSince)
-	}
-	if err := got.ReadLast([]byte(`{"due_since": "x"}`)); err == nil {
-		t.Error("a text that isn't one: got no error, want one")
 	}
 }

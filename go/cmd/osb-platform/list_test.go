@@ -167,9 +167,9 @@ func TestEmptyFile(t *testing.T) {
 // The head, the rows and the help of `list` have the same columns.
 func TestColumns(t *testing.T) {
 	e := rowWithBroker{Entry: platform.Entry{
-		Order:      platform.Order{Names: platform.Names{Instance: "one", Service: "s", Plan: "p"}, Broker: "shop"},
-		State:      platform.Ready,
-		EntryTexts: platform.EntryTexts{Because: "why"},
+		Order:   platform.Order{Names: platform.Names{Instance: "one", Service: "s", Plan: "p"}, Broker: "shop"},
+		State:   platform.Ready,
+		Because: "why",
 	}}
 	for withReasons, want := range map[bool]string{
 		false: "one\tready\t0001-01-01T00:00:00Z\ts\tp\tshop", true: "one\tready\t0001-01-01T00:00:00Z\ts\tp\tshop\twhy",

@@ -694,7 +694,7 @@ func outgoingOf(c *Client, url string, kind osb.Kind, names platform.Names) plat
 		Broker: at(url),
 		Entry: platform.Entry{Order: platform.Order{
 			Key: key, Broker: "postgres", Names: names, Service: number(names.Service), Plan: number(names.Plan),
-			OrderTexts: platform.OrderTexts{Organization: "org", Space: "space"},
+			Organization: "org", Space: "space",
 		}},
 		Request: osb.Request{
 			Kind: kind, AcceptsIncomplete: true, ID: key.ID(), Service: number(names.Service), Plan: number(names.Plan),

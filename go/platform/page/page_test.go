@@ -335,7 +335,7 @@ func entryOf(key platform.Key, state platform.State) platform.Entry {
 			Key: key, Broker: "shelf", Service: idOf(0xa0), Plan: idOf(0xb1), IsOwnID: true,
 			Names: platform.Names{Instance: key.Instance.String(), Service: "a0", Plan: "b1"},
 			Body:  json.RawMessage(`{"parameters": {"hush": 1}}`), Identity: "cloud eyJodXNoIjoxfQ==",
-			OrderTexts: platform.OrderTexts{Organization: "org", Space: "space"}, Try: 1, Tries: 3, First: key.ID(),
+			Organization: "org", Space: "space", Try: 1, Tries: 3, First: key.ID(),
 		},
 		State: state, Since: began,
 	}

@@ -374,10 +374,16 @@ func TestRowsThatCannotBeRead(t *testing.T) {
 		pgtest.Exec(t, pgtest.DB(t, url), "UPDATE "+table+" SET "+column+" = 'x' WHERE "+where)
 	}
 	storetest.TestUnreadable(t, store, func(t *testing.T, key platform.Key) { spoil(t, key, "record") })
-	spoil(t, instance(4), "names")
-	got, err := store.Read(background, instance(4))
-	if err != nil || !strings.Contains(got.Unreadable, "the column names of ") || got.Names.Instance != id(4).String() || !got.IsSent {
-		t.Errorf("got %+v, %v, want an unreadable row that was sent, with its number for an id", got, err)
+	for key, want := range map[platform.Key]platform.Names{
+		instance(4):                       {Instance: id(4).String()},
+		platform.BindingKey(id(1), id(3)): {Instance: id(1).String(), Binding: id(3).String()},
+	} {
+		spoil(t, key, "names")
+		spoil(t, key, "last")
+		got, err := store.Read(background, key)
+		if err != nil || !strings.Contains(got.Unreadable, "the column names of ") || got.Names != want || !got.IsSent {
+			t.Errorf("got %+v, %v, want an unreadable row that was sent, with its numbers for ids", got, err)
+		}
 	}
 }
 
@@ -607,8 +613,8 @@ func order(key platform.Key) platform.Entry {
 	return platform.Entry{
 		Order: platform.Order{
 			Key: key, Broker: "one", Service: osb.MustParseID(theService), Plan: osb.MustParseID(thePlan),
-			Names:      platform.Names{Instance: key.Instance.String(), Service: theService, Plan: thePlan},
-			OrderTexts: platform.OrderTexts{Space: "a space", Organization: "an organization"}, Body: []byte("{}"), Try: 1, Tries: 3, First: key.ID(),
+			Names: platform.Names{Instance: key.Instance.String(), Service: theService, Plan: thePlan},
+			Space: "a space", Organization: "an organization", Body: []byte("{}"), Try: 1, Tries: 3, First: key.ID(),
 		},
 		State: platform.Ordered, Since: at(0), Due: at(0),
 	}

@@ -16,9 +16,9 @@ import (
 
 // No statement here locks a row, and each is a transaction of its own.
 
-const (
-	readInstance = "SELECT row_to_json(t) FROM osb_instances AS t WHERE id = $1"
-	readBinding  = "SELECT row_to_json(t) FROM osb_bound AS t WHERE id = $1 AND binding = $2"
+var (
+	readInstance = "SELECT " + lineOf("t", false, false) + " FROM osb_instances AS t WHERE id = $1"
+	readBinding  = "SELECT " + lineOf("t", true, false) + " FROM osb_bound AS t WHERE id = $1 AND binding = $2"
 )
 
 // Read returns what is committed: the server shows nothing that isn't on its disk.
@@ -100,10 +100,10 @@ func (s *Store) Counts(ctx context.Context) ([]platform.Count, error) {
 	})
 }
 
-const inFlight = `
-SELECT line FROM ((SELECT row_to_json(t) AS line, leased_until, id, '' AS binding FROM osb_instances AS t
+var inFlight = `
+SELECT line FROM ((SELECT ` + lineOf("t", false, false) + ` AS line, leased_until, id, '' AS binding FROM osb_instances AS t
         WHERE worker IS NOT NULL ORDER BY leased_until LIMIT $1)
-    UNION ALL (SELECT row_to_json(t), leased_until, id, binding FROM osb_bound AS t
+    UNION ALL (SELECT ` + lineOf("t", true, false) + `, leased_until, id, binding FROM osb_bound AS t
         WHERE worker IS NOT NULL ORDER BY leased_until LIMIT $1)) AS t
 ORDER BY leased_until, id, binding LIMIT $1
 `
@@ -145,7 +145,7 @@ func (s *Store) dueAndNow(ctx context.Context, query string, of ...any) (due, no
 	return found.due, found.now, err
 }
 
-// oldestDue reads what platform.Entry.LastText writes. Within a text of that column, a quote stands behind a backslash.
+// oldestDue reads what the column last has. Within a text of that column, a quote stands behind a backslash.
 var oldestDue = `SELECT min(coalesce(substring(last from '"due_since":([0-9]+)')::float8 / 1000, due)), ` + clock + `
 FROM (SELECT last, greatest(due, leased_until) AS due FROM osb_instances WHERE due IS NOT NULL
     UNION ALL SELECT last, greatest(due, leased_until) FROM osb_bound WHERE due IS NOT NULL) AS t`
@@ -199,7 +199,8 @@ func (s *Store) List(ctx context.Context, filter platform.Filter) ([]platform.En
 	if query == "" {
 		return []platform.Entry{}, nil
 	}
-	return s.entries(ctx, "WITH p AS MATERIALIZED ("+query+") SELECT coalesce(row_to_json(i), row_to_json(b)) FROM p "+
+	return s.entries(ctx, "WITH p AS MATERIALIZED ("+query+") "+
+		"SELECT CASE p.binding WHEN '' THEN "+lineOf("i", false, false)+" ELSE "+lineOf("b", true, false)+" END FROM p "+
 		"LEFT JOIN osb_instances AS i ON i.id = p.id AND p.binding = '' "+
 		"LEFT JOIN osb_bound AS b ON b.id = p.id AND b.binding = p.binding"+
 		orderBy(filter, columnsOf(filter, "p.", true)...), parameters...)
@@ -214,13 +215,12 @@ func (s *Store) Positions(ctx context.Context, filter platform.Filter) ([]platfo
 	return within(ctx, s, func(*call) (found []platform.Position, err error) {
 		rows, err := s.db.QueryContext(ctx, query, parameters...)
 		err = each(rows, err, func(rows *sql.Rows) error {
-			var it row
-			var state string
+			var state, id, binding string
 			var since float64
-			if err := rows.Scan(&state, &since, &it.ID, &it.Binding); err != nil {
+			if err := rows.Scan(&state, &since, &id, &binding); err != nil {
 				return err
 			}
-			key, err := it.key()
+			key, err := keyOf(id, binding)
 			found = append(found, platform.Position{State: platform.State(state), Since: timeOf(since), Key: key})
 			return err
 		})
@@ -229,18 +229,14 @@ func (s *Store) Positions(ctx context.Context, filter platform.Filter) ([]platfo
 }
 
 var readAll = `
-SELECT row_to_json(t) FROM (SELECT n, '' AS binding, ` + briefColumns + `
+SELECT line FROM (SELECT n, ` + lineOf("t", false, true) + ` AS line
         FROM unnest($1::text[], $2::text[]) WITH ORDINALITY AS k (i, b, n)
         JOIN osb_instances AS t ON t.id = k.i WHERE k.b = ''
-    UNION ALL SELECT n, binding, ` + briefColumns + `
+    UNION ALL SELECT n, ` + lineOf("t", true, true) + `
         FROM unnest($1::text[], $2::text[]) WITH ORDINALITY AS k (i, b, n)
         JOIN osb_bound AS t ON t.id = k.i AND t.binding = k.b WHERE k.b <> '') AS t
 ORDER BY n
 `
-
-// briefColumns are the columns of both tables but for those that may be long.
-var briefColumns = strings.Replace(strings.Join(append(append([]string{}, orderColumns...), stateColumns...), ", "),
-	" further,", "", 1)
 
 // ReadAll returns the rows of these keys, as platform.Store says.
 func (s *Store) ReadAll(ctx context.Context, keys []platform.Key) ([]platform.Entry, error) {

@@ -1,6 +1,7 @@
 package postgres
 
 import (
+	"bytes"
 	"context"
 	"database/sql"
 	"encoding/hex"
@@ -16,62 +17,21 @@ import (
 	"pippinterm/platform"
 )
 
-// A row is one of osb_instances or osb_bound, under the names of its columns. It is read and written as JSON
-// (row_to_json, json_populate_recordset), so that each statement has one parameter for any number of rows. Times are
-// seconds since 1970, as version 0.2 has them.
-type row struct {
-	ID      string `json:"id"`
-	Binding string `json:"binding,omitempty"` // of osb_bound
-
-	Broker    string  `json:"broker"`
-	Names     string  `json:"names"` // an object: instance, binding, service, plan
-	Service   string  `json:"service"`
-	Plan      string  `json:"plan"`
-	Further   string  `json:"further"` // the body
-	Identity  *string `json:"identity"`
-	OwnID     bool    `json:"own_id"`
-	TryNumber int     `json:"try_number"`
-	MostTries int     `json:"most_tries"`
-	First     string  `json:"first"`
-
-	Record      *string `json:"record"`
-	Operation   *string `json:"operation"`
-	State       string  `json:"state"`
-	Since       seconds `json:"since"`
-	SentUntil   seconds `json:"sent_until"`
-	PolledSince seconds `json:"polled_since"`
-	Removal     int     `json:"removal"`
-	HasLast     bool    `json:"has_last"`
-	Due         seconds `json:"due"`
-	Tries       int     `json:"tries"` // how many requests in turn have changed nothing
-	Worker      *string `json:"worker"`
-	LeasedUntil seconds `json:"leased_until"`
-	Last        *string `json:"last"`
-	Failure     *string `json:"failure"`
-	Passing     bool    `json:"passing"`
-	After       float64 `json:"after"`
-	Metadata    *string `json:"metadata"`
-	Credentials bytea   `json:"credentials"` // of osb_bound
-
-	platform.OrderTexts
-	platform.EntryTexts
-}
-
-// The columns of platform.ColumnNames.
-var orderTexts, entryTexts = platform.ColumnNames()
-
-// The columns that an order has, and those that change. osb_bound has binding and credentials besides.
+// The columns of an order, which are written once, and of what has become of it, without the key: id, and of osb_bound
+// also binding. Times are seconds since 1970, as version 0.2 has them.
 var (
-	orderColumns = append([]string{
-		"id", "broker", "names", "service", "plan", "further", "identity", "own_id", "try_number", "most_tries", "first",
-	}, orderTexts...)
-	stateColumns = append([]string{
-		"record", "operation", "state", "since", "sent_until", "polled_since", "removal", "has_last", "due", "tries",
-		"worker", "leased_until", "last", "failure", "passing", "after", "metadata",
-	}, entryTexts...)
+	orderColumns = append(append(platform.Columns{}, platform.OrderColumns...),
+		platform.Column{Name: "names", Member: func(e *platform.Entry) any { return (*namesText)(&e.Names) }},
+		platform.Column{Name: "first", Member: func(e *platform.Entry) any { return &e.First }},
+	)
+	stateColumns = platform.StateColumns
+	rowColumns   = append(append(platform.Columns{}, orderColumns...), stateColumns...)
 )
 
-// names are platform.Names.
+// A namesText is platform.Names as an object.
+type namesText platform.Names
+
+// names are platform.Names with the members of that object.
 type names struct {
 	Instance string `json:"instance"`
 	Binding  string `json:"binding,omitempty"`
@@ -79,171 +39,129 @@ type names struct {
 	Plan     string `json:"plan"`
 }
 
-// rowOf is the row of an entry.
-func rowOf(entry platform.Entry) (row, error) {
-	it := row{
-		ID: entry.Key.Instance.String(), Broker: storable(entry.Broker), Service: entry.Service.String(),
-		Plan: entry.Plan.String(), Further: storable(string(entry.Body)), Identity: orNull(entry.Identity),
-		OwnID: entry.IsOwnID, TryNumber: entry.Try, MostTries: entry.Tries, First: entry.First.String(),
-		State: string(entry.State), Since: seconds(entry.Since), SentUntil: seconds(entry.SentUntil),
-		PolledSince: seconds(entry.PolledSince), Removal: int(entry.Removal), HasLast: entry.HasLast,
-		Due: seconds(entry.Due), Tries: entry.Unchanged, Worker: orNull(entry.Lease.Worker),
-		LeasedUntil: seconds(entry.Lease.Until), Passing: entry.Passing, After: entry.After.Seconds(),
-		Metadata: orNull(string(entry.Metadata)), Credentials: entry.Credentials,
-		OrderTexts: entry.OrderTexts, EntryTexts: entry.EntryTexts,
-	}
-	for _, column := range append(platform.Columns(&it.OrderTexts), platform.Columns(&it.EntryTexts)...) {
-		*column.Text = storable(*column.Text)
-	}
+func (n *namesText) MarshalText() ([]byte, error) { return json.Marshal(names(*n)) }
+
+func (n *namesText) UnmarshalText(text []byte) error { return json.Unmarshal(text, (*names)(n)) }
+
+// objectOf is an object with the key of an entry and these columns, as json_populate_recordset reads it. So a statement
+// has one parameter for any number of rows.
+func objectOf(entry platform.Entry, columns platform.Columns) ([]byte, error) {
+	var object bytes.Buffer
+	encoder := json.NewEncoder(&object)
+	object.WriteString(`{"id":"` + entry.Key.Instance.String() + `"`)
 	if entry.Key.IsBinding {
-		it.Binding = entry.Key.Binding.String()
+		object.WriteString(`,"binding":"` + entry.Key.Binding.String() + `"`)
 	}
-	if entry.Operation != nil {
-		operation := storable(*entry.Operation)
-		it.Operation = &operation
+	for _, column := range columns {
+		value, err := column.Value(&entry)
+		if err != nil {
+			return nil, err
+		}
+		switch it := value.(type) {
+		case string:
+			value = storable(it)
+		case time.Time:
+			value = seconds(it)
+		case time.Duration:
+			value = it.Seconds()
+		case []byte:
+			value = bytea(it)
+		}
+		object.WriteString(`,"` + column.Name + `":`)
+		if err := encoder.Encode(value); err != nil {
+			return nil, err
+		}
 	}
-	return it, it.writeTexts(entry)
+	object.WriteString("}")
+	return object.Bytes(), nil
 }
 
-// writeTexts writes the columns that have an object.
-func (r *row) writeTexts(entry platform.Entry) (err error) {
-	of := entry.Names
-	ids := names{Instance: of.Instance, Binding: of.Binding, Service: of.Service, Plan: of.Plan}
-	if r.Names, err = textOf(ids); err != nil {
-		return err
+// lineOf is an array with the key and the columns of a row, as entryOf reads it, or one without the columns that may be
+// long. It has NULL for the columns that the table doesn't have.
+func lineOf(row string, isBinding, isBrief bool) string {
+	binding := "NULL"
+	if isBinding {
+		binding = row + ".binding"
 	}
-	if r.Last, err = lastText(entry); err != nil {
-		return err
+	parts := []string{row + ".id", binding}
+	for _, column := range rowColumns {
+		if column.IsOfBinding && !isBinding || column.IsLong && isBrief {
+			parts = append(parts, "NULL")
+		} else {
+			parts = append(parts, row+"."+column.Name)
+		}
 	}
-	if r.Failure, err = reasonText(entry.Failure); err != nil {
-		return err
-	}
-	if !entry.IsSent {
-		return nil
-	}
-	write := entry.Record.MarshalJSON
-	if entry.Key.IsBinding {
-		write = entry.Record.BindingText
-	}
-	text, err := write()
-	if err != nil {
-		return fmt.Errorf("the record of %v: %w", entry.Key, err)
-	}
-	record := string(text)
-	r.Record = &record
-	return nil
+	return "json_build_array(" + strings.Join(parts, ", ") + ")"
 }
 
-// entry is the entry of a row.
-func (r *row) entry() (entry platform.Entry, err error) {
-	key, err := r.key()
-	if err != nil {
-		return entry, err
+// entryOf is the entry of a line. If columns can't be read, the entry has all others, and unreadable is the error of the
+// first of them. Without a key there is no entry, but an error.
+func entryOf(line []byte) (entry platform.Entry, unreadable, err error) {
+	var id, binding *string
+	members, texts := []any{&id, &binding}, make([]*string, len(rowColumns))
+	for n, column := range rowColumns {
+		members = append(members, memberOf(column.Member(&entry), &texts[n]))
 	}
-	entry = platform.Entry{
-		Order: platform.Order{
-			Key: key, Broker: r.Broker, IsOwnID: r.OwnID, OrderTexts: r.OrderTexts,
-			Body: raw(&r.Further), Identity: orEmpty(r.Identity), Try: r.TryNumber, Tries: r.MostTries,
-		},
-		State: platform.State(r.State), Since: time.Time(r.Since), Operation: r.Operation,
-		SentUntil: time.Time(r.SentUntil), PolledSince: time.Time(r.PolledSince), Removal: platform.Removal(r.Removal),
-		HasLast: r.HasLast, Due: time.Time(r.Due), Unchanged: r.Tries,
-		Lease:   platform.Lease{Worker: orEmpty(r.Worker), Until: time.Time(r.LeasedUntil)},
-		Passing: r.Passing, After: time.Duration(math.Round(r.After*1e6)) * time.Microsecond,
-		Metadata: raw(r.Metadata), Credentials: r.Credentials, EntryTexts: r.EntryTexts,
+	if err := json.Unmarshal(line, &members); err != nil {
+		return entry, nil, fmt.Errorf("a row: %w", err)
 	}
-	return entry, r.readTexts(&entry)
+	if entry.Key, err = keyOf(orEmpty(id), orEmpty(binding)); err != nil {
+		return entry, nil, err
+	}
+	for n, column := range rowColumns { // once all others are read
+		if texts[n] == nil {
+			continue
+		}
+		if err := column.Member(&entry).(platform.Text).UnmarshalText([]byte(*texts[n])); err != nil {
+			unreadable = either(unreadable, fmt.Errorf("the column %s of %v: %w", column.Name, entry.Key, err))
+		}
+	}
+	return entry, unreadable, nil
 }
 
-func (r *row) key() (key platform.Key, err error) {
-	if key.Instance, err = osb.ParseID(r.ID); err != nil {
-		return key, fmt.Errorf("the row %q: %w", r.ID, err)
+// memberOf is what a member of an entry is read into from JSON: itself, or text.
+func memberOf(member any, text **string) any {
+	switch member := member.(type) {
+	case *time.Time:
+		return (*seconds)(member)
+	case *time.Duration:
+		return (*duration)(member)
+	case *[]byte:
+		return (*bytea)(member)
+	case platform.Text:
+		return text
 	}
-	if r.Binding == "" {
+	return member
+}
+
+func keyOf(id, binding string) (key platform.Key, err error) {
+	if key.Instance, err = osb.ParseID(id); err != nil {
+		return key, fmt.Errorf("the row %q: %w", id, err)
+	}
+	if binding == "" {
 		return key, nil
 	}
 	key.IsBinding = true
-	if key.Binding, err = osb.ParseID(r.Binding); err != nil {
-		return key, fmt.Errorf("the row %q of %v: %w", r.Binding, key.Instance, err)
+	if key.Binding, err = osb.ParseID(binding); err != nil {
+		return key, fmt.Errorf("the row %q of %v: %w", binding, key.Instance, err)
 	}
 	return key, nil
 }
 
-// readTexts reads the columns that have ids, an object or a record: all that can be read. The error is that of the
-// first one that can't.
-func (r *row) readTexts(entry *platform.Entry) (failed error) {
-	var ids names
-	for _, test := range []struct {
-		what string
-		read func() error
-	}{
-		{"service", func() error { return entry.Service.UnmarshalText([]byte(r.Service)) }},
-		{"plan", func() error { return entry.Plan.UnmarshalText([]byte(r.Plan)) }},
-		{"first", func() error { return entry.First.UnmarshalText([]byte(r.First)) }},
-		{"names", func() error { return json.Unmarshal([]byte(r.Names), &ids) }},
-		{"last", func() error { return readLast(r.Last, entry) }},
-		{"failure", func() error { return readReason(r.Failure, &entry.Failure) }},
-		{"record", func() error { return r.readRecord(entry) }},
-	} {
-		if err := test.read(); err != nil {
-			failed = either(failed, fmt.Errorf("the column %s of %v: %w", test.what, entry.Key, err))
+// shownOf is entryOf for whoever only shows the row: if it can't be read, the entry says so. An error is left only if
+// the row has no key, without which it has no place among others.
+func shownOf(line []byte) (platform.Entry, error) {
+	entry, unreadable, err := entryOf(line)
+	if unreadable != nil {
+		entry.Unreadable = unreadable.Error()
+	}
+	if names := &entry.Names; err == nil && names.Instance == "" { // the names can't be read
+		names.Instance = entry.Key.Instance.String()
+		if entry.Key.IsBinding {
+			names.Binding = entry.Key.Binding.String()
 		}
 	}
-	entry.Names = platform.Names{Instance: ids.Instance, Binding: ids.Binding, Service: ids.Service, Plan: ids.Plan}
-	return failed
-}
-
-func (r *row) readRecord(entry *platform.Entry) (err error) {
-	if r.Record == nil {
-		return nil
-	}
-	var record osb.Record
-	if entry.Key.IsBinding {
-		record, err = osb.BindingRecordFromText([]byte(*r.Record))
-	} else {
-		err = record.UnmarshalJSON([]byte(*r.Record))
-	}
-	if err == nil {
-		entry.Record, entry.IsSent = record, true
-	}
-	return err
-}
-
-// entryOf is the entry of a row as JSON.
-func entryOf(text []byte) (platform.Entry, error) {
-	it, err := readRow(text)
-	if err != nil {
-		return platform.Entry{}, err
-	}
-	return it.entry()
-}
-
-// shownOf is entryOf for whoever only shows the row: if it can't be read, the entry says so. An error is left only if
-// the row has no key, without which it has no position among others.
-func shownOf(text []byte) (platform.Entry, error) {
-	it, err := readRow(text)
-	if err != nil {
-		return platform.Entry{}, err
-	}
-	if _, err := it.key(); err != nil {
-		return platform.Entry{}, err
-	}
-	entry, err := it.entry()
-	if err != nil {
-		entry.Unreadable = err.Error()
-	}
-	if entry.Names.Instance == "" { // the names can't be read
-		entry.Names.Instance = it.ID
-		entry.Names.Binding = it.Binding
-	}
-	return entry, nil
-}
-
-func readRow(text []byte) (it row, err error) {
-	if err := json.Unmarshal(text, &it); err != nil {
-		return it, fmt.Errorf("a row: %w", err)
-	}
-	return it, nil
+	return entry, err
 }
 
 // seconds is a time as a column has it, in whole microseconds: NULL for the zero time.
@@ -278,6 +196,17 @@ func timeOf(at float64) time.Time {
 	return time.Unix(int64(whole), int64(math.Round((at-whole)*1e6))*1000).UTC()
 }
 
+// duration is a time.Duration as a column has it, in seconds.
+type duration time.Duration
+
+// UnmarshalJSON reads the seconds, in whole microseconds.
+func (d *duration) UnmarshalJSON(text []byte) error {
+	var read float64
+	err := json.Unmarshal(text, &read)
+	*d = duration(math.Round(read*1e6)) * duration(time.Microsecond)
+	return err
+}
+
 // bytea are bytes as a column of the type bytea has them: NULL for nil.
 type bytea []byte
 
@@ -299,39 +228,6 @@ func (s *bytea) UnmarshalJSON(text []byte) error {
 	bytes, err := hex.DecodeString(strings.TrimPrefix(*read, `\x`))
 	*s = bytes
 	return err
-}
-
-// lastText is the last reason, with the claim and since when the row is due.
-func lastText(entry platform.Entry) (*string, error) {
-	text, err := entry.LastText()
-	if text == nil || err != nil {
-		return nil, err
-	}
-	kept := string(text)
-	return &kept, nil
-}
-
-func readLast(text *string, entry *platform.Entry) error {
-	if text == nil {
-		return nil
-	}
-	return entry.ReadLast([]byte(*text))
-}
-
-func reasonText(reason platform.Reason) (*string, error) {
-	if reason == (platform.Reason{}) {
-		return nil, nil
-	}
-	reason.At = reason.At.UTC()
-	text, err := textOf(reason)
-	return &text, err
-}
-
-func readReason(text *string, reason *platform.Reason) error {
-	if text == nil {
-		return nil
-	}
-	return json.Unmarshal([]byte(*text), reason)
 }
 
 func textOf(value any) (string, error) {
@@ -396,7 +292,8 @@ func brokerRowOf(broker platform.Broker) (it brokerRow, err error) {
 		return it, err
 	}
 	it.Settings = string(settings)
-	it.Reason, err = reasonText(broker.Reason)
+	reason, err := (*platform.ReasonText)(&broker.Reason).MarshalText()
+	it.Reason = orNull(string(reason))
 	return it, err
 }
 
@@ -405,7 +302,10 @@ func (r brokerRow) broker() (platform.Broker, error) {
 		Name: r.Name, URL: r.URL, User: r.Username, Password: r.Password, PasswordFile: r.PasswordFile,
 		Catalogue: raw(r.Catalogue), CatalogueAt: time.Time(r.CatalogueAt),
 	}
-	err := either(it.ReadSettings([]byte(r.Settings)), readReason(r.Reason, &it.Reason))
+	err := it.ReadSettings([]byte(r.Settings))
+	if r.Reason != nil {
+		err = either(err, (*platform.ReasonText)(&it.Reason).UnmarshalText([]byte(*r.Reason)))
+	}
 	if err != nil {
 		err = fmt.Errorf("the broker %s: %w", r.Name, err)
 	}

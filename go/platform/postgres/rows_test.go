@@ -36,6 +36,23 @@ func TestExtensionOfTheTables(t *testing.T) {
 	check(t, err)
 }
 
+// A column that is added has the type that it has in the tables of version 0.3.
+func TestTypesOfColumns(t *testing.T) {
+	url := pgtest.Schema(t, pgtest.URL(t), "osb_platform_types")
+	store, err := Open(context.Background(), url, 1)
+	check(t, err)
+	defer store.Close()
+	db := pgtest.DB(t, url)
+	for _, column := range rowColumns {
+		var found string
+		err := db.QueryRow("SELECT format_type(atttypid, atttypmod) FROM pg_attribute "+
+			"WHERE attrelid = 'osb_bound'::regclass AND attname = $1", column.Name).Scan(&found)
+		if err != nil || found != typeOf(column) {
+			t.Errorf("%s: got %s, %v, want %s", column.Name, found, err, typeOf(column))
+		}
+	}
+}
+
 // The session of a worker's right lives as long as it answers.
 func TestARightLives(t *testing.T) {
 	store, err := Open(context.Background(), pgtest.Schema(t, pgtest.URL(t), "osb_platform_right_lives"), 1)

@@ -79,22 +79,35 @@ INSERT INTO osb_broker_asked VALUES (1, 'of a later version of osb-platform, whi
 // isSince02 is whether the tables have what version 0.2 didn't have: that is added in one transaction.
 const isSince02 = "SELECT to_regclass('osb_platform') IS NOT NULL"
 
-// isCurrent is whether nothing is missing: the tables have the columns of platform.ColumnNames, too.
-var isCurrent = isSince02 + fmt.Sprintf(" AND (SELECT count(*) FROM pg_attribute WHERE NOT attisdropped "+
-	"AND attrelid IN (to_regclass('osb_instances'), to_regclass('osb_bound')) AND attname IN ('%s')) = %d",
-	strings.Join(texts(), "', '"), 2*len(texts()))
+// isCurrent is whether nothing is missing.
+var isCurrent = isSince02 + " AND NOT EXISTS (" + missingColumns() + ")"
 
-// texts are the columns of platform.ColumnNames.
-func texts() []string { return append(append([]string{}, orderTexts...), entryTexts...) }
-
-// missingTexts are statements that add those that the tables lack.
-func missingTexts() (statements string) {
+// missingColumns is a query of the statements that add the columns that the tables lack.
+func missingColumns() string {
+	wanted := []string{}
 	for _, table := range []string{"osb_instances", "osb_bound"} {
-		for _, name := range texts() {
-			statements += "ALTER TABLE " + table + " ADD COLUMN IF NOT EXISTS " + name + " text;\n"
+		for _, column := range rowColumns.Of(table == "osb_bound") {
+			wanted = append(wanted, fmt.Sprintf("('%s', '%s', '%s')", table, column.Name, typeOf(column)))
 		}
 	}
-	return statements
+	return "SELECT 'ALTER TABLE ' || owner || ' ADD COLUMN ' || name || ' ' || type " +
+		"FROM (VALUES " + strings.Join(wanted, ", ") + ") AS wanted (owner, name, type) WHERE NOT EXISTS " +
+		"(SELECT FROM pg_attribute WHERE attrelid = to_regclass(owner) AND attname = name AND NOT attisdropped)"
+}
+
+// typeOf is the type of a column that is added.
+func typeOf(column platform.Column) string {
+	switch column.Member(&platform.Entry{}).(type) {
+	case *int:
+		return "integer"
+	case *bool:
+		return "boolean"
+	case *time.Time, *time.Duration:
+		return "double precision"
+	case *[]byte:
+		return "bytea"
+	}
+	return "text"
 }
 
 // hasWorkers is whether a worker of version 0.2 may run over the tables: it holds a lock of its name (store.go). No
@@ -167,16 +180,33 @@ func extend(ctx context.Context, tx *sql.Tx) (bool, error) {
 	if err := tx.QueryRowContext(ctx, isSince02).Scan(&isDone); err != nil {
 		return false, err
 	}
-	if isDone {
-		_, err := tx.ExecContext(ctx, missingTexts())
-		return true, err
+	if !isDone {
+		if err := tx.QueryRowContext(ctx, hasWorkers, workerLock).Scan(&hasAny); err != nil {
+			return false, err
+		}
+		if hasAny {
+			return false, pg.AsLasting(errWorkers)
+		}
+		if _, err := tx.ExecContext(ctx, tablesOf02+tablesSince02); err != nil {
+			return false, err
+		}
 	}
-	if err := tx.QueryRowContext(ctx, hasWorkers, workerLock).Scan(&hasAny); err != nil {
-		return false, err
+	return true, addColumns(ctx, tx)
+}
+
+// addColumns adds the columns that the tables lack.
+func addColumns(ctx context.Context, tx *sql.Tx) error {
+	statements := []string{}
+	rows, err := tx.QueryContext(ctx, missingColumns())
+	err = each(rows, err, func(rows *sql.Rows) error {
+		var statement string
+		err := rows.Scan(&statement)
+		statements = append(statements, statement)
+		return err
+	})
+	if err != nil {
+		return err
 	}
-	if hasAny {
-		return false, pg.AsLasting(errWorkers)
-	}
-	_, err := tx.ExecContext(ctx, tablesOf02+tablesSince02+missingTexts())
-	return true, err
+	_, err = tx.ExecContext(ctx, strings.Join(statements, "; "))
+	return err
 }

@@ -131,8 +131,8 @@ func want02(t *testing.T, got platform.Entry, n int, it row02) {
 	t.Helper()
 	order := platform.Order{
 		Key: instance(n), Broker: "default", Service: osb.MustParseID(theService), Plan: osb.MustParseID(thePlan),
-		Names:      platform.Names{Instance: id(n).String(), Service: theService, Plan: thePlan},
-		OrderTexts: platform.OrderTexts{Organization: "osb-platform", Space: "osb-platform"}, Try: 1, Tries: 1, First: id(n),
+		Names:        platform.Names{Instance: id(n).String(), Service: theService, Plan: thePlan},
+		Organization: "osb-platform", Space: "osb-platform", Try: 1, Tries: 1, First: id(n),
 	}
 	body := string(got.Body)
 	got.Order.Body = nil
@@ -334,8 +334,8 @@ func TestOpenExisting(t *testing.T) {
 	}
 }
 
-// The columns that the tables of an earlier version lack are added when a store is opened, with empty texts, and are
-// used. Here they are two of today's.
+// The columns that the tables of an earlier version lack are added when a store is opened, with zero values, and are
+// used. Here they are some of today's.
 func TestMissingColumns(t *testing.T) {
 	url := pgtest.Schema(t, pgtest.URL(t), "osb_platform_columns")
 	db := pgtest.DB(t, url)
@@ -343,27 +343,30 @@ func TestMissingColumns(t *testing.T) {
 	pgtest.Exec(t, db, insert02(0, rows02[7]))
 	entry := platform.Entry{
 		Order: platform.Order{
-			Key: instance(1), Broker: "default", OrderTexts: platform.OrderTexts{Organization: "o", Space: "s"},
+			Key: instance(1), Broker: "default", Organization: "o", Space: "s",
 			Body: []byte("{}"), Names: platform.Names{Instance: id(1).String()}, Try: 1, Tries: 1, First: id(1),
 		},
-		EntryTexts: platform.EntryTexts{Dashboard: "https://one.example", Because: "nobody wants it"},
-		State:      platform.Ordered, Since: at(0),
+		Dashboard: "https://one.example", Because: "nobody wants it", Unchanged: 2, Passing: true, After: time.Minute,
+		State: platform.Ordered, Since: at(0), PolledSince: at(1),
 	}
-	for n, lost := range []string{"", "because", "space"} {
+	for n, lost := range []string{"", "because", "space", "tries", "passing", "after", "polled_since", "credentials"} {
 		if lost != "" {
-			pgtest.Exec(t, db, "ALTER TABLE osb_instances DROP COLUMN "+lost, "ALTER TABLE osb_bound DROP COLUMN "+lost)
+			pgtest.Exec(t, db, "ALTER TABLE osb_instances DROP COLUMN IF EXISTS "+lost, "ALTER TABLE osb_bound DROP COLUMN "+lost)
 		}
 		store := open(t, url)
 		got, err := store.Read(background, instance(0))
 		if err != nil || got.State != platform.Ready || got.Because != "" {
 			t.Errorf("without %q: got %s, %q, %v, want a row that is ready", lost, got.State, got.Because, err)
 		}
-		entry.Key = instance(n + 1)
-		check(t, store.Insert(background, entry, func(platform.Snapshot) error { return nil }))
-		got, err = store.Read(background, entry.Key)
-		check(t, err)
-		diff.Check(t, got.EntryTexts, entry.EntryTexts, "without %q", lost)
-		diff.Check(t, got.OrderTexts, entry.OrderTexts, "without %q", lost)
+		bound := entry
+		entry.Key, bound.Key = instance(n+1), platform.BindingKey(id(n+1), id(n+1))
+		bound.Names.Binding, bound.Credentials = "binding", []byte{0, 1}
+		for _, want := range []platform.Entry{entry, bound} {
+			check(t, store.Insert(background, want, func(platform.Snapshot) error { return nil }))
+			got, err = store.Read(background, want.Key)
+			check(t, err)
+			diff.Check(t, got, want, "without %q", lost)
+		}
 		diff.NoError(t, store.Close(), "")
 	}
 }

@@ -1,6 +1,7 @@
 package postgres
 
 import (
+	"bytes"
 	"context"
 	"database/sql"
 	"encoding/json"
@@ -46,8 +47,9 @@ WITH a AS MATERIALIZED (SELECT t AS line FROM ` + dueOf("osb_instances", "id") +
         JOIN osb_bound AS t ON t.id = c.id AND t.binding = c.binding
         WHERE t.due <= ` + start + ` AND (t.worker IS NULL OR t.leased_until < ` + start + `)
         ORDER BY c.due LIMIT $2 FOR NO KEY UPDATE OF i SKIP LOCKED FOR UPDATE OF t SKIP LOCKED)
-SELECT row_to_json(a.line), NULL, ` + clock + ` FROM a
-UNION ALL SELECT row_to_json(b.line), row_to_json(b.instance), ` + clock + ` FROM b
+SELECT ` + lineOf("(a.line)", false, false) + `, NULL, ` + clock + ` FROM a
+UNION ALL SELECT ` + lineOf("(b.line)", true, false) + `, ` + lineOf("(b.instance)", false, false) + `,
+    ` + clock + ` FROM b
 `
 
 // among is among how many rows that are due a claim of so many chooses.
@@ -117,52 +119,43 @@ func (b *batch) add(rows *sql.Rows) (dueRow, error) {
 		return dueRow{}, err
 	}
 	b.now = timeOf(now)
-	var it row
-	if err := json.Unmarshal(text, &it); err != nil {
-		return dueRow{}, err
-	}
-	key, err := it.key()
+	entry, unreadable, err := entryOf(text)
 	if err != nil {
 		return dueRow{}, err
 	}
-	found := dueRow{platform.ClaimedRow{Key: key}, time.Time(it.Due)}
-	var entry platform.Entry
-	if entry, found.Err = it.entry(); found.Err != nil {
-		return found, nil
+	if unreadable == nil && entry.Key.IsBinding {
+		unreadable = b.addInstance(instance)
 	}
-	if key.IsBinding {
-		if found.Err = b.addInstance(instance); found.Err != nil {
-			return found, nil
-		}
+	if unreadable == nil {
+		b.rows[entry.Key] = &lockedRow{entry: entry, isOurs: true}
 	}
-	b.rows[key] = &lockedRow{entry: entry, isOurs: true}
-	return found, nil
+	return dueRow{platform.ClaimedRow{Key: entry.Key, Err: unreadable}, entry.Due}, nil
 }
 
 // addInstance adds the row of a binding's instance, unless the batch has it.
 func (b *batch) addInstance(text []byte) error {
-	entry, err := entryOf(text)
-	if err != nil || b.rows[entry.Key] != nil {
-		return err
+	entry, unreadable, err := entryOf(text)
+	if err = either(err, unreadable); err == nil && b.rows[entry.Key] == nil {
+		b.rows[entry.Key] = &lockedRow{entry: entry}
 	}
-	b.rows[entry.Key] = &lockedRow{entry: entry}
-	return nil
+	return err
 }
 
-const lockInstance = `
+var lockInstance = `
 WITH t AS MATERIALIZED (SELECT * FROM osb_instances WHERE id = $1 FOR UPDATE)
-SELECT row_to_json(t), NULL, ` + clock + ` FROM t
+SELECT ` + lineOf("t", false, false) + `, NULL, ` + clock + ` FROM t
 `
 
 // The row of the instance is locked first, in the order of the last clause.
-const lockBinding = `
+var lockBinding = `
 WITH t AS MATERIALIZED (SELECT b AS line, i AS instance FROM osb_instances AS i JOIN osb_bound AS b ON b.id = i.id
     WHERE i.id = $1 AND b.binding = $2 FOR KEY SHARE OF i FOR UPDATE OF b)
-SELECT row_to_json(t.line), row_to_json(t.instance), ` + clock + ` FROM t
+SELECT ` + lineOf("(t.line)", true, false) + `, ` + lineOf("(t.instance)", false, false) + `, ` + clock + ` FROM t
 `
 
-const lockInstanceOf = `
-WITH t AS MATERIALIZED (SELECT * FROM osb_instances WHERE id = $1 FOR KEY SHARE) SELECT row_to_json(t) FROM t
+var lockInstanceOf = `
+WITH t AS MATERIALIZED (SELECT * FROM osb_instances WHERE id = $1 FOR KEY SHARE)
+SELECT ` + lineOf("t", false, false) + ` FROM t
 `
 
 // Change is one transaction, as platform.Store says. A panic of step is an error.
@@ -226,15 +219,14 @@ func lockForInsert(ctx context.Context, tx *sql.Tx, entry platform.Entry) (snaps
 	if err != nil {
 		return snapshot, err
 	}
-	instance, err := entryOf(text)
+	instance, unreadable, err := entryOf(text)
 	snapshot.Instance = &instance
-	return snapshot, err
+	return snapshot, either(err, unreadable)
 }
 
 var (
-	insertInstance = inserting("osb_instances", strings.Join(append(append([]string{}, orderColumns...), stateColumns...), ", "))
-	insertBinding  = inserting("osb_bound",
-		strings.Join(append(append([]string{"binding", "credentials"}, orderColumns...), stateColumns...), ", "))
+	insertInstance = inserting("osb_instances", strings.Join(append(rowColumns.Of(false).Names(), "id"), ", "))
+	insertBinding  = inserting("osb_bound", strings.Join(append(rowColumns.Of(true).Names(), "id", "binding"), ", "))
 )
 
 // inserting is a statement that inserts a row, unless its key has one.
@@ -245,11 +237,7 @@ func inserting(table, columns string) string {
 
 // insert inserts the row of a new order. If its key has a row, the error is platform.ErrUsed.
 func insert(ctx context.Context, tx *sql.Tx, entry platform.Entry) error {
-	it, err := rowOf(entry)
-	if err != nil {
-		return err
-	}
-	text, err := json.Marshal(it)
+	object, err := objectOf(entry, rowColumns.Of(entry.Key.IsBinding))
 	if err != nil {
 		return err
 	}
@@ -257,7 +245,7 @@ func insert(ctx context.Context, tx *sql.Tx, entry platform.Entry) error {
 	if entry.Key.IsBinding {
 		query = insertBinding
 	}
-	done, err := tx.ExecContext(ctx, query, string(text))
+	done, err := tx.ExecContext(ctx, query, string(object))
 	if err != nil {
 		return err
 	}
@@ -268,9 +256,9 @@ func insert(ctx context.Context, tx *sql.Tx, entry platform.Entry) error {
 }
 
 // assignments are the assignments of columns, of the same columns of v.
-func assignments(columns []string, more ...string) string {
+func assignments(columns []string) string {
 	texts := []string{}
-	for _, column := range append(append([]string{}, columns...), more...) {
+	for _, column := range columns {
 		texts = append(texts, column+" = v."+column)
 	}
 	return strings.Join(texts, ", ")
@@ -299,8 +287,8 @@ type batch struct {
 // A lockedRow row is one of a batch.
 type lockedRow struct {
 	entry  platform.Entry
-	isOurs bool // whether it is locked to be written; else it is the instance of a binding, and only read
-	toSend *row // what is to be written, or nil
+	isOurs bool   // whether it is locked to be written; else it is the instance of a binding, and only read
+	toSend []byte // the object that is to be written, or nil
 }
 
 // A stay is a row of osb_lives without its number.
@@ -361,7 +349,7 @@ func (b *batch) take(key platform.Key, change platform.Change) error {
 	it := b.rows[key]
 	before, entry := it.entry, change.Entry
 	entry.Order = before.Order
-	next, err := rowOf(entry)
+	object, err := objectOf(entry, stateColumns)
 	if err != nil {
 		return err
 	}
@@ -370,7 +358,7 @@ func (b *batch) take(key platform.Key, change platform.Change) error {
 			return err
 		}
 	}
-	it.entry, it.toSend = entry, &next
+	it.entry, it.toSend = entry, object
 	if entry.State != before.State {
 		b.stays = append(b.stays, stay{key.String(), string(before.State), seconds(before.Since)})
 	}
@@ -414,8 +402,8 @@ func (b *batch) wake(instance platform.Key) {
 
 // set has an entry written in place of the one that was read.
 func (b *batch) set(it *lockedRow, entry platform.Entry) {
-	next, err := rowOf(entry)
-	it.entry, it.toSend = entry, &next
+	object, err := objectOf(entry, stateColumns)
+	it.entry, it.toSend = entry, object
 	b.failed = either(b.failed, err)
 }
 
@@ -511,20 +499,20 @@ func (b *batch) write() (bool, error) {
 			return false, err
 		}
 	}
-	instances, bindings := []*row{}, []*row{}
+	var instances, bindings objects
 	for key, row := range b.rows {
 		switch {
 		case row.toSend == nil:
 		case key.IsBinding:
-			bindings = append(bindings, row.toSend)
+			bindings.add(key, row.toSend)
 		default:
-			instances = append(instances, row.toSend)
+			instances.add(key, row.toSend)
 		}
 	}
 	if err := b.postpone(); err != nil {
 		return false, err
 	}
-	if len(instances)+len(bindings) == 0 {
+	if len(instances.ids)+len(bindings.ids) == 0 {
 		return len(b.postponed) > 0, nil
 	}
 	return true, b.writeRows(instances, bindings)
@@ -561,9 +549,9 @@ func (b *batch) postpone() error {
 // writeRows writes rows and stays in one statement. The conditions with ANY are for the planner. It doesn't know how
 // many rows there are in JSON, and reads the whole of a small table otherwise.
 var writeRows = `
-WITH i AS (UPDATE osb_instances AS t SET ` + assignments(stateColumns) + `
+WITH i AS (UPDATE osb_instances AS t SET ` + assignments(stateColumns.Of(false).Names()) + `
         FROM json_populate_recordset(NULL::osb_instances, $1) AS v WHERE t.id = v.id AND t.id = ANY ($4) RETURNING 1),
-    b AS (UPDATE osb_bound AS t SET ` + assignments(stateColumns, "credentials") + `
+    b AS (UPDATE osb_bound AS t SET ` + assignments(stateColumns.Names()) + `
         FROM json_populate_recordset(NULL::osb_bound, $2) AS v
         WHERE t.id = v.id AND t.binding = v.binding AND t.id = ANY ($5) RETURNING 1),
     l AS (INSERT INTO osb_lives (id, number, state, since)
@@ -572,22 +560,14 @@ WITH i AS (UPDATE osb_instances AS t SET ` + assignments(stateColumns) + `
 SELECT (SELECT count(*) FROM i), (SELECT count(*) FROM b), (SELECT count(*) FROM l)
 `
 
-func (b *batch) writeRows(instances, bindings []*row) error {
-	stays := b.stays
-	if stays == nil {
-		stays = []stay{}
+func (b *batch) writeRows(instances, bindings objects) error {
+	stays, err := json.Marshal(append([]stay{}, b.stays...))
+	if err != nil {
+		return err
 	}
-	texts, want := [3]string{}, [3]int{len(instances), len(bindings), len(stays)}
-	for n, list := range []any{instances, bindings, stays} {
-		text, err := json.Marshal(list)
-		if err != nil {
-			return err
-		}
-		texts[n] = string(text)
-	}
-	var got [3]int
-	parameters := []any{texts[0], texts[1], texts[2], idsOf(instances), idsOf(bindings)}
-	err := b.each(b.send, parameters, func(rows *sql.Rows) error {
+	got, want := [3]int{}, [3]int{len(instances.ids), len(bindings.ids), len(b.stays)}
+	parameters := []any{instances.text(), bindings.text(), string(stays), array(instances.ids), array(bindings.ids)}
+	err = b.each(b.send, parameters, func(rows *sql.Rows) error {
 		return rows.Scan(&got[0], &got[1], &got[2])
 	})
 	if err == nil && got != want {
@@ -596,14 +576,18 @@ func (b *batch) writeRows(instances, bindings []*row) error {
 	return err
 }
 
-// idsOf are the ids of the instances of rows.
-func idsOf(rows []*row) any {
-	ids := []string{}
-	for _, row := range rows {
-		ids = append(ids, row.ID)
-	}
-	return array(ids)
+// objects are rows of one table that are to be written, with the ids of their instances.
+type objects struct {
+	ids  []string
+	rows [][]byte
 }
+
+func (o *objects) add(key platform.Key, row []byte) {
+	o.ids, o.rows = append(o.ids, key.Instance.String()), append(o.rows, row)
+}
+
+// text is an array of the rows.
+func (o *objects) text() string { return "[" + string(bytes.Join(o.rows, []byte(","))) + "]" }
 
 // either is the first error that isn't nil.
 func either(first, second error) error {

@@ -30,13 +30,19 @@ type connection struct {
 	ready                        *sqlitefile.Statement
 }
 
-// A table has the statements of one of the two tables of rows.
-type table struct{ read, readBriefly, insert, update, updateInState, postpone *sqlitefile.Statement }
+// A table has the columns of one of the two tables of rows, without its key, and the statements. state are the columns
+// that change.
+type table struct {
+	row, state                                                 platform.Columns
+	read, readBriefly, insert, update, updateInState, postpone *sqlitefile.Statement
+}
 
 // prepare prepares the statements for a connection.
 func prepare(ctx context.Context, conn *sqlitefile.Conn) (*connection, error) {
 	c := &connection{
 		Conn: conn, due: map[int]*sqlitefile.Statement{}, lists: map[string]*sqlitefile.Statement{},
+		instances: table{row: rowColumns.Of(false), state: stateColumns.Of(false)},
+		bindings:  table{row: rowColumns.Of(true), state: stateColumns.Of(true)},
 	}
 	for _, texts := range []map[**sqlitefile.Statement]string{c.ofRows(), c.ofOthers(), c.ofReading(), c.ofBrokers()} {
 		for to, text := range texts {
@@ -51,25 +57,22 @@ func prepare(ctx context.Context, conn *sqlitefile.Conn) (*connection, error) {
 
 // ofRows are the statements of one row.
 func (c *connection) ofRows() map[**sqlitefile.Statement]string {
-	instance := append(append([]string{"id"}, orderColumns...), stateColumns...)
-	binding := append(append([]string{"instance", "id"}, orderColumns...), bindingOrder...)
-	ofBinding := append(append([]string{}, stateColumns...), bindingState...)
-	binding = append(binding, ofBinding...)
 	const ofInstance, ofOne = " FROM osb_instances WHERE id = ?", " FROM osb_bindings WHERE instance = ? AND id = ?"
+	instance, binding := c.instances.state.Names(), c.bindings.state.Names()
 	return map[**sqlitefile.Statement]string{
-		&c.instances.read: "SELECT " + instanceRow + ofInstance,
-		&c.bindings.read:  "SELECT " + bindingRow + ofOne,
+		&c.instances.read: "SELECT " + lineOf(false, false) + ofInstance,
+		&c.bindings.read:  "SELECT " + lineOf(true, false) + ofOne,
 
-		&c.instances.readBriefly: "SELECT " + brief(instanceRow) + ofInstance,
-		&c.bindings.readBriefly:  "SELECT " + brief(bindingRow) + ofOne,
+		&c.instances.readBriefly: "SELECT " + lineOf(false, true) + ofInstance,
+		&c.bindings.readBriefly:  "SELECT " + lineOf(true, true) + ofOne,
 
-		&c.instances.insert: inserting("osb_instances", instance...),
-		&c.bindings.insert:  inserting("osb_bindings", binding...),
-		&c.instances.update: updating("osb_instances", "id = ?", stateColumns),
-		&c.bindings.update:  updating("osb_bindings", "instance = ? AND id = ?", ofBinding),
+		&c.instances.insert: inserting("osb_instances", append(c.instances.row.Names(), "id")...),
+		&c.bindings.insert:  inserting("osb_bindings", append(c.bindings.row.Names(), "instance", "id")...),
+		&c.instances.update: updating("osb_instances", "id = ?", instance),
+		&c.bindings.update:  updating("osb_bindings", "instance = ? AND id = ?", binding),
 
-		&c.instances.updateInState: updating("osb_instances", "id = ?", stateColumns[lasting:]),
-		&c.bindings.updateInState:  updating("osb_bindings", "instance = ? AND id = ?", ofBinding[lasting:]),
+		&c.instances.updateInState: updating("osb_instances", "id = ?", instance[lasting:]),
+		&c.bindings.updateInState:  updating("osb_bindings", "instance = ? AND id = ?", binding[lasting:]),
 
 		&c.instances.postpone: updating("osb_instances", "id = ?", []string{"due"}),
 		&c.bindings.postpone:  updating("osb_bindings", "instance = ? AND id = ?", []string{"due"}),
@@ -100,7 +103,7 @@ func (c *connection) ofOthers() map[**sqlitefile.Statement]string {
 	}
 }
 
-// dueSince is since when a row is due. It reads what platform.Entry.LastText writes, also of a row that can't be read.
+// dueSince is since when a row is due. It reads what the column last has, also of a row that can't be read.
 const dueSince = "coalesce(CASE WHEN json_valid(last) THEN json_extract(last, '$.due_since') / 1000.0 END, " +
 	"max(due, coalesce(leased_until, due)))"
 
@@ -140,11 +143,6 @@ func (c *connection) of(key platform.Key) *table {
 		return &c.bindings
 	}
 	return &c.instances
-}
-
-// brief are columns with nothing in place of those that may be long.
-func brief(columns string) string {
-	return strings.NewReplacer("further", "''", "credentials", "NULL").Replace(columns)
 }
 
 // entry reads a row. Errors: platform.ErrUnknown; that the row can't be read.
@@ -202,12 +200,12 @@ func (c *connection) instance(key platform.Key) (*platform.Entry, error) {
 
 // insert writes a new row. Errors: platform.ErrUsed, and then nothing was written.
 func (c *connection) insert(entry platform.Entry) error {
-	state, err := stateValues(entry)
+	table := c.of(entry.Key)
+	values, err := valuesOf(&entry, table.row)
 	if err != nil {
 		return err
 	}
-	values := append(keyValues(entry.Key), orderValues(entry.Order)...)
-	rows, err := c.of(entry.Key).insert.Run(append(values, state...)...)
+	rows, err := table.insert.Run(append(values, keyValues(entry.Key)...)...)
 	if err == nil && rows == 0 {
 		return platform.ErrUsed
 	}
@@ -233,13 +231,14 @@ func (c *connection) write(now time.Time, before platform.Entry, change *platfor
 			return err
 		}
 	}
-	values, err := stateValues(after)
+	table := c.of(key)
+	values, err := valuesOf(&after, table.state)
 	if err != nil {
 		return err
 	}
-	update := c.of(key).update
+	update := table.update
 	if before.State == after.State && seconds(before.Since) == seconds(after.Since) {
-		update, values = c.of(key).updateInState, values[lasting:]
+		update, values = table.updateInState, values[lasting:]
 	}
 	if _, err := update.Run(append(values, keyValues(key)...)...); err != nil {
 		return err

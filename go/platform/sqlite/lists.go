@@ -202,7 +202,7 @@ func (l *listing) read(chosen *selection, where func(key string), order string, 
 	chosen.text.WriteString(" ORDER BY " + order + " LIMIT ?")
 	return l.each(chosen.text.String(), append(chosen.values, int64(most)), func(values []driver.Value) error {
 		r := &row{values: values}
-		at := platform.Position{Key: r.key(), State: platform.State(r.text("")), Since: r.at()}
+		at := platform.Position{Key: r.key(), State: platform.State(r.text()), Since: r.at()}
 		l.found = append(l.found, at)
 		return r.err
 	})
@@ -227,7 +227,7 @@ func (s *Store) Life(ctx context.Context, key platform.Key) (stays []platform.St
 		stays = nil
 		return c.life.Each([]driver.Value{key.String()}, func(values []driver.Value) error {
 			r := &row{values: values}
-			stays = append(stays, platform.Stay{State: platform.State(r.text("")), Since: r.at()})
+			stays = append(stays, platform.Stay{State: platform.State(r.text()), Since: r.at()})
 			return r.err
 		})
 	})
@@ -241,7 +241,7 @@ func (s *Store) Counts(ctx context.Context) (counts []platform.Count, err error)
 		return c.counts.Each(nil, func(values []driver.Value) error {
 			r := &row{values: values}
 			counts = append(counts, platform.Count{
-				Broker: r.text(""), IsBinding: r.number() != 0, State: platform.State(r.text("")),
+				Broker: r.text(), IsBinding: r.number() != 0, State: platform.State(r.text()),
 				Count: int(r.number()), Oldest: r.at(),
 			})
 			return r.err

@@ -15,36 +15,93 @@ import (
 	"pippinterm/platform"
 )
 
-// The columns that are written and read by platform.Columns. They come last in orderColumns and stateColumns.
-var orderTexts, entryTexts = platform.ColumnNames()
-
-// The columns of an order, which are written once.
-var orderColumns = append([]string{
-	"broker", "service", "plan", "instance_name", "service_name", "plan_name", "is_own", "further", "identity", "try",
-	"most_tries", "first",
-}, orderTexts...)
-
-// The columns of what has become of it. The first two are in more indexes than the others, and change less often.
-var stateColumns = append([]string{
-	"state", "since",
-	"record", "operation", "sent_until", "polled_since", "removal", "has_last", "due", "tries",
-	"worker", "leased_until", "last", "failure", "is_passing", "after_ms", "metadata",
-}, entryTexts...)
+// The columns of an order, which are written once, and of what has become of it. The first two of these are in more
+// indexes than the others, and change less often.
+var (
+	orderColumns = append(named(platform.OrderColumns),
+		platform.Column{Name: "instance_name", Member: func(e *platform.Entry) any {
+			return &name{&e.Names.Instance, e.Key.Instance}
+		}},
+		platform.Column{Name: "service_name", Member: func(e *platform.Entry) any {
+			return &name{&e.Names.Service, e.Service}
+		}},
+		platform.Column{Name: "plan_name", Member: func(e *platform.Entry) any { return &name{&e.Names.Plan, e.Plan} }},
+		platform.Column{Name: "binding_name", IsOfBinding: true, Member: func(e *platform.Entry) any {
+			return &name{&e.Names.Binding, e.Key.Binding}
+		}},
+		platform.Column{Name: "first", Member: func(e *platform.Entry) any { return (*first)(e) }},
+	)
+	stateColumns = append(named(platform.StateColumns),
+		platform.Column{Name: "may_exist", IsOfBinding: true, Member: func(e *platform.Entry) any {
+			mayExist := e.IsSent && !e.Record.IsGone() && e.State != platform.Abandoned
+			return &mayExist // for platform.Snapshot.AllGone
+		}},
+	)
+	rowColumns = append(append(platform.Columns{}, orderColumns...), stateColumns...)
+)
 
 // lasting is how many of stateColumns stay as they are if the state stays.
 const lasting = 2
 
-// The columns of a binding's order, and of what has become of a binding, besides.
-var (
-	bindingOrder = []string{"binding_name"}
-	bindingState = []string{"credentials", "may_exist"}
-)
+// named are columns as a file has them. Some have another name there, and an identity isn't NULL.
+func named(columns platform.Columns) platform.Columns {
+	names := map[string]string{
+		"own_id": "is_own", "try_number": "try", "passing": "is_passing", "after": "after_ms",
+	}
+	columns = append(platform.Columns{}, columns...)
+	for at, column := range columns {
+		if name, isOther := names[column.Name]; isOther {
+			columns[at].Name = name
+		}
+		columns[at].NotNull = column.NotNull || column.Name == "identity"
+	}
+	return columns
+}
 
-// The columns as both tables are read.
-var (
-	instanceRow = "id, NULL, " + join(orderColumns) + ", " + join(stateColumns) + ", NULL, NULL"
-	bindingRow  = "instance, id, " + join(orderColumns) + ", " + join(stateColumns) + ", binding_name, credentials"
-)
+// A name is a text that is NULL if it is the number of its id.
+type name struct {
+	text *string
+	id   osb.ID
+}
+
+func (n *name) MarshalText() ([]byte, error) {
+	if *n.text == n.id.String() {
+		return nil, nil
+	}
+	return []byte(*n.text), nil
+}
+
+func (n *name) UnmarshalText(text []byte) error {
+	*n.text = string(text)
+	return nil
+}
+
+// A first is platform.Entry.First, which is NULL if it is the row itself.
+type first platform.Entry
+
+func (f *first) MarshalText() ([]byte, error) {
+	if f.First == f.Key.ID() {
+		return nil, nil
+	}
+	return f.First.MarshalText()
+}
+
+func (f *first) UnmarshalText(text []byte) error { return f.First.UnmarshalText(text) }
+
+// lineOf is what is read of a row of a table, as entryOf reads it: NULL for the columns that the table doesn't have, and
+// if it is brief for those that may be long.
+func lineOf(isBinding, isBrief bool) string {
+	names := append([]string{"id", "NULL"}, rowColumns.Names()...)
+	if isBinding {
+		names[0], names[1] = "instance", "id"
+	}
+	for at, column := range rowColumns {
+		if column.IsOfBinding && !isBinding || column.IsLong && isBrief {
+			names[2+at] = "NULL"
+		}
+	}
+	return join(names)
+}
 
 func join(names []string) string { return strings.Join(names, ", ") }
 
@@ -67,95 +124,25 @@ func keyValues(key platform.Key) []driver.Value {
 	return []driver.Value{key.Instance.String()}
 }
 
-// orderValues are the values of orderColumns, and for a binding of bindingOrder.
-func orderValues(order platform.Order) []driver.Value {
-	names := order.Names
-	values := []driver.Value{
-		order.Broker, order.Service.String(), order.Plan.String(), nameOf(names.Instance, order.Key.Instance),
-		nameOf(names.Service, order.Service), nameOf(names.Plan, order.Plan), order.IsOwnID, string(order.Body),
-		order.Identity, int64(order.Try), int64(order.Tries), nameOf(order.First.String(), order.Key.ID()),
-	}
-	values = append(values, textValues(platform.Columns(&order.OrderTexts))...)
-	if order.Key.IsBinding {
-		values = append(values, nameOf(names.Binding, order.Key.Binding))
-	}
-	return values
-}
-
-// nameOf is a name, or NULL if it is the number of its id.
-func nameOf(name string, id osb.ID) driver.Value {
-	if name == id.String() {
-		return nil
-	}
-	return name
-}
-
-// stateValues are the values of stateColumns, and for a binding of bindingState.
-func stateValues(entry platform.Entry) ([]driver.Value, error) {
-	record, err := recordValue(entry)
-	if err != nil {
-		return nil, err
-	}
-	last, err := lastValue(entry)
-	if err != nil {
-		return nil, err
-	}
-	failure, err := reasonValue(entry.Failure)
-	if err != nil {
-		return nil, err
-	}
-	var operation, worker driver.Value
-	if entry.Operation != nil {
-		operation = *entry.Operation
-	}
-	if entry.Lease != (platform.Lease{}) {
-		worker = entry.Lease.Worker
-	}
-	values := []driver.Value{
-		string(entry.State), seconds(entry.Since),
-		record, operation, seconds(entry.SentUntil), seconds(entry.PolledSince), int64(entry.Removal), entry.HasLast,
-		seconds(entry.Due), int64(entry.Unchanged), worker, seconds(entry.Lease.Until), last, failure,
-		entry.Passing, entry.After.Milliseconds(), jsonValue(entry.Metadata),
-	}
-	values = append(values, textValues(platform.Columns(&entry.EntryTexts))...)
-	if entry.Key.IsBinding {
-		values = append(values, blobValue(entry.Credentials), mayExist(entry))
+// valuesOf are the values of columns of an entry.
+func valuesOf(entry *platform.Entry, columns platform.Columns) ([]driver.Value, error) {
+	values := make([]driver.Value, 0, len(columns)+2) // and a key
+	for _, column := range columns {
+		value, err := column.Value(entry)
+		if err != nil {
+			return nil, err
+		}
+		switch it := value.(type) {
+		case int:
+			value = int64(it)
+		case time.Time:
+			value = seconds(it)
+		case time.Duration:
+			value = it.Milliseconds()
+		}
+		values = append(values, value)
 	}
 	return values, nil
-}
-
-// mayExist is whether a binding counts for platform.Snapshot.AllGone.
-func mayExist(entry platform.Entry) bool {
-	return entry.IsSent && !entry.Record.IsGone() && entry.State != platform.Abandoned
-}
-
-func recordValue(entry platform.Entry) (driver.Value, error) {
-	if !entry.IsSent {
-		return nil, nil
-	}
-	write := entry.Record.MarshalJSON
-	if entry.Key.IsBinding {
-		write = entry.Record.BindingText
-	}
-	text, err := write()
-	return string(text), err
-}
-
-// lastValue is the last reason, with the claim and since when the row is due.
-func lastValue(entry platform.Entry) (driver.Value, error) {
-	text, err := entry.LastText()
-	if text == nil || err != nil {
-		return nil, err
-	}
-	return string(text), nil
-}
-
-func reasonValue(reason platform.Reason) (driver.Value, error) {
-	if reason == (platform.Reason{}) {
-		return nil, nil
-	}
-	text, err := json.Marshal(reason)
-	return string(text), err
 }
 
 // seconds are a time as a column has it: seconds since 1970, in whole milliseconds.
@@ -170,18 +157,6 @@ func seconds(at time.Time) driver.Value {
 func round(at time.Time) time.Time {
 	const most = time.Millisecond - time.Nanosecond
 	return time.UnixMilli(at.Add(most).UnixMilli()).UTC()
-}
-
-// textValues are the values of columns.
-func textValues(columns []platform.Column) (values []driver.Value) {
-	for _, column := range columns {
-		if column.IsNull && *column.Text == "" {
-			values = append(values, nil)
-		} else {
-			values = append(values, *column.Text)
-		}
-	}
-	return values
 }
 
 func jsonValue(text json.RawMessage) driver.Value {
@@ -215,19 +190,18 @@ func (r *row) fail(value driver.Value, want string) {
 	}
 }
 
-// text is a text, or else if the column is NULL.
-func (r *row) text(otherwise string) string {
+// text is a text, or empty if the column is NULL.
+func (r *row) text() string {
 	switch value := r.next().(type) {
 	case nil:
-		return otherwise
 	case string:
 		return value
 	case []byte:
 		return string(value)
 	default:
 		r.fail(value, "a text")
-		return otherwise
 	}
+	return ""
 }
 
 func (r *row) optional() *string {
@@ -235,7 +209,7 @@ func (r *row) optional() *string {
 		r.next()
 		return nil
 	}
-	text := r.text("")
+	text := r.text()
 	return &text
 }
 
@@ -263,7 +237,7 @@ func (r *row) blob() []byte {
 func (r *row) number() int64 {
 	value := r.next()
 	number, ok := value.(int64)
-	if !ok {
+	if !ok && value != nil {
 		r.fail(value, "a number")
 	}
 	return number
@@ -285,60 +259,65 @@ func (r *row) at() time.Time {
 	return time.UnixMilli(int64(math.Round(value * 1000))).UTC()
 }
 
-// id is an id, or else if the column is NULL.
-func (r *row) id(otherwise osb.ID) osb.ID {
-	value := r.next()
-	if value == nil {
-		return otherwise
-	}
-	if err := otherwise.Scan(value); err != nil && r.err == nil {
-		r.err = err
-	}
-	return otherwise
-}
-
-func (r *row) last(entry *platform.Entry) {
-	if text := r.optional(); text != nil {
-		if err := entry.ReadLast([]byte(*text)); err != nil && r.err == nil {
-			r.err = err
-		}
-	}
-}
-
-func (r *row) reason() (reason platform.Reason) {
-	if text := r.optional(); text != nil {
-		if err := json.Unmarshal([]byte(*text), &reason); err != nil && r.err == nil {
-			r.err = err
-		}
-		reason.At = utc(reason.At)
-	}
-	return reason
-}
-
-func utc(at time.Time) time.Time {
-	if at.IsZero() {
-		return time.Time{}
-	}
-	return at.UTC()
-}
-
-// entryOf reads the columns of instanceRow or bindingRow. If one can't be read, the entry has all others.
+// entryOf reads the columns of lineOf. If one can't be read, the entry has all others.
 func entryOf(values []driver.Value) (entry platform.Entry, err error) {
 	r := &row{values: values}
 	entry.Key = r.key()
-	r.order(&entry.Order)
-	r.state(&entry)
-	if entry.Key.IsBinding {
-		entry.Names.Binding = r.text(entry.Key.Binding.String())
-		entry.Credentials = r.blob()
+	for _, column := range rowColumns {
+		r.read(column, &entry)
+	}
+	key, names := entry.Key, &entry.Names
+	names.Instance = orNumber(names.Instance, key.Instance)
+	names.Service, names.Plan = orNumber(names.Service, entry.Service), orNumber(names.Plan, entry.Plan)
+	if key.IsBinding {
+		names.Binding = orNumber(names.Binding, key.Binding)
+	}
+	if entry.First == (osb.ID{}) {
+		entry.First = key.ID()
 	}
 	if r.err != nil {
-		err = fmt.Errorf("sqlite: the row of %v: %w", entry.Key, r.err)
+		err = fmt.Errorf("sqlite: the row of %v: %w", key, r.err)
 	}
 	return entry, err
 }
 
-// sinceColumn is the position of since in instanceRow and bindingRow.
+// orNumber is a name, or the number of its id if the name is NULL.
+func orNumber(name string, id osb.ID) string {
+	if name == "" {
+		return id.String()
+	}
+	return name
+}
+
+// read reads the next column.
+func (r *row) read(column platform.Column, entry *platform.Entry) {
+	switch member := column.Member(entry).(type) {
+	case *string:
+		*member = r.text()
+	case *int:
+		*member = int(r.number())
+	case *bool:
+		*member = r.number() != 0
+	case *time.Time:
+		*member = r.at()
+	case *time.Duration:
+		*member = time.Duration(r.number()) * time.Millisecond
+	case *[]byte:
+		*member = r.blob()
+	case platform.Text:
+		r.readText(column.Name, member)
+	}
+}
+
+func (r *row) readText(column string, member platform.Text) {
+	if text := r.optional(); text != nil {
+		if err := member.UnmarshalText([]byte(*text)); err != nil && r.err == nil {
+			r.err = fmt.Errorf("the column %s: %w", column, err)
+		}
+	}
+}
+
+// sinceColumn is the place of since in lineOf.
 var sinceColumn = 2 + len(orderColumns) + 1
 
 // shownOf is entryOf for whoever only shows the row: if it can't be read, the entry says so. An error is left only if
@@ -354,64 +333,11 @@ func shownOf(values []driver.Value) (platform.Entry, error) {
 	return entry, err
 }
 
-func (r *row) key() platform.Key {
-	instance := r.id(osb.ID{})
-	if r.values[0] == nil {
-		r.next()
-		return platform.InstanceKey(instance)
-	}
-	return platform.BindingKey(instance, r.id(osb.ID{}))
-}
-
-func (r *row) order(order *platform.Order) {
-	order.Broker = r.text("")
-	order.Service, order.Plan = r.id(osb.ID{}), r.id(osb.ID{})
-	order.Names.Instance = r.text(order.Key.Instance.String())
-	order.Names.Service, order.Names.Plan = r.text(order.Service.String()), r.text(order.Plan.String())
-	order.IsOwnID = r.number() != 0
-	order.Body, order.Identity = r.json(), r.text("")
-	order.Try, order.Tries = int(r.number()), int(r.number())
-	order.First = r.id(order.Key.ID())
-	r.texts(platform.Columns(&order.OrderTexts))
-}
-
-func (r *row) texts(columns []platform.Column) {
-	for _, column := range columns {
-		*column.Text = r.text("")
-	}
-}
-
-func (r *row) state(entry *platform.Entry) {
-	entry.State, entry.Since = platform.State(r.text("")), r.at()
-	if text := r.optional(); text != nil {
-		r.record(entry, []byte(*text))
-	}
-	entry.Operation = r.optional()
-	entry.SentUntil, entry.PolledSince = r.at(), r.at()
-	entry.Removal, entry.HasLast = platform.Removal(r.number()), r.number() != 0
-	entry.Due, entry.Unchanged = r.at(), int(r.number())
-	entry.Lease.Worker, entry.Lease.Until = r.text(""), r.at()
-	r.last(entry)
-	entry.Failure = r.reason()
-	entry.Passing, entry.After = r.number() != 0, time.Duration(r.number())*time.Millisecond
-	entry.Metadata = r.json()
-	r.texts(platform.Columns(&entry.EntryTexts))
-}
-
-func (r *row) record(entry *platform.Entry, text []byte) {
-	var record osb.Record
-	var err error
-	if entry.Key.IsBinding {
-		record, err = osb.BindingRecordFromText(text)
-	} else {
-		err = record.UnmarshalJSON(text)
-	}
-	switch {
-	case err == nil:
-		entry.Record, entry.IsSent = record, true
-	case r.err == nil:
-		r.err = fmt.Errorf("the record: %w", err)
-	}
+func (r *row) key() (key platform.Key) {
+	r.readText("id", &key.Instance)
+	key.IsBinding = r.values[0] != nil
+	r.readText("id", &key.Binding)
+	return key
 }
 
 // format is the number of the tables that this version reads and writes, in the file's user_version. Version 0.2 has 0
@@ -605,27 +531,39 @@ func schemaOf(ctx context.Context, conn *sqlitefile.Conn) (found int64, missing 
 	return found, missing, err
 }
 
-// missingColumns are the statements that add the columns of platform.ColumnNames that the tables lack.
+// missingColumns are the statements that add the columns that the tables lack.
 func missingColumns(ctx context.Context, conn *sqlitefile.Conn) (statements []string, err error) {
 	for _, table := range []string{"osb_instances", "osb_bindings"} {
-		for _, name := range append(append([]string{}, orderTexts...), entryTexts...) {
-			isThere := false
-			err := sqlitefile.Patiently(ctx, func() error {
-				return conn.Each("SELECT 1 FROM pragma_table_info(?) WHERE name = ?", []driver.Value{table, name},
-					func([]driver.Value) error {
-						isThere = true
-						return nil
-					})
+		found := map[driver.Value]bool{}
+		err := sqlitefile.Patiently(ctx, func() error {
+			return conn.Each("SELECT name FROM pragma_table_info(?)", []driver.Value{table}, func(row []driver.Value) error {
+				found[row[0]] = true
+				return nil
 			})
-			if err != nil {
-				return nil, err
-			}
-			if !isThere {
-				statements = append(statements, "ALTER TABLE "+table+" ADD COLUMN "+name+" text")
+		})
+		if err != nil {
+			return nil, err
+		}
+		for _, column := range rowColumns.Of(table == "osb_bindings") {
+			if !found[column.Name] {
+				statements = append(statements, "ALTER TABLE "+table+" ADD COLUMN "+column.Name+" "+typeOf(column))
 			}
 		}
 	}
 	return statements, nil
+}
+
+// typeOf is the type of a column that is added.
+func typeOf(column platform.Column) string {
+	switch column.Member(&platform.Entry{}).(type) {
+	case *int, *bool, *time.Duration:
+		return "integer"
+	case *time.Time:
+		return "double precision"
+	case *[]byte:
+		return "blob"
+	}
+	return "text"
 }
 
 // extend makes the tables of 0.2 if they are missing, and then extends them.

@@ -270,7 +270,7 @@ func (s *Store) Fingerprint(ctx context.Context, fingerprint string) (written st
 	read := func(c *connection) error {
 		values, err := c.fingerprint.One()
 		if err == nil && values != nil {
-			written = (&row{values: values}).text("")
+			written = (&row{values: values}).text()
 		}
 		return err
 	}
@@ -400,10 +400,11 @@ func (s *Store) Brokers(ctx context.Context) (brokers []platform.Broker, err err
 
 func brokerOf(values []driver.Value) (broker platform.Broker, err error) {
 	r := &row{values: values}
-	broker.Name, broker.URL, broker.User = r.text(""), r.text(""), r.text("")
-	broker.Password, broker.PasswordFile = r.blob(), r.text("")
-	settings := r.text("")
-	broker.Catalogue, broker.CatalogueAt, broker.Reason = r.json(), r.at(), r.reason()
+	broker.Name, broker.URL, broker.User = r.text(), r.text(), r.text()
+	broker.Password, broker.PasswordFile = r.blob(), r.text()
+	settings := r.text()
+	broker.Catalogue, broker.CatalogueAt = r.json(), r.at()
+	r.readText("reason", (*platform.ReasonText)(&broker.Reason))
 	err = r.err
 	if err == nil {
 		err = broker.ReadSettings([]byte(settings))
@@ -473,10 +474,10 @@ func brokerValues(broker platform.Broker) ([]driver.Value, error) {
 	if err != nil {
 		return nil, err
 	}
-	reason, err := reasonValue(broker.Reason)
+	reason, err := (*platform.ReasonText)(&broker.Reason).MarshalText()
 	return []driver.Value{
 		broker.URL, broker.User, blobValue(broker.Password), broker.PasswordFile, string(settings),
-		jsonValue(broker.Catalogue), seconds(broker.CatalogueAt), reason,
+		jsonValue(broker.Catalogue), seconds(broker.CatalogueAt), jsonValue(reason),
 	}, err
 }
 

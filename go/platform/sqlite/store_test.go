@@ -118,8 +118,8 @@ func oldRows() []platform.Entry {
 		rows[n].IsSent = rows[n].State != platform.Ordered && rows[n].State != platform.Withdrawn
 		rows[n].Order = platform.Order{
 			Key: key, Broker: "default", Service: service, Plan: plan,
-			Names:      platform.Names{Instance: key.String(), Service: service.String(), Plan: plan.String()},
-			OrderTexts: platform.OrderTexts{Organization: "osb-platform", Space: "osb-platform"}, Body: json.RawMessage("{}"),
+			Names:        platform.Names{Instance: key.String(), Service: service.String(), Plan: plan.String()},
+			Organization: "osb-platform", Space: "osb-platform", Body: json.RawMessage("{}"),
 			Try: 1, Tries: 1, First: key.Instance,
 		}
 	}
@@ -276,36 +276,50 @@ func TestOpeningWritesNothing(t *testing.T) {
 	}
 }
 
-// The columns that a file of an earlier version lacks are added when it is opened, with empty texts, and are used. Here
-// they are two of today's.
+// The columns that a file of an earlier version lacks are added when it is opened, with zero values, and are used.
+// Here they are some of today's.
 func TestMissingColumns(t *testing.T) {
 	path := filepath.Join(t.TempDir(), "store")
 	first, err := Open(background, path)
 	check(t, err)
 	entry := order(1)
 	entry.Dashboard, entry.Because = "https://one.example", "nobody wants it"
+	entry.Tries, entry.Passing, entry.After = 3, true, time.Minute
 	accept := func(platform.Snapshot) error { return nil }
 	check(t, withBroker(t, first).Insert(background, entry, accept))
 	check(t, first.Close())
 	for _, table := range []string{"osb_instances", "osb_bindings"} {
-		executeIn(t, path, "ALTER TABLE "+table+" DROP COLUMN because", "ALTER TABLE "+table+" DROP COLUMN space")
+		for _, column := range []string{"because", "space", "most_tries", "is_passing", "after_ms"} {
+			executeIn(t, path, "ALTER TABLE "+table+" DROP COLUMN "+column)
+		}
 	}
+	executeIn(t, path, "ALTER TABLE osb_bindings DROP COLUMN credentials")
 	closeAndRead(t, path)
 	if got, want := closeAndRead(t, path), closeAndRead(t, path); !bytes.Equal(got, want) {
 		t.Error("got another file from opening it once more, want the same")
 	}
 	again := open(t, path)
 	got, err := again.Read(background, entry.Key)
-	if err != nil || got.Dashboard != entry.Dashboard || got.Because != "" || got.Space != "" {
-		t.Errorf("got %q, %q, %q, %v, want the dashboard alone", got.Dashboard, got.Because, got.Space, err)
-	}
-	further := order(2)
-	further.EntryTexts, further.Space = entry.EntryTexts, "space"
-	check(t, again.Insert(background, further, accept))
-	got, err = again.Read(background, further.Key)
 	check(t, err)
-	diff.Check(t, got.EntryTexts, further.EntryTexts, "the texts of the entry")
-	diff.Check(t, got.OrderTexts, further.OrderTexts, "the texts of the order")
+	rest := entry
+	rest.Because, rest.Space, rest.Tries, rest.Passing, rest.After = "", "", 0, false, 0
+	diff.Check(t, got, rest, "a row without the columns")
+	entry.Key = platform.BindingKey(entry.Key.Instance, keyOf(2).Instance)
+	entry.Names.Binding, entry.First, entry.Credentials = "binding", entry.Key.Binding, []byte{0, 1}
+	check(t, again.Insert(background, entry, accept))
+	got, err = again.Read(background, entry.Key)
+	check(t, err)
+	diff.Check(t, got, entry, "a further row")
+}
+
+// A column that is added has the type that it has in the tables of version 0.3.
+func TestTypesOfColumns(t *testing.T) {
+	path := filepath.Join(t.TempDir(), "store")
+	open(t, path)
+	for _, column := range rowColumns {
+		found := query(t, path, "SELECT lower(type) FROM pragma_table_info('osb_bindings') WHERE name = '"+column.Name+"'")
+		diff.Check(t, found, []string{typeOf(column)}, "%s", column.Name)
+	}
 }
 
 // Many that open a file of 0.2 at once extend it once.
@@ -400,7 +414,7 @@ func order(n int) platform.Entry {
 	return platform.Entry{
 		Order: platform.Order{
 			Key: key, Broker: "one", Service: service, Plan: plan,
-			OrderTexts: platform.OrderTexts{Organization: "o", Space: "s"}, Body: json.RawMessage(`{}`),
+			Organization: "o", Space: "s", Body: json.RawMessage(`{}`),
 			Names: platform.Names{Instance: key.String(), Service: service.String(), Plan: plan.String()},
 			Try:   1, Tries: 1, First: key.Instance,
 		},

@@ -136,8 +136,8 @@ func order(key platform.Key) platform.Entry {
 	entry := platform.Entry{
 		Order: platform.Order{
 			Key: key, Broker: "one", Service: service, Plan: plan, IsOwnID: true,
-			Names:      platform.Names{Instance: key.Instance.String(), Service: service.String(), Plan: plan.String()},
-			OrderTexts: platform.OrderTexts{Space: "a space", Organization: "an organization"}, Body: json.RawMessage(`{}`),
+			Names: platform.Names{Instance: key.Instance.String(), Service: service.String(), Plan: plan.String()},
+			Space: "a space", Organization: "an organization", Body: json.RawMessage(`{}`),
 			Try: 1, Tries: 3, First: key.ID(),
 		},
 		State: platform.Ordered, Since: past(0), Due: past(0),
@@ -156,6 +156,8 @@ func full(t *testing.T, key platform.Key) platform.Entry {
 		Lost: "lost",
 	}
 	entry := in(t, key, platform.Polling)
+	fill(&entry, platform.OrderColumns)
+	fill(&entry, platform.StateColumns)
 	entry.Broker = "another-1"
 	entry.Names = platform.Names{Instance: "ein Ding'", Service: "é\" \\", Plan: "\U0010FFFF %s ?"}
 	entry.IsOwnID, entry.Try, entry.Tries, entry.First = false, 2, 5, id(77)
@@ -168,16 +170,33 @@ func full(t *testing.T, key platform.Key) platform.Entry {
 	entry.Last, entry.Failure = reason, platform.Reason{At: past(8), Kind: "poll"}
 	entry.Passing, entry.After = true, 90*time.Second
 	entry.Dashboard, entry.Because = "https://example.com/?a=b&c='", "nobody needs it"
-	for _, column := range append(platform.Columns(&entry.OrderTexts), platform.Columns(&entry.EntryTexts)...) {
-		if *column.Text == "" {
-			*column.Text = "the 'é' of " + column.Name
-		}
-	}
 	entry.Metadata = json.RawMessage(`{"labels":{"a": "b"} }`)
 	if key.IsBinding {
 		entry.Names.Binding, entry.Credentials = "eine Bindung", []byte{0, 255, 1, '\'', 0}
 	}
 	return entry
+}
+
+// fill gives each member a value that has none.
+func fill(entry *platform.Entry, columns platform.Columns) {
+	for n, column := range columns.Of(entry.Key.IsBinding) {
+		switch member := column.Member(entry).(type) {
+		case *string:
+			if *member == "" {
+				*member = "the 'é' of " + column.Name
+			}
+		case *int:
+			*member += n + 1
+		case *bool:
+			*member = true
+		case *time.Time:
+			*member = past(n)
+		case *time.Duration:
+			*member = time.Duration(n+1) * time.Second
+		case *[]byte:
+			*member = []byte{byte(n), 0}
+		}
+	}
 }
 
 // in is a row in a state, which rests.

@@ -71,7 +71,7 @@ func (r *rig) insert(t *testing.T, key platform.Key, sealed []byte) {
 		Key: key, Broker: "shop", Names: platform.Names{
 			Instance: key.Instance.String(), Binding: key.Binding.String(), Service: "s", Plan: "p",
 		},
-		OrderTexts: platform.OrderTexts{Organization: "o", Space: "s"}, Body: []byte("{}"), Try: 1, Tries: 1, First: key.ID(),
+		Organization: "o", Space: "s", Body: []byte("{}"), Try: 1, Tries: 1, First: key.ID(),
 	}, State: platform.Ready, Since: now, Credentials: sealed}
 	check(t, r.Insert(background, entry, func(platform.Snapshot) error { return nil }))
 	check(t, r.Change(background, key, func(_ time.Time, snapshot platform.Snapshot) (*platform.Change, error) {

@@ -161,8 +161,8 @@ func inFlight(t *testing.T) (platform.Store, platform.Entry) {
 	entry := platform.Entry{
 		Order: platform.Order{
 			Key: platform.InstanceKey(one), Broker: "b", Service: service, Plan: now, Body: json.RawMessage("{}"),
-			Names:      platform.Names{Instance: one.String(), Service: service.String(), Plan: now.String()},
-			OrderTexts: platform.OrderTexts{Organization: "o", Space: "s"}, Try: 1, Tries: 1, First: one,
+			Names:        platform.Names{Instance: one.String(), Service: service.String(), Plan: now.String()},
+			Organization: "o", Space: "s", Try: 1, Tries: 1, First: one,
 		},
 		Record: record, IsSent: true, State: platform.Wanted, Since: time.Now(), Due: time.Now(),
 	}

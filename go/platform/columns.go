@@ -1,0 +1,234 @@
+package platform
+
+import (
+	"encoding"
+	"encoding/json"
+	"fmt"
+	"time"
+
+	"pippinterm/osb"
+)
+
+// A Column is a member of an Entry as every Store keeps it. If the tables of a Store lack the column, the Store adds it
+// when it is opened. Each row that is there has NULL then, which leaves the member its zero value.
+type Column struct {
+	Name string
+	// NotNull is whether an empty text is written as it is, and not as NULL.
+	NotNull bool
+	// IsOfBinding is whether only bindings have the column.
+	IsOfBinding bool
+	// IsLong is whether the member may be long: Store.ReadAll leaves it out.
+	IsLong bool
+	// Member returns a pointer to the member: a *string, *int, *bool, *time.Time, *time.Duration or *[]byte, or a Text.
+	Member func(*Entry) any
+}
+
+// A Text is a member that is kept as a text, or some members that are kept together in one. MarshalText returns nil for
+// NULL, and UnmarshalText isn't called for NULL.
+type Text interface {
+	encoding.TextMarshaler
+	encoding.TextUnmarshaler
+}
+
+func column[T string | int | bool | time.Time | time.Duration | []byte](name string, member func(*Entry) *T) Column {
+	return Column{Name: name, Member: func(e *Entry) any { return member(e) }}
+}
+
+func textColumn[T Text](name string, member func(*Entry) T) Column {
+	return Column{Name: name, Member: func(e *Entry) any { return member(e) }}
+}
+
+func (c Column) notNull() Column {
+	c.NotNull = true
+	return c
+}
+
+func (c Column) long() Column {
+	c.IsLong = true
+	return c
+}
+
+func (c Column) ofBinding() Column {
+	c.IsOfBinding = true
+	return c
+}
+
+// Value returns what the column of an entry has: nil for NULL, or a string, an int, a bool, a time.Time, a time.Duration
+// or a []byte.
+func (c Column) Value(e *Entry) (any, error) {
+	switch member := c.Member(e).(type) {
+	case *string:
+		if *member != "" || c.NotNull {
+			return *member, nil
+		}
+	case *int:
+		return *member, nil
+	case *bool:
+		return *member, nil
+	case *time.Time:
+		if !member.IsZero() {
+			return *member, nil
+		}
+	case *time.Duration:
+		return *member, nil
+	case *[]byte:
+		if *member != nil {
+			return *member, nil
+		}
+	case Text:
+		if text, err := member.MarshalText(); text != nil || err != nil || c.NotNull {
+			return string(text), err
+		}
+	default:
+		panic(fmt.Sprintf("platform: the column %s can't have a %T", c.Name, member))
+	}
+	return nil, nil
+}
+
+// Columns are columns of a table.
+type Columns []Column
+
+// Of returns the columns that instances have, or that bindings have.
+func (c Columns) Of(isBinding bool) (of Columns) {
+	for _, column := range c {
+		if isBinding || !column.IsOfBinding {
+			of = append(of, column)
+		}
+	}
+	return of
+}
+
+// Names returns the names of the columns.
+func (c Columns) Names() (names []string) {
+	for _, column := range c {
+		names = append(names, column.Name)
+	}
+	return names
+}
+
+// A jsonText is an object as it was received, or nil.
+type jsonText json.RawMessage
+
+func (j *jsonText) MarshalText() ([]byte, error) { return *j, nil }
+
+func (j *jsonText) UnmarshalText(text []byte) error {
+	*j = nil
+	if len(text) > 0 {
+		*j = append(*j, text...)
+	}
+	return nil
+}
+
+// An operationText is Entry.Operation.
+type operationText Entry
+
+func (o *operationText) MarshalText() ([]byte, error) {
+	if o.Operation == nil {
+		return nil, nil
+	}
+	return append([]byte{}, *o.Operation...), nil
+}
+
+func (o *operationText) UnmarshalText(text []byte) error {
+	operation := string(text)
+	o.Operation = &operation
+	return nil
+}
+
+// A recordText is Entry.Record, if it is sent. Entry.Key is read before.
+type recordText Entry
+
+func (r *recordText) MarshalText() (text []byte, err error) {
+	switch {
+	case !r.IsSent:
+		return nil, nil
+	case r.Key.IsBinding:
+		text, err = r.Record.BindingText()
+	default:
+		text, err = r.Record.MarshalJSON()
+	}
+	if err != nil {
+		err = fmt.Errorf("the record of %v: %w", r.Key, err)
+	}
+	return text, err
+}
+
+func (r *recordText) UnmarshalText(text []byte) (err error) {
+	var record osb.Record
+	if r.Key.IsBinding {
+		record, err = osb.BindingRecordFromText(text)
+	} else {
+		err = record.UnmarshalJSON(text)
+	}
+	if err == nil {
+		r.Record, r.IsSent = record, true
+	}
+	return err
+}
+
+// A ReasonText is a Reason, which is NULL if it is zero.
+type ReasonText Reason
+
+// MarshalText writes the reason.
+func (r *ReasonText) MarshalText() ([]byte, error) {
+	if *r == (ReasonText{}) {
+		return nil, nil
+	}
+	reason := Reason(*r)
+	reason.At = reason.At.UTC()
+	return json.Marshal(reason)
+}
+
+// UnmarshalText reads the reason.
+func (r *ReasonText) UnmarshalText(text []byte) error {
+	if err := json.Unmarshal(text, (*Reason)(r)); err != nil {
+		return err
+	}
+	if !r.At.IsZero() {
+		r.At = r.At.UTC()
+	}
+	return nil
+}
+
+// A lastText is Entry.Last, Entry.Lease.Claim and Entry.DueSince.
+type lastText Entry
+
+// A keptLast is a lastText in JSON.
+type keptLast struct {
+	Reason
+	Claim    string `json:"claim,omitempty"`
+	DueSince int64  `json:"due_since,omitempty"` // in milliseconds since 1970
+}
+
+// MarshalText writes DueSince as the number of the member due_since, in milliseconds since 1970, which comes last.
+func (l *lastText) MarshalText() ([]byte, error) {
+	if l.Last == (Reason{}) && l.DueSince.IsZero() && l.Lease.Claim == "" {
+		return nil, nil
+	}
+	kept := keptLast{Reason: l.Last, Claim: l.Lease.Claim}
+	kept.At = kept.At.UTC()
+	if !l.DueSince.IsZero() {
+		kept.DueSince = l.DueSince.UnixMilli()
+	}
+	return json.Marshal(kept)
+}
+
+// UnmarshalText reads what MarshalText has written, also in version 0.2, which had no Claim and no DueSince.
+// Lease.Worker is read before: a lease that Free has ended leaves its Claim in the text.
+func (l *lastText) UnmarshalText(text []byte) error {
+	var kept keptLast
+	if err := json.Unmarshal(text, &kept); err != nil {
+		return err
+	}
+	l.Last = kept.Reason
+	if !l.Last.At.IsZero() {
+		l.Last.At = l.Last.At.UTC()
+	}
+	if l.Lease.Worker != "" {
+		l.Lease.Claim = kept.Claim
+	}
+	if kept.DueSince != 0 {
+		l.DueSince = time.UnixMilli(kept.DueSince).UTC()
+	}
+	return nil
+}
