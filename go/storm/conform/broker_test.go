@@ -2,6 +2,7 @@ package conform_test
 
 import (
 	"context"
+	"fmt"
 	"net/http/httptest"
 	"path/filepath"
 	"testing"
@@ -80,28 +81,30 @@ func TestOurBroker(t *testing.T) {
 		rules := broker.Rules{FirstPoll: firstPoll, WaitForPoll: time.Hour}
 		url := brokerAt(t, rules)
 		for _, plan := range []string{"now", "later", "bind-later", "make-later"} {
-			r, err := conform.New(conform.Config{
-				URL: url, User: "u", Password: "p", Service: "folder", Plan: plan, Instances: 50,
-				RequestTime: 20 * time.Second, OperationTime: 20 * time.Second, Pause: 5 * time.Millisecond,
-			})
-			check(t, err)
-			report := diff.Value(r.Run(context.Background()))(t)
-			// Without the rule of the first Poll, an instance may exist before the Bind arrives.
-			isAsync := plan == "later" || plan == "make-later"
-			for _, result := range report.Results {
-				wanted := result.Name == again || result.Name == bind && isAsync
-				if failed := result.Verdict == conform.Fail; failed && !wanted || wanted && firstPoll && !failed {
-					t.Errorf("%s, first Poll %v: got %+v, want the verdict of the page", plan, firstPoll, result)
+			t.Run(fmt.Sprintf("%s, first Poll %v", plan, firstPoll), func(t *testing.T) {
+				r, err := conform.New(conform.Config{
+					URL: url, User: "u", Password: "p", Service: "folder", Plan: plan, Instances: 50,
+					RequestTime: 20 * time.Second, OperationTime: 20 * time.Second, Pause: 5 * time.Millisecond,
+				})
+				check(t, err)
+				report := diff.Value(r.Run(context.Background()))(t)
+				// Without the rule of the first Poll, an instance may exist before the Bind arrives.
+				isAsync := plan == "later" || plan == "make-later"
+				for _, result := range report.Results {
+					wanted := result.Name == again || result.Name == bind && isAsync
+					if failed := result.Verdict == conform.Fail; failed && !wanted || wanted && firstPoll && !failed {
+						t.Errorf("%s, first Poll %v: got %+v, want the verdict of the page", plan, firstPoll, result)
+					}
 				}
-			}
-			if passed := report.Count(conform.Must, conform.Pass); passed < 50 {
-				t.Errorf("%s: got only %d MUSTs that passed, want at least 50", plan, passed)
-			}
-			within, cancel := context.WithTimeout(context.Background(), time.Minute)
-			if left := r.CleanUp(within); len(left) > 0 {
-				t.Errorf("%s: got %v left, want none", plan, left)
-			}
-			cancel()
+				if passed := report.Count(conform.Must, conform.Pass); passed < 50 {
+					t.Errorf("%s: got only %d MUSTs that passed, want at least 50", plan, passed)
+				}
+				within, cancel := context.WithTimeout(context.Background(), time.Minute)
+				if left := r.CleanUp(within); len(left) > 0 {
+					t.Errorf("%s: got %v left, want none", plan, left)
+				}
+				cancel()
+			})
 		}
 	}
 }

@@ -170,9 +170,11 @@ func TestReasonsWithoutCatalogue(t *testing.T) {
 		of[result.Name] = result.Reason
 	}
 	for _, name := range []string{"provision-conflict-plan", "fetch-instance"} {
-		if of[name] != "the catalogue can't be read" {
-			t.Errorf("%s: got %q, want that the catalogue can't be read", name, of[name])
-		}
+		t.Run(name, func(t *testing.T) {
+			if of[name] != "the catalogue can't be read" {
+				t.Errorf("%s: got %q, want that the catalogue can't be read", name, of[name])
+			}
+		})
 	}
 }
 

@@ -132,34 +132,36 @@ func runnerThatOwes(t *testing.T, m *model, change func(*Config), exist ...strin
 // deletes what arrives until then.
 func TestUnansweredKeepsNothing(t *testing.T) {
 	for _, async := range []bool{false, true} {
-		m, told := newModel(async), make(chan string, 10)
-		r := runnerThatOwes(t, m, func(c *Config) {
-			c.RequestTime, c.Pause, c.Tell = time.Second, 10*time.Millisecond, func(line string) { told <- line }
-		}, "one", "two")
-		begun, left := time.Now(), make(chan []Leftover, 1)
-		go func() { left <- r.CleanUp(context.Background()) }()
-		for m.countExisting() > 0 && time.Since(begun) < time.Minute {
-			time.Sleep(time.Millisecond)
-		}
-		if took := time.Since(begun); took >= 2*time.Second { // a creation may arrive until then
-			t.Errorf("async %v: got a deletion after %v, want it before a creation may arrive", async, took)
-		}
-		m.turn.Lock()
-		m.lives[key{instance: "late"}] = &life{state: "ready", asked: object{"plan": "a"}}
-		m.turn.Unlock()
-		rest := <-left
-		if took := time.Since(begun); took < 2*time.Second || len(rest) > 0 || m.countExisting() > 0 {
-			t.Errorf("async %v: got %v left after %v and %d that exist, want none after 2 s", async, rest, took, m.countExisting())
-		}
-		wanted := regexp.MustCompile(`^[13] of 3 .* are deleted\. Creations .*: 1\. They may still arrive, .* until (\d\d:\d\d:\d\d)\.`)
-		if len(told) != 1 {
-			t.Fatalf("async %v: got %d lines, want 1", async, len(told))
-		}
-		line := <-told
-		found, end := wanted.FindStringSubmatch(line), begun.Add(2*time.Second)
-		if found == nil || found[1] != end.Format("15:04:05") && found[1] != end.Add(time.Second).Format("15:04:05") {
-			t.Errorf("async %v: got %s, want %v", async, line, end)
-		}
+		t.Run(fmt.Sprintf("async %v", async), func(t *testing.T) {
+			m, told := newModel(async), make(chan string, 10)
+			r := runnerThatOwes(t, m, func(c *Config) {
+				c.RequestTime, c.Pause, c.Tell = time.Second, 10*time.Millisecond, func(line string) { told <- line }
+			}, "one", "two")
+			begun, left := time.Now(), make(chan []Leftover, 1)
+			go func() { left <- r.CleanUp(context.Background()) }()
+			for m.countExisting() > 0 && time.Since(begun) < time.Minute {
+				time.Sleep(time.Millisecond)
+			}
+			if took := time.Since(begun); took >= 2*time.Second { // a creation may arrive until then
+				t.Errorf("async %v: got a deletion after %v, want it before a creation may arrive", async, took)
+			}
+			m.turn.Lock()
+			m.lives[key{instance: "late"}] = &life{state: "ready", asked: object{"plan": "a"}}
+			m.turn.Unlock()
+			rest := <-left
+			if took := time.Since(begun); took < 2*time.Second || len(rest) > 0 || m.countExisting() > 0 {
+				t.Errorf("async %v: got %v left after %v and %d that exist, want none after 2 s", async, rest, took, m.countExisting())
+			}
+			wanted := regexp.MustCompile(`^[13] of 3 .* are deleted\. Creations .*: 1\. They may still arrive, .* until (\d\d:\d\d:\d\d)\.`)
+			if len(told) != 1 {
+				t.Fatalf("async %v: got %d lines, want 1", async, len(told))
+			}
+			line := <-told
+			found, end := wanted.FindStringSubmatch(line), begun.Add(2*time.Second)
+			if found == nil || found[1] != end.Format("15:04:05") && found[1] != end.Add(time.Second).Format("15:04:05") {
+				t.Errorf("async %v: got %s, want %v", async, line, end)
+			}
+		})
 	}
 }
 

@@ -26,9 +26,11 @@ func TestListRejected(t *testing.T) {
 		"12.3", "12.3 x", "12.3 none", "12 hang-up", "0.1 hang-up", "1.0 hang-up", "a.1 hang-up", "1/0.1 hang-up",
 		"1/.1 hang-up", "1.1 hang-up twice", "1.1 hang-up\n1.1 repeated", "-1.1 hang-up",
 	} {
-		if list, err := ReadList(strings.NewReader(line)); err == nil {
-			t.Errorf("%q: got %v, want an error", line, list)
-		}
+		t.Run(line, func(t *testing.T) {
+			if list, err := ReadList(strings.NewReader(line)); err == nil {
+				t.Errorf("%q: got %v, want an error", line, list)
+			}
+		})
 	}
 }
 
@@ -55,15 +57,17 @@ func TestBySeed(t *testing.T) {
 // All kinds are chosen, and restarts only if the broker can be restarted.
 func TestAllKinds(t *testing.T) {
 	for _, restarts := range []bool{false, true} {
-		met, source := map[Kind]bool{}, BySeed(1, 1, StandardWeights(restarts))
-		for n := 0; n < 2000; n++ {
-			met[source.Next(Subject{Instance: 1}).Kind] = true
-		}
-		for _, kind := range Kinds() {
-			if met[kind] != (restarts || !kind.IsRestart()) {
-				t.Errorf("restarts %v: %s is chosen: got %v, want %v", restarts, kind, met[kind], restarts || !kind.IsRestart())
+		t.Run(fmt.Sprintf("restarts %v", restarts), func(t *testing.T) {
+			met, source := map[Kind]bool{}, BySeed(1, 1, StandardWeights(restarts))
+			for n := 0; n < 2000; n++ {
+				met[source.Next(Subject{Instance: 1}).Kind] = true
 			}
-		}
+			for _, kind := range Kinds() {
+				if met[kind] != (restarts || !kind.IsRestart()) {
+					t.Errorf("restarts %v: %s is chosen: got %v, want %v", restarts, kind, met[kind], restarts || !kind.IsRestart())
+				}
+			}
+		})
 	}
 }
 
@@ -145,10 +149,12 @@ func TestMinimize(t *testing.T) {
 func TestMinimizeSmallLists(t *testing.T) {
 	calls := 0
 	for _, all := range [][]int{{}, {5}, numbers(3)} {
-		list, isShortest := Minimize(context.Background(), append([]int{}, all...), loserOf(&calls, all...))
-		if fmt.Sprint(list) != fmt.Sprint(all) || !isShortest {
-			t.Errorf("got %v and the shortest %[3]v, want %[2]v and true", list, all, isShortest)
-		}
+		t.Run(fmt.Sprint(all), func(t *testing.T) {
+			list, isShortest := Minimize(context.Background(), append([]int{}, all...), loserOf(&calls, all...))
+			if fmt.Sprint(list) != fmt.Sprint(all) || !isShortest {
+				t.Errorf("got %v and the shortest %[3]v, want %[2]v and true", list, all, isShortest)
+			}
+		})
 	}
 }
 

@@ -252,32 +252,36 @@ func slowParts(t *testing.T, kind Kind) (request, answer bool) {
 func TestLateWithinBound(t *testing.T) {
 	const bound = late + 100*time.Millisecond
 	for _, kind := range []Kind{RequestLate, RepeatedLate} {
-		last := bound + 1
-		for end := time.Now().Add(time.Minute); last > bound && time.Now().Before(end); {
-			broker := &countingBroker{}
-			p, _ := startLong(t, broker, kind)
-			begun := time.Now()
-			putOf(p, kind)
-			until(t, func() bool { return p.Pending() == 0 })
-			last = broker.times[len(broker.times)-1].Sub(begun)
-		}
-		if last < requestTime || last > bound {
-			t.Errorf("%s: got the copy after %v, want it after %v to %v", kind, last, requestTime, bound)
-		}
+		t.Run(string(kind), func(t *testing.T) {
+			last := bound + 1
+			for end := time.Now().Add(time.Minute); last > bound && time.Now().Before(end); {
+				broker := &countingBroker{}
+				p, _ := startLong(t, broker, kind)
+				begun := time.Now()
+				putOf(p, kind)
+				until(t, func() bool { return p.Pending() == 0 })
+				last = broker.times[len(broker.times)-1].Sub(begun)
+			}
+			if last < requestTime || last > bound {
+				t.Errorf("%s: got the copy after %v, want it after %v to %v", kind, last, requestTime, bound)
+			}
+		})
 	}
 }
 
 // The broker sees that the connection is cut before its answer, and only then.
 func TestHangUp(t *testing.T) {
 	for kind, wanted := range map[Kind]int{HangUp: 1, AnswerLost: 0} {
-		broker := &countingBroker{pause: 100 * time.Millisecond}
-		p := between(t, broker, kind, nil)
-		put(p, path)
-		until(t, func() bool { _, _, hangUps := broker.counts(); return hangUps >= wanted })
-		time.Sleep(200 * time.Millisecond)
-		if _, _, hangUps := broker.counts(); hangUps != wanted {
-			t.Errorf("%s: got %d connections that were cut, want %d", kind, hangUps, wanted)
-		}
+		t.Run(string(kind), func(t *testing.T) {
+			broker := &countingBroker{pause: 100 * time.Millisecond}
+			p := between(t, broker, kind, nil)
+			put(p, path)
+			until(t, func() bool { _, _, hangUps := broker.counts(); return hangUps >= wanted })
+			time.Sleep(200 * time.Millisecond)
+			if _, _, hangUps := broker.counts(); hangUps != wanted {
+				t.Errorf("%s: got %d connections that were cut, want %d", kind, hangUps, wanted)
+			}
+		})
 	}
 }
 
@@ -293,25 +297,27 @@ func TestGarbledRequest(t *testing.T) {
 // A restart is run while the broker has the request, or once the platform has its answer.
 func TestRestarts(t *testing.T) {
 	for _, kind := range []Kind{RestartDuring, RestartAfter} {
-		broker := &countingBroker{pause: time.Second}
-		var at time.Time
-		p := between(t, broker, kind, func(c *Config) {
-			c.RequestTime = 20 * time.Second
-			c.Restart = func(context.Context) error { at = time.Now(); return errors.New("broken") }
-			c.Failed = func(err error) {
-				if err.Error() != "broken" {
-					t.Error(err)
+		t.Run(string(kind), func(t *testing.T) {
+			broker := &countingBroker{pause: time.Second}
+			var at time.Time
+			p := between(t, broker, kind, func(c *Config) {
+				c.RequestTime = 20 * time.Second
+				c.Restart = func(context.Context) error { at = time.Now(); return errors.New("broken") }
+				c.Failed = func(err error) {
+					if err.Error() != "broken" {
+						t.Error(err)
+					}
 				}
+			})
+			begun := time.Now()
+			r := putWithin(p, path, 20*time.Second)
+			until(t, func() bool { return p.Pending() == 0 })
+			if isDuring := at.Sub(begun) < broker.pause; isDuring != (kind == RestartDuring) || r.status != 201 {
+				t.Errorf("%s: got a restart after %v and %+v at the platform, want 201, and the restart in time", kind,
+					at.Sub(begun), r)
 			}
+			diff.Equal(t, p.Restarts(), 1, "%s: restarts", kind)
 		})
-		begun := time.Now()
-		r := putWithin(p, path, 20*time.Second)
-		until(t, func() bool { return p.Pending() == 0 })
-		if isDuring := at.Sub(begun) < broker.pause; isDuring != (kind == RestartDuring) || r.status != 201 {
-			t.Errorf("%s: got a restart after %v and %+v at the platform, want 201, and the restart in time", kind,
-				at.Sub(begun), r)
-		}
-		diff.Equal(t, p.Restarts(), 1, "%s: restarts", kind)
 	}
 }
 
@@ -320,9 +326,11 @@ func TestOthersUntouched(t *testing.T) {
 	broker := &countingBroker{}
 	p := between(t, broker, None, nil)
 	for _, path := range []string{"/v2/service_instances/theirs", "/v2/service_instances/", "/v2/x", "/"} {
-		if r := put(p, path); r.status != 502 {
-			t.Errorf("%s: got %+v, want the status 502", path, r)
-		}
+		t.Run(path, func(t *testing.T) {
+			if r := put(p, path); r.status != 502 {
+				t.Errorf("%s: got %+v, want the status 502", path, r)
+			}
+		})
 	}
 	if r := put(p, "/v2/catalog"); r.body != `{"services": []}` {
 		t.Errorf("the catalogue: got %+v, want no services", r)

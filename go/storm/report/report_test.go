@@ -60,14 +60,16 @@ func TestDeliveriesOfALife(t *testing.T) {
 		fault.RequestCut:     {"gets half of the request", "gets the request once more"},
 		fault.RequestGarbled: {"gets the request with a body that isn't JSON", "gets the request once more"},
 	} {
-		x := fault.Exchange{Instance: "one", Method: "PUT", Target: "/x", Fault: kind, Deliveries: make([]fault.Delivery, 2)}
-		var got []string
-		for _, line := range LifeOf(Key{Instance: "one"}, []fault.Exchange{x}, nil, Hider{}) {
-			if strings.HasPrefix(line.What, "gets ") {
-				got = append(got, line.What)
+		t.Run(string(kind), func(t *testing.T) {
+			x := fault.Exchange{Instance: "one", Method: "PUT", Target: "/x", Fault: kind, Deliveries: make([]fault.Delivery, 2)}
+			var got []string
+			for _, line := range LifeOf(Key{Instance: "one"}, []fault.Exchange{x}, nil, Hider{}) {
+				if strings.HasPrefix(line.What, "gets ") {
+					got = append(got, line.What)
+				}
 			}
-		}
-		diff.Check(t, got, wanted, "%s", kind)
+			diff.Check(t, got, wanted, "%s", kind)
+		})
 	}
 }
 

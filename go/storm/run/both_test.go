@@ -363,16 +363,18 @@ func TestCheckTag(t *testing.T) {
 // Without a part, a storm is clean if it has found something.
 func TestReportWithout(t *testing.T) {
 	for _, isFound := range []bool{false, true} {
-		report := emptyReport()
-		report.Programs = &Programs{Without: "work"}
-		words := "without work the storm has FOUND NOTHING that is left behind"
-		if isFound {
-			report.Lost = append(report.Lost, Finding{What: "it exists"})
-			words = "without work the storm has found what is left behind"
-		}
-		if report.IsClean() != isFound || !strings.Contains(textOf(t, report), words) {
-			t.Errorf("got clean %v, want it with %[3]q:\n%[2]s", report.IsClean(), textOf(t, report), words)
-		}
+		t.Run(fmt.Sprintf("found %v", isFound), func(t *testing.T) {
+			report := emptyReport()
+			report.Programs = &Programs{Without: "work"}
+			words := "without work the storm has FOUND NOTHING that is left behind"
+			if isFound {
+				report.Lost = append(report.Lost, Finding{What: "it exists"})
+				words = "without work the storm has found what is left behind"
+			}
+			if report.IsClean() != isFound || !strings.Contains(textOf(t, report), words) {
+				t.Errorf("got clean %v, want it with %[3]q:\n%[2]s", report.IsClean(), textOf(t, report), words)
+			}
+		})
 	}
 }
 

@@ -208,14 +208,16 @@ func TestUnasked(t *testing.T) {
 // If something is lost without any fault, the report says so in place of the list.
 func TestNoFaultIsNeeded(t *testing.T) {
 	for _, minimal := range [][]string{nil, {}, {"1.1 request-lost"}} {
-		report := emptyReport()
-		report.Minimal = minimal
-		isSaid := minimal != nil && len(minimal) == 0
-		for form, text := range stormtest.Forms(t, report) {
-			if form != "JSON" && strings.Contains(text, "none: something is lost without any fault") != isSaid {
-				t.Errorf("%q, %s: got %s, want that no fault is needed: %v", minimal, form, text, isSaid)
+		t.Run(fmt.Sprintf("%q", minimal), func(t *testing.T) {
+			report := emptyReport()
+			report.Minimal = minimal
+			isSaid := minimal != nil && len(minimal) == 0
+			for form, text := range stormtest.Forms(t, report) {
+				if form != "JSON" && strings.Contains(text, "none: something is lost without any fault") != isSaid {
+					t.Errorf("%q, %s: got %s, want that no fault is needed: %v", minimal, form, text, isSaid)
+				}
 			}
-		}
+		})
 	}
 }
 

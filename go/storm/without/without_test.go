@@ -64,12 +64,14 @@ func TestUnknownPart(t *testing.T) {
 
 func TestTombstones(t *testing.T) {
 	for _, part := range []string{"tombstones", "broker"} {
-		s := newTestBroker(t, part, broker.Rules{})
-		s.remove(410, instance, now)
-		s.remove(410, binding, now)
-		wantHolding(t, s.store, instance, osb.Holding{})
-		wantHolding(t, s.store, binding, osb.Holding{})
-		s.provision(201, now) // which a tombstone would forbid
+		t.Run(part, func(t *testing.T) {
+			s := newTestBroker(t, part, broker.Rules{})
+			s.remove(410, instance, now)
+			s.remove(410, binding, now)
+			wantHolding(t, s.store, instance, osb.Holding{})
+			wantHolding(t, s.store, binding, osb.Holding{})
+			s.provision(201, now) // which a tombstone would forbid
+		})
 	}
 	s := newTestBroker(t, "", broker.Rules{})
 	s.remove(410, instance, now)
@@ -79,26 +81,30 @@ func TestTombstones(t *testing.T) {
 // A Bind begins although its instance doesn't exist, or isn't ready. The Unbind is judged as ever.
 func TestAvailable(t *testing.T) {
 	for part, statuses := range map[string][3]int{"available": {201, 200, 202}, "": {503, 410, 503}} {
-		s := newTestBroker(t, part, broker.Rules{})
-		s.provision(201, now)
-		write(t, s.store, instance, osb.Holding{})
-		s.bind(statuses[0], now)
-		s.remove(statuses[1], binding, now)
-		s.remove(410, binding, now)
-		for _, firstPoll := range []bool{false, true} {
-			s = newTestBroker(t, part, broker.Rules{FirstPoll: firstPoll, WaitForPoll: time.Minute})
-			write(t, s.store, instance, holding(t, in("making"), "null", false))
-			s.bind(statuses[2], later)
-		}
+		t.Run("without "+part, func(t *testing.T) {
+			s := newTestBroker(t, part, broker.Rules{})
+			s.provision(201, now)
+			write(t, s.store, instance, osb.Holding{})
+			s.bind(statuses[0], now)
+			s.remove(statuses[1], binding, now)
+			s.remove(410, binding, now)
+			for _, firstPoll := range []bool{false, true} {
+				s = newTestBroker(t, part, broker.Rules{FirstPoll: firstPoll, WaitForPoll: time.Minute})
+				write(t, s.store, instance, holding(t, in("making"), "null", false))
+				s.bind(statuses[2], later)
+			}
+		})
 	}
 }
 
 func TestHeld(t *testing.T) {
 	for part, status := range map[string]int{"held": 200, "": 422} {
-		s := newTestBroker(t, part, broker.Rules{})
-		s.provision(201, now)
-		s.bind(201, now)
-		s.remove(status, instance, now)
+		t.Run("without "+part, func(t *testing.T) {
+			s := newTestBroker(t, part, broker.Rules{})
+			s.provision(201, now)
+			s.bind(201, now)
+			s.remove(status, instance, now)
+		})
 	}
 }
 

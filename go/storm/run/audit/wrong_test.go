@@ -282,10 +282,12 @@ func TestInstances(t *testing.T) {
 // Only the records count that were in the state all the time.
 func TestCompared(t *testing.T) {
 	for state, wanted := range map[platform.State]int{Ready: 1, Gone: 0} {
-		r := readyBinding.reading(t, bound)
-		if of, instances := r.SteadyKeys(state, true), r.SteadyKeys(state, false); len(of) != wanted || len(instances) != wanted {
-			t.Errorf("%s: got %v and %v, want %d of each", state, of, instances, wanted)
-		}
+		t.Run(string(state), func(t *testing.T) {
+			r := readyBinding.reading(t, bound)
+			if of, instances := r.SteadyKeys(state, true), r.SteadyKeys(state, false); len(of) != wanted || len(instances) != wanted {
+				t.Errorf("%s: got %v and %v, want %d of each", state, of, instances, wanted)
+			}
+		})
 	}
 	if of := readyBinding.with(func(s *scene) { s.moves = true }).reading(t, bound).SteadyKeys(Ready, true); len(of) != 0 {
 		t.Errorf("one that changes: got %v, want none", of)
@@ -331,19 +333,21 @@ func TestCredentialsOfFolders(t *testing.T) {
 	f, file := Folders{top}, filepath.Join(top, bindings, bound.Instance+"-"+bound.Binding)
 	given := fmt.Sprintf(`{"folder": %q, "token": "t"}`, filepath.Join(top, one.Instance))
 	elsewhere := `{"folder": "/", "token": "t"}`
-	for at, test := range []struct {
+	for _, test := range []struct {
 		written, given string
 		works          bool
 	}{
 		{"", given, false}, {given, given, true}, {given + "\n", given, true}, {given, token, false}, {given, "null", false},
 		{token, given, false}, {elsewhere, elsewhere, false},
 	} {
-		if test.written != "" {
-			write(t, file, test.written)
-		}
-		if works, err := f.Works(background, bound, json.RawMessage(test.given)); err != nil || works != test.works {
-			t.Errorf("%d: got %v and the error %v, want %v", at, works, err, test.works)
-		}
+		t.Run(fmt.Sprintf("%s in a file with %q", test.given, test.written), func(t *testing.T) {
+			if test.written != "" {
+				write(t, file, test.written)
+			}
+			if works, err := f.Works(background, bound, json.RawMessage(test.given)); err != nil || works != test.works {
+				t.Errorf("got %v and the error %v, want %v", works, err, test.works)
+			}
+		})
 	}
 }
 
@@ -358,10 +362,12 @@ func TestLabels(t *testing.T) {
 		label(one.Instance, plan.String()): true, label(guid(9), plan.String()): false,
 		label(one.Instance, otherPlan.String()): false, "{": false,
 	} {
-		write(t, filepath.Join(top, one.Instance, "instance.json"), text)
-		if is, err := (Folders{top}).IsUsable(background, one, record); err != nil || is != wanted {
-			t.Errorf("%s: got %v and the error %v, want %v", text, is, err, wanted)
-		}
+		t.Run(text, func(t *testing.T) {
+			write(t, filepath.Join(top, one.Instance, "instance.json"), text)
+			if is, err := (Folders{top}).IsUsable(background, one, record); err != nil || is != wanted {
+				t.Errorf("%s: got %v and the error %v, want %v", text, is, err, wanted)
+			}
+		})
 	}
 	if is, err := (Folders{top}).IsUsable(background, Key{Instance: guid(9)}, record); err != nil || is {
 		t.Errorf("without a folder: got %v %v, want false", is, err)
@@ -370,14 +376,16 @@ func TestLabels(t *testing.T) {
 		plan   osb.ID
 		wanted bool
 	}{{plan, true}, {otherPlan, false}} {
-		text := strings.ReplaceAll(service.String()+" "+test.plan.String(), "-", "")
-		if err := syscall.Setxattr(filepath.Join(top, one.Instance), "user.osb", []byte(text), 0); err != nil {
-			t.Logf("the file system of the temporary folder has no extended attributes: %v", err)
-			return
-		}
-		if is, err := (Folders{top}).IsUsable(background, one, record); err != nil || is != test.wanted {
-			t.Errorf("%s in an attribute: got %v %v, want %v", text, is, err, test.wanted)
-		}
+		t.Run("an attribute of "+test.plan.String(), func(t *testing.T) {
+			text := strings.ReplaceAll(service.String()+" "+test.plan.String(), "-", "")
+			if err := syscall.Setxattr(filepath.Join(top, one.Instance), "user.osb", []byte(text), 0); err != nil {
+				t.Logf("the file system of the temporary folder has no extended attributes: %v", err)
+				return
+			}
+			if is, err := (Folders{top}).IsUsable(background, one, record); err != nil || is != test.wanted {
+				t.Errorf("%s in an attribute: got %v %v, want %v", text, is, err, test.wanted)
+			}
+		})
 	}
 }
 

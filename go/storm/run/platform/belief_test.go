@@ -183,10 +183,12 @@ func TestKinds(t *testing.T) {
 		"PATCH /v2/service_instances/a/service_bindings/b":              other, "GET /v2/service_instances/a/b": other,
 		"GET /v3/service_instances/a": other, "GET /": other, "PUT /v2/service_instances/a/service_bindings/": other,
 	} {
-		method, target, _ := strings.Cut(text, " ")
-		if got := kindOf(fault.Exchange{Method: method, Target: target}); got != wanted {
-			t.Errorf("%s: got the kind %d, want %d", text, got, wanted)
-		}
+		t.Run(text, func(t *testing.T) {
+			method, target, _ := strings.Cut(text, " ")
+			if got := kindOf(fault.Exchange{Method: method, Target: target}); got != wanted {
+				t.Errorf("%s: got the kind %d, want %d", text, got, wanted)
+			}
+		})
 	}
 }
 

@@ -750,11 +750,13 @@ func TestMinimize(t *testing.T) {
 		"HTML": {"The shortest list of faults that still loses one", "Abandoned with this list of faults", again.Instance},
 		"list": {"2.1 answer-lost\n"},
 	} {
-		for _, part := range parts {
-			if text := formsOf(t, report)[form]; !strings.Contains(text, part) || form == "list" && text != part {
-				t.Errorf("%s: got no %q, want it: %s", form, part, text)
+		t.Run(form, func(t *testing.T) {
+			for _, part := range parts {
+				if text := formsOf(t, report)[form]; !strings.Contains(text, part) || form == "list" && text != part {
+					t.Errorf("%s: got no %q, want it: %s", form, part, text)
+				}
 			}
-		}
+		})
 	}
 	urls, err := os.ReadFile(filepath.Join(folder, "urls"))
 	if runs := 1 + report.MinimizeRuns; err != nil || string(urls) != strings.Repeat(report.URL+"\n", runs) {
