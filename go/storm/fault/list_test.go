@@ -136,9 +136,8 @@ func TestMinimize(t *testing.T) {
 		t.Run(fmt.Sprint(needed), func(t *testing.T) {
 			calls := 0
 			list, isShortest := Minimize(context.Background(), numbers(100), loserOf(&calls, needed...))
-			if !reflect.DeepEqual(list, needed) || !isShortest {
-				t.Errorf("got %v and the shortest %v, want %v and true", list, isShortest, needed)
-			}
+			diff.Check(t, list, needed, "what is left")
+			diff.Equal(t, isShortest, true, "it is the shortest")
 			if calls > 500 {
 				t.Errorf("got %d calls of the test, want at most 500", calls)
 			}

@@ -4,7 +4,6 @@ import (
 	"bytes"
 	"encoding/json"
 	"fmt"
-	"reflect"
 	"strings"
 	"testing"
 	"time"
@@ -99,9 +98,8 @@ func TestBreaches(t *testing.T) {
 		text := diff.Value(json.Marshal(violation.Numbers))(t)
 		got = append(got, fmt.Sprint(violation.Name, " ", violation.Number, " ", violation.Count, " ", string(text)))
 	}
-	if wanted := []string{`a 1.1 4 ["1.1","1.2","10.3"]`, `b none 2 []`, `c none 2 ["2/1.1"]`}; !reflect.DeepEqual(got, wanted) {
-		t.Errorf("got %q, want %q", got, wanted)
-	}
+	wanted := []string{`a 1.1 4 ["1.1","1.2","10.3"]`, `b none 2 []`, `c none 2 ["2/1.1"]`}
+	diff.Check(t, got, wanted, "the rules")
 }
 
 // All marks of a picture are within it.

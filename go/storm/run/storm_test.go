@@ -406,13 +406,9 @@ func TestLeftoversOnce(t *testing.T) {
 		sort.Strings(all)
 		return all
 	}
-	if all := names(); !reflect.DeepEqual(all, []string{"pre-one", "pre-two"}) {
-		t.Errorf("got %v, want pre-one and pre-two", all)
-	}
+	diff.Check(t, names(), []string{"pre-one", "pre-two"}, "what exists")
 	l.skipped[Key{Instance: "pre-one"}] = true
-	if all := names(); !reflect.DeepEqual(all, []string{"pre-two"}) {
-		t.Errorf("got %v, want pre-two", all)
-	}
+	diff.Check(t, names(), []string{"pre-two"}, "what exists, but what is skipped")
 }
 
 // A list that can't be read says nothing.

@@ -451,9 +451,7 @@ func TestDatabases(t *testing.T) {
 		t.Error("before: got something that exists, want nothing")
 	}
 	pgtest.Exec(t, db, "CREATE ROLE "+name+" LOGIN PASSWORD '"+password+"'")
-	if fmt.Sprint(look()) != fmt.Sprint(map[Key]broker.There{one: broker.Part}) {
-		t.Errorf("a role alone: got %v, want a part", look())
-	}
+	diff.Check(t, look(), map[Key]broker.There{one: broker.Part}, "a role alone")
 	pgtest.Exec(t, db, "CREATE DATABASE "+name+" OWNER "+name, "CREATE ROLE "+role+" LOGIN PASSWORD 'secret'")
 	diff.Check(t, look(), map[Key]broker.There{one: broker.Whole, bound: broker.Whole}, "the instance and the binding")
 	if stock, err := d.Look(background, func(string) bool { return false }); err != nil || len(stock.Of) > 0 {

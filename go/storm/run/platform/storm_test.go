@@ -374,9 +374,7 @@ func TestBrokerFails(t *testing.T) {
 		broker.Observer(s).OnFailure(broker.Failure{Event: "store", Err: errors.New("broken"), IsRejection: isRejection})
 	}
 	wanted := []string{"the broker of osb-storm: store: broken"}
-	if got := s.failures(); !reflect.DeepEqual(got, wanted) {
-		t.Errorf("got the failures %q, want %q", got, wanted)
-	}
+	diff.Check(t, s.failures(), wanted, "the failures")
 }
 
 // A list command that fails is reported, and no record is judged.

@@ -5,7 +5,6 @@ import (
 	"fmt"
 	"os"
 	"path/filepath"
-	"reflect"
 	"strconv"
 	"strings"
 	"syscall"
@@ -18,10 +17,8 @@ import (
 
 // The words of each line are returned, except those of empty lines.
 func TestRows(t *testing.T) {
-	rows, err := Rows(context.Background(), `printf 'a b\n\n  c\td \n'`, 2)
-	if err != nil || !reflect.DeepEqual(rows, [][]string{{"a", "b"}, {"c", "d"}}) {
-		t.Errorf("got the error %v and the rows %v, want two of two words", err, rows)
-	}
+	rows := diff.Value(Rows(context.Background(), `printf 'a b\n\n  c\td \n'`, 2))(t)
+	diff.Check(t, rows, [][]string{{"a", "b"}, {"c", "d"}}, "the rows")
 	if rows, err := Rows(context.Background(), "true", 1); err != nil || len(rows) > 0 {
 		t.Errorf("got the error %v and the rows %v, want none", err, rows)
 	}
@@ -204,9 +201,8 @@ func TestStart(t *testing.T) {
 			if err := c.End(); err != nil {
 				text = err.Error()
 			}
-			if lines := c.LastLines(); text != test.failure || !reflect.DeepEqual(lines, test.lines) {
-				t.Errorf("%s: got the failure %q and the lines %q, want %q and %q", command, text, lines, test.failure, test.lines)
-			}
+			diff.Equal(t, text, test.failure, "the failure")
+			diff.Check(t, c.LastLines(), test.lines, "the last lines")
 			if took := time.Since(begun); took > 4*time.Second {
 				t.Errorf("%s: got an end after %v, want one within 4 s", command, took)
 			}
