@@ -1,13 +1,24 @@
+// Package run has the core of all storms, and two of them: this project's platform drives a broker through the faults
+// of the package fault, and osb-platform and osb-broker are killed besides. In the end it finds out what was lost
+// (docs/storm.md).
+//
+// Each part knows only what it needs: the operator needs Orders, the audit needs records and an Inventory, and the
+// report needs a Result. A Core runs a storm of any kind, and writes its Report.
 package run
 
 import (
 	"context"
 	"errors"
+	"fmt"
+	"sort"
+	"sync"
 	"time"
 
+	"pippinterm/platform"
 	"pippinterm/storm/conform"
 	"pippinterm/storm/fault"
 	"pippinterm/storm/report"
+	"pippinterm/storm/run/audit"
 )
 
 // A Config says which faults a storm of any kind has, and within which limits it goes on.
@@ -164,4 +175,226 @@ func FirstError(all ...error) error {
 		}
 	}
 	return nil
+}
+
+// What is common to the reports of all storms.
+type (
+	// A Key names an instance, or a binding of it.
+	Key = report.Key
+	// A Record is what the platform records about an instance or a binding.
+	Record = audit.Record
+	// A Difference is what a record and what exists disagree in, or what somebody has to compare.
+	Difference = report.Difference
+	// An Event is something that has happened to an instance or a binding, besides its requests.
+	Event = report.Event
+	// A Finding is an instance or a binding that was lost, or whose record was false.
+	Finding = report.Finding
+	// A Violation is a rule that an answer of the broker breaks.
+	Violation = report.Violation
+	// A KindCount is how many requests a kind of fault befell.
+	KindCount = report.KindCount
+)
+
+const (
+	Lost     = report.Lost
+	False    = report.False
+	Stuck    = report.Stuck
+	Disagree = report.Disagree
+	Present  = report.Present
+)
+
+const (
+	whoBroker   = report.WhoBroker
+	whoPlatform = report.WhoPlatform
+)
+
+// Keys are the ids of a run with their numbers. Any number of goroutines use them.
+type Keys struct {
+	newID func(number int) string
+	first int           // the number of the first instance that isn't one of the lives'
+	Began chan struct{} // is closed once there is a key
+	mutex sync.Mutex
+	ofKey map[Key]fault.Subject
+	next  map[string]int // the number of the last binding of an instance
+	order []Key          // in which they were named
+	// others is how many instances have got a number although they aren't the lives'.
+	others int
+}
+
+// firstOther is the number of the first instance that isn't one of the lives', such as a further try of one.
+const firstOther = 1000001
+
+// NewKeys returns Keys of a run in which somebody else names all instances.
+func NewKeys() *Keys {
+	return &Keys{first: 1, Began: make(chan struct{}), ofKey: map[Key]fault.Subject{}, next: map[string]int{}}
+}
+
+func newKeys(newID func(int) string) *Keys {
+	k := NewKeys()
+	k.newID, k.first = newID, firstOther
+	return k
+}
+
+// add adds a key. The mutex is locked.
+func (k *Keys) add(key Key, subject fault.Subject) Key {
+	if len(k.order) == 0 {
+		close(k.Began)
+	}
+	k.ofKey[key], k.order = subject, append(k.order, key)
+	return key
+}
+
+func (k *Keys) instance(number int) Key {
+	k.mutex.Lock()
+	defer k.mutex.Unlock()
+	return k.add(Key{Instance: k.newID(number)}, fault.Subject{Instance: number})
+}
+
+func (k *Keys) binding(of Key) Key {
+	k.mutex.Lock()
+	defer k.mutex.Unlock()
+	k.next[of.Instance]++
+	number := k.next[of.Instance]
+	key := Key{Instance: of.Instance, Binding: k.newID(number)}
+	return k.add(key, fault.Subject{Instance: k.ofKey[of].Instance, Binding: number})
+}
+
+// Subject returns the subject of ids, if they are of the run.
+func (k *Keys) Subject(instance, binding string) (fault.Subject, bool) {
+	k.mutex.Lock()
+	defer k.mutex.Unlock()
+	subject, is := k.ofKey[Key{Instance: instance, Binding: binding}]
+	return subject, is
+}
+
+// SubjectOrNew returns the subject of ids. The first request about others numbers them. It is false if a path names no
+// instance.
+func (k *Keys) SubjectOrNew(instance, binding string) (fault.Subject, bool) {
+	k.mutex.Lock()
+	defer k.mutex.Unlock()
+	key, of := Key{Instance: instance, Binding: binding}, Key{Instance: instance}
+	if instance == "" {
+		return fault.Subject{}, false
+	}
+	if _, is := k.ofKey[of]; !is {
+		k.add(of, fault.Subject{Instance: k.first + k.others})
+		k.others++
+	}
+	if _, is := k.ofKey[key]; !is {
+		k.next[instance]++
+		k.add(key, fault.Subject{Instance: k.ofKey[of].Instance, Binding: k.next[instance]})
+	}
+	return k.ofKey[key], true
+}
+
+// All returns all keys, in the order in which they were named.
+func (k *Keys) All() []Key {
+	k.mutex.Lock()
+	defer k.mutex.Unlock()
+	return append([]Key(nil), k.order...)
+}
+
+// inOrder returns all keys, in the order of their numbers.
+func (k *Keys) inOrder() []Key {
+	all := k.All()
+	sort.Slice(all, func(one, other int) bool {
+		a, _ := k.Subject(all[one].Instance, all[one].Binding)
+		b, _ := k.Subject(all[other].Instance, all[other].Binding)
+		return a.Less(b)
+	})
+	return all
+}
+
+// finds are the differences that were found so far. Each is an event, too. Any number of goroutines use them.
+type finds struct {
+	events *events
+	mutex  sync.Mutex
+	all    report.Differences
+}
+
+func (f *finds) add(key Key, kind report.Kind, what string) {
+	f.mutex.Lock()
+	f.all.Add(key, kind, what)
+	f.mutex.Unlock()
+	f.events.add(key, "osb-storm", what)
+}
+
+// addOnce adds a difference, unless one of the same key was found before. One goroutine calls it.
+func (f *finds) addOnce(it Difference) {
+	for _, known := range f.list() {
+		if known.Key == it.Key {
+			return
+		}
+	}
+	f.add(it.Key, it.Kind, it.What)
+}
+
+func (f *finds) list() report.Differences {
+	f.mutex.Lock()
+	defer f.mutex.Unlock()
+	return append(report.Differences(nil), f.all...)
+}
+
+// events are those of a run. Any number of goroutines use them.
+type events struct {
+	platform.Silent
+	now   func() time.Duration
+	keyOf func(platform.Key) Key
+	mutex sync.Mutex
+	all   []Event
+	found []Event // the last deletion has found what was recorded as gone
+}
+
+func (e *events) add(key Key, who, what string) {
+	e.mutex.Lock()
+	defer e.mutex.Unlock()
+	e.all = append(e.all, Event{At: e.now(), Key: key, Who: who, What: what})
+}
+
+func (e *events) list() []Event {
+	e.mutex.Lock()
+	defer e.mutex.Unlock()
+	return append([]Event(nil), e.all...)
+}
+
+// orphans returns the events of instances and bindings that existed though they were recorded as gone.
+func (e *events) orphans() []Event {
+	e.mutex.Lock()
+	defer e.mutex.Unlock()
+	return append([]Event(nil), e.found...)
+}
+
+// OnChange notes that a record is in another state now.
+func (e *events) OnChange(key platform.Key, before, after platform.State) {
+	e.add(e.keyOf(key), "record", fmt.Sprintf("%s -> %s", before, after))
+}
+
+// OnAnswer notes why an answer wasn't taken.
+func (e *events) OnAnswer(x platform.Exchange) {
+	if x.Lost != nil {
+		e.add(e.keyOf(x.Key), "platform", fmt.Sprintf("takes no answer to its %s: %v", x.Kind, x.Lost))
+	}
+}
+
+// OnFailure notes what went wrong.
+func (e *events) OnFailure(f platform.Failure) {
+	key := Key{}
+	if f.IsNamed {
+		key = e.keyOf(f.Key)
+	}
+	e.add(key, "platform", fmt.Sprintf("%s: %v", f.Event, f.Err))
+}
+
+// OnOrphan notes what the last deletion has found.
+func (e *events) OnOrphan(key platform.Key, status int, isFound bool) {
+	if !isFound {
+		return
+	}
+	found := Event{
+		At: e.now(), Key: e.keyOf(key), Who: "platform",
+		What: fmt.Sprintf("it existed though its record says gone: the last deletion was answered with %d", status),
+	}
+	e.mutex.Lock()
+	defer e.mutex.Unlock()
+	e.all, e.found = append(e.all, found), append(e.found, found)
 }

@@ -4,8 +4,11 @@ package without
 
 import (
 	"context"
+	"encoding/json"
+	"errors"
 	"fmt"
 	"net/http"
+	"sync"
 	"time"
 
 	"pippinterm/broker"
@@ -253,4 +256,106 @@ func goneOf(key platform.Key, record osb.Record) (osb.Record, error) {
 func isMitigation(before platform.State, after platform.Entry) bool {
 	isCreated := before == platform.Wanted || before == platform.Polling
 	return isCreated && after.State == platform.Cleaning && after.Removal == platform.NotRemoved
+}
+
+// A diary remembers pending work, until the process ends, for the change that ends the work.
+type diary struct {
+	turn  sync.Mutex
+	begun map[broker.Key]broker.Entry
+}
+
+func newDiary() *diary { return &diary{begun: map[broker.Key]broker.Entry{}} }
+
+// step writes what a step returns, unless that has pending work, which is only remembered. A step that misses its
+// pending work is called again with what is remembered.
+func (d *diary) step(key broker.Key, step broker.Step, snapshot broker.Snapshot) (*broker.Entry, error) {
+	next, err := step(snapshot)
+	d.turn.Lock()
+	defer d.turn.Unlock()
+	if begun, isBegun := d.begun[key]; isBegun && errors.Is(err, broker.ErrLostWork) {
+		snapshot.Entry = begun
+		return step(snapshot)
+	}
+	if err == nil && next != nil && isPending(*next) {
+		d.begun[key] = *next
+		return nil, nil
+	}
+	return next, err
+}
+
+// ignoreWork shows a step what is held without its pending work. That stays pending, until other work takes its place.
+// A step that misses its pending work is called again with it.
+func ignoreWork(_ broker.Key, step broker.Step, snapshot broker.Snapshot) (*broker.Entry, error) {
+	if !isPending(snapshot.Entry) {
+		return step(snapshot)
+	}
+	without, err := idleHolding(snapshot.Holding)
+	if err != nil {
+		return nil, err
+	}
+	shown := snapshot
+	shown.Holding = without
+	next, err := step(shown)
+	if errors.Is(err, broker.ErrLostWork) {
+		return step(snapshot)
+	}
+	if err == nil && next != nil && !isPending(*next) {
+		next = nil
+	}
+	return next, err
+}
+
+func isPending(entry broker.Entry) bool {
+	_, isPending := entry.Holding.Work()
+	return isPending
+}
+
+// idleHolding returns a holding without its pending work. The texts of instances serve for both kinds.
+func idleHolding(holding osb.Holding) (without osb.Holding, err error) {
+	if _, isHeld := holding.Row(); !isHeld {
+		return osb.Holding{}, nil
+	}
+	text, err := holding.MarshalJSON()
+	if err != nil {
+		return holding, err
+	}
+	var members map[string]json.RawMessage
+	if err := json.Unmarshal(text, &members); err != nil {
+		return holding, err
+	}
+	members["work"] = json.RawMessage("null")
+	if text, err = json.Marshal(members); err != nil {
+		return holding, err
+	}
+	err = without.UnmarshalJSON(text)
+	return without, err
+}
+
+// idleStore says of each operation that it has ended: none is taken up.
+type idleStore struct{ broker.NamedStore }
+
+func (idleStore) UnfinishedKeys(context.Context) ([]broker.Key, error) { return nil, nil }
+
+// failUnfinished has each operation fail that the last process left unfinished.
+func failUnfinished(ctx context.Context, store broker.Store) error {
+	keys, err := store.UnfinishedKeys(ctx)
+	if err != nil {
+		return err
+	}
+	for _, key := range keys {
+		err := store.Change(ctx, key, 0, func(snapshot broker.Snapshot) (*broker.Entry, error) {
+			row, isHeld := snapshot.Holding.Row()
+			if !isHeld || row.Phase != osb.PhaseMaking && row.Phase != osb.PhaseDeleting {
+				return nil, nil
+			}
+			failed, err := snapshot.Holding.Finish(false)
+			entry := snapshot.Entry
+			entry.Holding = failed
+			return &entry, err
+		})
+		if err != nil {
+			return err
+		}
+	}
+	return nil
 }

@@ -1,9 +1,3 @@
-// Package run has the core of all storms, and two of them: this project's platform drives a broker through the faults
-// of the package fault, and osb-platform and osb-broker are killed besides. In the end it finds out what was lost
-// (docs/storm.md).
-//
-// Each part knows only what it needs: the operator needs Orders, the audit needs records and an Inventory, and the
-// report needs a Result. A Core runs a storm of any kind, and writes its Report.
 package run
 
 import (
@@ -15,10 +9,10 @@ import (
 	"net/url"
 	"os"
 	"sort"
-	"strconv"
 	"sync"
 	"time"
 
+	"pippinterm/platform"
 	"pippinterm/storm/conform"
 	"pippinterm/storm/fault"
 	"pippinterm/storm/report"
@@ -399,106 +393,6 @@ func (r *brokerRun) clear(ctx context.Context, records map[Key]Record) error {
 // isQuiet reports whether no request is on its way to the broker.
 func (r *brokerRun) isQuiet() bool { return r.proxy.Pending() == 0 }
 
-// A course is how a run goes: the lives, the end of the faults, and the time until everything has converged.
-type course struct {
-	orders           Orders
-	keys             *Keys
-	events           *events
-	look             func(context.Context) // compares the records with what exists
-	lookEach         time.Duration         // between two looks
-	source           *fault.Source
-	now              func() time.Duration
-	isQuiet          func() bool            // no request is on its way to the broker
-	lives            func(round int) []life // from 0; a further round begins only if isDone returns false
-	isDone           func() bool            // besides the lives, nothing has to happen before the faults end
-	endsWhenDone     bool                   // the faults end once isDone returns true, whatever the lives still have to do
-	calm             func()                 // is called when the faults end
-	time, settleTime time.Duration
-}
-
-// run lives all lives, ends the faults, and waits until everything has converged. If ctx is done, it doesn't wait. It
-// reports whether everything has converged, and how long that took.
-func (c *course) run(ctx context.Context) (converged bool, took time.Duration) {
-	looking, endLooks := context.WithCancel(ctx)
-	var looks sync.WaitGroup
-	looks.Add(1)
-	go func() {
-		defer looks.Done()
-		for fault.Sleep(looking, c.lookEach) {
-			c.look(looking)
-		}
-	}()
-	operator := &operator{orders: c.orders, keys: c.keys, events: c.events, look: readEach}
-	storming, endStorm := context.WithTimeout(ctx, c.time)
-	looks.Add(1)
-	go func() {
-		defer looks.Done()
-		c.endOnceDone(storming, endStorm)
-	}()
-	operator.run(storming, c.lives(0))
-	for round := 1; storming.Err() == nil && !c.isDone(); round++ {
-		operator.run(storming, c.lives(round))
-	}
-	operator.settle(storming, c.isQuiet) // then the storm ends before
-	endStorm()
-	c.calm()
-	c.source.End()
-	c.events.add(Key{}, "osb-storm", "ends the faults")
-	ended := c.now()
-	settling, cancel := context.WithTimeout(ctx, c.settleTime)
-	converged = operator.settle(settling, c.isQuiet)
-	cancel()
-	took = c.now() - ended
-	endLooks()
-	looks.Wait()
-	return converged, took
-}
-
-// doneEach is how often a course looks whether the faults may end.
-const doneEach = 200 * time.Millisecond
-
-// endOnceDone calls end once nothing has to happen any more, unless the lives decide. It returns once ctx is done.
-func (c *course) endOnceDone(ctx context.Context, end func()) {
-	for c.endsWhenDone && fault.Sleep(ctx, doneEach) {
-		if c.isDone() {
-			end()
-		}
-	}
-}
-
-// A life is what the operator does with one instance. It depends on the seed and on the number of the instance alone.
-type life struct {
-	number   int
-	begin    time.Duration
-	bindings int
-	early    bool // it is removed before it is ready
-	stays    bool // it is never removed
-	whole    bool // its bindings are removed with it, and otherwise before
-	pause    time.Duration
-}
-
-// lives returns the lives of a run. If only isn't nil, it returns those of these instances, and all begin at once.
-func lives(seed int64, count int, within time.Duration, isBindable bool, only map[int]bool) (all []life) {
-	for number := 1; number <= count; number++ {
-		chance := fault.Chance(seed, "life", strconv.Itoa(number))
-		it := life{
-			number: number, begin: time.Duration(float64(within) * 0.6 * float64(number-1) / float64(count)),
-			bindings: chance.Intn(3), early: chance.Float64() < 0.2, stays: chance.Float64() < 0.2,
-			whole: chance.Float64() < 0.7, pause: time.Duration(chance.Float64() * float64(time.Second)),
-		}
-		if !isBindable {
-			it.bindings = 0
-		}
-		if only != nil {
-			it.begin = 0
-		}
-		if only == nil || only[number] {
-			all = append(all, it)
-		}
-	}
-	return all
-}
-
 // deleteAll deletes everything that a run may have created, and returns what couldn't be deleted, except what an
 // earlier run has returned.
 func (s *BrokerStorm) deleteAll(running, deleting context.Context, found *Result) []conform.Leftover {
@@ -572,4 +466,180 @@ func (s *BrokerStorm) leftoversInList(ctx context.Context, known []conform.Lefto
 	}
 	sort.Slice(left, func(one, other int) bool { return left[one].String() < left[other].String() })
 	return left
+}
+
+// ErrTrial is the error of Run if the broker can't create and delete an instance without faults.
+var ErrTrial = errors.New("the broker can't create and delete an instance without faults")
+
+// try creates an instance and deletes it, without faults. It learns what the broker answers about an instance that
+// exists, and about one that was deleted, and whether a repeated deletion is answered with 410. While the instance
+// exists, the commands must list it.
+func (s *BrokerStorm) try(running, ctx context.Context) error {
+	keys, remove, problem := s.trial(ctx)
+	if problem != "" {
+		return fmt.Errorf("%w: %s", ErrTrial, problem)
+	}
+	key := keys[0]
+	wrong := s.tryLists(running, ctx, keys)
+	existing := s.standard.lastOperation(ctx, key)
+	if s.inventory == Inventory(s.standard) && s.target.InstancesRetrievable && s.standard.look(ctx, key) != Exists {
+		s.target.InstancesRetrievable, s.standard.target.InstancesRetrievable = false, false
+	}
+	problem = remove()
+	if left := s.broker.CleanUp(ctx); problem == "" && len(left) > 0 {
+		problem = left[0].String()
+	}
+	switch {
+	case problem != "":
+		return fmt.Errorf("%w: %s", ErrTrial, problem)
+	case wrong != nil:
+		return wrong
+	}
+	deleted := s.standard.lastOperation(ctx, key)
+	if existing == "200 succeeded" && deleted != existing && deleted != "0" {
+		s.standard.existing, s.standard.deleted = existing, deleted
+	}
+	again := s.broker.Ask(ctx, http.MethodDelete, key.Instance, "", "", s.deletion())
+	s.deletionsTell = again.Status == http.StatusGone
+	return nil
+}
+
+// trial creates an instance, and a binding of it if bindings are listed and the broker creates one. It returns their
+// keys, what begins their deletion and ends the trial, and what is wrong, or "". With a journal, the platform creates
+// and deletes them, so that its journal has that.
+func (s *BrokerStorm) trial(ctx context.Context) (keys []Key, remove func() string, problem string) {
+	if s.journals != nil {
+		return s.trialByPlatform(ctx)
+	}
+	key, remove := Key{Instance: s.broker.NewID(0)}, func() string { return "" }
+	if problem := s.ends(ctx, key, s.broker.Create(ctx, key.Instance, "")); problem != "" {
+		return nil, remove, problem
+	}
+	keys = []Key{key}
+	if s.listsBindings() {
+		binding := Key{Instance: key.Instance, Binding: s.broker.NewID(0)}
+		if s.ends(ctx, binding, s.broker.Create(ctx, binding.Instance, binding.Binding)) == "" {
+			keys = append(keys, binding)
+		}
+	}
+	return keys, remove, ""
+}
+
+// listsBindings reports whether there is a command that lists bindings, and a plan that has some.
+func (s *BrokerStorm) listsBindings() bool {
+	return s.config.Commands.ListBindings != "" && s.target.Bindable && s.target.HasCatalogue
+}
+
+// ends waits for the end of a creation, and returns what is wrong with it, or "".
+func (s *BrokerStorm) ends(ctx context.Context, key Key, answer conform.Answer) string {
+	switch answer.Status {
+	case http.StatusOK, http.StatusCreated:
+		return ""
+	case http.StatusAccepted:
+		return s.await(ctx, key, answer.Text("operation"))
+	}
+	return "the creation was answered with " + answer.Came
+}
+
+// trialByPlatform is trial by the platform of a run without faults.
+func (s *BrokerStorm) trialByPlatform(ctx context.Context) (keys []Key, remove func() string, problem string) {
+	folder, err := os.MkdirTemp(s.config.Folder, "osb-storm-")
+	if err != nil {
+		return nil, nil, err.Error()
+	}
+	r, err := s.startRun(ctx, ctx, folder, fault.ByList(s.config.Seed, []fault.Entry{}))
+	if err != nil {
+		_ = os.RemoveAll(folder)
+		return nil, nil, err.Error()
+	}
+	end := func(problem string) string {
+		if err := r.platform.close(); err != nil && problem == "" {
+			problem = err.Error()
+		}
+		r.proxy.Close()
+		_ = os.RemoveAll(folder)
+		return problem
+	}
+	key := r.keys.instance(0)
+	s.broker.Owe(conform.Debt{Instance: key.Instance})
+	operator := &operator{orders: r.platform, keys: r.keys, events: r.events, look: readEach}
+	wait := func(wanted platform.State, isAccepted bool) string {
+		if state := operator.rest(ctx, key).State; !isAccepted || state != wanted {
+			return fmt.Sprintf("the platform records %s, and not %s. A storm without --journal shows the answer", state, wanted)
+		}
+		return ""
+	}
+	creates := func() error { return r.platform.Create(ctx, key) }
+	if problem := wait(audit.Ready, operator.do(ctx, key, "creates the instance", creates)); problem != "" {
+		return nil, nil, end(problem)
+	}
+	keys = []Key{key}
+	if s.listsBindings() {
+		keys = append(keys, s.bindByPlatform(ctx, operator, key)...)
+	}
+	return keys, func() string { return end(wait(audit.Gone, operator.remove(ctx, key, true))) }, ""
+}
+
+// bindByPlatform has the platform create a binding, and returns its key if the binding is ready.
+func (s *BrokerStorm) bindByPlatform(ctx context.Context, o *operator, of Key) []Key {
+	key := o.keys.binding(of)
+	s.broker.Owe(conform.Debt{Instance: key.Instance, Binding: key.Binding})
+	binds := func() error { return o.orders.Bind(ctx, key) }
+	if o.do(ctx, key, "creates the binding", binds) && o.rest(ctx, key).State == audit.Ready {
+		return []Key{key}
+	}
+	return nil
+}
+
+// await polls until a creation has ended, and returns what is wrong, or "".
+func (s *BrokerStorm) await(ctx context.Context, key Key, operation string) string {
+	ctx, cancel := context.WithTimeout(ctx, s.config.Broker.OperationTime)
+	defer cancel()
+	for {
+		names := s.standard.names()
+		if operation != "" {
+			names.Set("operation", operation)
+		}
+		answer := s.broker.Ask(ctx, http.MethodGet, key.Instance, key.Binding, "/last_operation", names)
+		switch state := answer.Text("state"); {
+		case answer.Status == http.StatusOK && state == "succeeded":
+			return ""
+		case answer.Status != http.StatusOK || state != "in progress":
+			return "the last operation was answered with " + answer.Came
+		}
+		if !fault.Sleep(ctx, s.config.Broker.Pause) {
+			return "the creation took too long"
+		}
+	}
+}
+
+// deletionsOf asks for the deletion of each key, and returns what existed by the answers. It begins with the bindings.
+func (s *BrokerStorm) deletionsOf(ctx context.Context, keys []Key) map[Key]Existence {
+	found := map[Key]Existence{}
+	if !s.deletionsTell {
+		return found
+	}
+	for _, isBinding := range []bool{true, false} {
+		for _, key := range keys {
+			if (key.Binding != "") != isBinding || ctx.Err() != nil {
+				continue
+			}
+			answer := s.broker.Ask(ctx, http.MethodDelete, key.Instance, key.Binding, "", s.deletion())
+			if it := byDeletion(answer.Status); it != Unknown {
+				found[key] = it
+			}
+		}
+	}
+	return found
+}
+
+// byDeletion returns what existed by the status of the answer to a deletion.
+func byDeletion(status int) Existence {
+	switch status {
+	case http.StatusOK, http.StatusAccepted:
+		return Exists
+	case http.StatusGone:
+		return Missing
+	}
+	return Unknown
 }

@@ -1,0 +1,120 @@
+//go:build storm
+
+package without
+
+import (
+	"context"
+	"errors"
+	"os"
+	"path/filepath"
+	"testing"
+
+	"pippinterm/broker"
+	"pippinterm/broker/backend/folders"
+	"pippinterm/internal/diff"
+)
+
+func newSlowFolders(t *testing.T) (*slowFolders, string) {
+	t.Helper()
+	state := t.TempDir()
+	of := diff.Value(folders.New(filepath.Join(state, "instances")))(t)
+	_, err := SlowFolders(of, state)
+	check(t, err)
+	return &slowFolders{Folders: of, state: state, pause: func(context.Context) error { return nil }}, state
+}
+
+func request(key broker.Key) broker.Request {
+	return broker.Request{Key: key, InstanceID: one.String(), ServiceID: service.String(), PlanID: now.String()}
+}
+
+func failingAt(n int) func(context.Context) error {
+	return func(context.Context) error {
+		if n--; n == 0 {
+			return errFails
+		}
+		return nil
+	}
+}
+
+// Each call fails before it was done, or after it.
+func TestFailures(t *testing.T) {
+	ctx := context.Background()
+	s, _ := newSlowFolders(t)
+	createBinding := func(ctx context.Context, request broker.Request) error {
+		_, err := s.CreateBinding(ctx, request)
+		return err
+	}
+	for _, test := range []struct {
+		name          string
+		key           broker.Key
+		call          func(context.Context, broker.Request) error
+		look          func(context.Context, broker.Request) (broker.There, error)
+		before, after broker.There
+	}{
+		{"create", instance, s.Create, s.Look, broker.None, broker.Whole},
+		{"create a binding", binding, createBinding, s.LookBinding, broker.None, broker.Whole},
+		{"delete a binding", binding, s.DeleteBinding, s.LookBinding, broker.Whole, broker.None},
+		{"delete", instance, s.Delete, s.Look, broker.Whole, broker.None},
+	} {
+		t.Run(test.name, func(t *testing.T) {
+			for pause, want := range []broker.There{test.before, test.after} {
+				s.pause = failingAt(pause + 1)
+				if err := test.call(ctx, request(test.key)); !errors.Is(err, errFails) {
+					t.Errorf("%s: got %[3]v of the call when pause %[2]d fails, want %[4]v", test.name, pause+1, err, errFails)
+				}
+				there := diff.Value(test.look(ctx, request(test.key)))(t)
+				diff.Equal(t, there, want, "%s: pause %d fails", test.name, pause+1)
+			}
+		})
+	}
+}
+
+// Two that work at a key at once are written down, and two at different keys aren't.
+func TestTogether(t *testing.T) {
+	ctx := context.Background()
+	s, state := newSlowFolders(t)
+	check(t, s.Create(ctx, request(instance)))
+	within := func(other broker.Key) {
+		s.pause = func(context.Context) error {
+			s.pause = func(context.Context) error { return nil }
+			if other.IsBinding {
+				return s.DeleteBinding(ctx, request(other))
+			}
+			return s.Create(ctx, request(other))
+		}
+	}
+	within(binding)
+	check(t, s.Create(ctx, request(instance)))
+	if _, err := os.Stat(filepath.Join(state, "together")); !os.IsNotExist(err) {
+		t.Errorf("two keys: got %v, want them to count as two", err)
+	}
+	within(instance)
+	check(t, s.Create(ctx, request(instance)))
+	within(binding)
+	check(t, s.DeleteBinding(ctx, request(binding)))
+	text := diff.Value(os.ReadFile(filepath.Join(state, "together")))(t)
+	if want := instance.String() + "\n" + binding.String() + "\n"; string(text) != want {
+		t.Errorf("written down: got %q, want %q", text, want)
+	}
+}
+
+// A backend that forgets has every interface of the folders but the one of credentials.
+func TestForgetful(t *testing.T) {
+	s, _ := newSlowFolders(t)
+	var made broker.Backend = forgetfulFolders{s}
+	if _, ok := made.(broker.CredentialsBackend); ok {
+		t.Error("got credentials, want none")
+	}
+	if _, ok := made.(broker.TiedBackend); !ok {
+		t.Error("got no owner, want one")
+	}
+	if _, ok := made.(broker.LockBackend); !ok {
+		t.Error("got no locks, want some")
+	}
+}
+
+func TestPauseEndsWithItsContext(t *testing.T) {
+	ctx, cancel := context.WithCancel(context.Background())
+	cancel()
+	diff.ErrorIs(t, newChance(1).pause(ctx), context.Canceled, "a pause whose context is over")
+}
