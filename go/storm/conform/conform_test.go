@@ -228,7 +228,7 @@ func only(is func(*call) bool, spoil func(*call)) func(*call) {
 	}
 }
 
-func lacking(member string) func(*call) bool {
+func lacksMember(member string) func(*call) bool {
 	return func(c *call) bool {
 		if c.kind == "delete" {
 			return !c.URL.Query().Has(member)
@@ -309,13 +309,13 @@ var mistakes = []mistake{
 		only(hasHeader("Authorization"), gives(403)))},
 
 	{"service_id isn't required", "provision-without-service-id", false,
-		at("put", false, "", 400, only(lacking("service_id"), gives(201)))},
+		at("put", false, "", 400, only(lacksMember("service_id"), gives(201)))},
 	{"plan_id isn't required", "provision-without-plan-id", false,
-		at("put", false, "", 400, only(lacking("plan_id"), gives(201)))},
+		at("put", false, "", 400, only(lacksMember("plan_id"), gives(201)))},
 	{"organization_guid isn't required", "provision-without-organization", false,
-		at("put", false, "", 400, only(lacking("organization_guid"), gives(201)))},
+		at("put", false, "", 400, only(lacksMember("organization_guid"), gives(201)))},
 	{"space_guid isn't required", "provision-without-space", false,
-		at("put", false, "", 400, only(lacking("space_guid"), gives(201)))},
+		at("put", false, "", 400, only(lacksMember("space_guid"), gives(201)))},
 	{"an empty organization_guid", "provision-empty-organization", false,
 		at("put", false, "", 400, only(hasEmpty("organization_guid"), gives(201)))},
 	{"an empty space_guid", "provision-empty-space", false,
@@ -354,9 +354,9 @@ var mistakes = []mistake{
 	{"410 to a Fetch", "fetch-instance-unknown", false, at("fetch", false, "", 404, gives(410))},
 
 	{"a deletion of any service", "deprovision-without-service-id", false,
-		at("delete", false, "ready", 400, only(lacking("service_id"), gives(200)))},
+		at("delete", false, "ready", 400, only(lacksMember("service_id"), gives(200)))},
 	{"a deletion of any plan", "deprovision-without-plan-id", false,
-		at("delete", false, "ready", 400, only(lacking("plan_id"), gives(200)))},
+		at("delete", false, "ready", 400, only(lacksMember("plan_id"), gives(200)))},
 	{"204 to a deletion", "deprovision-existing", false,
 		at("delete", false, "ready", 200, func(c *call) { c.give(204, nil) })},
 	{"200 to every deletion", "deprovision-repeated", false, at("delete", false, "gone", 410, gives(200))},
@@ -417,17 +417,17 @@ var mistakes = []mistake{
 	{"500 to a Fetch of a binding", "fetch-binding", false, at("fetch", true, "ready", 200, gives(500))},
 	{"410 to a Fetch of a binding", "fetch-binding-unknown", false, at("fetch", true, "", 404, gives(410))},
 	{"an Unbind of any service", "unbind-without-service-id", false,
-		at("delete", true, "ready", 400, only(lacking("service_id"), gives(200)))},
+		at("delete", true, "ready", 400, only(lacksMember("service_id"), gives(200)))},
 	{"an Unbind of any plan", "unbind-without-plan-id", false,
-		at("delete", true, "ready", 400, only(lacking("plan_id"), gives(200)))},
+		at("delete", true, "ready", 400, only(lacksMember("plan_id"), gives(200)))},
 	{"204 to an Unbind", "unbind-existing", false,
 		at("delete", true, "ready", 200, func(c *call) { c.give(204, nil) })},
 	{"200 to every Unbind", "unbind-repeated", false, at("delete", true, "gone", 410, gives(200))},
 	{"404 to an Unbind", "unbind-unknown", false, at("delete", true, "", 410, gives(404))},
 	{"service_id isn't required of a Bind", "bind-without-service-id", false,
-		at("put", true, "", 400, only(lacking("service_id"), gives(201)))},
+		at("put", true, "", 400, only(lacksMember("service_id"), gives(201)))},
 	{"plan_id isn't required of a Bind", "bind-without-plan-id", false,
-		at("put", true, "", 400, only(lacking("plan_id"), gives(201)))},
+		at("put", true, "", 400, only(lacksMember("plan_id"), gives(201)))},
 	{"500 to a Bind that isn't JSON", "bind-malformed", false, at("put", true, "", 400, only(isMalformed, gives(500)))},
 	{"fields of a Bind are counted", "bind-unknown-fields", false,
 		at("put", true, "", 201, only(hasUnknown, gives(400)))},
@@ -498,7 +498,7 @@ type model struct {
 func newModel(async bool) *model { return &model{async: async, lives: map[key]*life{}} }
 
 func (m *model) ServeHTTP(w http.ResponseWriter, r *http.Request) {
-	c := read(r)
+	c := readCall(r)
 	if m.hold != nil {
 		m.hold(c)
 	}
@@ -528,7 +528,7 @@ func (m *model) ServeHTTP(w http.ResponseWriter, r *http.Request) {
 	}
 }
 
-func read(r *http.Request) *call {
+func readCall(r *http.Request) *call {
 	c := &call{Request: r, kindOf: "application/json"}
 	user, given, _ := r.BasicAuth()
 	c.isUnknown = user != "u" || given != password

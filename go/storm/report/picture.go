@@ -133,7 +133,7 @@ var pageText string
 type Page struct {
 	Title        string // for example Storm against a URL
 	Summary      string
-	Rows         []Row
+	Facts        []Fact
 	Minimal      []string // the list of faults to which those of the run were shrunk, or nil
 	MinimalTitle string
 	Sections     []Section
@@ -145,8 +145,8 @@ type Page struct {
 	Given  []string // all faults
 }
 
-// A Row is a line of the table of facts.
-type Row struct{ Name, Value string }
+// A Fact is a line of the table of facts.
+type Fact struct{ Name, Value string }
 
 // A Section is findings of one kind.
 type Section struct {
@@ -155,10 +155,10 @@ type Section struct {
 	Kills    []Line // what happened to the programs in the same run
 }
 
-// Add adds a row for each value.
+// Add adds a fact for each value.
 func (p *Page) Add(name string, values ...string) {
 	for _, value := range values {
-		p.Rows = append(p.Rows, Row{name, value})
+		p.Facts = append(p.Facts, Fact{name, value})
 	}
 }
 

@@ -86,7 +86,7 @@ func TestNothingLost(t *testing.T) {
 					if !report.IsClean() || len(report.Broken) > 0 || len(report.Failed) > 0 || len(report.Leftovers) > 0 {
 						t.Errorf("got\n%s\nwant a clean report with nothing broken, failed or left", textOf(t, report))
 					}
-					if left := m.existing(t); len(left) > 0 {
+					if left := m.list(t); len(left) > 0 {
 						t.Errorf("got %v left, want none", left)
 					}
 					return stormtest.Tally{report.Instances, report.Bindings, report.Requests, len(report.Given)}
@@ -219,7 +219,7 @@ func TestCleanUpAfterSignal(t *testing.T) {
 	storm := openStorm(t, config)
 	running, signal := context.WithCancel(context.Background())
 	go func() {
-		for len(m.existing(t)) < 5 {
+		for len(m.list(t)) < 5 {
 			time.Sleep(10 * time.Millisecond)
 		}
 		signal()
@@ -232,7 +232,7 @@ func TestCleanUpAfterSignal(t *testing.T) {
 	if len(report.Lost)+len(report.False)+len(report.Stuck) > 0 {
 		t.Errorf("got\n%s\nwant nothing lost, false or stuck before everything converged", textOf(t, report))
 	}
-	if left := m.existing(t); len(left) > 0 {
+	if left := m.list(t); len(left) > 0 {
 		t.Errorf("got %v left, want none", left)
 	}
 	if time.Since(begun) > 30*time.Second {
@@ -251,7 +251,7 @@ func TestSecondSignal(t *testing.T) {
 	running, first := context.WithCancel(context.Background())
 	deleting, second := context.WithCancel(context.Background())
 	go func() {
-		for len(m.existing(t)) < 5 {
+		for len(m.list(t)) < 5 {
 			time.Sleep(10 * time.Millisecond)
 		}
 		second()
@@ -262,12 +262,12 @@ func TestSecondSignal(t *testing.T) {
 	for _, leftover := range report.Leftovers {
 		listed[strings.Trim(leftover.Instance+"_"+leftover.Binding, "_")] = true
 	}
-	for _, name := range m.existing(t) {
+	for _, name := range m.list(t) {
 		if !listed[name] {
 			t.Errorf("%s: got it left, and not listed, want it listed", name)
 		}
 	}
-	if len(m.existing(t)) == 0 {
+	if len(m.list(t)) == 0 {
 		t.Error("got everything deleted, want something left")
 	}
 }
@@ -292,12 +292,12 @@ func TestOthersUntouched(t *testing.T) {
 		m.create(key)
 		m.rows[key] = &row{}
 	}
-	before := m.existing(t)
+	before := m.list(t)
 	report, err := storm.Run(context.Background(), context.Background())
 	if err != nil || !report.IsClean() || len(report.Leftovers) > 0 {
 		t.Errorf("got the error %v, want a clean report without leftovers:\n%s", err, textOf(t, report))
 	}
-	diff.Check(t, m.existing(t), before, "what is left, and what was there before")
+	diff.Check(t, m.list(t), before, "what is left, and what was there before")
 	if report.Instances > config.Broker.Instances {
 		t.Errorf("got %d instances created, want at most %v", report.Instances, config.Broker.Instances)
 	}
@@ -507,7 +507,7 @@ func TestWrongLists(t *testing.T) {
 					if err != nil && report.Requests > 0 {
 						t.Error("got a storm, want none")
 					}
-					if left := m.existing(t); len(left)+len(report.Leftovers) > 0 || len(m.rows) > 0 {
+					if left := m.list(t); len(left)+len(report.Leftovers) > 0 || len(m.rows) > 0 {
 						t.Errorf("got %v %v left, want none", left, report.Leftovers)
 					}
 					stormtest.Empty(t, config.Folder)
@@ -547,7 +547,7 @@ func TestHangingCommands(t *testing.T) {
 				defer end()
 				begun := make(chan time.Time, 1)
 				go func() {
-					for wanted := map[bool]int{true: 1, false: 5}[name == "trial"]; len(m.existing(t)) < wanted; {
+					for wanted := map[bool]int{true: 1, false: 5}[name == "trial"]; len(m.list(t)) < wanted; {
 						time.Sleep(10 * time.Millisecond)
 					}
 					_ = os.WriteFile(flag, nil, 0o600)
@@ -567,7 +567,7 @@ func TestHangingCommands(t *testing.T) {
 				if err != nil || report.Ended == "" || took > most {
 					t.Errorf("got %v after %v, want its end in time\n%s", err, took, textOf(t, report))
 				}
-				if left := m.existing(t); !second && len(left) > 0 {
+				if left := m.list(t); !second && len(left) > 0 {
 					t.Errorf("got %v left, want none", left)
 				}
 			})

@@ -81,7 +81,7 @@ func (m *model) file(k Key) string {
 	return filepath.Join(m.folder, "instances", k.Instance)
 }
 
-func (m *model) existing(t *testing.T) (names []string) {
+func (m *model) list(t *testing.T) (names []string) {
 	t.Helper()
 	for _, name := range []string{"instances", "bindings"} {
 		files, err := os.ReadDir(filepath.Join(m.folder, name))

@@ -127,7 +127,7 @@ func TestNoSecretsInErrors(t *testing.T) {
 	config.Broker.URL = url
 	storm = openStorm(t, config)
 	_, listed := storm.Run(context.Background(), context.Background())
-	if !errors.Is(listed, ErrList) || len(m.existing(t)) > 0 {
+	if !errors.Is(listed, ErrList) || len(m.list(t)) > 0 {
 		t.Fatalf("got the error %v, want %v", listed, ErrList)
 	}
 	login := base64.StdEncoding.EncodeToString([]byte("platform:" + password))
@@ -384,7 +384,7 @@ func TestJournals(t *testing.T) {
 			if !report.IsClean() || len(report.Failed) > 0 || len(report.Leftovers) > 0 {
 				t.Errorf("got\n%s\nwant a clean report and nothing left", textOf(t, report))
 			}
-			if left := m.existing(t); len(left) > 0 {
+			if left := m.list(t); len(left) > 0 {
 				t.Errorf("got %v left, want none", left)
 			}
 			stormtest.Empty(t, config.Folder)
@@ -474,7 +474,7 @@ func TestJournalsByDeletion(t *testing.T) {
 		config := configFor(t, url)
 		config.Seed, config.Journal = seed, t.TempDir()
 		report := runStorm(t, config)
-		if left := m.existing(t); !report.IsClean() || report.Unknown > 0 || len(left) > 0 {
+		if left := m.list(t); !report.IsClean() || report.Unknown > 0 || len(left) > 0 {
 			return textOf(t, report)
 		}
 		return ""

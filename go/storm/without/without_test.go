@@ -327,7 +327,7 @@ func TestWorkIsWrittenOnceItIsDone(t *testing.T) {
 	wrapped, _, err := StoreAndLocks(context.Background(), "work", store, nil)
 	check(t, err)
 	diff.ErrorIs(t, end(wrapped, instance), broker.ErrLostWork, "work that nobody began")
-	begin(t, wrapped, instance, holding(t, "null", pending("provision", instance), false))
+	begin(t, wrapped, instance, holding(t, "null", pendingWork("provision", instance), false))
 	wantHolding(t, store, instance, osb.Holding{})
 	check(t, end(wrapped, instance))
 	wantHolding(t, store, instance, holding(t, in("making"), "null", false))
@@ -338,8 +338,8 @@ func TestBusy(t *testing.T) {
 	ctx, store := context.Background(), openEmpty(t)
 	wrapped, _, err := StoreAndLocks(ctx, "busy", store, nil)
 	check(t, err)
-	creating := holding(t, "null", pending("provision", instance), false)
-	deleting := holding(t, in("ready"), pending("deprovision", instance), false)
+	creating := holding(t, "null", pendingWork("provision", instance), false)
+	deleting := holding(t, in("ready"), pendingWork("deprovision", instance), false)
 	for _, test := range []struct {
 		name                 string
 		pending, shown, next osb.Holding
@@ -366,7 +366,7 @@ func TestBusyBinding(t *testing.T) {
 	ctx, store := context.Background(), openEmpty(t)
 	wrapped, _, err := StoreAndLocks(ctx, "busy", store, nil)
 	check(t, err)
-	write(t, store, binding, holding(t, in("ready"), pending("deprovision", binding), false))
+	write(t, store, binding, holding(t, in("ready"), pendingWork("deprovision", binding), false))
 	check(t, wrapped.Change(ctx, binding, 0, func(snapshot broker.Snapshot) (*broker.Entry, error) {
 		if want := holding(t, in("ready"), "null", false); snapshot.Holding != want {
 			t.Errorf("the step: got %v, want %v", snapshot.Holding, want)
@@ -396,7 +396,7 @@ func in(phase string) string {
 }
 
 // pending is the pending work of a request of this kind, about the key.
-func pending(kind string, key broker.Key) string {
+func pendingWork(kind string, key broker.Key) string {
 	text := `{"accepts_incomplete":true,"id":%q,"kind":%q,"plan":%q,"service":%q}`
 	return fmt.Sprintf(text, key.ID(), kind, later, service)
 }

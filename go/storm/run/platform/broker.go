@@ -182,8 +182,8 @@ func (s *shop) isWorking(ctx context.Context) (bool, error) {
 	return false, nil
 }
 
-// existing returns which of these instances and bindings exist, or a part of them.
-func (s *shop) existing(ctx context.Context, keys []report.Key) (map[report.Key]bool, error) {
+// findExisting returns which of these instances and bindings exist, or a part of them.
+func (s *shop) findExisting(ctx context.Context, keys []report.Key) (map[report.Key]bool, error) {
 	found := map[report.Key]bool{}
 	for _, key := range keys {
 		its, err := audit.BrokerKey(key)

@@ -238,7 +238,7 @@ func (s *Storm) look(ctx context.Context, found *result) {
 	found.Exchanges = s.journal.Exchanges()
 	found.views = viewsOf(found.Exchanges)
 	keys := s.keys.All()
-	existing, err := s.shop.existing(ctx, keys)
+	existing, err := s.shop.findExisting(ctx, keys)
 	if err != nil {
 		found.Failed = append(found.Failed, "what exists can't be seen: "+err.Error())
 		return
