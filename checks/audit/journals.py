@@ -125,7 +125,7 @@ class Journal:
     changes: dict[str, int] = field(default_factory=dict)
     requests: dict[tuple[str, str], str] = field(default_factory=dict)
     named: dict[str, str] = field(default_factory=dict)
-    """What the line that is being told names in another way."""
+    """What the line that is being added names in another way."""
 
     def tell(self, story: str) -> Journal:
         """Adds the lines of a story, one in each line of the text, or parted by semicolons."""

@@ -35,10 +35,10 @@ def texts() -> list[tuple[str, dict[str, Any]]]:
     return [(who, json.loads(it)) for who, lines in journal.lines.items() for it in lines]
 
 
-def story_of(told: list[dict[str, Any]]) -> None:
+def story_of(journal: list[dict[str, Any]]) -> None:
     lines: list[Line] = []
     settings = {}
-    for number, members in enumerate(told):
+    for number, members in enumerate(journal):
         text = json.dumps(members).encode()
         if members["event"] != "started":
             lines.append(read(Position(0, number), text))
@@ -50,14 +50,14 @@ def story_of(told: list[dict[str, Any]]) -> None:
 @pytest.mark.parametrize("name", WRONG)
 def test_members_of_other_types(name: str) -> None:
     """A story with one wrong member is gone through, or the line is rejected: nothing else is raised."""
-    told = [members for _, members in texts()]
+    journal = [members for _, members in texts()]
     rejected = passed = 0
-    for at, members in enumerate(told):
+    for at, members in enumerate(journal):
         for member in members:
             if member in ("time", "process", "side", "event"):
                 continue
             try:
-                story_of([*told[:at], {**members, member: WRONG[name]}, *told[at + 1 :]])
+                story_of([*journal[:at], {**members, member: WRONG[name]}, *journal[at + 1 :]])
                 passed += 1
             except BadLine as error:
                 assert f"{member} of " in str(error), error

@@ -129,10 +129,10 @@ def test_a_line_that_was_cut_off(audit: Audit, tmp_path: Path) -> None:
     torn = b'{"time":1800000000000000,"process":"00000000'
     whole = broker.read_bytes()
     broker.write_bytes(whole + torn)
-    told = f"{broker}:12: the line was cut off\n1 instance, 7 events, 0 differences\n"
-    assert audit(broker, platform, options=TEXT) == Ran(0, told, "")
+    printed = f"{broker}:12: the line was cut off\n1 instance, 7 events, 0 differences\n"
+    assert audit(broker, platform, options=TEXT) == Ran(0, printed, "")
     broker.write_bytes(whole + torn + b"\n" + at(whole.split(b"\n")[0], 2 * BEGIN) + b"\n")
-    assert audit(broker, platform, options=TEXT) == Ran(0, told, "")
+    assert audit(broker, platform, options=TEXT) == Ran(0, printed, "")
     broker.write_bytes(whole + torn + b"\n" + whole.split(b"\n")[1] + b"\n")
     ran = audit(broker, platform, options=TEXT)
     assert ran == Ran(78, "", f"osb-audit: {broker}: line 13: the line before it is no line of a journal\n")
@@ -158,10 +158,10 @@ def test_zeros_after_a_power_cut(audit: Audit, tmp_path: Path, tail: bytes) -> N
     """
     broker, platform = sorted(journals_in(tmp_path, CREATED))
     whole = broker.read_bytes()
-    told = f"{broker}:12: the line was cut off\n1 instance, 7 events, 0 differences\n"
+    printed = f"{broker}:12: the line was cut off\n1 instance, 7 events, 0 differences\n"
     for following in (b"", b"\n" + at(whole.split(b"\n")[0], 2 * BEGIN) + b"\n"):
         broker.write_bytes(whole + tail + following)
-        assert audit(broker, platform, options=TEXT) == Ran(0, told, "")
+        assert audit(broker, platform, options=TEXT) == Ran(0, printed, "")
     broker.write_bytes(whole + tail + b"\n" + whole.split(b"\n")[1] + b"\n")
     ran = audit(broker, platform, options=TEXT)
     assert (ran.status, ran.out) == (78, "") and ran.err.endswith("it is no line of a journal\n"), ran
@@ -217,10 +217,10 @@ def test_a_journal_under_two_names(audit: Audit, tmp_path: Path) -> None:
     broker, platform = sorted(journals_in(tmp_path / "journals", CREATED))
     (tmp_path / "linked").symlink_to(tmp_path / "journals")
     (tmp_path / "link.jsonl").symlink_to(broker)
-    told = Ran(0, "1 instance, 7 events, 0 differences\n", "")
+    printed = Ran(0, "1 instance, 7 events, 0 differences\n", "")
     names = broker, tmp_path / "link.jsonl", tmp_path / "linked" / platform.name, tmp_path / "journals"
-    assert audit(*names, tmp_path / "linked", options=TEXT) == told
-    assert audit(*names[::-1], options=TEXT) == told
+    assert audit(*names, tmp_path / "linked", options=TEXT) == printed
+    assert audit(*names[::-1], options=TEXT) == printed
     copy = tmp_path / "copy.jsonl"
     copy.write_bytes(broker.read_bytes())
     why = "is the same line `started`: one is a copy of the other. Name each journal once"
@@ -307,8 +307,8 @@ def test_a_line_in_another_form_that_was_cut_off(audit: Audit, tmp_path: Path) -
     broker, platform = sorted(journals_in(tmp_path, CREATED))
     lines = [json.dumps(json.loads(it), sort_keys=True) for it in broker.read_text().splitlines()]
     broker.write_text("".join(f"{it}\n" for it in lines) + lines[1][:40])
-    told = f"{broker}:12: the line was cut off\n1 instance, 7 events, 0 differences\n"
-    assert audit(broker, platform, options=TEXT) == Ran(0, told, "")
+    printed = f"{broker}:12: the line was cut off\n1 instance, 7 events, 0 differences\n"
+    assert audit(broker, platform, options=TEXT) == Ran(0, printed, "")
 
 
 # ---- what can't be used
@@ -500,10 +500,10 @@ def test_remarks_in_json(audit: Audit, tmp_path: Path) -> None:
         assert (ran.status, ran.report["remarks"]) == (78, [MISSING.format(other), NOTHING])
     story = f"{CREATED}; B arrive 2 x deprovision; B change 2 ready+deprovision"
     ran = audit(*journals_in(tmp_path, story), options=("--json", "--unjudged", "9"))
-    told = "Not judged to their end: 100 percent of the instances."
-    assert (ran.status, ran.report["remarks"]) == (3, [f"{told} --unjudged allows 9 percent."])
+    printed = "Not judged to their end: 100 percent of the instances."
+    assert (ran.status, ran.report["remarks"]) == (3, [f"{printed} --unjudged allows 9 percent."])
     ran = audit(*journals_in(tmp_path, story))
-    assert (ran.status, ran.report["remarks"]) == (1, [f"{told} {USUAL}"])
+    assert (ran.status, ran.report["remarks"]) == (1, [f"{printed} {USUAL}"])
 
 
 def test_lost_lines(audit: Audit, tmp_path: Path) -> None:
@@ -531,8 +531,8 @@ def test_too_many_unjudged(audit: Audit, tmp_path: Path, allowed: str, status: i
     more = f"{CREATED}; B arrive 2 x deprovision; B change 2 ready+deprovision"
     rest = journals_in(tmp_path / "other", more, time=BEGIN + 1_000_000_000)
     ran = audit(*whole, *rest, options=("--unjudged", allowed))
-    told = f"Not judged to their end: 50 percent of the instances. --unjudged allows {allowed} percent.\n"
-    assert (ran.status, told in ran.out, ran.err) == (status, status == 3, ""), ran
+    printed = f"Not judged to their end: 50 percent of the instances. --unjudged allows {allowed} percent.\n"
+    assert (ran.status, printed in ran.out, ran.err) == (status, status == 3, ""), ran
     assert ran.out.endswith("2 instances, 14 events, 0 differences\n")
 
 
@@ -547,8 +547,8 @@ def test_more_than_a_tenth_unjudged(audit: Audit, tmp_path: Path, whole: int, st
             journal.lines[who] += lines[1:]
     paths = journal.files(tmp_path)
     ran = audit(*paths, options=TEXT)
-    told = f"Not judged to their end: {100 / (whole + 1):.3g} percent of the instances. {USUAL}\n"
-    assert (ran.status, told in ran.out, ran.err) == (status, status == 1, ""), ran
+    printed = f"Not judged to their end: {100 / (whole + 1):.3g} percent of the instances. {USUAL}\n"
+    assert (ran.status, printed in ran.out, ran.err) == (status, status == 1, ""), ran
     assert audit(*paths, options=("--unjudged", "100")).status == 0
 
 

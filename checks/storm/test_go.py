@@ -15,5 +15,5 @@ def test_tests(packages: Packages) -> None:
 
 @pytest.mark.long(15)
 def test_hook(packages: Packages) -> None:
-    """The place in the platform's program."""
+    """The code of the storm in the platform's program."""
     packages.test("./cmd/osb-platform", tags=TAGS, options=("-run", "TestForStorm"), race=True)

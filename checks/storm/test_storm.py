@@ -48,9 +48,9 @@ def storming(storm: Path, replay: Path, programs: list[str], folder: Path, *argu
     return audited.stdout
 
 
-def assert_audited(told: str) -> None:
-    found = _AUDITED.search(told)
-    assert found is not None and int(found[1]) > 50, told
+def assert_audited(audit: str) -> None:
+    found = _AUDITED.search(audit)
+    assert found is not None and int(found[1]) > 50, audit
 
 
 @pytest.mark.long(90)
@@ -71,9 +71,9 @@ def test_over_postgresql(storm: Path, replay: Path, programs: list[str], tmp_pat
     if not (shutil.which("initdb") or list(Path("/usr/lib/postgresql").glob("*/bin/initdb"))):
         pytest.skip("PostgreSQL isn't installed (Debian: apt-get install postgresql)")
     commands.needs("haproxy", path="/usr/sbin:/usr/local/sbin:/usr/bin")
-    places = "--store", "postgresql", "--backend", "postgresql", "--brokers", "3", "--haproxy", "--kill-database", "1"
+    stores = "--store", "postgresql", "--backend", "postgresql", "--brokers", "3", "--haproxy", "--kill-database", "1"
     counts = "--seconds", "30", "--instances", "100", "--workers", "3", "--crash-points=some"
-    assert_audited(storming(storm, replay, programs, tmp_path, *counts, *places))
+    assert_audited(storming(storm, replay, programs, tmp_path, *counts, *stores))
 
 
 @pytest.mark.long(70)
@@ -83,8 +83,8 @@ def test_without_pending_work(storm: Path, replay: Path, programs: list[str], tm
     journals differ from the model.
     """
     counts = "--seconds", "30", "--instances", "150", "--settle-seconds", "20", "--crash-points=some"
-    told = storming(storm, replay, programs, tmp_path, *counts, "--without", "work")
-    assert _DIFFERS.search(told), told
+    audit = storming(storm, replay, programs, tmp_path, *counts, "--without", "work")
+    assert _DIFFERS.search(audit), audit
 
 
 @pytest.mark.whole
@@ -96,8 +96,8 @@ def test_without_a_part(storm: Path, replay: Path, programs: list[str], tmp_path
     the model.
     """
     counts = "--seconds", "15", "--instances", "100", "--settle-seconds", "20", "--crash-points=some", "--without", part
-    told = storming(storm, replay, programs, tmp_path, *counts, unjudged="100")
-    assert _DIFFERS.search(told), told
+    audit = storming(storm, replay, programs, tmp_path, *counts, unjudged="100")
+    assert _DIFFERS.search(audit), audit
 
 
 @pytest.mark.long(60)
