@@ -69,11 +69,13 @@ func TestRefusals(t *testing.T) {
 func TestOddNames(t *testing.T) {
 	s := newTestBroker(t, setting{})
 	for _, name := range []string{"service_bindings", "last_operation", "a%2Fservice_bindings%2Fb", "%20"} {
-		s.expect(t, 201, "PUT", instances+name, bodyOf(now, ""))
-		s.expect(t, 200, "GET", instances+name+"/last_operation", "")
-		s.expect(t, 201, "PUT", instances+name+"/service_bindings/"+name, bodyOf(now, ""))
-		s.expect(t, 200, "DELETE", instances+name+"/service_bindings/"+name+names(now), "")
-		s.expect(t, 200, "DELETE", instances+name+names(now), "")
+		t.Run(name, func(t *testing.T) {
+			s.expect(t, 201, "PUT", instances+name, bodyOf(now, ""))
+			s.expect(t, 200, "GET", instances+name+"/last_operation", "")
+			s.expect(t, 201, "PUT", instances+name+"/service_bindings/"+name, bodyOf(now, ""))
+			s.expect(t, 200, "DELETE", instances+name+"/service_bindings/"+name+names(now), "")
+			s.expect(t, 200, "DELETE", instances+name+names(now), "")
+		})
 	}
 }
 
@@ -454,9 +456,11 @@ func TestUsers(t *testing.T) {
 	for _, wrong := range []map[string][]string{
 		nil, {"u": nil}, {"u": {""}}, {"": {"p"}}, {"a:b": {"p"}}, {"u": {"\xff"}},
 	} {
-		if _, err := broker.NewUsers(wrong); err == nil || strings.Contains(err.Error(), "\xff") {
-			t.Errorf("%q: got the error %v, want one without the password", wrong, err)
-		}
+		t.Run(fmt.Sprintf("%q", wrong), func(t *testing.T) {
+			if _, err := broker.NewUsers(wrong); err == nil || strings.Contains(err.Error(), "\xff") {
+				t.Errorf("%q: got the error %v, want one without the password", wrong, err)
+			}
+		})
 	}
 	s.Users = &broker.Users{}
 	s.expect(t, 401, "GET", "/v2/catalog", "")
@@ -730,7 +734,9 @@ func TestParsedAtOnce(t *testing.T) {
 
 func TestBodiesAtOnce(t *testing.T) {
 	for longest, want := range map[int]int{1: 16 << 20, 256 << 10: 16 << 20, 4 << 20: 16 << 20, 5 << 20: 20 << 20} {
-		diff.Equal(t, broker.BodiesAtOnce(longest), want, "%d", longest)
+		t.Run(fmt.Sprint(longest), func(t *testing.T) {
+			diff.Equal(t, broker.BodiesAtOnce(longest), want, "%d", longest)
+		})
 	}
 }
 

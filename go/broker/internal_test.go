@@ -150,14 +150,16 @@ func TestOfStore(t *testing.T) {
 func TestBodiesAreWrittenOnce(t *testing.T) {
 	h := &Handler{}
 	for _, sentence := range []string{"", "It can't be done now."} {
-		it := wording{osb.Answer{Status: 500, Body: osb.BodyOtherError}, sentence}
-		first, err := h.wordingBody(it)
-		if err != nil || !strings.Contains(string(first), sentence) {
-			t.Fatalf("got %s and %v, want an error with %q", first, err, sentence)
-		}
-		if second, err := h.wordingBody(it); err != nil || &second[0] != &first[0] {
-			t.Errorf("%q once more: got %s and %v, want the body that was written before", sentence, second, err)
-		}
+		t.Run(fmt.Sprintf("%q", sentence), func(t *testing.T) {
+			it := wording{osb.Answer{Status: 500, Body: osb.BodyOtherError}, sentence}
+			first, err := h.wordingBody(it)
+			if err != nil || !strings.Contains(string(first), sentence) {
+				t.Fatalf("got %s and %v, want an error with %q", first, err, sentence)
+			}
+			if second, err := h.wordingBody(it); err != nil || &second[0] != &first[0] {
+				t.Errorf("%q once more: got %s and %v, want the body that was written before", sentence, second, err)
+			}
+		})
 	}
 }
 
@@ -165,17 +167,19 @@ func TestBodiesAreWrittenOnce(t *testing.T) {
 func TestPauses(t *testing.T) {
 	s := newSetbacks(time.Second, 10*time.Second)
 	for times, want := range []time.Duration{1, 2, 4, 8, 10, 10, 10} {
-		seen := map[time.Duration]bool{}
-		for n := 0; n < 100; n++ {
-			got := s.pause(times)
-			seen[got] = true
-			if got > want*time.Second || got < want*time.Second/2 {
-				t.Errorf("the pause after %d failures: got %v, want %v to %v", times, got, want*time.Second/2, want*time.Second)
+		t.Run(fmt.Sprint(times), func(t *testing.T) {
+			seen := map[time.Duration]bool{}
+			for n := 0; n < 100; n++ {
+				got := s.pause(times)
+				seen[got] = true
+				if got > want*time.Second || got < want*time.Second/2 {
+					t.Errorf("the pause: got %v, want %v to %v", got, want*time.Second/2, want*time.Second)
+				}
 			}
-		}
-		if len(seen) < 50 {
-			t.Errorf("after %d failures: got %d pauses, want random ones", times, len(seen))
-		}
+			if len(seen) < 50 {
+				t.Errorf("got %d pauses, want random ones", len(seen))
+			}
+		})
 	}
 	if got := newSetbacks(time.Hour, 0).pause(3); got > DefaultLongestPause {
 		t.Errorf("the pause: got %v, want %v at most", got, DefaultLongestPause)
@@ -198,9 +202,11 @@ func TestSetbacks(t *testing.T) {
 	s.add(other, backendFailed, false)
 	s.add(third, backendUnused, true)
 	for key, want := range map[Key][2]bool{one: {true, true}, other: {true, false}, third: {}} {
-		if s.isFailing(key) != want[0] || s.rests(key) != want[1] {
-			t.Errorf("%v: got failing %v and resting %v, want %v", key, s.isFailing(key), s.rests(key), want)
-		}
+		t.Run(key.String(), func(t *testing.T) {
+			if s.isFailing(key) != want[0] || s.rests(key) != want[1] {
+				t.Errorf("%v: got failing %v and resting %v, want %v", key, s.isFailing(key), s.rests(key), want)
+			}
+		})
 	}
 	s.add(one, backendUnused, true)
 	s.add(other, backendSucceeded, false)
@@ -251,9 +257,11 @@ func TestTextOfAKey(t *testing.T) {
 	const one = "00000000-0000-0000-0000-000000000001"
 	number := osb.MustParseID(one)
 	for want, key := range map[string]Key{one: InstanceKey(number), one + "/" + one: BindingKey(number, number)} {
-		if got := key.String(); got != want {
-			t.Errorf("got %s, want %s", got, want)
-		}
+		t.Run(want, func(t *testing.T) {
+			if got := key.String(); got != want {
+				t.Errorf("got %s, want %s", got, want)
+			}
+		})
 	}
 }
 

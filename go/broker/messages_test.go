@@ -117,13 +117,15 @@ func TestSentencesOfAnswers(t *testing.T) {
 		{"GET", "i/service_bindings/no/last_operation", "", 410, "No binding of this id exists."},
 		{"GET", "i/service_bindings/no", "", 404, "No binding of this id can be fetched"},
 	} {
-		body := s.expect(t, test.status, test.method, instances+test.target, test.body)
-		if description, _ := descriptionIn(t, body); !strings.Contains(description, test.description) {
-			t.Errorf("%s %s: got %s, want %q", test.method, test.target, body, test.description)
-		}
-		if reason := s.observed.last().Reason; !strings.Contains(reason, test.description) {
-			t.Errorf("%s %s: got the reason %q in the log, want %q in it", test.method, test.target, reason, test.description)
-		}
+		t.Run(test.method+" "+test.target, func(t *testing.T) {
+			body := s.expect(t, test.status, test.method, instances+test.target, test.body)
+			if description, _ := descriptionIn(t, body); !strings.Contains(description, test.description) {
+				t.Errorf("got %s, want %q", body, test.description)
+			}
+			if reason := s.observed.last().Reason; !strings.Contains(reason, test.description) {
+				t.Errorf("got the reason %q in the log, want %q in it", reason, test.description)
+			}
+		})
 	}
 }
 

@@ -3,6 +3,7 @@ package broker_test
 import (
 	"context"
 	"errors"
+	"fmt"
 	"net/http"
 	"strings"
 	"sync"
@@ -390,20 +391,22 @@ func TestALateWorkerOfTheOldLife(t *testing.T) {
 func TestALateRequestOfTheOldLife(t *testing.T) {
 	ctx := context.Background()
 	for _, rules := range []broker.Rules{anHour, {}} {
-		l := newLives(t, newShelf(calm), rules)
-		if given, err := l.Handle(ctx, provision(now)); err != nil || given.Status != http.StatusCreated {
-			t.Fatalf("got %+v, %v, want 201", given, err)
-		}
-		late := deprovision(now)
-		late.Arrived = time.Now().Add(-2 * time.Minute)
-		given, err := l.Handle(ctx, late)
-		isPutOff := errors.Is(err, broker.ErrAway)
-		if isPutOff != (rules.IDsReturnAfter > 0) || isPutOff == (given.Status == http.StatusOK) {
-			t.Errorf("got %+v and the error %v, want it put off if ids return, and else 200", given, err)
-		}
-		if l.holding(t, keyOf("i")).IsHeld() != isPutOff {
-			t.Errorf("got %+v, want the instance held if the deletion is put off", l.entry(t, keyOf("i")))
-		}
+		t.Run(fmt.Sprintf("ids return %t", rules.IDsReturnAfter > 0), func(t *testing.T) {
+			l := newLives(t, newShelf(calm), rules)
+			if given, err := l.Handle(ctx, provision(now)); err != nil || given.Status != http.StatusCreated {
+				t.Fatalf("got %+v, %v, want 201", given, err)
+			}
+			late := deprovision(now)
+			late.Arrived = time.Now().Add(-2 * time.Minute)
+			given, err := l.Handle(ctx, late)
+			isPutOff := errors.Is(err, broker.ErrAway)
+			if isPutOff != (rules.IDsReturnAfter > 0) || isPutOff == (given.Status == http.StatusOK) {
+				t.Errorf("got %+v and the error %v, want it put off if ids return, and else 200", given, err)
+			}
+			if l.holding(t, keyOf("i")).IsHeld() != isPutOff {
+				t.Errorf("got %+v, want the instance held if the deletion is put off", l.entry(t, keyOf("i")))
+			}
+		})
 	}
 	l := newLives(t, newShelf(calm), anHour)
 	l.SetStay(-1) // the handler knows when its request has arrived
@@ -470,15 +473,17 @@ func TestCatalogueOfIDsThatReturn(t *testing.T) {
 func TestALateFetchOfTheOldLife(t *testing.T) {
 	bound := instances + "i/service_bindings/b"
 	for _, rules := range []broker.Rules{anHour, {}} {
-		l, status := newLives(t, newShelf(calm), rules), http.StatusOK
-		if rules.IDsReturnAfter > 0 {
-			status = http.StatusServiceUnavailable
-		}
-		l.expect(t, 201, "PUT", instances+"i", bodyOf(now, ""))
-		l.expect(t, 201, "PUT", bound, bodyOf(now, ""))
-		l.expect(t, 200, "GET", bound, "")
-		l.SetStay(-1)
-		l.expect(t, status, "GET", bound, "")
+		t.Run(fmt.Sprintf("ids return %t", rules.IDsReturnAfter > 0), func(t *testing.T) {
+			l, status := newLives(t, newShelf(calm), rules), http.StatusOK
+			if rules.IDsReturnAfter > 0 {
+				status = http.StatusServiceUnavailable
+			}
+			l.expect(t, 201, "PUT", instances+"i", bodyOf(now, ""))
+			l.expect(t, 201, "PUT", bound, bodyOf(now, ""))
+			l.expect(t, 200, "GET", bound, "")
+			l.SetStay(-1)
+			l.expect(t, status, "GET", bound, "")
+		})
 	}
 }
 
@@ -489,27 +494,29 @@ func TestADeletionRenewsATombstone(t *testing.T) {
 	one := instances + "i"
 	bound, binding := one+"/service_bindings/b", broker.BindingKey(keyOf("i").Instance, keyOf("b").Instance)
 	for _, rules := range []broker.Rules{anHour, {}} {
-		l := newLives(t, newShelf(calm), rules)
-		l.expect(t, 201, "PUT", one, bodyOf(now, ""))
-		l.expect(t, 201, "PUT", bound, bodyOf(now, ""))
-		for _, test := range []struct {
-			target string
-			key    broker.Key
-		}{{bound, binding}, {one, keyOf("i")}} {
-			l.expect(t, 200, "DELETE", test.target+names(now), "")
-			time.Sleep(pause)
-			l.expect(t, 410, "GET", test.target+"/last_operation", "")
-			l.expect(t, 409, "PUT", test.target, bodyOf(now, ""))
-			if age := l.age(t, test.key); age < pause {
-				t.Errorf("%v: got the age %v after a Poll and a creation with %+v, want at least %v", test.key, age, rules, pause)
+		t.Run(fmt.Sprintf("ids return %t", rules.IDsReturnAfter > 0), func(t *testing.T) {
+			l := newLives(t, newShelf(calm), rules)
+			l.expect(t, 201, "PUT", one, bodyOf(now, ""))
+			l.expect(t, 201, "PUT", bound, bodyOf(now, ""))
+			for _, test := range []struct {
+				target string
+				key    broker.Key
+			}{{bound, binding}, {one, keyOf("i")}} {
+				l.expect(t, 200, "DELETE", test.target+names(now), "")
+				time.Sleep(pause)
+				l.expect(t, 410, "GET", test.target+"/last_operation", "")
+				l.expect(t, 409, "PUT", test.target, bodyOf(now, ""))
+				if age := l.age(t, test.key); age < pause {
+					t.Errorf("%v: got the age %v after a Poll and a creation, want at least %v", test.key, age, pause)
+				}
+				again := time.Now()
+				l.expect(t, 410, "DELETE", test.target+names(now), "")
+				age := l.age(t, test.key)
+				if isYoung := age <= time.Since(again)+inexact; isYoung != (rules.IDsReturnAfter > 0) {
+					t.Errorf("%v: got the age %v after a deletion, want a new one exactly if ids return", test.key, age)
+				}
 			}
-			again := time.Now()
-			l.expect(t, 410, "DELETE", test.target+names(now), "")
-			age := l.age(t, test.key)
-			if isYoung := age <= time.Since(again)+inexact; isYoung != (rules.IDsReturnAfter > 0) {
-				t.Errorf("%v: got the age %v after a deletion with %+v, want a new one exactly if ids return", test.key, age, rules)
-			}
-		}
+		})
 	}
 }
 

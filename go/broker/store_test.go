@@ -122,40 +122,44 @@ func TestStoreThatFailsOnce(t *testing.T) {
 	one, both := keyOf("i"), broker.BindingKey(keyOf("i").Instance, keyOf("b").Instance)
 	bound := instances + "i/service_bindings/b"
 	for _, plan := range []string{now, later} {
-		created, deleted, query := 201, 200, ""
-		if plan == later {
-			created, deleted, query = 200, 410, "&accepts_incomplete=true"
-		}
-		for n, failed := 1, "none yet"; failed != ""; n++ {
-			shelf := newShelf(calm)
-			c := newClumsy(t, n, shelf)
-			c.until(t, created, 200, "PUT", instances+"i?"+query, bodyOf(plan, ""), one)
-			c.until(t, created, 200, "PUT", bound+"?"+query, bodyOf(plan, ""), both)
-			c.until(t, 200, 200, "GET", bound, "", both)
-			c.until(t, 200, 200, "GET", instances+"i/last_operation", "", one)
-			c.until(t, deleted, 410, "DELETE", bound+names(plan)+query, "", both)
-			c.until(t, deleted, 410, "DELETE", instances+"i"+names(plan)+query, "", one)
-			if failed = c.store.call; len(shelf.things) > 0 {
-				t.Errorf("%s: %s, call %d of the store, has failed: got %v, want nothing", plan, failed, n, shelf.things)
+		t.Run(plan, func(t *testing.T) {
+			created, deleted, query := 201, 200, ""
+			if plan == later {
+				created, deleted, query = 200, 410, "&accepts_incomplete=true"
 			}
-			if failed == "" && n < 10 {
-				t.Errorf("%s: got %d calls of the store, want more", plan, n)
+			for n, failed := 1, "none yet"; failed != ""; n++ {
+				shelf := newShelf(calm)
+				c := newClumsy(t, n, shelf)
+				c.until(t, created, 200, "PUT", instances+"i?"+query, bodyOf(plan, ""), one)
+				c.until(t, created, 200, "PUT", bound+"?"+query, bodyOf(plan, ""), both)
+				c.until(t, 200, 200, "GET", bound, "", both)
+				c.until(t, 200, 200, "GET", instances+"i/last_operation", "", one)
+				c.until(t, deleted, 410, "DELETE", bound+names(plan)+query, "", both)
+				c.until(t, deleted, 410, "DELETE", instances+"i"+names(plan)+query, "", one)
+				if failed = c.store.call; len(shelf.things) > 0 {
+					t.Errorf("%s: %s, call %d of the store, has failed: got %v, want nothing", plan, failed, n, shelf.things)
+				}
+				if failed == "" && n < 10 {
+					t.Errorf("%s: got %d calls of the store, want more", plan, n)
+				}
 			}
-		}
+		})
 	}
 }
 
 // If the bindings of an instance can't be read, the caller gets the error, and none is deleted.
 func TestUnbindFailedOverAStoreThatFails(t *testing.T) {
 	for n, call := range []string{"HeldBindings", "Read"} {
-		c := newClumsy(t, 0, newShelf(calm))
-		c.expect(t, 201, "PUT", instances+"i", bodyOf(now, ""))
-		c.expect(t, 201, "PUT", instances+"i/service_bindings/b", bodyOf(now, ""))
-		c.store.left = n + 1
-		begun, err := c.UnbindFailed(context.Background(), keyOf("i").Instance)
-		if !errors.Is(err, errStore) || len(begun) > 0 || c.store.call != call {
-			t.Errorf("%s has failed: got %v, %v, want the error of the store", c.store.call, begun, err)
-		}
+		t.Run(call, func(t *testing.T) {
+			c := newClumsy(t, 0, newShelf(calm))
+			c.expect(t, 201, "PUT", instances+"i", bodyOf(now, ""))
+			c.expect(t, 201, "PUT", instances+"i/service_bindings/b", bodyOf(now, ""))
+			c.store.left = n + 1
+			begun, err := c.UnbindFailed(context.Background(), keyOf("i").Instance)
+			if !errors.Is(err, errStore) || len(begun) > 0 || c.store.call != call {
+				t.Errorf("%s has failed: got %v, %v, want the error of the store", c.store.call, begun, err)
+			}
+		})
 	}
 }
 
@@ -333,18 +337,21 @@ func TestTieOfAnotherBackend(t *testing.T) {
 // A tie that was interrupted goes on: the store has its name, and perhaps the folders have it.
 func TestTieThatWasInterrupted(t *testing.T) {
 	for _, isOwned := range []bool{false, true} {
-		g, ctx := newGround(t), context.Background()
-		name, err := g.store("a").Begin(ctx, "a-name")
-		g.check(err)
-		if isOwned {
-			_, err := g.folders("here").Own(ctx, name)
+		t.Run(fmt.Sprintf("owned %t", isOwned), func(t *testing.T) {
+			g, ctx := newGround(t), context.Background()
+			name, err := g.store("a").Begin(ctx, "a-name")
 			g.check(err)
-		}
-		g.check(broker.Tie(ctx, g.store("a"), g.folders("here"), true))
-		if owner := g.owner(g.folders("here")); owner != "a-name" || g.name(g.store("a")) != owner {
-			t.Errorf("the owner: got %q, want \"a-name\" and the name of the store", owner)
-		}
-		g.checkParted(g.store("a"), g.folders("there"), "has begun with other resources") // it is noted that they are tied
+			if isOwned {
+				_, err := g.folders("here").Own(ctx, name)
+				g.check(err)
+			}
+			g.check(broker.Tie(ctx, g.store("a"), g.folders("here"), true))
+			if owner := g.owner(g.folders("here")); owner != "a-name" || g.name(g.store("a")) != owner {
+				t.Errorf("the owner: got %q, want \"a-name\" and the name of the store", owner)
+			}
+			// It is noted that they are tied.
+			g.checkParted(g.store("a"), g.folders("there"), "has begun with other resources")
+		})
 	}
 }
 
@@ -456,21 +463,23 @@ func TestLateTie(t *testing.T) {
 // A late tie that was interrupted goes on, with late backends alone.
 func TestLateTieThatWasInterrupted(t *testing.T) {
 	for _, isOwned := range []bool{false, true} {
-		g, ctx := newGround(t), context.Background()
-		g.tie(g.store("a"), newShelf(calm))
-		g.fill(g.store("a"))
-		name, err := g.store("a").Begin(ctx, broker.UntiedBefore+"x")
-		g.check(err)
-		if isOwned {
-			_, err := g.folders("here").Own(ctx, name)
+		t.Run(fmt.Sprintf("owned %t", isOwned), func(t *testing.T) {
+			g, ctx := newGround(t), context.Background()
+			g.tie(g.store("a"), newShelf(calm))
+			g.fill(g.store("a"))
+			name, err := g.store("a").Begin(ctx, broker.UntiedBefore+"x")
 			g.check(err)
-		}
-		g.checkParted(g.store("a"), g.folders("there"), "another backend's")
-		g.tie(g.store("a"), late{g.folders("here")})
-		if owner := g.owner(g.folders("here")); owner != broker.UntiedBefore+"x" || g.name(g.store("a")) != owner {
-			t.Errorf("the owner: got %q, want that before and the name of the store", owner)
-		}
-		g.checkParted(g.store("a"), late{g.folders("there")}, "has begun with other resources")
+			if isOwned {
+				_, err := g.folders("here").Own(ctx, name)
+				g.check(err)
+			}
+			g.checkParted(g.store("a"), g.folders("there"), "another backend's")
+			g.tie(g.store("a"), late{g.folders("here")})
+			if owner := g.owner(g.folders("here")); owner != broker.UntiedBefore+"x" || g.name(g.store("a")) != owner {
+				t.Errorf("the owner: got %q, want that before and the name of the store", owner)
+			}
+			g.checkParted(g.store("a"), late{g.folders("there")}, "has begun with other resources")
+		})
 	}
 }
 
@@ -541,18 +550,20 @@ func (f failingTie) IsLateTied() {}
 func TestTieThatFails(t *testing.T) {
 	for _, isUntied := range []bool{false, true} {
 		for _, at := range []string{"Name", "Begin", "Owner", "Own"} {
-			g := newGround(t)
-			store, backend := g.store("a"), g.folders("here")
-			if isUntied {
-				_, err := store.Begin(context.Background(), broker.Untied)
-				g.check(err)
-			}
-			failing := failingTie{store, backend, at}
-			diff.ErrorIs(t, broker.Tie(context.Background(), failing, failing, false), errTie,
-				"%s fails, untied %t", at, isUntied)
-			diff.Equal(t, g.owner(backend), "", "%s fails, untied %t: the owner", at, isUntied)
-			failing.at = ""
-			g.check(broker.Tie(context.Background(), failing, failing, false))
+			t.Run(fmt.Sprintf("%s, untied %t", at, isUntied), func(t *testing.T) {
+				g := newGround(t)
+				store, backend := g.store("a"), g.folders("here")
+				if isUntied {
+					_, err := store.Begin(context.Background(), broker.Untied)
+					g.check(err)
+				}
+				failing := failingTie{store, backend, at}
+				diff.ErrorIs(t, broker.Tie(context.Background(), failing, failing, false), errTie,
+					"%s fails, untied %t", at, isUntied)
+				diff.Equal(t, g.owner(backend), "", "%s fails, untied %t: the owner", at, isUntied)
+				failing.at = ""
+				g.check(broker.Tie(context.Background(), failing, failing, false))
+			})
 		}
 	}
 }

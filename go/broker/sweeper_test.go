@@ -430,55 +430,59 @@ func TestHungCallsDontHoldUpOthers(t *testing.T) {
 // However many calls hang, no more are under way at once than are written down.
 func TestMostRuns(t *testing.T) {
 	for workers, most := range map[int]int{1: 3, 2: 4, 3: 6, 4: 8} {
-		backend := newStuck()
-		b := newBench(t, backend, newMemoryLocks())
-		sweeper := broker.NewSweeper(b.Service, b.observed)
-		for _, key := range b.leaveAll(t, backend, "bad", most+3) {
-			backend.hangs[key] = true
-			sweeper.Touch(key)
-		}
-		end := sweepingWith(t, sweeper, backend, workers, time.Hour)
-		for n := 0; n < most; n++ {
-			soon(t, backend.begun)
-		}
-		time.Sleep(20 * time.Millisecond) // for one too many
-		if got := backend.mostAtOnce(); got != most || broker.MostRuns(workers) != most {
-			t.Errorf("with %d workers: got %d calls that hang at once, want %d", workers, got, most)
-		}
-		end()
+		t.Run(fmt.Sprintf("%d workers", workers), func(t *testing.T) {
+			backend := newStuck()
+			b := newBench(t, backend, newMemoryLocks())
+			sweeper := broker.NewSweeper(b.Service, b.observed)
+			for _, key := range b.leaveAll(t, backend, "bad", most+3) {
+				backend.hangs[key] = true
+				sweeper.Touch(key)
+			}
+			end := sweepingWith(t, sweeper, backend, workers, time.Hour)
+			for n := 0; n < most; n++ {
+				soon(t, backend.begun)
+			}
+			time.Sleep(20 * time.Millisecond) // for one too many
+			if got := backend.mostAtOnce(); got != most || broker.MostRuns(workers) != most {
+				t.Errorf("got %d calls that hang at once, want %d", got, most)
+			}
+			end()
+		})
 	}
 }
 
 // Keys whose last call failed take at most half of the workers, however many there are. The work of others goes on.
 func TestFailedKeysTakeHalf(t *testing.T) {
 	for workers, most := range map[int]int{1: 1, 2: 1, 4: 2, 5: 2} {
-		backend := newStuck()
-		b := newBench(t, backend, newMemoryLocks())
-		failing := b.leaveAll(t, backend, "bad", 6)
-		good := b.leaveAll(t, backend, "good", 20)
-		for _, key := range failing {
-			backend.hangs[key] = true
-		}
-		sweeper := broker.NewSweeper(b.Service, b.observed)
-		for _, key := range failing {
-			sweeper.Touch(key)
-		}
-		end := sweepingWith(t, sweeper, backend, workers, 10*time.Millisecond)
-		backend.failAll(t, failing)
-		backend.turn.Lock()
-		backend.most = backend.running
-		backend.turn.Unlock()
-		for end := time.Now().Add(time.Minute); backend.mostAtOnce() < most; time.Sleep(time.Millisecond) {
-			if time.Now().After(end) {
-				t.Fatalf("with %d workers: got %d calls of keys that failed at once, want %d", workers, backend.mostAtOnce(), most)
+		t.Run(fmt.Sprintf("%d workers", workers), func(t *testing.T) {
+			backend := newStuck()
+			b := newBench(t, backend, newMemoryLocks())
+			failing := b.leaveAll(t, backend, "bad", 6)
+			good := b.leaveAll(t, backend, "good", 20)
+			for _, key := range failing {
+				backend.hangs[key] = true
 			}
-		}
-		for _, key := range good {
-			sweeper.Touch(key)
-			b.becomes(t, key)
-		}
-		diff.Equal(t, backend.mostAtOnce(), most, "with %d workers: calls of keys that failed at once", workers)
-		end()
+			sweeper := broker.NewSweeper(b.Service, b.observed)
+			for _, key := range failing {
+				sweeper.Touch(key)
+			}
+			end := sweepingWith(t, sweeper, backend, workers, 10*time.Millisecond)
+			backend.failAll(t, failing)
+			backend.turn.Lock()
+			backend.most = backend.running
+			backend.turn.Unlock()
+			for end := time.Now().Add(time.Minute); backend.mostAtOnce() < most; time.Sleep(time.Millisecond) {
+				if time.Now().After(end) {
+					t.Fatalf("got %d calls of keys that failed at once, want %d", backend.mostAtOnce(), most)
+				}
+			}
+			for _, key := range good {
+				sweeper.Touch(key)
+				b.becomes(t, key)
+			}
+			diff.Equal(t, backend.mostAtOnce(), most, "calls of keys that failed at once")
+			end()
+		})
 	}
 }
 

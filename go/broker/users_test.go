@@ -1,6 +1,7 @@
 package broker_test
 
 import (
+	"fmt"
 	"io"
 	"net/http"
 	"strings"
@@ -167,8 +168,10 @@ func TestALoginIsJudgedBeforeTheBody(t *testing.T) {
 	for status, change := range map[int]func(*http.Request){
 		401: wrongLogin, 412: header("X-Broker-API-Version", "3.0"),
 	} {
-		s.expect(t, status, "PUT", instances+"i", bodyOf(now, ""), change, func(r *http.Request) {
-			r.Body = io.NopCloser(unread{t})
+		t.Run(fmt.Sprint(status), func(t *testing.T) {
+			s.expect(t, status, "PUT", instances+"i", bodyOf(now, ""), change, func(r *http.Request) {
+				r.Body = io.NopCloser(unread{t})
+			})
 		})
 	}
 }

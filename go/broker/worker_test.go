@@ -739,25 +739,27 @@ func TestCredentialsAreWrittenWithTheRow(t *testing.T) {
 	must(err)
 	key := broker.BindingKey(keyOf("i").Instance, number)
 	for _, plan := range []string{now, bindLater} {
-		ready := 0
-		l := newLoneBroker(t)
-		backend := newShelf(calm)
-		store := &reportingStore{Store: l.store, written: func(entry broker.Entry) {
-			if row, isHeld := entry.Holding.Row(); isHeld && row.Phase == osb.PhaseReady {
-				ready++
-				if got, want := credentialsOf(entry.Binding), backend.credentials(key); got != want {
-					t.Errorf("plan %s: got the credentials %q, want %q", plan, got, want)
+		t.Run(plan, func(t *testing.T) {
+			ready := 0
+			l := newLoneBroker(t)
+			backend := newShelf(calm)
+			store := &reportingStore{Store: l.store, written: func(entry broker.Entry) {
+				if row, isHeld := entry.Holding.Row(); isHeld && row.Phase == osb.PhaseReady {
+					ready++
+					if got, want := credentialsOf(entry.Binding), backend.credentials(key); got != want {
+						t.Errorf("plan %s: got the credentials %q, want %q", plan, got, want)
+					}
 				}
+			}}
+			l.Service = broker.NewService(catalogueFor(t, catalogue), store, backend, newMemoryLocks(), broker.Rules{},
+				l.observed)
+			l.handler = handlerFor(t, l.Service)
+			l.expect(t, 201, "PUT", instances+"i", bodyOf(plan, ""))
+			bound := instances + "i/service_bindings/b?accepts_incomplete=true"
+			if given := l.ask("PUT", bound, bodyOf(plan, "")); given.status == 202 {
+				must(l.TakeUp(context.Background(), key))
 			}
-		}}
-		l.Service = broker.NewService(catalogueFor(t, catalogue), store, backend, newMemoryLocks(), broker.Rules{},
-			l.observed)
-		l.handler = handlerFor(t, l.Service)
-		l.expect(t, 201, "PUT", instances+"i", bodyOf(plan, ""))
-		bound := instances + "i/service_bindings/b?accepts_incomplete=true"
-		if given := l.ask("PUT", bound, bodyOf(plan, "")); given.status == 202 {
-			must(l.TakeUp(context.Background(), key))
-		}
-		diff.Equal(t, ready, 1, "plan %s: entries that are ready", plan)
+			diff.Equal(t, ready, 1, "plan %s: entries that are ready", plan)
+		})
 	}
 }

@@ -87,9 +87,11 @@ func TestURLThatLeadsToAnotherStore(t *testing.T) {
 			"Unfinished": func() error { _, err := store.UnfinishedKeys(ctx); return err },
 			"Ready":      func() error { return store.Ready(ctx) },
 		} {
-			if err := call(); (err != nil) != isOther || err != nil && !strings.Contains(err.Error(), "another store") {
-				t.Errorf("%s, over the other store %t: got %v, want an error only there", what, isOther, err)
-			}
+			t.Run(fmt.Sprintf("%s, over the other store %t", what, isOther), func(t *testing.T) {
+				if err := call(); (err != nil) != isOther || err != nil && !strings.Contains(err.Error(), "another store") {
+					t.Errorf("%s, over the other store %t: got %v, want an error only there", what, isOther, err)
+				}
+			})
 		}
 		if swap(); isOther {
 			continue
@@ -238,11 +240,13 @@ func TestTombstonesWithoutATime(t *testing.T) {
 	for _, key := range []broker.Key{
 		broker.InstanceKey(id(3)), broker.InstanceKey(id(4)), broker.BindingKey(id(1), id(2)),
 	} {
-		snapshot, err := store.Read(ctx, key)
-		if err != nil || !snapshot.Holding.HasTombstone() || snapshot.EndedAgo < 40*time.Millisecond ||
-			snapshot.EndedAgo > time.Since(before)+10*time.Millisecond || snapshot.Life != 0 {
-			t.Errorf("%v: got %+v and the error %v, want a tombstone of now in life 0", key, snapshot, err)
-		}
+		t.Run(key.String(), func(t *testing.T) {
+			snapshot, err := store.Read(ctx, key)
+			if err != nil || !snapshot.Holding.HasTombstone() || snapshot.EndedAgo < 40*time.Millisecond ||
+				snapshot.EndedAgo > time.Since(before)+10*time.Millisecond || snapshot.Life != 0 {
+				t.Errorf("%v: got %+v and the error %v, want a tombstone of now in life 0", key, snapshot, err)
+			}
+		})
 	}
 	for _, n := range []int{1, 2} {
 		snapshot, err := store.Read(ctx, broker.InstanceKey(id(n)))
@@ -381,7 +385,9 @@ func TestServerThatIsAway(t *testing.T) {
 	proxy.Cut("\x00") // a byte of every message
 	for round := 0; round < 2; round++ {
 		for name, call := range all {
-			diff.ErrorIs(t, call(), broker.ErrAway, "%s while the server is away", name)
+			t.Run(name, func(t *testing.T) {
+				diff.ErrorIs(t, call(), broker.ErrAway, "%s while the server is away", name)
+			})
 		}
 	}
 	proxy.Cut("")
@@ -455,15 +461,17 @@ func TestReadOfASilentServer(t *testing.T) {
 	t.Cleanup(func() { _ = store.Close() })
 	instance := osb.MustParseID("00000000-0000-0000-0000-000000000001")
 	for _, key := range []broker.Key{broker.InstanceKey(instance), broker.BindingKey(instance, instance)} {
-		check(t, store.Change(ctx, key, 0, describe("text", &calls)))
-		if text := descriptionOf(t, store, key); text != "text" {
-			t.Fatalf("%v: got %q, want \"text\"", key, text)
-		}
-		proxy.Hang(true)
-		if snapshot, err := store.Read(ctx, key); !errors.Is(err, broker.ErrAway) {
-			t.Errorf("%v: got %+v, %v, want %v", key, snapshot.Entry, err, broker.ErrAway)
-		}
-		proxy.Hang(false)
+		t.Run(key.String(), func(t *testing.T) {
+			check(t, store.Change(ctx, key, 0, describe("text", &calls)))
+			if text := descriptionOf(t, store, key); text != "text" {
+				t.Fatalf("%v: got %q, want \"text\"", key, text)
+			}
+			proxy.Hang(true)
+			if snapshot, err := store.Read(ctx, key); !errors.Is(err, broker.ErrAway) {
+				t.Errorf("%v: got %+v, %v, want %v", key, snapshot.Entry, err, broker.ErrAway)
+			}
+			proxy.Hang(false)
+		})
 	}
 }
 
@@ -737,11 +745,13 @@ func TestAChangeThatWritesNoRow(t *testing.T) {
 		"CREATE TRIGGER of_test BEFORE UPDATE ON osb_holdings FOR EACH ROW EXECUTE FUNCTION f()",
 		"CREATE TRIGGER of_test BEFORE UPDATE ON osb_bindings FOR EACH ROW EXECUTE FUNCTION f()")
 	for _, key := range []broker.Key{broker.InstanceKey(id(1)), broker.BindingKey(id(1), id(2))} {
-		calls := 0
-		err := store.Change(context.Background(), key, 0, describe("x", &calls))
-		if err == nil || !strings.Contains(err.Error(), "Never delete rows") || calls != 1 {
-			t.Errorf("%v: got %v after %d calls, want that the row is gone, after 1", key, err, calls)
-		}
+		t.Run(key.String(), func(t *testing.T) {
+			calls := 0
+			err := store.Change(context.Background(), key, 0, describe("x", &calls))
+			if err == nil || !strings.Contains(err.Error(), "Never delete rows") || calls != 1 {
+				t.Errorf("%v: got %v after %d calls, want that the row is gone, after 1", key, err, calls)
+			}
+		})
 	}
 }
 

@@ -261,16 +261,18 @@ func TestTombstonesAreCountedAgain(t *testing.T) {
 // Nobody knows whether a row that can't be read has a tombstone, so the tombstones aren't counted.
 func TestTombstonesOfAnUnreadableRow(t *testing.T) {
 	for _, table := range []string{"holdings", "bindings"} {
-		s := open(t, filepath.Join(t.TempDir(), "store"), broker.Silent{})
-		key := keyOf(1)
-		if table == "bindings" {
-			key = broker.BindingKey(key.Instance, key.Instance)
-		}
-		check(t, s.Change(context.Background(), key, 0, provision(key)))
-		alter(t, s, "UPDATE "+table+" SET holding = '{}', unfinished = 0")
-		if stats, err := s.Stats(context.Background()); err == nil {
-			t.Errorf("%s: got %+v, want an error", table, stats)
-		}
+		t.Run(table, func(t *testing.T) {
+			s := open(t, filepath.Join(t.TempDir(), "store"), broker.Silent{})
+			key := keyOf(1)
+			if table == "bindings" {
+				key = broker.BindingKey(key.Instance, key.Instance)
+			}
+			check(t, s.Change(context.Background(), key, 0, provision(key)))
+			alter(t, s, "UPDATE "+table+" SET holding = '{}', unfinished = 0")
+			if stats, err := s.Stats(context.Background()); err == nil {
+				t.Errorf("%s: got %+v, want an error", table, stats)
+			}
+		})
 	}
 }
 
@@ -298,25 +300,27 @@ func alter(t *testing.T, s *Store, statement string) {
 
 // Of a row that can't be read nothing is known: a Change ends with the error, without its step, and the row stays.
 func TestChangeOfAnUnreadableRow(t *testing.T) {
-	for _, holding := range []string{"'{}'", "x'00'"} { // the latter is no text
-		s := open(t, filepath.Join(t.TempDir(), "store"), broker.Silent{})
-		check(t, s.Change(context.Background(), keyOf(1), 0, provision(keyOf(1))))
-		alter(t, s, "UPDATE holdings SET holding = "+holding+", description = 'unreadable'")
-		isCalled := false
-		err := s.Change(context.Background(), keyOf(1), 0, func(snapshot broker.Snapshot) (*broker.Entry, error) {
-			isCalled = true
-			return provision(keyOf(1))(snapshot)
+	for _, holding := range []string{"'{}'", "x'00'"} {
+		t.Run(holding, func(t *testing.T) { // the latter is no text
+			s := open(t, filepath.Join(t.TempDir(), "store"), broker.Silent{})
+			check(t, s.Change(context.Background(), keyOf(1), 0, provision(keyOf(1))))
+			alter(t, s, "UPDATE holdings SET holding = "+holding+", description = 'unreadable'")
+			isCalled := false
+			err := s.Change(context.Background(), keyOf(1), 0, func(snapshot broker.Snapshot) (*broker.Entry, error) {
+				isCalled = true
+				return provision(keyOf(1))(snapshot)
+			})
+			if err == nil || isCalled {
+				t.Errorf("%s: got %v, the step called: %t; want an error, and no call", holding, err, isCalled)
+			}
+			var description string
+			if err := s.file.Read(context.Background(), func(c *connection) (err error) {
+				description, err = c.text("SELECT description FROM holdings")
+				return err
+			}); err != nil || description != "unreadable" {
+				t.Errorf("%s: got the description %q, %v, want \"unreadable\"", holding, description, err)
+			}
 		})
-		if err == nil || isCalled {
-			t.Errorf("%s: got %v, the step called: %t; want an error, and no call", holding, err, isCalled)
-		}
-		var description string
-		if err := s.file.Read(context.Background(), func(c *connection) (err error) {
-			description, err = c.text("SELECT description FROM holdings")
-			return err
-		}); err != nil || description != "unreadable" {
-			t.Errorf("%s: got the description %q, %v, want \"unreadable\"", holding, description, err)
-		}
 	}
 }
 

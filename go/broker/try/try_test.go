@@ -532,9 +532,11 @@ func TestPlans(t *testing.T) {
 	}
 	diff.Check(t, plans, []Plan{small, large, queue, largeQueue}, "the plans")
 	for _, text := range []string{"", "[", `{"services": 1}`, `{"services": [{"id": "s", "plans": [{"name": "p"}]}]}`} {
-		if plans, err := Plans([]byte(text)); err == nil {
-			t.Errorf("%s: Plans got %v, want an error", text, plans)
-		}
+		t.Run(fmt.Sprintf("%q", text), func(t *testing.T) {
+			if plans, err := Plans([]byte(text)); err == nil {
+				t.Errorf("%s: Plans got %v, want an error", text, plans)
+			}
+		})
 	}
 }
 

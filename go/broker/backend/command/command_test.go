@@ -212,9 +212,11 @@ func TestExisting(t *testing.T) {
 		t.Errorf("the folder: got %v, want that there is none", err)
 	}
 	for _, existing := range []bool{false, true} {
-		if _, err := New(ctx, program, Options{State: empty, Existing: existing}); err != nil {
-			t.Errorf("New with Existing %v: got %v, want no error", existing, err)
-		}
+		t.Run(fmt.Sprintf("existing %t", existing), func(t *testing.T) {
+			if _, err := New(ctx, program, Options{State: empty, Existing: existing}); err != nil {
+				t.Errorf("New with Existing %v: got %v, want no error", existing, err)
+			}
+		})
 	}
 }
 

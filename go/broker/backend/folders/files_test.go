@@ -77,7 +77,9 @@ func TestErrorsOfFsync(t *testing.T) {
 		"Sync": {f.Sync(ctx, first), ofTop}, "Sync of a binding": {f.Sync(ctx, bound), ofBindings},
 		"DeleteBinding": {f.DeleteBinding(ctx, bound), ofBindings}, "Delete": {f.Delete(ctx, first), ofTop},
 	} {
-		diff.ErrorIs(t, c.err, c.wanted, "%s", name)
+		t.Run(name, func(t *testing.T) {
+			diff.ErrorIs(t, c.err, c.wanted, "%s", name)
+		})
 	}
 }
 

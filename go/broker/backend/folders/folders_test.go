@@ -411,14 +411,16 @@ func TestOwner(t *testing.T) {
 
 func TestFoldersWithoutAnOwner(t *testing.T) {
 	for _, name := range []string{first.Key.Instance.String(), partPrefix + first.Key.Instance.String()} {
-		f := newFolders(t, t.TempDir())
-		ok(t, os.Mkdir(f.top+"/"+name, 0o700))
-		if owner, err := f.Own(ctx, "one"); err == nil || !strings.Contains(err.Error(), ".owner") {
-			t.Errorf("with %s: Own got %q, %v, want an error that names .owner", name, owner, err)
-		}
-		if owner, err := f.Owner(ctx); owner != "" || err != nil {
-			t.Errorf("the owner with %s: got %q and %v, want none and no error", name, owner, err)
-		}
+		t.Run(name, func(t *testing.T) {
+			f := newFolders(t, t.TempDir())
+			ok(t, os.Mkdir(f.top+"/"+name, 0o700))
+			if owner, err := f.Own(ctx, "one"); err == nil || !strings.Contains(err.Error(), ".owner") {
+				t.Errorf("with %s: Own got %q, %v, want an error that names .owner", name, owner, err)
+			}
+			if owner, err := f.Owner(ctx); owner != "" || err != nil {
+				t.Errorf("the owner with %s: got %q and %v, want none and no error", name, owner, err)
+			}
+		})
 	}
 }
 

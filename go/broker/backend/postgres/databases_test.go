@@ -461,16 +461,18 @@ func TestABindingThatIsNotOurs(t *testing.T) {
 	it := createInstance(t, d)
 	bind, one := bound(t, d, it.request.Key)
 	for _, comment := range []string{"NULL", "'osb store of somebody else'"} {
-		pgtest.Exec(t, r.admin, "COMMENT ON ROLE "+one.Username+" IS "+comment)
-		if _, err := d.LookBinding(bind.ctx, bind.request); err == nil {
-			t.Errorf("LookBinding with the comment %s: got no error, want one", comment)
-		}
-		if err := d.DeleteBinding(bind.ctx, bind.request); err == nil {
-			t.Errorf("DeleteBinding with the comment %s: got no error, want one", comment)
-		}
-		if _, err := d.CreateBinding(bind.ctx, bind.request); err == nil {
-			t.Errorf("CreateBinding with the comment %s: got no error, want one", comment)
-		}
+		t.Run(comment, func(t *testing.T) {
+			pgtest.Exec(t, r.admin, "COMMENT ON ROLE "+one.Username+" IS "+comment)
+			if _, err := d.LookBinding(bind.ctx, bind.request); err == nil {
+				t.Errorf("LookBinding with the comment %s: got no error, want one", comment)
+			}
+			if err := d.DeleteBinding(bind.ctx, bind.request); err == nil {
+				t.Errorf("DeleteBinding with the comment %s: got no error, want one", comment)
+			}
+			if _, err := d.CreateBinding(bind.ctx, bind.request); err == nil {
+				t.Errorf("CreateBinding with the comment %s: got no error, want one", comment)
+			}
+		})
 	}
 	pgtest.Exec(t, r.login(one.Username, one.Password, one.Database), "SELECT 1")
 }

@@ -3,6 +3,7 @@ package postgres
 import (
 	"context"
 	"errors"
+	"fmt"
 	"net"
 	"strings"
 	"testing"
@@ -122,9 +123,11 @@ func TestNames(t *testing.T) {
 		"osb_0f1e2d3c4b5a69788796a5b4c3d2e1f0_00",
 		NameOf(keys[3]) + "_", NameOf(keys[0]) + "_vvvvvvvvvvvvvvvvvvvvvvvvvv",
 	} {
-		if key, isOne := KeyOf(name); isOne {
-			t.Errorf("%s: got the key %v, want none", name, key)
-		}
+		t.Run(fmt.Sprintf("%q", name), func(t *testing.T) {
+			if key, isOne := KeyOf(name); isOne {
+				t.Errorf("%s: got the key %v, want none", name, key)
+			}
+		})
 	}
 }
 

@@ -31,21 +31,23 @@ func TestLocks(t *testing.T) {
 	}
 	id := randomID(t)
 	for _, key := range []broker.Key{broker.InstanceKey(id), broker.BindingKey(id, id)} {
-		taken := take(t, first, key)
-		if taken == nil {
-			t.Fatalf("%v: got no lock, want it free", key)
-		}
-		for _, d := range []*postgres.Databases{first, second} {
-			if other := take(t, d, key); other != nil {
-				t.Errorf("%v: got the lock twice, want it once", key)
+		t.Run(key.String(), func(t *testing.T) {
+			taken := take(t, first, key)
+			if taken == nil {
+				t.Fatalf("%v: got no lock, want it free", key)
 			}
-		}
-		taken.Unlock()
-		again := take(t, second, key)
-		if again == nil {
-			t.Fatalf("%v: got no lock, want it free again", key)
-		}
-		again.Unlock()
+			for _, d := range []*postgres.Databases{first, second} {
+				if other := take(t, d, key); other != nil {
+					t.Errorf("%v: got the lock twice, want it once", key)
+				}
+			}
+			taken.Unlock()
+			again := take(t, second, key)
+			if again == nil {
+				t.Fatalf("%v: got no lock, want it free again", key)
+			}
+			again.Unlock()
+		})
 	}
 	both := []broker.Lock{take(t, first, broker.InstanceKey(id)), take(t, first, broker.BindingKey(id, id)),
 		take(t, first, broker.BindingKey(id, randomID(t)))}

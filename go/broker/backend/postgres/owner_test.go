@@ -3,6 +3,7 @@ package postgres_test
 import (
 	"context"
 	"errors"
+	"fmt"
 	"strings"
 	"sync"
 	"testing"
@@ -82,10 +83,12 @@ func (r *rig) openWith(key []byte) (*postgres.Databases, error) {
 func TestKeys(t *testing.T) {
 	r := newRig(t)
 	for _, short := range []string{"", "hunter2", strings.Repeat("k", postgres.ShortestKey-1)} {
-		_, err := r.openWith([]byte(short))
-		if err == nil || !strings.Contains(err.Error(), "openssl rand") {
-			t.Errorf("a key of %d bytes: got %v, want an error with \"openssl rand\"", len(short), err)
-		}
+		t.Run(fmt.Sprintf("%d bytes", len(short)), func(t *testing.T) {
+			_, err := r.openWith([]byte(short))
+			if err == nil || !strings.Contains(err.Error(), "openssl rand") {
+				t.Errorf("a key of %d bytes: got %v, want an error with \"openssl rand\"", len(short), err)
+			}
+		})
 	}
 	late := r.openUntied(func(o *postgres.Options) { o.Key = another }) // opened before the key was known
 	r.open()

@@ -53,12 +53,14 @@ func TestWarnings(t *testing.T) {
 
 func TestARoleThatMayNotCreate(t *testing.T) {
 	for _, lacks := range []string{"NOCREATEDB", "NOCREATEROLE"} {
-		r := newRig(t)
-		pgtest.Exec(t, r.admin, "ALTER ROLE "+r.role+" "+lacks)
-		_, err := r.openWith(secret)
-		if err == nil || !strings.Contains(err.Error(), "CREATEDB CREATEROLE") {
-			t.Errorf("%s: got the error %v, want one that names CREATEDB CREATEROLE", lacks, err)
-		}
+		t.Run(lacks, func(t *testing.T) {
+			r := newRig(t)
+			pgtest.Exec(t, r.admin, "ALTER ROLE "+r.role+" "+lacks)
+			_, err := r.openWith(secret)
+			if err == nil || !strings.Contains(err.Error(), "CREATEDB CREATEROLE") {
+				t.Errorf("%s: got the error %v, want one that names CREATEDB CREATEROLE", lacks, err)
+			}
+		})
 	}
 }
 
