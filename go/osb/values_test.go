@@ -45,10 +45,12 @@ func TestID(t *testing.T) {
 		t.Errorf("bytes: got %x, want those of the text", id[:])
 	}
 	for _, text := range []string{"", "1", "12345678-9abc-def0-1234-56789abcdef", "12345678_9abc-def0-1234-56789abcdef0"} {
-		before := id
-		if err := id.UnmarshalText([]byte(text)); !errors.Is(err, osb.ErrNotAnID) || id != before {
-			t.Errorf("%q: got %v, want ErrNotAnID, and no change", text, err)
-		}
+		t.Run(fmt.Sprintf("%q", text), func(t *testing.T) {
+			before := id
+			if err := id.UnmarshalText([]byte(text)); !errors.Is(err, osb.ErrNotAnID) || id != before {
+				t.Errorf("%q: got %v, want ErrNotAnID, and no change", text, err)
+			}
+		})
 	}
 	as, err := json.Marshal(map[osb.ID]osb.ID{id: id})
 	if err != nil || string(as) != `{"`+id.String()+`":"`+id.String()+`"}` {

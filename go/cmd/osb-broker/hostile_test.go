@@ -115,15 +115,17 @@ func TestCutRequests(t *testing.T) {
 		{"two lengths", "PUT " + one + " HTTP/1.1" + headers() + lengthOf + "Content-Length: 3\r\n\r\n" + order, true},
 		{"a null byte", "PUT " + one + "\x00 HTTP/1.1" + headers() + lengthOf + "\r\n" + order, true},
 	} {
-		for cut := 0; cut <= len(test.request); cut++ {
-			if cut == len(test.request) && !test.isHostile {
-				break
+		t.Run(test.name, func(t *testing.T) {
+			for cut := 0; cut <= len(test.request); cut++ {
+				if cut == len(test.request) && !test.isHostile {
+					break
+				}
+				given := s.raw(test.request[:cut])
+				if given != "" && !strings.HasPrefix(given, "HTTP/1.1 4") && !strings.HasPrefix(given, "HTTP/1.0 4") {
+					t.Errorf("%s, cut at %d: got %q, want none or a 4xx", test.name, cut, given)
+				}
 			}
-			given := s.raw(test.request[:cut])
-			if given != "" && !strings.HasPrefix(given, "HTTP/1.1 4") && !strings.HasPrefix(given, "HTTP/1.0 4") {
-				t.Errorf("%s, cut at %d: got %q, want none or a 4xx", test.name, cut, given)
-			}
-		}
+		})
 	}
 	s.expect(410, "GET", poll, "")
 	diff.Equal(t, len(soldInstances(t, state)), 0, "")
@@ -141,8 +143,10 @@ func TestHealthWhileAllWork(t *testing.T) {
 	s.send("PUT", one, order)
 	g.waits()
 	for _, path := range []string{"/healthz", "/readyz", "/metrics"} {
-		status, body := s.plain(path)
-		diff.Equal(t, status, 200, "%s, %s", path, body)
+		t.Run(path, func(t *testing.T) {
+			status, body := s.plain(path)
+			diff.Equal(t, status, 200, "%s, %s", path, body)
+		})
 	}
 	g.open()
 	s.until(200, "succeeded", "GET", poll, "")
@@ -201,21 +205,23 @@ func TestLongestBody(t *testing.T) {
 		{300, false, 201}, {301, false, 413}, {100_000, false, 413},
 		{300, true, 201}, {301, true, 413}, {100_000, true, 413},
 	} {
-		body := order + strings.Repeat(" ", test.bytes-len(order))
-		reader := io.Reader(strings.NewReader(body))
-		if test.isChunked {
-			reader = io.MultiReader(reader) // of which the length isn't known
-		}
-		path := fmt.Sprintf("%s-%d-%v", one, test.bytes, test.isChunked)
-		request := diff.Value(http.NewRequest("PUT", s.url+path, reader))(t)
-		request.SetBasicAuth("platform", "secret")
-		request.Header.Set("X-Broker-API-Version", "2.17")
-		if status, body := s.do(request); status != test.status {
-			t.Errorf("%d bytes, chunked %v: got %d %s, want %d", test.bytes, test.isChunked, status, body, test.status)
-		}
-		status, _ := s.ask("GET", path+"/last_operation", "")
-		diff.Equal(t, status, map[int]int{201: 200, 413: 410}[test.status],
-			"a Poll after %d bytes, chunked %v", test.bytes, test.isChunked)
+		t.Run(fmt.Sprintf("%d bytes, chunked %t", test.bytes, test.isChunked), func(t *testing.T) {
+			body := order + strings.Repeat(" ", test.bytes-len(order))
+			reader := io.Reader(strings.NewReader(body))
+			if test.isChunked {
+				reader = io.MultiReader(reader) // of which the length isn't known
+			}
+			path := fmt.Sprintf("%s-%d-%v", one, test.bytes, test.isChunked)
+			request := diff.Value(http.NewRequest("PUT", s.url+path, reader))(t)
+			request.SetBasicAuth("platform", "secret")
+			request.Header.Set("X-Broker-API-Version", "2.17")
+			if status, body := s.do(request); status != test.status {
+				t.Errorf("%d bytes, chunked %v: got %d %s, want %d", test.bytes, test.isChunked, status, body, test.status)
+			}
+			status, _ := s.ask("GET", path+"/last_operation", "")
+			diff.Equal(t, status, map[int]int{201: 200, 413: 410}[test.status],
+				"a Poll after %d bytes, chunked %v", test.bytes, test.isChunked)
+		})
 	}
 	s.stop()
 }

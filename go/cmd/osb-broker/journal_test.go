@@ -98,14 +98,16 @@ func TestNoJournal(t *testing.T) {
 		t.Errorf("got %+v and the error %v, want the parts as they are", with, err)
 	}
 	for _, arguments := range [][]string{nil, {"--journal", t.TempDir()}} {
-		s := start(t, []string{password}, append([]string{"--state", t.TempDir()}, arguments...)...)
-		request := diff.Value(newOrder(s.url))(t)
-		given := diff.Value(s.client.Do(request))(t)
-		_ = given.Body.Close()
-		if got := given.Header.Get(journalfile.Header); given.StatusCode != 201 || (got == "") != (arguments == nil) {
-			t.Errorf("with %v: got %d and the time %q, want 201, and a time with a journal alone",
-				arguments, given.StatusCode, got)
-		}
+		t.Run(fmt.Sprintf("journal %t", arguments != nil), func(t *testing.T) {
+			s := start(t, []string{password}, append([]string{"--state", t.TempDir()}, arguments...)...)
+			request := diff.Value(newOrder(s.url))(t)
+			given := diff.Value(s.client.Do(request))(t)
+			_ = given.Body.Close()
+			if got := given.Header.Get(journalfile.Header); given.StatusCode != 201 || (got == "") != (arguments == nil) {
+				t.Errorf("with %v: got %d and the time %q, want 201, and a time with a journal alone",
+					arguments, given.StatusCode, got)
+			}
+		})
 	}
 }
 
@@ -151,6 +153,8 @@ func TestDoubtful(t *testing.T) {
 		pg.ErrUnknownCommit: true, sqlitefile.ErrUnknownCommit: true,
 		broker.ErrLostLock: false, broker.ErrLostWork: false, sqlitefile.ErrBusy: false, pg.ErrNotBegun: false,
 	} {
-		diff.Equal(t, isDoubtful(broker.Away(fmt.Errorf("it has failed: %w", err))), want, "%v", err)
+		t.Run(err.Error(), func(t *testing.T) {
+			diff.Equal(t, isDoubtful(broker.Away(fmt.Errorf("it has failed: %w", err))), want, "%v", err)
+		})
 	}
 }

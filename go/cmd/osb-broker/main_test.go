@@ -218,11 +218,13 @@ func TestHealth(t *testing.T) {
 	for path, text := range map[string]string{
 		"/healthz": `"ok"`, "/readyz": `"ok"`, "/metrics": "osb_broker_requests_total",
 	} {
-		request := diff.Value(http.NewRequest("GET", s.url+path, nil))(t)
-		s.ask("GET", "/v2/catalog", "")
-		if status, body := s.do(request); status != 200 || !strings.Contains(body, text) {
-			t.Errorf("%s: got %d %.100s, want 200 and its text", path, status, body)
-		}
+		t.Run(path, func(t *testing.T) {
+			request := diff.Value(http.NewRequest("GET", s.url+path, nil))(t)
+			s.ask("GET", "/v2/catalog", "")
+			if status, body := s.do(request); status != 200 || !strings.Contains(body, text) {
+				t.Errorf("%s: got %d %.100s, want 200 and its text", path, status, body)
+			}
+		})
 	}
 	s.stop()
 }
@@ -396,7 +398,9 @@ func TestPassword(t *testing.T) {
 		"the key of a file": of("", lower, "--backend-key-file", file),
 		"once more":         of(key, lower),
 	} {
-		diff.Equal(t, again, first, "%s", name)
+		t.Run(name, func(t *testing.T) {
+			diff.Equal(t, again, first, "%s", name)
+		})
 	}
 	others := map[string]string{first: lower}
 	for id, given := range map[string]string{
@@ -442,54 +446,58 @@ func TestManyOpenANewStore(t *testing.T) {
 // store of an earlier version, which had no name of its own, is tied at the first start.
 func TestStateFolderOfACommandIsTied(t *testing.T) {
 	for _, isOld := range []bool{false, true} {
-		top := t.TempDir()
-		if isOld {
-			store, err := sqlite.Open(context.Background(), filepath.Join(top, "store"), broker.Silent{})
-			if err == nil {
-				_, err = store.Begin(context.Background(), broker.Untied)
+		t.Run(fmt.Sprintf("old %t", isOld), func(t *testing.T) {
+			top := t.TempDir()
+			if isOld {
+				store, err := sqlite.Open(context.Background(), filepath.Join(top, "store"), broker.Silent{})
+				if err == nil {
+					_, err = store.Begin(context.Background(), broker.Untied)
+				}
+				if err == nil {
+					err = store.Close()
+				}
+				check(t, err)
 			}
+			over := func(state, store string) []string {
+				return []string{"--state", filepath.Join(top, state), "--store", filepath.Join(top, store),
+					"--backend", "command:/bin/true"}
+			}
+			first := start(t, []string{password}, over("st1", "store")...)
+			start(t, []string{password}, over("st1", "store")...).stop()
+			refused := func(says, state, store string) {
+				t.Helper()
+				unusable(t, says, append([]string{"serve", "--listen", "192.0.2.1:1"}, over(state, store)...)...)
+			}
+			refused("Run all brokers of the store on one machine, with the --state", "st2", "store")
+			refused("the name of the store to "+filepath.Join(top, "st2/command/.owner"), "st2", "store")
+			refused("Choose another --state for this store", "st1", "other")
+			first.stop()
+			refused("Run all brokers of the store on one machine, with the --state", "st2", "store")
+			start(t, []string{password}, append(over("st1", "store"), "--existing")...).stop()
+			owner, err := os.ReadFile(filepath.Join(top, "st1/command/.owner"))
 			if err == nil {
-				err = store.Close()
+				err = os.WriteFile(filepath.Join(top, "st2/command/.owner"), owner, 0o600)
 			}
 			check(t, err)
-		}
-		over := func(state, store string) []string {
-			return []string{"--state", filepath.Join(top, state), "--store", filepath.Join(top, store),
-				"--backend", "command:/bin/true"}
-		}
-		first := start(t, []string{password}, over("st1", "store")...)
-		start(t, []string{password}, over("st1", "store")...).stop()
-		refused := func(says, state, store string) {
-			t.Helper()
-			unusable(t, says, append([]string{"serve", "--listen", "192.0.2.1:1"}, over(state, store)...)...)
-		}
-		refused("Run all brokers of the store on one machine, with the --state", "st2", "store")
-		refused("the name of the store to "+filepath.Join(top, "st2/command/.owner"), "st2", "store")
-		refused("Choose another --state for this store", "st1", "other")
-		first.stop()
-		refused("Run all brokers of the store on one machine, with the --state", "st2", "store")
-		start(t, []string{password}, append(over("st1", "store"), "--existing")...).stop()
-		owner, err := os.ReadFile(filepath.Join(top, "st1/command/.owner"))
-		if err == nil {
-			err = os.WriteFile(filepath.Join(top, "st2/command/.owner"), owner, 0o600)
-		}
-		check(t, err)
-		start(t, []string{password}, over("st2", "store")...).stop()
+			start(t, []string{password}, over("st2", "store")...).stop()
+		})
 	}
 }
 
 // A state folder that other accounts can write to is reported.
 func TestOpenStateFolder(t *testing.T) {
 	for mode, isOpen := range map[os.FileMode]bool{0o777: true, 0o770: true, 0o755: false, 0o700: false} {
-		state := t.TempDir()
-		check(t, os.Chmod(state, mode))
-		s := start(t, []string{password}, "--state", state)
-		s.stop()
-		warned := false
-		for _, line := range s.Seen {
-			warned = warned || strings.Contains(line, `"event":"folder_open"`) && strings.Contains(line, state)
-		}
-		diff.Equal(t, warned, isOpen, "a state folder of mode %o is reported", mode)
+		t.Run(fmt.Sprintf("%o", mode), func(t *testing.T) {
+			state := t.TempDir()
+			check(t, os.Chmod(state, mode))
+			s := start(t, []string{password}, "--state", state)
+			s.stop()
+			warned := false
+			for _, line := range s.Seen {
+				warned = warned || strings.Contains(line, `"event":"folder_open"`) && strings.Contains(line, state)
+			}
+			diff.Equal(t, warned, isOpen, "a state folder of mode %o is reported", mode)
+		})
 	}
 }
 
@@ -666,33 +674,35 @@ func TestExampleDatabases(t *testing.T) {
 	s := start(t, []string{password}, "--state", state, "--sweep-seconds", "0.01",
 		"--catalog", examples+"own-catalogue.json", "--backend", "command:"+examples+"databases")
 	for plan, isAsync := range map[string]bool{"b1": false, "b2": true} {
-		instance := "/v2/service_instances/of-" + plan
-		binding := instance + "/service_bindings/b"
-		ids := `{"service_id":"` + id + `a0","plan_id":"` + id + plan + `"`
-		query := async + "&service_id=" + id + "a0&plan_id=" + id + plan
-		created, deleted := 201, 200
-		if isAsync {
-			created, deleted = 202, 202
-		}
-		s.expect(created, "PUT", instance+async, ids+`,"organization_guid":"o","space_guid":"s"}`)
-		s.until(200, "succeeded", "GET", instance+"/last_operation", "")
-		s.expect(created, "PUT", binding+async, ids+"}")
-		s.until(200, "succeeded", "GET", binding+"/last_operation", "")
-		var bound struct {
-			Credentials struct{ Database, Token string }
-		}
-		text := s.expect(200, "GET", binding, "")
-		if err := json.Unmarshal([]byte(text), &bound); err != nil || bound.Credentials.Token == "" {
-			t.Errorf("the binding: got %s, %v, want a token", text, err)
-		}
-		path := filepath.Join(state, "command", bound.Credentials.Database)
-		_, err := os.Stat(path)
-		diff.NoError(t, err, "")
-		diff.Equal(t, s.expect(200, "PUT", binding+async, ids+"}"), text, "the binding")
-		s.expect(deleted, "DELETE", binding+query, "")
-		s.until(410, "", "GET", binding+"/last_operation", "")
-		s.expect(deleted, "DELETE", instance+query, "")
-		s.until(410, "", "GET", instance+"/last_operation", "")
+		t.Run(plan, func(t *testing.T) {
+			instance := "/v2/service_instances/of-" + plan
+			binding := instance + "/service_bindings/b"
+			ids := `{"service_id":"` + id + `a0","plan_id":"` + id + plan + `"`
+			query := async + "&service_id=" + id + "a0&plan_id=" + id + plan
+			created, deleted := 201, 200
+			if isAsync {
+				created, deleted = 202, 202
+			}
+			s.expect(created, "PUT", instance+async, ids+`,"organization_guid":"o","space_guid":"s"}`)
+			s.until(200, "succeeded", "GET", instance+"/last_operation", "")
+			s.expect(created, "PUT", binding+async, ids+"}")
+			s.until(200, "succeeded", "GET", binding+"/last_operation", "")
+			var bound struct {
+				Credentials struct{ Database, Token string }
+			}
+			text := s.expect(200, "GET", binding, "")
+			if err := json.Unmarshal([]byte(text), &bound); err != nil || bound.Credentials.Token == "" {
+				t.Errorf("the binding: got %s, %v, want a token", text, err)
+			}
+			path := filepath.Join(state, "command", bound.Credentials.Database)
+			_, err := os.Stat(path)
+			diff.NoError(t, err, "")
+			diff.Equal(t, s.expect(200, "PUT", binding+async, ids+"}"), text, "the binding")
+			s.expect(deleted, "DELETE", binding+query, "")
+			s.until(410, "", "GET", binding+"/last_operation", "")
+			s.expect(deleted, "DELETE", instance+query, "")
+			s.until(410, "", "GET", instance+"/last_operation", "")
+		})
 	}
 	s.stop()
 	diff.Check(t, diff.Value(filepath.Glob(filepath.Join(state, "command", "*-*")))(t), []string(nil), "what is left")

@@ -250,20 +250,23 @@ func TestARejectedLoginIsAnsweredAtOnce(t *testing.T) {
 		{one, "\r\nHost: broker\r\nAuthorization: " + basic("platform", "secret") + "\r\n", 412},
 		{"/healthz", "\r\nHost: broker\r\n", 405},
 	} {
-		conn := s.dial()
-		began := time.Now()
-		if _, err := fmt.Fprintf(conn, "PUT %s HTTP/1.1%sContent-Length: 100\r\n\r\n", test.target, test.head); err != nil {
-			t.Fatal(err)
-		}
-		given, err := http.ReadResponse(bufio.NewReader(conn), nil)
-		check(t, err)
-		body, err := io.ReadAll(given.Body)
-		took := time.Since(began)
-		if err != nil || given.StatusCode != test.status || !isRejection(string(body)) || took > 20*time.Second { // the body is waited for 30
-			t.Errorf("PUT %s: got %d %s after %v, %v, want the rejection %d at once", test.target, given.StatusCode, body, took,
-				err, test.status)
-		}
-		_ = conn.Close()
+		t.Run(fmt.Sprint(test.status), func(t *testing.T) {
+			conn := s.dial()
+			began := time.Now()
+			if _, err := fmt.Fprintf(conn, "PUT %s HTTP/1.1%sContent-Length: 100\r\n\r\n", test.target, test.head); err != nil {
+				t.Fatal(err)
+			}
+			given, err := http.ReadResponse(bufio.NewReader(conn), nil)
+			check(t, err)
+			body, err := io.ReadAll(given.Body)
+			took := time.Since(began)
+			isRejected := err == nil && given.StatusCode == test.status && isRejection(string(body))
+			if !isRejected || took > 20*time.Second { // the body is waited for 30
+				t.Errorf("PUT %s: got %d %s after %v, %v, want the rejection %d at once", test.target, given.StatusCode, body, took,
+					err, test.status)
+			}
+			_ = conn.Close()
+		})
 	}
 	s.stop()
 }
@@ -324,10 +327,12 @@ func TestHealthWhileAllConnectionsAreTaken(t *testing.T) {
 	_, err := full.Get(s.url + "/v2/catalog")
 	diff.Error(t, err, "the main address, which is full")
 	for _, path := range []string{"/healthz", "/readyz", "/metrics"} {
-		given := diff.Value(s.client.Get("http://" + address + path))(t)
-		if _ = given.Body.Close(); given.StatusCode != 200 {
-			t.Errorf("%s: got %s, want 200", path, given.Status)
-		}
+		t.Run(path, func(t *testing.T) {
+			given := diff.Value(s.client.Get("http://" + address + path))(t)
+			if _ = given.Body.Close(); given.StatusCode != 200 {
+				t.Errorf("%s: got %s, want 200", path, given.Status)
+			}
+		})
 	}
 	s.stop()
 }
@@ -365,31 +370,33 @@ func TestRequestsWhileItStops(t *testing.T) {
 // Without --health-listen, the main address says that the broker stops. With --share-port it is left to other brokers.
 func TestHealthWhileItStops(t *testing.T) {
 	for _, isShared := range []bool{false, true} {
-		g := newGate(t)
-		s := g.start(fmt.Sprintf("--share-port=%v", isShared))
-		s.send("PUT", one, order)
-		g.waits()
-		s.Terminate()
-		s.Event("stopping")
-		if !isShared {
-			for _, path := range []string{"/healthz", "/readyz"} {
-				if status, body := s.plain(path); status != 503 || !isRejection(body) {
-					t.Errorf("%s: got %d %s, want 503 and a rejection", path, status, body)
+		t.Run(fmt.Sprintf("shared %t", isShared), func(t *testing.T) {
+			g := newGate(t)
+			s := g.start(fmt.Sprintf("--share-port=%v", isShared))
+			s.send("PUT", one, order)
+			g.waits()
+			s.Terminate()
+			s.Event("stopping")
+			if !isShared {
+				for _, path := range []string{"/healthz", "/readyz"} {
+					if status, body := s.plain(path); status != 503 || !isRejection(body) {
+						t.Errorf("%s: got %d %s, want 503 and a rejection", path, status, body)
+					}
 				}
 			}
-		}
-		waits.Until(t, "the shared address is left", func() bool {
-			if !isShared {
-				return true
-			}
-			conn, err := net.Dial("tcp", strings.TrimPrefix(s.url, "http://"))
-			if err == nil {
-				_ = conn.Close()
-			}
-			return err != nil
+			waits.Until(t, "the shared address is left", func() bool {
+				if !isShared {
+					return true
+				}
+				conn, err := net.Dial("tcp", strings.TrimPrefix(s.url, "http://"))
+				if err == nil {
+					_ = conn.Close()
+				}
+				return err != nil
+			})
+			g.open()
+			s.ends(true)
 		})
-		g.open()
-		s.ends(true)
 	}
 }
 

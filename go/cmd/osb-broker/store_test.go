@@ -119,10 +119,12 @@ func TestStoreGoesAwayBeforeItIsTied(t *testing.T) {
 	s.stop()
 	pgtest.Exec(t, pgtest.DB(t, schema), "TRUNCATE osb_store")
 	for _, at := range []string{"SELECT name FROM osb_store", "INSERT INTO osb_store"} {
-		proxy, through := storefaults.NewProxy(t, pgtest.With(t, address, "search_path", "osb_tied"))
-		proxy.Cut(at)
-		runToEnd(t, 75, "the store and the backend can't be used together",
-			osbBroker(environment, "serve", "--state", t.TempDir(), "--store", through))
+		t.Run(at, func(t *testing.T) {
+			proxy, through := storefaults.NewProxy(t, pgtest.With(t, address, "search_path", "osb_tied"))
+			proxy.Cut(at)
+			runToEnd(t, 75, "the store and the backend can't be used together",
+				osbBroker(environment, "serve", "--state", t.TempDir(), "--store", through))
+		})
 	}
 }
 
@@ -139,10 +141,12 @@ func TestStoreGoesAway(t *testing.T) {
 		{"PUT", one, order}, {"PUT", "/v2/service_instances/two", order}, {"GET", one + "/last_operation", ""},
 		{"PUT", one + "/service_bindings/b", bind}, {"DELETE", one + names, ""},
 	} {
-		diff.Contains(t, s.expect(503, test[0], test[1], test[2]), "Send it again later.", "%s %s", test[0], test[1])
-		if failed := s.Event("request_failed"); failed["error"] == "" {
-			t.Errorf("the log: got %v, want an error", failed)
-		}
+		t.Run(test[0]+" "+test[1], func(t *testing.T) {
+			diff.Contains(t, s.expect(503, test[0], test[1], test[2]), "Send it again later.", "%s %s", test[0], test[1])
+			if failed := s.Event("request_failed"); failed["error"] == "" {
+				t.Errorf("the log: got %v, want an error", failed)
+			}
+		})
 	}
 	s.expect(200, "GET", "/v2/catalog", "")
 	proxy.Cut("")

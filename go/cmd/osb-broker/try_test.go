@@ -223,17 +223,19 @@ func slow(t *testing.T, text string) string {
 func TestTryStops(t *testing.T) {
 	takeHangups(t)
 	for _, signal := range []os.Signal{syscall.SIGTERM, os.Interrupt, syscall.SIGHUP} {
-		state := t.TempDir()
-		run := runTry(t, nil, signalAt(t, state+"/begun", signal),
-			"--state", state, "--backend", slow(t, ""), "--catalog", unbindable(t))
-		wanted := "try     plan small of service shelf\nok      capabilities: neither bindings nor credentials\n" +
-			"ok      look instance 1: none\nok      delete instance 1\nok      look instance 1: none\n" +
-			"stopped by a signal, before all calls were tried\n4 ok, 0 failed\n"
-		left, err := filepath.Glob(state + "/command/[0-9a-f]*")
-		if run.status != 1 || run.stdout != wanted || run.stderr != "" || len(left) > 0 || err != nil {
-			t.Errorf("%v: got the status %d, %s%s, %v left and %v, want 1 and nothing left", signal, run.status, run.stdout,
-				run.stderr, left, err)
-		}
+		t.Run(signal.String(), func(t *testing.T) {
+			state := t.TempDir()
+			run := runTry(t, nil, signalAt(t, state+"/begun", signal),
+				"--state", state, "--backend", slow(t, ""), "--catalog", unbindable(t))
+			wanted := "try     plan small of service shelf\nok      capabilities: neither bindings nor credentials\n" +
+				"ok      look instance 1: none\nok      delete instance 1\nok      look instance 1: none\n" +
+				"stopped by a signal, before all calls were tried\n4 ok, 0 failed\n"
+			left, err := filepath.Glob(state + "/command/[0-9a-f]*")
+			if run.status != 1 || run.stdout != wanted || run.stderr != "" || len(left) > 0 || err != nil {
+				t.Errorf("%v: got the status %d, %s%s, %v left and %v, want 1 and nothing left", signal, run.status, run.stdout,
+					run.stderr, left, err)
+			}
+		})
 	}
 }
 

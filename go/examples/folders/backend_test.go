@@ -31,21 +31,23 @@ func TestParts(t *testing.T) {
 				broker.Whole: func(b backend) error { return b.Create(ctx, ofInstance) },
 				broker.None:  func(b backend) error { return b.Delete(ctx, ofInstance) },
 			} {
-				b := backend(t.TempDir())
-				path := b.path(ofInstance.Key)
-				makeFull(t, path, test.whole)
-				makeFull(t, path+".part", test.part)
-				if there, err := b.Look(ctx, ofInstance); there != test.there || err != nil {
-					t.Errorf("got %v and the error %v, want what exists", there, err)
-				}
-				for again := 0; again < 2; again++ { // the second call does nothing
-					if err := call(b); err != nil {
-						t.Errorf("got the error %v, want none", err)
+				t.Run(what.String(), func(t *testing.T) {
+					b := backend(t.TempDir())
+					path := b.path(ofInstance.Key)
+					makeFull(t, path, test.whole)
+					makeFull(t, path+".part", test.part)
+					if there, err := b.Look(ctx, ofInstance); there != test.there || err != nil {
+						t.Errorf("got %v and the error %v, want what exists", there, err)
 					}
-					if there, err := b.Look(ctx, ofInstance); there != what || err != nil {
-						t.Errorf("got %v, %v, want %v", there, err, what)
+					for again := 0; again < 2; again++ { // the second call does nothing
+						if err := call(b); err != nil {
+							t.Errorf("got the error %v, want none", err)
+						}
+						if there, err := b.Look(ctx, ofInstance); there != what || err != nil {
+							t.Errorf("got %v, %v, want %v", there, err, what)
+						}
 					}
-				}
+				})
 			}
 		})
 	}

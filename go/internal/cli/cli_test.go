@@ -89,11 +89,13 @@ func TestRunRejectsArguments(t *testing.T) {
 
 func TestRunHelp(t *testing.T) {
 	for _, arguments := range [][]string{{"--help"}, {"serve", "--help"}} {
-		ran := func(*cobra.Command, []string) error { return errors.New("it ran") }
-		status, stdout, stderr := runWith(ran, arguments...)
-		diff.Equal(t, status, StatusDone, "%v", arguments)
-		diff.Contains(t, stdout, "serve", "%v", arguments)
-		diff.Equal(t, stderr, "", "%v", arguments)
+		t.Run(strings.Join(arguments, " "), func(t *testing.T) {
+			ran := func(*cobra.Command, []string) error { return errors.New("it ran") }
+			status, stdout, stderr := runWith(ran, arguments...)
+			diff.Equal(t, status, StatusDone, "%v", arguments)
+			diff.Contains(t, stdout, "serve", "%v", arguments)
+			diff.Equal(t, stderr, "", "%v", arguments)
+		})
 	}
 }
 
@@ -198,7 +200,9 @@ func TestMarkedErrorsKeepTheirCause(t *testing.T) {
 
 func TestDotted(t *testing.T) {
 	for version, want := range map[uint32]string{300: "0.3.0", 10203: "1.2.3", 129999: "12.99.99", 7: "0.0.7"} {
-		diff.Equal(t, versionText(version), want, "%d", version)
+		t.Run(want, func(t *testing.T) {
+			diff.Equal(t, versionText(version), want, "%d", version)
+		})
 	}
 }
 

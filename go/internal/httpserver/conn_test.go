@@ -48,42 +48,44 @@ func (s *script) RemoteAddr() net.Addr             { return &net.TCPAddr{IP: net
 // third: it reads ahead in another goroutine until each of the two is answered.
 func TestWhatIsReadAheadIsntAnsweredWith408(t *testing.T) {
 	for _, end := range []error{io.EOF, os.ErrDeadlineExceeded} {
-		raw := &script{reads: []string{whole + whole + "GET /b HT"}, err: end}
-		accepted := newConn(listen(t, Options{}), raw)
-		read := func(when, want string) {
-			t.Helper()
-			if _, err := accepted.Read(make([]byte, 1)); !errors.Is(err, end) || raw.wrote != want {
-				t.Errorf("%s: Read got %v, and %q written, want %v and %q", when, err, raw.wrote, end, want)
+		t.Run(end.Error(), func(t *testing.T) {
+			raw := &script{reads: []string{whole + whole + "GET /b HT"}, err: end}
+			accepted := newConn(listen(t, Options{}), raw)
+			read := func(when, want string) {
+				t.Helper()
+				if _, err := accepted.Read(make([]byte, 1)); !errors.Is(err, end) || raw.wrote != want {
+					t.Errorf("%s: Read got %v, and %q written, want %v and %q", when, err, raw.wrote, end, want)
+				}
 			}
-		}
-		wait := func() {
-			check(t, accepted.SetReadDeadline(time.Now().Add(time.Minute)))
-		}
-		wait()
-		_, err := accepted.Read(make([]byte, 1000))
-		check(t, err)
-		for _, request := range []string{"first", "second"} {
-			read("before the handler gets the "+request, "")
-			accepted.begin()
-			read("while the handler answers the "+request, "")
-			accepted.end()
-			read("before the answer to the "+request+" is written", "")
-			if err := accepted.SetReadDeadline(time.Unix(1, 0)); err != nil { // as net/http does to end reading ahead
-				t.Fatal(err)
+			wait := func() {
+				check(t, accepted.SetReadDeadline(time.Now().Add(time.Minute)))
 			}
-			read("when reading ahead is ended", "")
-			if request == "first" {
-				wait()
+			wait()
+			_, err := accepted.Read(make([]byte, 1000))
+			check(t, err)
+			for _, request := range []string{"first", "second"} {
+				read("before the handler gets the "+request, "")
+				accepted.begin()
+				read("while the handler answers the "+request, "")
+				accepted.end()
+				read("before the answer to the "+request+" is written", "")
+				if err := accepted.SetReadDeadline(time.Unix(1, 0)); err != nil { // as net/http does to end reading ahead
+					t.Fatal(err)
+				}
+				read("when reading ahead is ended", "")
+				if request == "first" {
+					wait()
+				}
 			}
-		}
-		wait()
-		read("when the third is waited for", rejection408)
-		read("when net/http reads again", rejection408)
-		own := rejectionWith(400)
-		if count, err := accepted.Write(own); count != len(own) || err != nil || raw.wrote != rejection408 {
-			t.Errorf("Write of the answer of net/http: got %d, %v, and %q written, want all of it and %q", count, err, raw.wrote,
-				rejection408)
-		}
+			wait()
+			read("when the third is waited for", rejection408)
+			read("when net/http reads again", rejection408)
+			own := rejectionWith(400)
+			if count, err := accepted.Write(own); count != len(own) || err != nil || raw.wrote != rejection408 {
+				t.Errorf("Write of the answer of net/http: got %d, %v, and %q written, want all of it and %q", count, err, raw.wrote,
+					rejection408)
+			}
+		})
 	}
 }
 
@@ -109,9 +111,11 @@ func TestAHeadThatTakesTooLongIsAnsweredWith408(t *testing.T) {
 	observer := &recorder{}
 	listener := start(t, Options{Observer: observer}, Server{Request: short}, echo)
 	for _, cut := range cuts {
-		client := dial(t, listener)
-		client.send(cut)
-		diff.Equal(t, client.rest(), rejection408, "%q", cut)
+		t.Run(fmt.Sprintf("%q", cut), func(t *testing.T) {
+			client := dial(t, listener)
+			client.send(cut)
+			diff.Equal(t, client.rest(), rejection408, "%q", cut)
+		})
 	}
 	statuses := observer.waitForStatuses(t, len(cuts))
 	for _, status := range statuses {
@@ -123,10 +127,12 @@ func TestAHeadThatTakesTooLongIsAnsweredWith408(t *testing.T) {
 func TestAHeadThatTheClientCutsIsAnsweredWith408(t *testing.T) {
 	listener := start(t, Options{}, Server{}, echo)
 	for _, cut := range cuts {
-		client := dial(t, listener)
-		client.send(cut)
-		client.closeWrite()
-		diff.Equal(t, client.rest(), rejection408, "%q", cut)
+		t.Run(fmt.Sprintf("%q", cut), func(t *testing.T) {
+			client := dial(t, listener)
+			client.send(cut)
+			client.closeWrite()
+			diff.Equal(t, client.rest(), rejection408, "%q", cut)
+		})
 	}
 }
 
@@ -151,9 +157,11 @@ func TestABodyThatTakesTooLongCantBeRead(t *testing.T) {
 		"PUT / HTTP/1.1\r\nHost: x\r\nContent-Length: 9\r\n\r\nabc",
 		"PUT / HTTP/1.1\r\nHost: x\r\nTransfer-Encoding: chunked\r\n\r\n3\r\nab",
 	} {
-		client := dial(t, listener)
-		client.send(request)
-		diff.Check(t, statusesIn(client.rest()), []string{"408"}, "%q", request)
+		t.Run(fmt.Sprintf("%q", request), func(t *testing.T) {
+			client := dial(t, listener)
+			client.send(request)
+			diff.Check(t, statusesIn(client.rest()), []string{"408"}, "%q", request)
+		})
 	}
 }
 
@@ -182,9 +190,11 @@ func TestASilentConnectionIsClosed(t *testing.T) {
 	observer := &recorder{}
 	listener := start(t, Options{Silent: short, Observer: observer}, Server{}, echo)
 	for _, sent := range []string{"", "\r\n", "\n\n\n"} {
-		client := dial(t, listener)
-		client.send(sent)
-		diff.Equal(t, client.rest(), "", "after %q", sent)
+		t.Run(fmt.Sprintf("%q", sent), func(t *testing.T) {
+			client := dial(t, listener)
+			client.send(sent)
+			diff.Equal(t, client.rest(), "", "after %q", sent)
+		})
 	}
 	if got := observer.waitForStatuses(t, 0); got != nil {
 		t.Errorf("the observer: got %v, want none", got)

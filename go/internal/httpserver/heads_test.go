@@ -287,18 +287,20 @@ func TestWhatNetHTTPRejects(t *testing.T) {
 
 func TestAnAnswerOfAHandlerIsNoRejection(t *testing.T) {
 	for _, status := range []int{400, 408, 501} {
-		observer := &recorder{}
-		client := dial(t, start(t, Options{Observer: observer}, Server{}, func(w http.ResponseWriter, _ *http.Request) {
-			w.Header().Set("Connection", "close")
-			http.Error(w, "text", status)
-		}))
-		client.send(whole)
-		if got := client.rest(); !strings.HasPrefix(got, fmt.Sprintf("HTTP/1.1 %d ", status)) {
-			t.Errorf("want the status %d, got %q", status, got)
-		}
-		if got := observer.waitForStatuses(t, 0); got != nil {
-			t.Errorf("%d: the observer: got %v, want none", status, got)
-		}
+		t.Run(fmt.Sprint(status), func(t *testing.T) {
+			observer := &recorder{}
+			client := dial(t, start(t, Options{Observer: observer}, Server{}, func(w http.ResponseWriter, _ *http.Request) {
+				w.Header().Set("Connection", "close")
+				http.Error(w, "text", status)
+			}))
+			client.send(whole)
+			if got := client.rest(); !strings.HasPrefix(got, fmt.Sprintf("HTTP/1.1 %d ", status)) {
+				t.Errorf("want the status %d, got %q", status, got)
+			}
+			if got := observer.waitForStatuses(t, 0); got != nil {
+				t.Errorf("%d: the observer: got %v, want none", status, got)
+			}
+		})
 	}
 }
 

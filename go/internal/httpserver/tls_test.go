@@ -55,14 +55,16 @@ func TestTLS(t *testing.T) {
 		t.Errorf("the certificate: got %v left, want about a minute", left)
 	}
 	for _, version := range []uint16{tls.VersionTLS12, tls.VersionTLS13} {
-		config := authority.client(CertificateFiles{})
-		config.MinVersion, config.MaxVersion = version, version
-		client, state := dialTLS(t, listener, config)
-		diff.Equal(t, state.Version, version, "")
-		client.send(whole)
-		client.until("GET /a ;")
-		client.send("PUT /b HTTP/1.1\r\nHost: x\r\nContent-Length: 3\r\n\r\nabc")
-		client.until("PUT /b abc;")
+		t.Run(fmt.Sprintf("%#x", version), func(t *testing.T) {
+			config := authority.client(CertificateFiles{})
+			config.MinVersion, config.MaxVersion = version, version
+			client, state := dialTLS(t, listener, config)
+			diff.Equal(t, state.Version, version, "")
+			client.send(whole)
+			client.until("GET /a ;")
+			client.send("PUT /b HTTP/1.1\r\nHost: x\r\nContent-Length: 3\r\n\r\nabc")
+			client.until("PUT /b abc;")
+		})
 	}
 }
 
@@ -78,11 +80,13 @@ func TestTLSIsBoundedAsHTTPIs(t *testing.T) {
 		{"PUT / HTTP/1.1\r\nHost: x\r\nContent-Length: 1\r\nTransfer-Encoding: chunked\r\n\r\n", "HTTP/1.1 400 "},
 		{"GET\r\n\r\n", "HTTP/1.1 400 "},
 	} {
-		client, _ := dialTLS(t, listener, authority.client(CertificateFiles{}))
-		client.send(test.sent)
-		if got := client.rest(); !strings.HasPrefix(got, test.want) || test.want == "" && got != "" {
-			t.Errorf("%q: got %q, want %q", test.sent, got, test.want)
-		}
+		t.Run(fmt.Sprintf("%q", test.sent), func(t *testing.T) {
+			client, _ := dialTLS(t, listener, authority.client(CertificateFiles{}))
+			client.send(test.sent)
+			if got := client.rest(); !strings.HasPrefix(got, test.want) || test.want == "" && got != "" {
+				t.Errorf("%q: got %q, want %q", test.sent, got, test.want)
+			}
+		})
 	}
 	diff.Check(t, observer.waitForStatuses(t, 3), []int{408, 400, 400}, "the observer")
 }

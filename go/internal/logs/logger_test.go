@@ -44,21 +44,23 @@ func TestLinesAreASCIIAndHaveNoControlCharacters(t *testing.T) {
 	for _, text := range []string{
 		"plain", "größe", "\u009b31m", "\x1b[31m", "line\nfeed", "\x7f", "\u202e", "😀", "\xff\xfe", `"\`, "\x00",
 	} {
-		var got bytes.Buffer
-		New(&got).Info("request").Str("target", text).Send()
-		line := got.Bytes()
-		for _, b := range line[:len(line)-1] {
-			if b < ' ' || b > '~' {
-				t.Errorf("%q: got the byte %#x in %q, want ASCII", text, b, line)
+		t.Run(fmt.Sprintf("%q", text), func(t *testing.T) {
+			var got bytes.Buffer
+			New(&got).Info("request").Str("target", text).Send()
+			line := got.Bytes()
+			for _, b := range line[:len(line)-1] {
+				if b < ' ' || b > '~' {
+					t.Errorf("%q: got the byte %#x in %q, want ASCII", text, b, line)
+				}
 			}
-		}
-		var read struct{ Target string }
-		if err := json.Unmarshal(line, &read); err != nil {
-			t.Fatalf("%q: got the error %v, want none", text, err)
-		}
-		if want := strings.ToValidUTF8(text, "\ufffd"); read.Target != want && text != "\xff\xfe" {
-			t.Errorf("%q: got %q, want it without what isn't UTF-8", text, read.Target)
-		}
+			var read struct{ Target string }
+			if err := json.Unmarshal(line, &read); err != nil {
+				t.Fatalf("%q: got the error %v, want none", text, err)
+			}
+			if want := strings.ToValidUTF8(text, "\ufffd"); read.Target != want && text != "\xff\xfe" {
+				t.Errorf("%q: got %q, want it without what isn't UTF-8", text, read.Target)
+			}
+		})
 	}
 }
 
@@ -229,17 +231,19 @@ func TestATornLineStaysALineOfItsOwn(t *testing.T) {
 		3: "fir\n" + `{"time":"T","level":"warning","event":"log_lines_dropped","lines":1}` + "\nsecond\n",
 		6: "first\nsecond\n",
 	} {
-		to := &tearer{first: first}
-		queue := NewQueue(to)
-		write(t, queue, "first\n")
-		waits.Until(t, "the first line is written", func() bool {
-			queue.mutex.Lock()
-			defer queue.mutex.Unlock()
-			return queue.writing.lines == 0 && queue.lines == 0
+		t.Run(fmt.Sprintf("after %d bytes", first), func(t *testing.T) {
+			to := &tearer{first: first}
+			queue := NewQueue(to)
+			write(t, queue, "first\n")
+			waits.Until(t, "the first line is written", func() bool {
+				queue.mutex.Lock()
+				defer queue.mutex.Unlock()
+				return queue.writing.lines == 0 && queue.lines == 0
+			})
+			write(t, queue, "second\n")
+			closeQueue(t, queue)
+			diff.Equal(t, withoutTimes(to.got.String()), want, "torn after %d bytes", first)
 		})
-		write(t, queue, "second\n")
-		closeQueue(t, queue)
-		diff.Equal(t, withoutTimes(to.got.String()), want, "torn after %d bytes", first)
 	}
 }
 

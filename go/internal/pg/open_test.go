@@ -18,13 +18,15 @@ import (
 func TestSynchronousCommit(t *testing.T) {
 	url := pgtest.URL(t)
 	for _, value := range []string{"on", "local", "remote_write", "remote_apply"} {
-		db := pgtest.DB(t, pgtest.With(t, url, "synchronous_commit", value))
-		var setting, source string
-		err := db.QueryRow("SELECT setting, source FROM pg_settings WHERE name = 'synchronous_commit'").
-			Scan(&setting, &source)
-		if err != nil || setting != value || source != "session" { // of the session: no reload changes it
-			t.Errorf("%s: got %s of the %s, %v, want it of the session", value, setting, source, err)
-		}
+		t.Run(value, func(t *testing.T) {
+			db := pgtest.DB(t, pgtest.With(t, url, "synchronous_commit", value))
+			var setting, source string
+			err := db.QueryRow("SELECT setting, source FROM pg_settings WHERE name = 'synchronous_commit'").
+				Scan(&setting, &source)
+			if err != nil || setting != value || source != "session" { // of the session: no reload changes it
+				t.Errorf("%s: got %s of the %s, %v, want it of the session", value, setting, source, err)
+			}
+		})
 	}
 	err := pgtest.DB(t, pgtest.With(t, url, "synchronous_commit", "off")).Ping()
 	diff.ErrorIs(t, err, pg.ErrNotDurable, "off")
@@ -196,14 +198,16 @@ func TestVariablesThatTheDriverRejects(t *testing.T) {
 		diff.NoError(t, open(), "%s", name)
 	}
 	for _, name := range []string{"PGHOSTADDR", "PGSERVICE", "PGREQUIRESSL", "PGSSLCRL", "PGREQUIREPEER"} {
-		t.Setenv(name, "")
-		diff.NoError(t, open(), "an empty %s", name)
-		t.Setenv(name, "1")
-		err := open()
-		if _, isLasting := pg.Remedy(err); !isLasting || !strings.Contains(err.Error(), "unset "+name) {
-			t.Errorf("%s: got %v, lasting %v, want a lasting one that says what to unset", name, err, isLasting)
-		}
-		check(t, os.Unsetenv(name))
+		t.Run(name, func(t *testing.T) {
+			t.Setenv(name, "")
+			diff.NoError(t, open(), "an empty %s", name)
+			t.Setenv(name, "1")
+			err := open()
+			if _, isLasting := pg.Remedy(err); !isLasting || !strings.Contains(err.Error(), "unset "+name) {
+				t.Errorf("%s: got %v, lasting %v, want a lasting one that says what to unset", name, err, isLasting)
+			}
+			check(t, os.Unsetenv(name))
+		})
 	}
 	for name, value := range map[string]string{"PGCLIENTENCODING": "LATIN1", "PGDATESTYLE": "German"} {
 		t.Run(name, func(t *testing.T) {
@@ -265,12 +269,14 @@ func TestBadAddresses(t *testing.T) {
 	for _, address := range []string{
 		"", "/srv/store.sqlite", "postgresql://u:secret@db:port/x", "postgresql://u:sec%ret@db",
 	} {
-		_, err := pg.Open(address, pg.Options{Most: 1})
-		diff.ErrorIs(t, err, pg.ErrBadAddress, "Open(%s)", address)
-		diff.Equal(t, fmt.Sprint(err), pg.ErrBadAddress.Error(), "Open(%s)", address)
-		if _, err := pg.HasPassword(address); !errors.Is(err, pg.ErrBadAddress) {
-			t.Errorf("HasPassword(%s): got %v, want %v", address, err, pg.ErrBadAddress)
-		}
+		t.Run(fmt.Sprintf("%q", address), func(t *testing.T) {
+			_, err := pg.Open(address, pg.Options{Most: 1})
+			diff.ErrorIs(t, err, pg.ErrBadAddress, "Open(%s)", address)
+			diff.Equal(t, fmt.Sprint(err), pg.ErrBadAddress.Error(), "Open(%s)", address)
+			if _, err := pg.HasPassword(address); !errors.Is(err, pg.ErrBadAddress) {
+				t.Errorf("HasPassword(%s): got %v, want %v", address, err, pg.ErrBadAddress)
+			}
+		})
 	}
 }
 

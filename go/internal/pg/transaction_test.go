@@ -251,16 +251,18 @@ func TestValuesStay(t *testing.T) {
 			"":           func(ctx context.Context) (*sql.Rows, error) { return db.QueryContext(ctx, query) },
 			", prepared": func(ctx context.Context) (*sql.Rows, error) { return prepared.QueryContext(ctx) },
 		} {
-			ctx, cancel := context.WithCancel(context.Background())
-			rows, err := run(ctx)
-			if err != nil || !rows.Next() {
-				t.Fatalf("%s%s: got the error %v, want a row", query, name, err)
-			}
-			it := &reader{cancel: cancel, db: db}
-			if err := rows.Scan(it); err != nil || it.was == "" || it.is != it.was {
-				t.Errorf("%s%s: got %v and %q from %q, want it unchanged", query, name, err, it.was, it.is)
-			}
-			_ = rows.Close() // the context has ended
+			t.Run(query+name, func(t *testing.T) {
+				ctx, cancel := context.WithCancel(context.Background())
+				rows, err := run(ctx)
+				if err != nil || !rows.Next() {
+					t.Fatalf("%s%s: got the error %v, want a row", query, name, err)
+				}
+				it := &reader{cancel: cancel, db: db}
+				if err := rows.Scan(it); err != nil || it.was == "" || it.is != it.was {
+					t.Errorf("%s%s: got %v and %q from %q, want it unchanged", query, name, err, it.was, it.is)
+				}
+				_ = rows.Close() // the context has ended
+			})
 		}
 		_ = prepared.Close() // the database is the test's own
 	}

@@ -95,17 +95,19 @@ func TestWarningOfTheMode(t *testing.T) {
 	for mode, isWarned := range map[os.FileMode]bool{
 		0o600: false, 0o400: false, 0o640: true, 0o604: true, 0o660: true, 0o700: true, 0o666: true,
 	} {
-		name := fileWith(t, "user:sesame\n", mode)
-		_, first, err := Passwords(variable, name)
-		diff.Must(t, err)
-		_, second, err := Users(name)
-		diff.Must(t, err)
-		for _, warning := range []string{first, second} {
-			if (warning != "") != isWarned || isWarned && !strings.Contains(warning, name) {
-				t.Errorf("mode %o: got the warning %q, want one %v", mode, warning, isWarned)
+		t.Run(fmt.Sprintf("%o", mode), func(t *testing.T) {
+			name := fileWith(t, "user:sesame\n", mode)
+			_, first, err := Passwords(variable, name)
+			diff.Must(t, err)
+			_, second, err := Users(name)
+			diff.Must(t, err)
+			for _, warning := range []string{first, second} {
+				if (warning != "") != isWarned || isWarned && !strings.Contains(warning, name) {
+					t.Errorf("mode %o: got the warning %q, want one %v", mode, warning, isWarned)
+				}
+				diff.Lacks(t, warning, "sesame", "mode %o", mode)
 			}
-			diff.Lacks(t, warning, "sesame", "mode %o", mode)
-		}
+		})
 	}
 }
 

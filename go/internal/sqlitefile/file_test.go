@@ -373,7 +373,9 @@ func TestClose(t *testing.T) {
 		"Write": file.Write(background, note("after")),
 		"Read":  file.Read(background, func(*notes) error { return nil }),
 	} {
-		diff.ErrorIs(t, err, ErrClosed, "%s after Close", name)
+		t.Run(name, func(t *testing.T) {
+			diff.ErrorIs(t, err, ErrClosed, "%s after Close", name)
+		})
 	}
 	diff.NoError(t, file.Close(), "Close again")
 	wantNotes(t, other)
@@ -434,13 +436,15 @@ func TestCloseLeavesOneFile(t *testing.T) {
 // A path is a path, whatever its characters mean in a URI.
 func TestPaths(t *testing.T) {
 	for _, name := range []string{"a?mode=memory", "b#c", "d%41", "é 😀 '&=+;", "file:x"} {
-		folder := t.TempDir()
-		file := open(t, filepath.Join(folder, name), options())
-		diff.NoError(t, file.Write(background, note("x")), "%q", name)
-		info, err := os.Stat(filepath.Join(folder, name))
-		if err != nil || info.Size() == 0 || info.Mode().Perm() != 0o600 {
-			t.Errorf("%q: got %v and the error %v, want content and mode 0600", name, info, err)
-		}
+		t.Run(fmt.Sprintf("%q", name), func(t *testing.T) {
+			folder := t.TempDir()
+			file := open(t, filepath.Join(folder, name), options())
+			diff.NoError(t, file.Write(background, note("x")), "%q", name)
+			info, err := os.Stat(filepath.Join(folder, name))
+			if err != nil || info.Size() == 0 || info.Mode().Perm() != 0o600 {
+				t.Errorf("%q: got %v and the error %v, want content and mode 0600", name, info, err)
+			}
+		})
 	}
 }
 
