@@ -303,11 +303,7 @@ func TestRestarts(t *testing.T) {
 			p := between(t, broker, kind, func(c *Config) {
 				c.RequestTime = 20 * time.Second
 				c.Restart = func(context.Context) error { at = time.Now(); return errors.New("broken") }
-				c.Failed = func(err error) {
-					if err.Error() != "broken" {
-						t.Error(err)
-					}
-				}
+				c.Failed = func(err error) { diff.Equal(t, err.Error(), "broken", "the failure of the restart") }
 			})
 			begun := time.Now()
 			r := putWithin(p, path, 20*time.Second)

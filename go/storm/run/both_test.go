@@ -65,8 +65,9 @@ func TestJournal(t *testing.T) {
 				if strings.HasSuffix(text, wanted) != (folder != "") || strings.Contains(text, "--journal") != (folder != "") {
 					t.Errorf("%q: got %s, want that it ends with %q only if there is a folder", folder, text, wanted)
 				}
-				if _, err := os.Stat(filepath.Join(folder, name)); folder != "" && err != nil {
-					t.Error(err)
+				if folder != "" {
+					_, err := os.Stat(filepath.Join(folder, name))
+					diff.NoError(t, err, "the folder of the journal")
 				}
 			})
 		}

@@ -60,8 +60,8 @@ func runs(t *testing.T, v *victim, folder string, until func() bool) {
 func starts(t *testing.T, folder string) int {
 	t.Helper()
 	text, err := os.ReadFile(filepath.Join(folder, "starts"))
-	if err != nil && !os.IsNotExist(err) {
-		t.Fatal(err)
+	if !os.IsNotExist(err) {
+		check(t, err)
 	}
 	return strings.Count(string(text), "x")
 }

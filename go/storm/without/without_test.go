@@ -34,9 +34,8 @@ func TestALifeWithoutAPart(t *testing.T) {
 			s.provision(200, now)
 			s.bind(201, now)
 			s.bind(200, now)
-			if _, err := os.Stat(filepath.Join(s.top, ".bindings", one.String()+"-"+bound.String())); err != nil {
-				t.Error(err)
-			}
+			_, err := os.Stat(filepath.Join(s.top, ".bindings", one.String()+"-"+bound.String()))
+			diff.NoError(t, err, "the file of the binding")
 			s.remove(200, binding, now)
 			s.remove(200, instance, now)
 			s.remove(410, instance, now)

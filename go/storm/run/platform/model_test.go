@@ -14,6 +14,7 @@ import (
 	"testing"
 	"time"
 
+	"pippinterm/internal/diff"
 	"pippinterm/storm/report"
 	"pippinterm/storm/run"
 	"pippinterm/storm/run/goods"
@@ -87,8 +88,7 @@ func (m *model) send(ctx context.Context, method, path string, body any) (a answ
 		text, _ = json.Marshal(body)
 	}
 	sent, err := http.NewRequestWithContext(ctx, method, m.url+path, bytes.NewReader(text))
-	if err != nil {
-		m.t.Error(err)
+	if diff.NoError(m.t, err, "a request"); err != nil {
 		return a
 	}
 	sent.SetBasicAuth("platform", "secret")
