@@ -129,7 +129,7 @@ class Packages:
 
     def _run(self, *line: str, **environment: str) -> str:
         given = {**os.environ, "LIBOSB_FOLDER": str(self._library), **environment}
-        it = ran([TOP / "scripts" / "go", *line], environment=given, seconds=1800, merged=True)
+        it = ran([TOP / "scripts" / "go", *line], environment=given, seconds=3600, merged=True)
         assert it.returncode == 0, f"status {it.returncode}: {line}\n{it.stdout}"
         return it.stdout
 
