@@ -25,7 +25,7 @@ type exchangeResult struct {
 	Incoming
 	kind   string // of the request whose reason counts
 	sealed []byte // the object of a binding, sealed, or nil
-	// isUnsealed is whether there is such an object, and it can't be sealed. Another binding would end the same.
+	// isUnsealed says that there is such an object, and it can't be sealed. Another binding would end the same.
 	isUnsealed bool
 }
 
@@ -108,7 +108,7 @@ func storable(text *string) *string {
 	return text
 }
 
-// isFailedCreation is whether a creation has failed by what was answered.
+// isFailedCreation reports whether a creation has failed by what was answered.
 func isFailedCreation(before, after State) bool {
 	return (before == Wanted || before == Polling) && (after == Cleaning || after == Gone || after == Unsettled)
 }
@@ -154,8 +154,8 @@ func (e *Entry) putOff(s sending, in Incoming) {
 	}
 }
 
-// isTakenUp is whether a broker has taken a request up: an answer is taken, and it is no error of the broker or of what
-// stands before it, and no refusal of the user.
+// isTakenUp reports whether a broker has taken a request up: an answer is taken, and it is no error of the broker or of
+// what stands before it, and no refusal of the user.
 func (in Incoming) isTakenUp() bool {
 	return in.Lost == nil && !isRefusal(in.Status) && in.Status < http.StatusInternalServerError
 }
@@ -195,8 +195,8 @@ var ofGateways = map[int]bool{
 	http.StatusRequestHeaderFieldsTooLarge: true,
 }
 
-// isPassing is whether a creation that has failed so may succeed later: no answer arrived, or none that is surely the
-// broker's, or it was an error of the broker, or too much was asked of it.
+// isPassing reports whether a creation that has failed so may succeed later: no answer arrived, or none that is surely
+// the broker's, or it was an error of the broker, or too much was asked of it.
 func (h exchangeResult) isPassing() bool {
 	status := int(h.Answer.Status)
 	switch {
@@ -217,11 +217,11 @@ type aftermath int
 
 const (
 	nothingLeft   aftermath = iota // or nothing that is known
-	orphanFound                    // the broker had what was recorded as gone
+	orphanFound                    // the broker held what was recorded as gone
 	orphanUnknown                  // the broker, or a gateway, has rejected the deletion
 )
 
-// judgeLast judges the answer to a last deletion. isOver is whether none follows. The record stays gone in any case.
+// judgeLast judges the answer to a last deletion. isOver says that none follows. The record stays gone in any case.
 func judgeLast(in Incoming) (shown aftermath, isOver bool) {
 	if in.Lost != nil {
 		return nothingLeft, false

@@ -654,9 +654,9 @@ func TestWritesFail(t *testing.T) {
 	p.start(background)
 	time.Sleep(2 * time.Second)
 	p.set(func() {
-		if tried := claims.Load(); tried < 2 || tried > 8 || len(p.failures) != 1 || len(p.sent)+len(p.told) > 0 {
+		if tried := claims.Load(); tried < 2 || tried > 8 || len(p.failures) != 1 || len(p.sent)+len(p.reported) > 0 {
 			t.Errorf("got %d claims, %d failures, %d requests and %v, want 2 to 8, one and none", tried, len(p.failures),
-				len(p.sent), p.told)
+				len(p.sent), p.reported)
 		}
 	})
 	diff.ErrorIs(t, p.engine.Ready(), errFull, "the engine")

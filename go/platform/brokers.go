@@ -57,7 +57,7 @@ func (b Broker) SettingsText() ([]byte, error) {
 	return json.Marshal(keptSettings{b.Settings, b.Store})
 }
 
-// ReadSettings reads what SettingsText has written, also in version 0.3, which had no Store.
+// ReadSettings reads what SettingsText has written, also in version 0.3, which wrote no Store.
 func (b *Broker) ReadSettings(text []byte) error {
 	var kept keptSettings
 	err := json.Unmarshal(text, &kept)
@@ -414,7 +414,7 @@ func checkEnd(text string) error {
 	return nil
 }
 
-// isHere returns whether a host is this machine.
+// isHere reports whether a host is this machine.
 func isHere(host string) bool {
 	ip := net.ParseIP(host)
 	return ip != nil && ip.IsLoopback() || strings.EqualFold(host, "localhost")

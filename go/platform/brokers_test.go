@@ -380,7 +380,7 @@ func TestCatalogueBesideSetBroker(t *testing.T) {
 	}
 }
 
-// A catalogue is compared with that of the store, and not with the one that the broker had when the worker read it: it
+// A catalogue is compared with that of the store, and not with that of the broker as the worker read it: it
 // isn't written twice, and one that is offered again after another one is written again.
 func TestCatalogueThatIsOfferedAgain(t *testing.T) {
 	p := newPlant(t, Options{})

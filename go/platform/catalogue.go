@@ -14,7 +14,7 @@ import (
 // A Catalogue is what the platform takes from the catalogue of a broker (section Catalog Management of the standard).
 type Catalogue struct {
 	Services []CatalogueService
-	// HasTombstones is whether the broker never creates again what has ended: x-osb-tombstones is true.
+	// HasTombstones says that the broker never creates again what has ended: x-osb-tombstones is true.
 	HasTombstones bool
 	// Store is the store that it names (StoreOf), or empty.
 	Store string
@@ -24,9 +24,9 @@ type Catalogue struct {
 type CatalogueService struct {
 	ID, Name, Description string
 	Number                osb.ID
-	// IsRetrievable is whether a binding can be fetched, so that it may be created asynchronously.
+	// IsRetrievable says that a binding can be fetched, so that it may be created asynchronously.
 	IsRetrievable bool
-	// InstancesRetrievable is whether an instance can be fetched.
+	// InstancesRetrievable says that an instance can be fetched.
 	InstancesRetrievable bool
 	Plans                []CataloguePlan
 }

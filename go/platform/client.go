@@ -76,7 +76,7 @@ type Observer interface {
 	// OnFailure is called if something went wrong that an operator has to know.
 	OnFailure(Failure)
 	// OnOrphan is called after an answer to the last deletion of a row that is gone (docs/platform-guide.md). isFound
-	// is whether the broker had what was recorded as gone. If not, nobody knows whether the broker has it.
+	// says that the broker held what was recorded as gone. If not, nobody knows whether the broker holds it.
 	OnOrphan(key Key, status int, isFound bool)
 	// OnCatalogue is called once a broker has answered its catalogue, so that its orders go on.
 	OnCatalogue(broker string)

@@ -13,11 +13,11 @@ import (
 // when it is opened. Each row that is there has NULL then, which leaves the member its zero value.
 type Column struct {
 	Name string
-	// NotNull is whether an empty text is written as it is, and not as NULL.
+	// NotNull says that an empty text is written as it is, and not as NULL.
 	NotNull bool
-	// IsOfBinding is whether only bindings have the column.
+	// IsOfBinding says that only bindings have the column.
 	IsOfBinding bool
-	// IsLong is whether the member may be long: Store.ReadAll leaves it out.
+	// IsLong says that the member may be long: Store.ReadAll leaves it out.
 	IsLong bool
 	// Member returns a pointer to the member: a *string, *int, *bool, *time.Time, *time.Duration or *[]byte, or a Text.
 	Member func(*Entry) any

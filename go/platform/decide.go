@@ -30,11 +30,11 @@ type sending struct {
 	since   time.Time // since when the row is due
 	terms   terms
 	unsure  error // why nobody knows whether the row was written, or nil: then nothing is sent
-	// isBeside is whether it takes a slot beside the usual ones.
+	// isBeside says that the request takes a slot beside the usual ones.
 	isBeside bool
 }
 
-// isLast is whether it is the last deletion, of which nothing is in the record.
+// isLast reports whether the request is the last deletion, of which nothing is in the record.
 func (s sending) isLast() bool { return s.attempt == 0 }
 
 // A decision is what a worker does with a row that is due.
@@ -53,7 +53,7 @@ func (d decision) change() *Change {
 	return &Change{Entry: d.entry, WakeInstance: d.entry.Key.IsBinding && isNew && d.entry.State == Withdrawn}
 }
 
-// needsAllGone is whether the decision hangs on the bindings of an instance.
+// needsAllGone reports whether the decision hangs on the bindings of an instance.
 func needsAllGone(e Entry, t terms) bool { return !e.Key.IsBinding && e.IsSent && e.isToBeRemoved(t) }
 
 // decide decides on a row that is due and that nobody has leased. allGone counts if needsAllGone. The decision is made
@@ -137,7 +137,7 @@ func createRecord(e Entry, instance *Entry, t terms) (osb.Record, osb.Sent, erro
 	return record, sent, nil
 }
 
-// mayBeReady is whether the instance of a binding is recorded ready, or may be so later.
+// mayBeReady reports whether the instance of a binding is recorded ready, or may be so later.
 func mayBeReady(instance *Entry) bool {
 	if instance == nil || instance.Removal != NotRemoved {
 		return false
@@ -191,8 +191,8 @@ func decideRecord(now time.Time, e Entry, allGone bool, t terms) decision {
 	return leaseFor(now, e, read.State, sent, t)
 }
 
-// bringUp has in the record what a crash has left, what an operator asks for, and what time brings. isBound is whether
-// a removal waits for bindings.
+// bringUp changes the record by what a crash has left, what an operator asks for, and the time that has passed. isBound
+// says that a removal waits for bindings.
 func (e *Entry) bringUp(now time.Time, allGone bool, t terms) (isBound bool, err error) {
 	if e.Record.InFlight() != osb.KindNone {
 		if err := e.giveUp(now); err != nil {
@@ -217,7 +217,7 @@ func (e *Entry) bringUp(now time.Time, allGone bool, t terms) (isBound bool, err
 	return isBound, nil
 }
 
-// isToBeRemoved is whether a removal is to begin.
+// isToBeRemoved reports whether a removal is to begin.
 func (e *Entry) isToBeRemoved(t terms) bool {
 	switch e.State {
 	case Polling, Ready:
@@ -262,7 +262,7 @@ func (e *Entry) expire(now time.Time, t terms) error {
 	return nil
 }
 
-// enter changes the row to the state of a record. What goes with the state that was left is forgotten.
+// enter has the row enter the state of a record. What belongs to the state before is forgotten.
 func (e *Entry) enter(now time.Time, record osb.Record) {
 	e.Record = record
 	state := StateOf(record)
@@ -291,7 +291,8 @@ func (e *Entry) heldUntil(t terms) time.Time {
 // lastDue is when the last deletion of a row that is gone is due: once the hold has passed again.
 func (e *Entry) lastDue(t terms) time.Time { return later(e.Since, e.SentUntil).Add(t.hold) }
 
-// hasProgressed is whether a row has made progress. A deletion may begin and fail again and again: neither is progress.
+// hasProgressed reports whether a row has made progress. A deletion may begin and fail again and again: neither is
+// progress.
 func hasProgressed(before, after State) bool {
 	return before != after && !(isDeleting(before) && isDeleting(after))
 }

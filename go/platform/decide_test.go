@@ -104,7 +104,7 @@ func answerRecord(record osb.Record, status uint16) osb.Record {
 	return record
 }
 
-// inFlight is a row whose worker has ended after it had sent what was due.
+// inFlight is a row whose worker has ended after it sent what was due.
 func inFlight(e Entry) Entry {
 	if e.State != Wanted {
 		record, _, err := e.Record.Send(e.Key.ID())
@@ -302,7 +302,7 @@ func TestGivenUpReason(t *testing.T) {
 	}
 }
 
-// Polling that took too long is why the creation has failed. It doesn't pass: the broker had all its time.
+// Polling that took too long is why the creation has failed. It doesn't pass: the broker used all its time.
 func TestExpiredReason(t *testing.T) {
 	got := decide(at(3600), Snapshot{Entry: rowIn(anInstance, Polling)}, true, plain()).entry
 	if got.Passing || got.Failure.Kind != "poll" || got.Failure.Lost == "" || !got.Failure.At.Equal(at(3600)) {

@@ -238,7 +238,7 @@ func (r *run) pump() time.Duration {
 		return r.Look
 	}
 	for _, name := range names {
-		if !r.asked[name] { // it had no slot left, and may have something due
+		if !r.asked[name] { // it took no slot then, and may have something due
 			r.look = time.Time{}
 		}
 	}
@@ -290,7 +290,7 @@ func (r *run) begin(names []string, most int) {
 		r.resting, r.look = time.Now().Add(r.rest.next()), time.Time{}
 	case claim.claimed == most: // more may be due
 		r.known = time.Now()
-	case claim.claimed == 0: // another transaction had locked what is due
+	case claim.claimed == 0: // another transaction has locked what is due
 		r.look = time.Now().Add(shortRest)
 	default:
 		r.look = time.Time{}
@@ -333,7 +333,7 @@ type once struct {
 	reasons  map[string]string
 }
 
-// hasFailed is whether there is an error. It reports the error if it is another one than before.
+// hasFailed reports whether there is an error. It reports the error if it is another one than before.
 func (o *once) hasFailed(event, broker string, err error) bool {
 	if errors.Is(err, context.Canceled) {
 		return true
@@ -461,7 +461,7 @@ func (r *run) spareSlots() *spareSlots {
 	return found
 }
 
-// hasFor is whether there is a slot for one more request to a broker, after these decisions.
+// hasFor reports whether there is a slot for one more request to a broker, after these decisions.
 func (s *spareSlots) hasFor(broker string, decided map[Key]decision) bool {
 	all, left := s.all, s.to[broker]
 	for _, decision := range decided {
@@ -475,7 +475,8 @@ func (s *spareSlots) hasFor(broker string, decided map[Key]decision) bool {
 	return all > 0 && left > 0
 }
 
-// isPutOff is whether the broker hasn't taken up the last request of a row. A request that its worker has left is none.
+// isPutOff reports whether the broker hasn't taken up the last request of a row. A request that its worker has left is
+// none.
 func (e Entry) isPutOff() bool { return !e.DueSince.IsZero() && e.Lease.Worker == "" }
 
 // useFor has the request that was decided on a row take a slot beside the usual ones, if the row was put off. If there

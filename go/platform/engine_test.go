@@ -29,7 +29,7 @@ type line struct {
 	reached   int
 	sent      []Exchange
 	answered  []Exchange
-	told      []string // each change of a state, and each orphan
+	reported  []string // each change of a state, and each orphan
 }
 
 func newLine() *line {
@@ -66,11 +66,11 @@ func (l *line) OnRequest(it Exchange) { l.set(func() { l.sent = append(l.sent, i
 func (l *line) OnAnswer(it Exchange) { l.set(func() { l.answered = append(l.answered, it) }) }
 
 func (l *line) OnChange(_ Key, before, after State) {
-	l.set(func() { l.told = append(l.told, fmt.Sprintf("%s to %s", before, after)) })
+	l.set(func() { l.reported = append(l.reported, fmt.Sprintf("%s to %s", before, after)) })
 }
 
 func (l *line) OnOrphan(_ Key, status int, isFound bool) {
-	l.set(func() { l.told = append(l.told, fmt.Sprintf("orphan %d %v", status, isFound)) })
+	l.set(func() { l.reported = append(l.reported, fmt.Sprintf("orphan %d %v", status, isFound)) })
 }
 
 func (l *line) OnFailure(it Failure) { l.set(func() { l.failures = append(l.failures, it) }) }

@@ -51,7 +51,7 @@ func (e *Engine) exchange(ctx context.Context, registry *registry, s *sending, a
 	return nextDue{in: entry.Due.Sub(now), isDue: !entry.Due.IsZero()}
 }
 
-// isRefusal is whether a broker refuses the user or the password.
+// isRefusal reports whether a broker refuses the user or the password.
 func isRefusal(status int) bool {
 	return status == http.StatusUnauthorized || status == http.StatusForbidden
 }
@@ -182,7 +182,7 @@ func (e *Engine) waits(ctx context.Context, rest time.Duration, until time.Time)
 	return e.client.Clock().Add(rest).Before(until) && sleep(ctx, rest)
 }
 
-// hasTaken is whether a row shows that an answer was written. Whatever else has changed in the row since, the last
+// hasTaken reports whether a row shows that an answer was written. Whatever else has changed in the row since, the last
 // reason stays until the next answer. Times count to the millisecond, as databases keep them.
 func (e Entry) hasTaken(written Entry) bool {
 	got, want := e.Last, written.Last

@@ -93,7 +93,7 @@ func TestNothingIsSentBeforeItsClaim(t *testing.T) {
 }
 
 // Events are reported in their order. A state that passes within a step isn't.
-func TestTold(t *testing.T) {
+func TestObserver(t *testing.T) {
 	p := newPlant(t, Options{})
 	check(t, p.engine.RunOnce(background))
 	key := p.create(NewInstance{})
@@ -101,7 +101,7 @@ func TestTold(t *testing.T) {
 	_, err := p.orders.Remove(background, key, false)
 	check(t, err)
 	check(t, p.engine.RunOnce(background))
-	diff.Equal(t, strings.Join(p.told, ", "), "ordered to ready, ready to gone", "")
+	diff.Equal(t, strings.Join(p.reported, ", "), "ordered to ready, ready to gone", "")
 	if len(p.sent) != 2 || len(p.answered) != 2 {
 		t.Fatalf("got %d requests sent, and %d answered, want 2 and 2", len(p.sent), len(p.answered))
 	}
@@ -144,13 +144,13 @@ func TestLastDeletion(t *testing.T) {
 	p.until("the end", func() bool {
 		e, err := p.store.Read(background, key)
 		check(t, err)
-		var told int
-		p.set(func() { told = len(p.told) })
-		return e.State == Gone && e.Rests() && told == 5
+		var reported int
+		p.set(func() { reported = len(p.reported) })
+		return e.State == Gone && e.Rests() && reported == 5
 	})
 	want := "ordered to cleaning, cleaning to gone, orphan 202 true, orphan 404 false, orphan 200 true"
 	p.set(func() {
-		if got := strings.Join(p.told, ", "); got != want || deletions.Load() != 4 {
+		if got := strings.Join(p.reported, ", "); got != want || deletions.Load() != 4 {
 			t.Errorf("got %s, by %d deletions, want %s, by 4", got, deletions.Load(), want)
 		}
 	})
@@ -200,7 +200,7 @@ func TestWithoutVault(t *testing.T) {
 }
 
 // What is reported and kept of an error isn't long, as that of a certificate with many names. What it wraps is found.
-func TestToldBriefly(t *testing.T) {
+func TestObserverBriefly(t *testing.T) {
 	p := newPlant(t, Options{})
 	check(t, p.engine.RunOnce(background))
 	cut := errors.New("cut")

@@ -227,7 +227,7 @@ func (s *seller) is(key Key) string {
 	return fmt.Sprintf("%s, pending %v, exists %q", phase, isPending, s.things[key])
 }
 
-// isThere is whether all of a key exists and nothing is pending, and isNone whether nothing exists or is held.
+// isThere reports whether all of a key exists and nothing is pending, and isNone whether nothing exists or is held.
 func (s *seller) isThere(key Key) bool {
 	return strings.HasPrefix(s.is(key), "ready, pending false, exists \"token")
 }
@@ -475,7 +475,7 @@ func (m *memory) Insert(_ context.Context, entry Entry, check func(Snapshot) err
 	return t.commit()
 }
 
-// isDue is whether a row is one to claim.
+// isDue reports whether a row is one to claim.
 func isDue(e Entry, now time.Time, names []string) bool {
 	isNamed := false
 	for _, name := range names {

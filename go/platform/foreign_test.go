@@ -398,7 +398,7 @@ func TestForeignBounds(t *testing.T) {
 			s.order(platform.NewInstance{})
 			it.script = append(it.script, operator(s.checkRow))
 			s.play(it.script)
-			s.checkTold(t)
+			s.checkReported(t)
 		})
 	}
 }
@@ -425,8 +425,8 @@ func (s *scene) checkRow(t *testing.T, _ *scene) {
 	}
 }
 
-// checkTold checks that what was reported for a log is short.
-func (s *scene) checkTold(t *testing.T) {
+// checkReported checks that what was reported for a log is short.
+func (s *scene) checkReported(t *testing.T) {
 	t.Helper()
 	s.mu.Lock()
 	defer s.mu.Unlock()

@@ -109,9 +109,9 @@ func leaseFor(now time.Time, e Entry, before State, sent osb.Sent, t terms) deci
 	}}
 }
 
-// hasLeased is whether a row has the lease that was decided on with the request. Otherwise that wasn't written, or the
-// row was leased again: then a request of the same number may be that of another claim, also of this worker and in the
-// same millisecond.
+// hasLeased reports whether a row has the lease that was decided on with the request. Otherwise that wasn't written, or
+// the row was leased again: then a request of the same number may be that of another claim, also of this worker and in
+// the same millisecond.
 func (s sending) hasLeased(e Entry) bool {
 	lease := s.out.Entry.Lease
 	return e.Lease.Worker == lease.Worker && e.Lease.Until.Equal(lease.Until) && e.Lease.Claim == lease.Claim

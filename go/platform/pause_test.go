@@ -142,9 +142,9 @@ func (s *stage) isLeased() bool {
 type pause struct {
 	point  string
 	length time.Duration
-	// isBroken is whether the database ends the transaction that waits.
+	// isBroken says that the database ends the transaction that waits.
 	isBroken bool
-	// isMidway is whether the other worker waits for an answer when the first one goes on.
+	// isMidway says that the other worker waits for an answer when the first one goes on.
 	isMidway bool
 }
 
@@ -337,7 +337,7 @@ type scene struct {
 	needsHold bool
 }
 
-// hasPoint is whether a worker reaches a point.
+// hasPoint reports whether a worker reaches a point.
 func (s scene) hasPoint(point string, hold time.Duration) bool {
 	switch point {
 	case "claim-begin", "claim-read", "claim-decided", "claim-commit", "claimed":

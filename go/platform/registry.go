@@ -91,7 +91,7 @@ func (r *registry) refresh(brokers []Broker) {
 	}
 }
 
-// isAskedAlike is whether two versions of a broker have the same address, login and settings.
+// isAskedAlike reports whether two versions of a broker have the same address, login and settings.
 func isAskedAlike(one, other Broker) bool {
 	for _, broker := range []*Broker{&one, &other} {
 		broker.Catalogue, broker.CatalogueAt, broker.Reason = nil, time.Time{}, Reason{}
@@ -156,8 +156,8 @@ func eventOf(err error) string {
 	return "broker_unreached"
 }
 
-// refusesPlatform is whether no waiting mends what a broker has answered: that it refuses the user, the password, or
-// the version of the API.
+// refusesPlatform reports whether no waiting mends what a broker has answered: that it refuses the user, the password,
+// or the version of the API.
 func refusesPlatform(status int) bool {
 	return isRefusal(status) || status == http.StatusPreconditionFailed
 }
@@ -262,7 +262,7 @@ func timeOf(ctx context.Context, store Store) (time.Time, error) {
 	return now, err
 }
 
-// isSameJSON is whether two texts are the same JSON, in whatever form a database returns it.
+// isSameJSON reports whether two texts are the same JSON, in whatever form a database returns it.
 func isSameJSON(one, other json.RawMessage) bool {
 	if bytes.Equal(one, other) {
 		return true

@@ -15,7 +15,7 @@ type Snapshot struct {
 	Entry
 	// Instance is the row of a binding's instance, locked too. For an instance it is nil.
 	Instance *Entry
-	// AllGone returns whether no binding of an instance may exist: each that was sent is recorded gone, or is
+	// AllGone reports whether no binding of an instance may exist: each that was sent is recorded gone, or is
 	// abandoned. Nobody goes on with what is abandoned. If it exists, the broker keeps the instance. AllGone may be
 	// called until the transaction ends. For a binding it is nil.
 	AllGone func() (bool, error)
@@ -130,7 +130,7 @@ type Store interface {
 	// is closed if the right is lost before.
 	Only(ctx context.Context, worker string) (end func(), lost <-chan struct{}, err error)
 
-	// HasWorkers returns whether a process has the right to be a worker, of any name.
+	// HasWorkers reports whether a process has the right to be a worker, of any name.
 	HasWorkers(ctx context.Context) (bool, error)
 
 	// Read returns the row of a key, also one that can't be read (Entry.Unreadable). Errors: ErrUnknown.
@@ -301,7 +301,7 @@ type Entry struct {
 	PolledSince time.Time // when the polling that goes on, or the latest, began; zero before
 
 	Removal Removal
-	// HasLast is whether one deletion more is to be sent though the record is gone: at a broker without tombstones.
+	// HasLast says that one deletion more is to be sent though the record is gone: at a broker without tombstones.
 	HasLast bool
 
 	Due time.Time // when the next step is due; zero if the row rests
@@ -366,7 +366,7 @@ var (
 	}
 )
 
-// Rests is whether nothing is to be done for a row until somebody asks.
+// Rests reports whether nothing is to be done for a row until somebody asks.
 func (e Entry) Rests() bool { return e.Due.IsZero() }
 
 // A Stay is a state that a row was in, and since when.
@@ -477,7 +477,7 @@ func walkOver(ctx context.Context, store Store, filter Filter, positions []Posit
 	return call(kept)
 }
 
-// hasState is whether a filter chooses rows in a state.
+// hasState reports whether a filter chooses rows in a state.
 func (f Filter) hasState(state State) bool {
 	for _, wanted := range f.States {
 		if wanted == state {

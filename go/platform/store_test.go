@@ -398,7 +398,7 @@ func TestChain(t *testing.T) {
 	}
 }
 
-// The stays before the one of a row that was read are those that had ended by then, also if further ones have ended
+// The stays before the one of a row that was read are those that ended before, also if further ones have ended
 // since.
 func TestBefore(t *testing.T) {
 	at := time.Date(2026, 1, 2, 3, 4, 5, 0, time.UTC)

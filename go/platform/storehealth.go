@@ -25,8 +25,8 @@ func (h *storeHealth) read(err error) bool { return h.note(err, false) }
 // brokerFailed takes in that a change of a broker has failed.
 func (h *storeHealth) brokerFailed(err error) { h.note(err, true) }
 
-// wrote notes how a transaction that was to write rows has ended, and returns whether it failed. hasWritten is whether
-// there was anything to write.
+// wrote notes how a transaction that was to write rows has ended, and returns whether it failed. hasWritten says
+// that there was anything to write.
 func (h *storeHealth) wrote(hasWritten bool, err error) bool {
 	h.mu.Lock()
 	switch {

@@ -77,12 +77,12 @@ func (l *login) addSettings(flags *pflag.FlagSet) {
 	}
 }
 
-// isOfLogin is whether an option was given about how the platform logs in.
+// isOfLogin reports whether an option was given about how the platform logs in.
 func (l *login) isOfLogin() bool {
 	return l.url != "" || l.user != "" || l.passwordFile != "" || l.stores
 }
 
-// isGiven is whether any option was given.
+// isGiven reports whether any option was given.
 func (l *login) isGiven() bool {
 	for _, option := range l.set {
 		if option.changed {
@@ -386,7 +386,7 @@ func showBroker(to io.Writer, b platform.Broker) error {
 	return showPlans(to, catalogue)
 }
 
-// tombstonesOf is whether a catalogue has x-osb-tombstones, or empty if there is no catalogue yet.
+// tombstonesOf reports whether a catalogue has x-osb-tombstones, or empty if there is no catalogue yet.
 func tombstonesOf(b platform.Broker, catalogue *platform.Catalogue) string {
 	switch {
 	case b.Catalogue == nil:

@@ -153,7 +153,7 @@ func TestAddOverTLS(t *testing.T) {
 // After a change of how the platform logs in, the catalogue is asked for: a wrong password is noticed at once, and with
 // the right one instances can be ordered before a worker runs.
 func TestSetAsksForCatalogue(t *testing.T) {
-	s, store, folder := newSite(t), newPath(t), t.TempDir()
+	s, store, folder := newTestBroker(t), newPath(t), t.TempDir()
 	wrong, right := filepath.Join(folder, "wrong"), filepath.Join(folder, "right")
 	write(t, wrong, "hunter2\n")
 	write(t, right, "secret\n")
@@ -221,7 +221,7 @@ func TestReplacedPassword(t *testing.T) {
 		},
 	} {
 		t.Run(name, func(t *testing.T) {
-			s, store, key := newSite(t), newPath(t), newKey(t)
+			s, store, key := newTestBroker(t), newPath(t), newKey(t)
 			file := passwordFile(t)
 			wantLines(t, store, []line{
 				{"broker add local " + s.url + " --first-pace 0.01 --hold 0 --password-file " + file, 0, ``, ``},
@@ -253,8 +253,8 @@ func TestReplacedPassword(t *testing.T) {
 	}
 }
 
-// settledRefusals is how many requests had a wrong password, once there is none any more for a while.
-func settledRefusals(t *testing.T, s *site) int {
+// settledRefusals returns how many requests came with a wrong password, once there is none any more for a while.
+func settledRefusals(t *testing.T, s *testBroker) int {
 	t.Helper()
 	for late := time.Now().Add(deadline); time.Now().Before(late); {
 		before := s.refusals()
@@ -281,7 +281,7 @@ func wantReady(t *testing.T, store, id string) {
 	t.Errorf("%s: got %s, want it ready", id, got)
 }
 
-// A front is before a site. It names a store in each answer, and may stand for another broker.
+// A front is before a testBroker. It names a store in each answer, and may stand for another broker.
 type front struct {
 	url      string
 	store    atomic.Value // of string: the store that answers name
@@ -289,7 +289,7 @@ type front struct {
 	deletion atomic.Int64 // how many deletions arrived
 }
 
-func newFront(t *testing.T, s *site) *front {
+func newFront(t *testing.T, s *testBroker) *front {
 	t.Helper()
 	f := &front{}
 	f.store.Store("one")
@@ -331,10 +331,10 @@ func (f *front) name(answer *http.Response) error {
 	return nil
 }
 
-// A broker is replaced by one over another store, which answers that each instance is gone. The platform believes none of
-// that, sends nothing more, and says what to do. Once the operator accepts the other store, it goes on.
+// A broker is replaced by one over another store, which answers that each instance is gone. The platform believes none
+// of that, sends nothing more, and says what to do. Once the operator accepts the other store, it goes on.
 func TestBrokerOfAnotherStore(t *testing.T) {
-	s, store := newSite(t), newPath(t)
+	s, store := newTestBroker(t), newPath(t)
 	f := newFront(t, s)
 	file := passwordFile(t)
 	wantLines(t, store, []line{

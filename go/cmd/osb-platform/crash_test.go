@@ -45,7 +45,7 @@ func TestKilledWorker(t *testing.T) {
 			continue
 		}
 		t.Run(point, func(t *testing.T) {
-			s, store := newSite(t), newPath(t)
+			s, store := newTestBroker(t), newPath(t)
 			t.Setenv(passwordVariable, "secret")
 			run := []string{"run", "--store", store, "--broker", s.url, "--worker", "one", "--first-pace", "0.01"}
 			wantLines(t, store, []line{
@@ -99,9 +99,9 @@ func TestJournalAtCrashPoints(t *testing.T) {
 // A rekey that is killed in the middle: no command begins with one of the keys, all go on with both, and a further
 // rekey ends it.
 func TestKilledRekey(t *testing.T) {
-	s := newSite(t)
+	s := newTestBroker(t)
 	for _, point := range []string{"order-next", "order-written"} {
-		store, key := bound(t, s, 3)
+		store, key := storeWithBindings(t, s, 3)
 		other := newKey(t)
 		arguments := []string{"--store", store, "rekey", "--key-file", key, "--new-key-file", other}
 		wantKilled(t, point, osbPlatform([]string{"OSB_CRASH_AT=" + point}, arguments...))

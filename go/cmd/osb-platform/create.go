@@ -21,7 +21,7 @@ const mostTries = 100
 
 // createCommand writes down an instance.
 func createCommand(a *app) *cobra.Command {
-	wanted, wait := platform.NewInstance{}, &waiting{}
+	wanted, wait := platform.NewInstance{}, &waitFlag{}
 	made := &cobra.Command{
 		Use:   "create",
 		Short: "Create an instance, and print its id",
@@ -77,7 +77,7 @@ func addObjects(c *cobra.Command, flags *pflag.FlagSet, parameters, around *json
 
 // bindCommand writes down a binding.
 func bindCommand(a *app) *cobra.Command {
-	wanted, wait := platform.NewBinding{}, &waiting{}
+	wanted, wait := platform.NewBinding{}, &waitFlag{}
 	made := &cobra.Command{
 		Use:   "bind INSTANCE",
 		Short: "Create a binding of an instance that is ready, and print its id",
@@ -167,24 +167,24 @@ func ofEarlierTry(ctx context.Context, store platform.Store, entry platform.Entr
 	return &platform.Fault{Kind: fault.Kind, Text: fault.Text + ". It was tried again as " + printable(idOf(last))}
 }
 
-// A waiting is the value of the flag --wait[=SECONDS].
-type waiting struct {
+// A waitFlag is the value of the flag --wait[=SECONDS].
+type waitFlag struct {
 	isOn  bool
 	limit time.Duration // 0 for none
 }
 
 const withoutLimit = "forever"
 
-func (w *waiting) String() string {
+func (w *waitFlag) String() string {
 	if !w.isOn {
 		return ""
 	}
 	return w.limit.String()
 }
 
-func (w *waiting) Type() string { return "seconds" }
+func (w *waitFlag) Type() string { return "seconds" }
 
-func (w *waiting) Set(text string) error {
+func (w *waitFlag) Set(text string) error {
 	if text == withoutLimit {
 		w.isOn, w.limit = true, 0
 		return nil
@@ -197,17 +197,17 @@ func (w *waiting) Set(text string) error {
 	return nil
 }
 
-func (w *waiting) add(flags *pflag.FlagSet, end, prints string) {
+func (w *waitFlag) add(flags *pflag.FlagSet, end, prints string) {
 	flags.Var(w, "wait", "wait until it is "+end+", for so many seconds at most. "+prints+". The exit status is 0 "+
 		"then, 3 if it has ended otherwise, and 4 if it goes on. It goes on after SIGINT, too")
 	flags.Lookup("wait").NoOptDefVal = withoutLimit
 }
 
-// reportOrder prints the id of an order, on a terminal with escapes if it needs them. With --wait, that id is printed on
-// standard error at once. At the end, standard output has the id of the last try.
+// reportOrder prints the id of an order, on a terminal with escapes if it needs them. With --wait, that id is printed
+// on standard error at once. At the end, standard output has the id of the last try.
 //
 // Errors: those of wait.
-func (w *waiting) reportOrder(ctx context.Context, c *cobra.Command, s session, entry platform.Entry) error {
+func (w *waitFlag) reportOrder(ctx context.Context, c *cobra.Command, s session, entry platform.Entry) error {
 	var err error
 	if w.isOn {
 		fmt.Fprintf(c.ErrOrStderr(), "ordered %s\n", printable(idOf(entry)))
@@ -225,7 +225,7 @@ const (
 	longestLook = time.Second
 )
 
-// An end is whether a row has ended, and whether as it was asked for.
+// An end says whether a row has ended, and whether as it was asked for.
 type end func(platform.Entry) (hasEnded, isGood bool)
 
 // creationEnd is the end of a creation.
@@ -253,7 +253,7 @@ func deletionEnd(e platform.Entry) (hasEnded, isGood bool) {
 }
 
 // interruptible is a context that SIGINT and SIGTERM end, if something is to be waited for.
-func (w *waiting) interruptible(ctx context.Context) (interrupted context.Context, forget func()) {
+func (w *waitFlag) interruptible(ctx context.Context) (interrupted context.Context, forget func()) {
 	if !w.isOn {
 		return ctx, func() {}
 	}
@@ -264,7 +264,7 @@ func (w *waiting) interruptible(ctx context.Context) (interrupted context.Contex
 // an order that has failed, and reports that on standard error.
 //
 // Errors: an endError, also if ctx ends; those of the store.
-func (w *waiting) wait(
+func (w *waitFlag) wait(
 	ctx context.Context, c *cobra.Command, s session, entry platform.Entry, isChain bool, is end,
 ) (platform.Entry, error) {
 	shown := newProgress(c.ErrOrStderr())

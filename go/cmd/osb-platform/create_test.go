@@ -182,7 +182,7 @@ func TestHostileTexts(t *testing.T) {
 
 // A binding is created again under another id after a passing reason, but not without --tries if it names its id.
 func TestTriesOfBinding(t *testing.T) {
-	key, s, store := newKey(t), newSite(t), newPath(t)
+	key, s, store := newKey(t), newTestBroker(t), newPath(t)
 	p := startAt(t, s, store, "--first-pace", "0.01",
 		"--longest-pace", "0.02", "--hold", "0", "--key-file", key)
 	wantLines(t, store, []line{{"create --plan at-once --id db --wait=60", 0, `db`, `ordered db`}})
@@ -225,7 +225,7 @@ func TestTriesOfBinding(t *testing.T) {
 // Of a further try of a binding that isn't due yet, list --reasons and show say until when it waits. If its instance is
 // removed meanwhile, it is withdrawn at once.
 func TestFurtherBindingThatWaits(t *testing.T) {
-	key, s, store := newKey(t), newSite(t), newPath(t)
+	key, s, store := newKey(t), newTestBroker(t), newPath(t)
 	p := startAt(t, s, store, "--first-pace", "0.01",
 		"--longest-pace", "0.02", "--hold", "0", "--key-file", key)
 	wantLines(t, store, []line{
@@ -390,7 +390,7 @@ func (l requestLog) OnExchange(it broker.Exchange) {
 // The platform's log and the broker's have each request under the same identity.
 func TestIdentityInBothLogs(t *testing.T) {
 	var ofBroker lockedBuffer
-	s, store := newSiteFor(t, requestLog{log: logs.New(&ofBroker)}), newPath(t)
+	s, store := newTestBrokerFor(t, requestLog{log: logs.New(&ofBroker)}), newPath(t)
 	password := passwordFile(t)
 	wantLines(t, store, []line{
 		{"broker add local " + s.url + " --password-file " + password + " --hold 0", 0, ``, ``},

@@ -370,7 +370,7 @@ func printJSON(to io.Writer, value any) error {
 	return err
 }
 
-// isTerminal is whether a reader or a writer is a terminal.
+// isTerminal reports whether a reader or a writer is a terminal.
 func isTerminal(it any) bool {
 	file, ok := it.(*os.File)
 	if !ok {

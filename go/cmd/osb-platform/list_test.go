@@ -296,7 +296,7 @@ func TestReasonOfBroker(t *testing.T) {
 
 // The first 401 of a broker is in the list, in `--wait` and in the list of brokers.
 func TestRejectedPassword(t *testing.T) {
-	s, store := newSite(t), newStore(t)
+	s, store := newTestBroker(t), newStore(t)
 	wantLines(t, store, []line{{"broker drop shop", 0, ``, ``}})
 	p := startAt(t, s, store, "--first-pace", "0.01", "--hold", "0")
 	s.setPassword("another")
@@ -319,7 +319,7 @@ func TestRejectedPassword(t *testing.T) {
 	p.Event("broker_reached")
 	wantLines(t, store, []line{
 		{"remove one --wait=60", 0, ``, `one is gone`},
-		{"show one", 0, ".*\nfailure\t.* provision 401: .*", ``}, // it had one try
+		{"show one", 0, ".*\nfailure\t.* provision 401: .*", ``}, // the order has one try
 		{"create --plan at-once --id three --wait=60", 0, `three`, `ordered three`},
 		{"list --reasons --state ready", 0, "(t[^\t]*\tready\t[^\n]*\tprovision 201\n?){2}", ``},
 	})
@@ -359,7 +359,7 @@ func TestUnreadableRow(t *testing.T) {
 		command.SetErr(io.Discard)
 		ctx, cancel := context.WithTimeout(ctx, time.Minute)
 		defer cancel()
-		_, err = (&waiting{}).wait(ctx, command, session{store: in}, of, false, goesOn)
+		_, err = (&waitFlag{}).wait(ctx, command, session{store: in}, of, false, goesOn)
 		diff.Error(t, err, "the wait")
 		diff.Contains(t, err.Error(), "two: its record can't be read: ", "the wait")
 		return nil

@@ -89,7 +89,7 @@ func wantLines(t *testing.T, store string, lines []line) {
 
 var check = diff.Must
 
-// isAll is whether a text is what a regular expression says, but for the line feed at its end.
+// isAll reports whether a text is what a regular expression says, but for the line feed at its end.
 func isAll(expression, text string) bool {
 	return regexp.MustCompile(`(?s)^(` + expression + `)$`).MatchString(strings.TrimSuffix(text, "\n"))
 }
@@ -99,14 +99,15 @@ const catalogue = `{"services": [{"id": "s-1", "name": "database", "description"
 	{"id": "p-1", "name": "small", "description": "d"},
 	{"id": "p-2", "name": "large", "description": "d", "bindable": false}]}]}`
 
-// newPath is the path of a store that doesn't exist yet. The state folder of the user is another one than that of others.
+// newPath is the path of a store that doesn't exist yet. The state folder of the user is another one than that of
+// others.
 func newPath(t *testing.T) string {
 	t.Helper()
 	t.Setenv("XDG_STATE_HOME", t.TempDir())
 	return filepath.Join(t.TempDir(), "store")
 }
 
-// passwordFile is a file with the password of a site.
+// passwordFile is a file with the password of a testBroker.
 func passwordFile(t *testing.T) string {
 	t.Helper()
 	file := filepath.Join(t.TempDir(), "password")
@@ -257,7 +258,7 @@ func TestValues(t *testing.T) {
 		diff.Error(t, err, "%q, %v", text, got)
 	}
 	for _, text := range []string{"0", "-1", "soon"} {
-		diff.Error(t, new(waiting).Set(text), "--wait=%s", text)
+		diff.Error(t, new(waitFlag).Set(text), "--wait=%s", text)
 	}
 }
 
@@ -356,7 +357,7 @@ func checkWait(t *testing.T, store, next, until string) {
 		var failed bytes.Buffer
 		command := &cobra.Command{}
 		command.SetErr(&failed)
-		w := &waiting{isOn: true, limit: time.Millisecond}
+		w := &waitFlag{isOn: true, limit: time.Millisecond}
 		s := session{store: in, orders: platform.NewOrders(in, nil)}
 		_, err = w.wait(ctx, command, s, first, true, creationEnd)
 		if err == nil || !isAll(next+" is still ordered: waits "+until, err.Error()) {
@@ -437,7 +438,7 @@ func TestParametersBeyondTheBounds(t *testing.T) {
 
 // A broker may answer a Bind without credentials. The binding is ready, and 'credentials' prints the answer.
 func TestBindingWithoutCredentials(t *testing.T) {
-	s := newSite(t)
+	s := newTestBroker(t)
 	store, key := newUnsettled(t, s), newKey(t)
 	wantLines(t, store, []line{
 		{"create --plan at-once --id one", 0, `one`, ``},
@@ -454,7 +455,7 @@ func TestBindingWithoutCredentials(t *testing.T) {
 
 // After the catalogue has dropped the plan, 'bind' says that.
 func TestBindAfterThePlanWasDropped(t *testing.T) {
-	s := newSite(t)
+	s := newTestBroker(t)
 	store, key := newUnsettled(t, s), newKey(t)
 	wantLines(t, store, []line{
 		{"create --plan at-once --id one", 0, `one`, ``},

@@ -259,7 +259,7 @@ func (s *siteSettings) check() error {
 	return nil
 }
 
-// isTLS is whether the API is HTTPS.
+// isTLS reports whether the API is HTTPS.
 func (s *siteSettings) isTLS() bool { return s.apiTLS != (httpserver.CertificateFiles{}) }
 
 // defaultBroker is the name of the broker of `run --broker`, and of that of a store of version 0.2.

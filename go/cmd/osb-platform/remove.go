@@ -17,7 +17,7 @@ import (
 
 // removeCommand has an instance deleted.
 func removeCommand(a *app) *cobra.Command {
-	withBindings, wait := false, &waiting{}
+	withBindings, wait := false, &waitFlag{}
 	made := &cobra.Command{
 		Use:   "remove ID",
 		Short: "Delete an instance",
@@ -45,7 +45,7 @@ const printsEnd = "Standard error gets the state at the end"
 
 // unbindCommand has a binding deleted.
 func unbindCommand(a *app) *cobra.Command {
-	wait := &waiting{}
+	wait := &waitFlag{}
 	made := &cobra.Command{
 		Use:   "unbind INSTANCE/BINDING",
 		Short: "Delete a binding",
@@ -72,7 +72,7 @@ If the creation was tried again under other ids, the last try is removed. Standa
 	return made
 }
 
-func remove(ctx context.Context, c *cobra.Command, s session, id string, withBindings bool, wait *waiting) error {
+func remove(ctx context.Context, c *cobra.Command, s session, id string, withBindings bool, wait *waitFlag) error {
 	named, err := readEntry(ctx, s.store, id)
 	if err != nil {
 		return err
@@ -246,7 +246,7 @@ func saidByFetch(fetched *client.Answer) finding {
 	return saysNothing
 }
 
-// areContrary is whether the last operation and the Fetch can't both be right.
+// areContrary reports whether the last operation and the Fetch can't both be right.
 func areContrary(last, fetch finding) bool {
 	return last == saysHeld && fetch == saysNone || last == saysNone && fetch == saysHeld
 }
@@ -300,8 +300,8 @@ func advise(last, fetch finding, known circumstances) advice {
 	return askAboutGone
 }
 
-// adviseDeletion chooses the advice about what is to be deleted. At a broker without tombstones, the last operation may be
-// the creation or the deletion, so only a Fetch shows what exists.
+// adviseDeletion chooses the advice about what is to be deleted. At a broker without tombstones, the last operation may
+// be the creation or the deletion, so only a Fetch shows what exists.
 func adviseDeletion(last client.Answer, fetch finding, hasTombstones bool) advice {
 	says := saidByLast(last, hasTombstones)
 	if says == saysHeld && !hasTombstones {
@@ -332,17 +332,17 @@ type circumstances struct {
 	isOthers      bool // this order hasn't created what the broker holds
 }
 
-// isOthers is whether the creation was rejected because of what the broker held. A broker with tombstones answers a
-// repeated creation as it answered the first one, so a 409 is about something else. Another broker may answer 409 to its
-// own creation.
+// isOthers reports whether the creation was rejected because of what the broker held. A broker with tombstones answers
+// a repeated creation as it answered the first one, so a 409 is about something else. Another broker may answer 409 to
+// its own creation.
 func (q question) isOthers() bool {
 	failure := q.entry.Failure
 	return q.hasTombstones() && failure.Status == http.StatusConflict &&
 		(failure.Kind == "provision" || failure.Kind == "bind")
 }
 
-// advice is the sentence that leads on for a row that waits for a decision or is to be deleted, or empty. fetched is nil
-// if nothing was fetched.
+// advice is the sentence that leads on for a row that waits for a decision or is to be deleted, or empty. fetched is
+// nil if nothing was fetched.
 func (q question) advice(last client.Answer, fetched *client.Answer) string {
 	known := circumstances{
 		isFetched: fetched != nil, hasTombstones: q.hasTombstones(), isOwnID: q.entry.IsOwnID, isOthers: q.isOthers(),
@@ -529,7 +529,7 @@ func factsOf(name string, told client.Answer) [][2]string {
 	}
 }
 
-// isRetrievable is whether the broker serves the Fetch of the row.
+// isRetrievable reports whether the broker serves the Fetch of the row.
 func (q question) isRetrievable() bool {
 	catalogue, err := platform.ReadCatalogue(q.broker.Catalogue)
 	if err != nil {
@@ -545,7 +545,7 @@ func (q question) isRetrievable() bool {
 	return service.InstancesRetrievable
 }
 
-// hasTombstones is whether the broker's catalogue says that it has tombstones.
+// hasTombstones reports whether the broker's catalogue says that it has tombstones.
 func (q question) hasTombstones() bool {
 	catalogue, err := platform.ReadCatalogue(q.broker.Catalogue)
 	return err == nil && catalogue.HasTombstones

@@ -21,7 +21,7 @@ import (
 
 // Whoever removes an instance by the id that `create` has printed removes the try that is ready.
 func TestRemoveLastTry(t *testing.T) {
-	s, store := newSite(t), newPath(t)
+	s, store := newTestBroker(t), newPath(t)
 	password := passwordFile(t)
 	wantLines(t, store, []line{
 		{"broker add local " + s.url + " --password-file " + password + " --first-pace 0.01", 0, ``, ``},
@@ -96,7 +96,7 @@ func TestRemoveWhileTriedAgain(t *testing.T) {
 
 // Bindings aren't the reason why what is abandoned can't be removed.
 func TestRemoveAbandoned(t *testing.T) {
-	store := newUnsettled(t, newSite(t), "one")
+	store := newUnsettled(t, newTestBroker(t), "one")
 	wantLines(t, store, []line{
 		{"abandon one --because it", 0, ``, ``},
 		{"remove one", 1, ``, `osb-platform: the instance one is abandoned: nothing is sent any more`},
@@ -182,8 +182,8 @@ func TestAdvice(t *testing.T) {
 	}
 }
 
-// What 'ask' advises about what is to be deleted, after each answer about the last operation and each answer to the Fetch,
-// with tombstones and without:
+// What 'ask' advises about what is to be deleted, after each answer about the last operation and each answer to the
+// Fetch, with tombstones and without:
 //
 //	R  it exists: have the cause repaired    P  a part may exist: have that repaired
 //	N  nothing exists: retry                 w  the broker works on it
@@ -248,7 +248,7 @@ func TestAdviceOfOthers(t *testing.T) {
 }
 
 // newUnsettled is a store with the broker local, and with instances of these ids that are unsettled.
-func newUnsettled(t *testing.T, s *site, ids ...string) (store string) {
+func newUnsettled(t *testing.T, s *testBroker, ids ...string) (store string) {
 	t.Helper()
 	store = newPath(t)
 	password := passwordFile(t)
@@ -267,7 +267,7 @@ func newUnsettled(t *testing.T, s *site, ids ...string) (store string) {
 }
 
 // put has the broker create an instance, as another platform would.
-func (s *site) put(t *testing.T, id, plan string) {
+func (s *testBroker) put(t *testing.T, id, plan string) {
 	t.Helper()
 	body := `{"service_id": "00000000-0000-0000-0000-0000000000a0", "plan_id": "` + plan +
 		`", "organization_guid": "o", "space_guid": "s"}`
@@ -296,7 +296,7 @@ func rowsOf(t *testing.T, store string) (rows []platform.Entry) {
 // 'ask' says what the broker answers about what is unsettled, and which command leads on. It sends only GET, and
 // changes no row.
 func TestAsk(t *testing.T) {
-	s := newSite(t)
+	s := newTestBroker(t)
 	store := newUnsettled(t, s, "one", "two", "three")
 	s.put(t, "two", "00000000-0000-0000-0000-0000000000b1")
 	s.put(t, "three", "00000000-0000-0000-0000-0000000000b2")
@@ -330,7 +330,7 @@ func TestAsk(t *testing.T) {
 
 // 'ask' fails if nothing was sent, if no key opens the password, and if there is no answer.
 func TestAskInVain(t *testing.T) {
-	s := newSite(t)
+	s := newTestBroker(t)
 	store := newUnsettled(t, s, "one")
 	s.setPassword("another")
 	wantLines(t, store, []line{
@@ -352,7 +352,7 @@ func TestAskInVain(t *testing.T) {
 
 // What the catalogue calls retrievable is fetched, too. The credentials aren't printed.
 func TestAskRetrievable(t *testing.T) {
-	s := newSite(t)
+	s := newTestBroker(t)
 	store, key := newUnsettled(t, s), newKey(t)
 	wantLines(t, store, []line{
 		{"create --plan at-once --id one", 0, `one`, ``},
@@ -385,7 +385,7 @@ func TestAskRetrievable(t *testing.T) {
 
 // For what is unsettled, 'retry' and 'list' name the command that leads on.
 func TestRetryUnsettled(t *testing.T) {
-	s := newSite(t)
+	s := newTestBroker(t)
 	store := newUnsettled(t, s, "one")
 	wantLines(t, store, []line{
 		{"retry one", 1, ``, `osb-platform: the instance one is unsettled: its creation has failed, and the broker may ` +
@@ -398,7 +398,7 @@ func TestRetryUnsettled(t *testing.T) {
 // A broker may answer 410 about the last operation of an instance that it holds: the Fetch shows it. Then no command is
 // advised that deletes.
 func TestAskContrary(t *testing.T) {
-	s := newSite(t)
+	s := newTestBroker(t)
 	store := newUnsettled(t, s, "one")
 	over(t, store, func(ctx context.Context, in platform.Store) error {
 		return in.ChangeBroker(ctx, "local", func(it platform.Broker) (*platform.Broker, error) {

@@ -29,8 +29,8 @@ const (
 	queueWait = time.Second / 2 // how long a reader of the output may take to read the rest
 )
 
-// A running is a worker that runs, or is about to.
-type running struct {
+// A worker is the program while it runs, or is about to.
+type worker struct {
 	settings *runSettings
 	places   places
 	log      eventLog
@@ -44,7 +44,7 @@ type running struct {
 	names    *orderedIDs
 	journal  platformJournal
 	opened   chan struct{} // is closed once the store is open
-	reload   []reloading   // what SIGHUP does
+	reload   []reloader    // what SIGHUP does
 	// apiTLS are the certificates of the API, or nil for HTTP.
 	apiTLS *httpserver.Certificates
 	// notServed has why the sites are served no more.
@@ -63,7 +63,7 @@ func runWorker(ctx context.Context, s *runSettings, p places, stdout, stderr io.
 	lines, told := logs.NewQueue(stderr), logs.NewQueue(stdout)
 	defer closeQueue(lines)
 	defer closeQueue(told)
-	r := &running{settings: s, places: p, log: eventLog{logger: logs.New(lines), least: s.level}}
+	r := &worker{settings: s, places: p, log: eventLog{logger: logs.New(lines), least: s.level}}
 	r.opened, r.notServed, r.names = make(chan struct{}), make(chan error, 1), newOrderedIDs()
 	r.journal.failed = func(of platform.Failure) { r.observer.OnFailure(of) }
 	r.metrics = newMetrics(lines.DroppedLines, r.journal.lostLines)
@@ -91,7 +91,7 @@ func closeQueue(queue *logs.Queue) {
 // await waits until the worker has ended. After stop it may go on for --stop-seconds. Then it is broken off, and if it
 // doesn't end then, for example because the database hangs, it is left: what it has in flight is given up at the next
 // start, as after a crash.
-func (r *running) await(stop context.Context, endWork context.CancelFunc, done <-chan error) error {
+func (r *worker) await(stop context.Context, endWork context.CancelFunc, done <-chan error) error {
 	select {
 	case err := <-done:
 		return r.end(stop, err, true)
@@ -112,7 +112,7 @@ func (r *running) await(stop context.Context, endWork context.CancelFunc, done <
 }
 
 // warnOfFolder logs a warning if other accounts can write to the folder of the store: they can replace the store.
-func (r *running) warnOfFolder() {
+func (r *worker) warnOfFolder() {
 	if pgsession.IsAddress(r.places.store) {
 		return
 	}
@@ -122,7 +122,7 @@ func (r *running) warnOfFolder() {
 	}
 }
 
-func (r *running) end(stop context.Context, err error, hasEnded bool) error {
+func (r *worker) end(stop context.Context, err error, hasEnded bool) error {
 	if stop.Err() != nil { // it was asked to stop, and nothing else is wrong
 		event := r.log.at(infoLevel, "stopped").Bool("all_work_ended", hasEnded && err == nil)
 		event.Bool("store_closed", hasEnded).Send()
@@ -132,7 +132,7 @@ func (r *running) end(stop context.Context, err error, hasEnded bool) error {
 }
 
 // serve opens everything, and works until stop is done.
-func (r *running) serve(work, stop context.Context) (err error) {
+func (r *worker) serve(work, stop context.Context) (err error) {
 	store, err := openStore(stop, r.places.store, r.settings.sessions())
 	if err != nil {
 		return err
@@ -166,7 +166,7 @@ func (r *running) serve(work, stop context.Context) (err error) {
 }
 
 // logStart logs that it runs, and where it listens.
-func (r *running) logStart() {
+func (r *worker) logStart() {
 	name := "running"
 	if r.settings.servesOnly {
 		name = "serving"
@@ -192,7 +192,7 @@ func (s *runSettings) sessions() int {
 }
 
 // open makes what works and what is served over the store.
-func (r *running) open(ctx context.Context) (err error) {
+func (r *worker) open(ctx context.Context) (err error) {
 	own, err := takePassword()
 	if err != nil {
 		return err
@@ -231,7 +231,7 @@ func (r *running) open(ctx context.Context) (err error) {
 }
 
 // openEngine makes the client and the engine. own is the password of the broker default, or empty.
-func (r *running) openEngine(ctx context.Context, own string) (err error) {
+func (r *worker) openEngine(ctx context.Context, own string) (err error) {
 	s := r.settings
 	if s.url != "" {
 		if err := s.putDefault(ctx, r.store, own != ""); err != nil {
@@ -265,7 +265,7 @@ func (r *running) openEngine(ctx context.Context, own string) (err error) {
 }
 
 // showCounts shows how many rows are in each state, until the function that it returns is called.
-func (r *running) showCounts(work context.Context, to io.Writer) (end func()) {
+func (r *worker) showCounts(work context.Context, to io.Writer) (end func()) {
 	ctx, cancel := context.WithCancel(work)
 	done := make(chan struct{})
 	go func() {
@@ -287,7 +287,7 @@ type right struct {
 
 // work steps what is due until stop is done. If the right to the name of the worker is lost, as after an outage of
 // PostgreSQL, it takes it again.
-func (r *running) work(work, stop context.Context) error {
+func (r *worker) work(work, stop context.Context) error {
 	end, lost, err := r.store.Only(stop, r.settings.worker)
 	if err != nil {
 		return err
@@ -306,7 +306,7 @@ func (r *running) work(work, stop context.Context) error {
 // workAs works under the name of the worker until stop is done. If the name is lost, no further requests are begun, and
 // workAs returns the name, taken again, once those in flight are answered and written. Otherwise it returns nil and the
 // error.
-func (r *running) workAs(work, stop context.Context, name *right) (again *right, err error) {
+func (r *worker) workAs(work, stop context.Context, name *right) (again *right, err error) {
 	held, cancel := context.WithCancel(stop)
 	taken := make(chan *right, 1)
 	go func() {
@@ -333,7 +333,7 @@ func (r *running) workAs(work, stop context.Context, name *right) (again *right,
 
 // nameAgain takes the name of the worker again, or returns nil if stop is done before. The server may need a moment to
 // notice that the session has ended.
-func (r *running) nameAgain(stop context.Context) *right {
+func (r *worker) nameAgain(stop context.Context) *right {
 	for {
 		end, lost, err := r.store.Only(stop, r.settings.worker)
 		if err == nil && end != nil {
@@ -347,7 +347,7 @@ func (r *running) nameAgain(stop context.Context) *right {
 
 // engineRuns has the engine run until stop is done, and what was in flight is answered and written, or until work is
 // done.
-func (r *running) engineRuns(work, stop context.Context) error {
+func (r *worker) engineRuns(work, stop context.Context) error {
 	for _, begin := range []func(context.Context) error{r.checkKeys, r.free} {
 		err := begin(work)
 		for errors.Is(err, platform.ErrAway) && sleep(stop, time.Second) == nil {
@@ -369,7 +369,7 @@ func (r *running) engineRuns(work, stop context.Context) error {
 
 // checkKeys returns an error if the key of the store was replaced since it was opened. Once the worker has its name,
 // the key isn't replaced any more.
-func (r *running) checkKeys(ctx context.Context) error {
+func (r *worker) checkKeys(ctx context.Context) error {
 	if r.keys == nil {
 		return nil
 	}
@@ -377,7 +377,7 @@ func (r *running) checkKeys(ctx context.Context) error {
 }
 
 // free gives up what an earlier worker of this name has left in flight. Nothing of this one is in flight.
-func (r *running) free(ctx context.Context) error {
+func (r *worker) free(ctx context.Context) error {
 	return r.store.Free(ctx, r.settings.worker)
 }
 
@@ -427,7 +427,7 @@ func journalError(err error) error {
 	return cli.Unusable(err)
 }
 
-// isDoubtful is whether a transaction that has failed with an error may have been committed.
+// isDoubtful reports whether a transaction that has failed with an error may have been committed.
 func isDoubtful(err error) bool {
 	return errors.Is(err, platform.ErrAway) || errors.Is(err, sqlitefile.ErrUnknownCommit)
 }

@@ -47,7 +47,7 @@ func start(t *testing.T, store string, environment []string, arguments ...string
 }
 
 // startAt starts a worker over a store with the broker default, and waits until that is reached.
-func startAt(t *testing.T, s *site, store string, arguments ...string) *process {
+func startAt(t *testing.T, s *testBroker, store string, arguments ...string) *process {
 	t.Helper()
 	p := start(t, store, ownPassword, append([]string{"--broker", s.url}, arguments...)...)
 	p.Event("broker_reached")
@@ -76,7 +76,7 @@ func (p *process) stop() string {
 
 // The whole way: a broker is added; an instance and a binding are created; the credentials are read; all is removed.
 func TestWholeWay(t *testing.T) {
-	s, store, key := newSite(t), newPath(t), newKey(t)
+	s, store, key := newTestBroker(t), newPath(t), newKey(t)
 	folder := t.TempDir()
 	password, secret := filepath.Join(folder, "password"), filepath.Join(folder, "secret")
 	write(t, password, "secret\n")
@@ -125,7 +125,7 @@ func TestWholeWay(t *testing.T) {
 
 // A request and its answer are logged, and counted.
 func TestLogAndMetrics(t *testing.T) {
-	s, store := newSite(t), newStore(t)
+	s, store := newTestBroker(t), newStore(t)
 	p := startAt(t, s, store, "--health-listen", "127.0.0.1:0",
 		"--worker", "one", "--log-level", "debug")
 	wantLines(t, store, []line{
@@ -145,7 +145,7 @@ func TestLogAndMetrics(t *testing.T) {
 
 // /healthz, /readyz and /metrics are served.
 func TestHealth(t *testing.T) {
-	s, store := newSite(t), newPath(t)
+	s, store := newTestBroker(t), newPath(t)
 	p := startAt(t, s, store, "--health-listen", "127.0.0.1:0")
 	wantLines(t, store, []line{{"create --plan at-once --id one --wait=60", 0, `one`, `ordered one`}})
 	for path, text := range map[string]string{
@@ -172,7 +172,7 @@ func TestHealth(t *testing.T) {
 // An order is tried again under another id after a passing reason, but not without --tries if it names its id. One that
 // is refused isn't.
 func TestTries(t *testing.T) {
-	s, store := newSite(t), newPath(t)
+	s, store := newTestBroker(t), newPath(t)
 	p := startAt(t, s, store, "--first-pace", "0.01",
 		"--longest-pace", "0.02", "--hold", "0")
 	s.answer(503)
@@ -245,7 +245,7 @@ func TestHangUp(t *testing.T) {
 
 // One worker of a name runs at a time. --once ends, with the status 1 if a broker isn't reached.
 func TestWorkers(t *testing.T) {
-	s, store := newSite(t), newPath(t)
+	s, store := newTestBroker(t), newPath(t)
 	t.Setenv(passwordVariable, "secret")
 	p := start(t, store, ownPassword, "--broker", s.url, "--worker", "one")
 	wantLines(t, store, []line{
@@ -283,7 +283,7 @@ func get(t *testing.T, url string) (int, string) {
 
 // newOne is a store with a broker of this process, and a worker over it, after an order was taken up and while its
 // answer is held.
-func newOne(t *testing.T, s *site, arguments ...string) (p *process, store string) {
+func newOne(t *testing.T, s *testBroker, arguments ...string) (p *process, store string) {
 	t.Helper()
 	store = newPath(t)
 	p = startAt(t, s, store, append([]string{"--first-pace", "0.01", "--hold", "0", "--worker", "one"}, arguments...)...)
@@ -294,7 +294,7 @@ func newOne(t *testing.T, s *site, arguments ...string) (p *process, store strin
 
 // SIGTERM waits for the answer that is awaited, and writes it.
 func TestStopTakesAnAnswer(t *testing.T) {
-	s := newSite(t)
+	s := newTestBroker(t)
 	release := s.hold()
 	defer release()
 	p, store := newOne(t, s, "--stop-seconds", "60", "--health-listen", "127.0.0.1:0")
@@ -310,7 +310,7 @@ func TestStopTakesAnAnswer(t *testing.T) {
 
 // SIGTERM doesn't wait for ever for an answer. What the request has done is found out at the next start.
 func TestStopDoesNotWaitForEver(t *testing.T) {
-	s := newSite(t)
+	s := newTestBroker(t)
 	release := s.hold()
 	defer release()
 	p, store := newOne(t, s, "--stop-seconds", "0.1")
@@ -322,7 +322,7 @@ func TestStopDoesNotWaitForEver(t *testing.T) {
 
 // A worker that is killed with a request in flight: the next one of its name gives it up at once, and goes on.
 func TestKilled(t *testing.T) {
-	s := newSite(t)
+	s := newTestBroker(t)
 	release := s.hold()
 	defer release()
 	p, store := newOne(t, s)
@@ -333,7 +333,7 @@ func TestKilled(t *testing.T) {
 }
 
 // endsWell starts a worker, after which nothing is in flight, and of the order one try is ready.
-func endsWell(t *testing.T, s *site, store string) {
+func endsWell(t *testing.T, s *testBroker, store string) {
 	t.Helper()
 	p := start(t, store, ownPassword, "--broker", s.url, "--worker", "one")
 	waits.Until(t, "one try is ready", func() bool { return countListed(t, store, "ready") == 1 })
@@ -364,7 +364,7 @@ func oldestDue(t *testing.T, p *process) float64 {
 // While a broker doesn't answer, its oldest order counts as due since it was ordered, though each request is sent
 // again.
 func TestOldestDueOfSilentBroker(t *testing.T) {
-	s, store := newSite(t), newPath(t)
+	s, store := newTestBroker(t), newPath(t)
 	password := passwordFile(t)
 	settings := " --hold 0 --first-pace 0.01 --longest-pace 0.01 --password-file "
 	wantLines(t, store, []line{{"broker add local " + s.url + settings + password, 0, ``, ``}})
@@ -385,7 +385,7 @@ func TestOldestDueOfSilentBroker(t *testing.T) {
 // says once why nothing goes on. Once there is space, each order is sent once.
 func TestFullDisk(t *testing.T) {
 	const orders = 20
-	s, store := newSite(t), newPath(t)
+	s, store := newTestBroker(t), newPath(t)
 	p := startAt(t, s, store)
 	p.LimitFiles(0)
 	for n := 0; n < orders; n++ {
@@ -425,9 +425,9 @@ func eventsIn(t *testing.T, folder string) (all []string) {
 const creating = "changed claim wanted, sent provision, answered provision, changed take ready"
 
 // journaling is a store with an order at a broker, and the arguments of a worker over it.
-func journaling(t *testing.T) (s *site, store string) {
+func journaling(t *testing.T) (s *testBroker, store string) {
 	t.Helper()
-	s, store = newSite(t), newPath(t)
+	s, store = newTestBroker(t), newPath(t)
 	t.Setenv(passwordVariable, "secret")
 	wantLines(t, store, []line{{"run --once --broker " + s.url, 0, ``, `.*`}})
 	return s, store
@@ -530,9 +530,9 @@ func TestTimesCross(t *testing.T) {
 	}
 }
 
-// inFrontOf is a server in front of a site, whose answers have this time. It returns the times of the requests about
-// instances.
-func inFrontOf(t *testing.T, s *site, given string) (front string, received chan string) {
+// inFrontOf is a server in front of a testBroker, whose answers have this time. It returns the times of the requests
+// about instances.
+func inFrontOf(t *testing.T, s *testBroker, given string) (front string, received chan string) {
 	t.Helper()
 	behind := diff.Value(url.Parse(s.url))(t)
 	received = make(chan string, 100)

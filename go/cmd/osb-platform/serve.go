@@ -63,7 +63,7 @@ func (s *runSettings) checkServe() error {
 }
 
 // serveOnly waits until stop is done, or the sites are served no more.
-func (r *running) serveOnly(stop context.Context) error {
+func (r *worker) serveOnly(stop context.Context) error {
 	select {
 	case <-stop.Done():
 		return nil
@@ -99,7 +99,7 @@ type part struct {
 }
 
 // parts are what is served. whenStopping takes what a part calls once the program is being stopped.
-func (r *running) parts(work context.Context, whenStopping func(func())) []part {
+func (r *worker) parts(work context.Context, whenStopping func(func())) []part {
 	healthPart := func() (http.Handler, error) {
 		handler := health.New(work, health.Options{
 			Ready: r.ready, Metrics: r.metrics.handler(), NotReady: func(err error) {
@@ -132,7 +132,7 @@ func (r *running) parts(work context.Context, whenStopping func(func())) []part 
 }
 
 // files is how many files may be open at once.
-func (r *running) files() uint64 {
+func (r *worker) files() uint64 {
 	needed := platform.MostInFlight(r.settings.atOnce) + 100
 	for _, part := range r.parts(context.Background(), nil) {
 		if part.address != "" {
@@ -142,9 +142,9 @@ func (r *running) files() uint64 {
 	return uint64(needed)
 }
 
-// page makes the page. stopping is done once the program stops. The page works without --api. With it, neither keeps the
-// other waiting: each has its own limit of requests.
-func (r *running) page(stopping context.Context) (http.Handler, error) {
+// page makes the page. stopping is done once the program stops. The page works without --api. With it, neither keeps
+// the other waiting: each has its own limit of requests.
+func (r *worker) page(stopping context.Context) (http.Handler, error) {
 	s := r.settings.sites
 	options := page.Options{Hosts: s.pageHosts, Stopping: stopping, Failed: func(err error) {
 		r.observer.OnFailure(platform.Failure{Event: "page_failed", Err: err})
@@ -170,7 +170,7 @@ func (r *running) page(stopping context.Context) (http.Handler, error) {
 }
 
 // pageUsers reads the users of the page. Without any it is an error: the page would ask for no password.
-func (r *running) pageUsers() (map[string][]string, error) {
+func (r *worker) pageUsers() (map[string][]string, error) {
 	file := r.settings.sites.pageUsers
 	users, warning, err := secrets.Users(file)
 	if err == nil && len(users) == 0 {
@@ -187,7 +187,7 @@ func (r *running) pageUsers() (map[string][]string, error) {
 }
 
 // api makes the API.
-func (r *running) api() (http.Handler, error) {
+func (r *worker) api() (http.Handler, error) {
 	orders := platform.NewOrders(r.journal.ordersStore(r.store), r.vault)
 	orders.AllowHTTP(r.settings.allowHTTP)
 	hosts, err := api.ParseHosts(r.settings.sites.brokerHosts)
@@ -210,7 +210,7 @@ func (r *running) api() (http.Handler, error) {
 
 // checkKeyOfAPI is a platform.Fault if the key of the store was replaced since it was opened. 'rekey' rejects to run
 // beside a worker, but a 'serve' may go on with the old key.
-func (r *running) checkKeyOfAPI(ctx context.Context) error {
+func (r *worker) checkKeyOfAPI(ctx context.Context) error {
 	err := r.checkKeys(ctx)
 	if errors.Is(err, vault.ErrStoreKey) || errors.Is(err, vault.ErrRotating) {
 		return &platform.Fault{Kind: platform.Conflict, Text: "the key of the store was replaced, or is being replaced: " +
@@ -220,7 +220,7 @@ func (r *running) checkKeyOfAPI(ctx context.Context) error {
 }
 
 // warnOf warns of a part that others than this machine reach, and that isn't protected.
-func (r *running) warnOf(of part, listener *httpserver.Listener) {
+func (r *worker) warnOf(of part, listener *httpserver.Listener) {
 	address, isTCP := listener.Addr().(*net.TCPAddr)
 	if of.url == &r.healthURL || isTCP && address.IP.IsLoopback() {
 		return
@@ -234,7 +234,7 @@ func (r *running) warnOf(of part, listener *httpserver.Listener) {
 }
 
 // serveSites serves the parts, until the function that it returns is called.
-func (r *running) serveSites(work, stop context.Context) (end func(), err error) {
+func (r *worker) serveSites(work, stop context.Context) (end func(), err error) {
 	var stops []func()
 	var sites []httpserver.Site
 	for _, part := range r.parts(work, func(call func()) { stops = append(stops, call) }) {
@@ -257,7 +257,7 @@ func (r *running) serveSites(work, stop context.Context) (end func(), err error)
 }
 
 // site listens for a part.
-func (r *running) site(work context.Context, of part) (httpserver.Site, error) {
+func (r *worker) site(work context.Context, of part) (httpserver.Site, error) {
 	handler, err := of.make()
 	if err != nil {
 		return httpserver.Site{}, err
@@ -275,7 +275,7 @@ func (r *running) site(work context.Context, of part) (httpserver.Site, error) {
 }
 
 // serveAll serves the sites until the function that it returns is called. After stop it calls the functions stops.
-func (r *running) serveAll(work, stop context.Context, sites []httpserver.Site, stops []func()) (end func()) {
+func (r *worker) serveAll(work, stop context.Context, sites []httpserver.Site, stops []func()) (end func()) {
 	ctx, cancel := context.WithCancel(work)
 	served, noticed := make(chan struct{}), make(chan struct{})
 	go func() {
@@ -299,29 +299,29 @@ func (r *running) serveAll(work, stop context.Context, sites []httpserver.Site, 
 	return func() { cancel(); <-served; <-noticed }
 }
 
-// lastAnswers is how long requests may go on once the sites are stopped. Those of a worker had the time for which the
-// work was awaited.
-func (r *running) lastAnswers() time.Duration {
+// lastAnswers is how long requests may go on once the sites are stopped. Those of a worker were given the time for
+// which the work was awaited.
+func (r *worker) lastAnswers() time.Duration {
 	if r.settings.servesOnly {
 		return r.settings.stop
 	}
 	return time.Second
 }
 
-// A reloading reads files again that are in use. What can't be read stays as it was.
-type reloading struct {
+// A reloader reads files again that are in use. What can't be read stays as it was.
+type reloader struct {
 	done, failed string // the events of the log
 	read         func() error
 }
 
 // certificatesOf reads certificates again.
-func certificatesOf(read func() error) reloading {
-	return reloading{done: "certificates_reloaded", failed: "certificates_not_reloaded", read: read}
+func certificatesOf(read func() error) reloader {
+	return reloader{done: "certificates_reloaded", failed: "certificates_not_reloaded", read: read}
 }
 
 // reloads reads files again at each SIGHUP, until the function that it returns is called. If there is none to read,
 // SIGHUP does nothing.
-func (r *running) reloads(work context.Context) (end func()) {
+func (r *worker) reloads(work context.Context) (end func()) {
 	if len(r.reload) == 0 {
 		signal.Ignore(syscall.SIGHUP)
 		return func() {}
@@ -344,7 +344,7 @@ func (r *running) reloads(work context.Context) (end func()) {
 }
 
 // readAgain reads all files again.
-func (r *running) readAgain() {
+func (r *worker) readAgain() {
 	for _, files := range r.reload {
 		if err := files.read(); err != nil {
 			r.log.at(errorLevel, files.failed).Err(err).Send()
@@ -367,7 +367,7 @@ func (h *replaceable) ServeHTTP(w http.ResponseWriter, r *http.Request) {
 // events of the log.
 //
 // Errors: those of the function.
-func (r *running) reloadable(
+func (r *worker) reloadable(
 	done, failed string, handlerOf func() (http.Handler, error),
 ) (http.Handler, error) {
 	current := &replaceable{}
@@ -382,13 +382,13 @@ func (r *running) reloadable(
 	if err := read(); err != nil {
 		return nil, err
 	}
-	r.reload = append(r.reload, reloading{done: done, failed: failed, read: read})
+	r.reload = append(r.reload, reloader{done: done, failed: failed, read: read})
 	return current, nil
 }
 
-// ready returns nil if a row of the store can be read and one can be written, and if the worker's last write of its rows
-// hasn't failed. The row of the former is small, and may be written while others can't.
-func (r *running) ready(ctx context.Context) error {
+// ready returns nil if a row of the store can be read and one can be written, and if the worker's last write of its
+// rows hasn't failed. The row of the former is small, and may be written while others can't.
+func (r *worker) ready(ctx context.Context) error {
 	err := r.store.Ready(ctx)
 	if err == nil && r.engine != nil {
 		err = r.engine.Ready()

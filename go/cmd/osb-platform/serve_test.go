@@ -96,7 +96,7 @@ func (c caller) await(path, state string) {
 // The whole way over the API, beside a worker: a broker is added; an instance and a binding are created; the
 // credentials are read; all is removed. The page shows the instance.
 func TestWholeWayOverAPI(t *testing.T) {
-	s, store, key := newSite(t), newPath(t), newKey(t)
+	s, store, key := newTestBroker(t), newPath(t), newKey(t)
 	p := start(t, store, nil, "--key-file", key, "--api", "127.0.0.1:0", "--api-tokens", newTokens(t),
 		"--page", "127.0.0.1:0", "--page-host", "platform.example")
 	c := caller{t: t, client: http.DefaultClient, url: p.api, token: token}
@@ -167,7 +167,7 @@ func pageShows(t *testing.T, p *process) {
 
 // serve takes orders and shows them, and sends nothing. It is no worker: one that has its host's name runs beside it.
 func TestServe(t *testing.T) {
-	s, store := newSite(t), newPath(t)
+	s, store := newTestBroker(t), newPath(t)
 	password := filepath.Join(t.TempDir(), "password")
 	users := filepath.Join(t.TempDir(), "users")
 	write(t, password, "secret\n")
@@ -225,8 +225,8 @@ func secureCaller(t *testing.T, p *process, trusted *x509.CertPool) caller {
 	return caller{t: t, client: &http.Client{Transport: transport}, url: p.api, token: token}
 }
 
-// answerFrom connects from an address of this machine, sends a request behind a text, and returns the status line of the
-// answer. It is empty if the connection was closed. The connection stays open until the test ends.
+// answerFrom connects from an address of this machine, sends a request behind a text, and returns the status line of
+// the answer. It is empty if the connection was closed. The connection stays open until the test ends.
 func answerFrom(t *testing.T, from, url, before string) string {
 	t.Helper()
 	dialer := net.Dialer{Timeout: deadline, LocalAddr: &net.TCPAddr{IP: net.ParseIP(from)}}
@@ -328,16 +328,16 @@ func TestFiles(t *testing.T) {
 		{siteSettings{page: "127.0.0.1:0", api: "127.0.0.1:0"}, 124 + pageConnections + apiConnections},
 	} {
 		t.Run(fmt.Sprintf("%+v", test.sites), func(t *testing.T) {
-			r := &running{settings: &runSettings{atOnce: 16, sites: test.sites}}
+			r := &worker{settings: &runSettings{atOnce: 16, sites: test.sites}}
 			diff.Equal(t, r.files(), test.want, "%+v", test.sites)
 		})
 	}
 }
 
 // servingOver serves the page, at platform.example too, and the API over a store, once they are made.
-func servingOver(t *testing.T, store platform.Store, log io.Writer) *running {
+func servingOver(t *testing.T, store platform.Store, log io.Writer) *worker {
 	t.Helper()
-	r := &running{
+	r := &worker{
 		settings: &runSettings{sites: siteSettings{
 			page: "127.0.0.1:0", pageHosts: []string{"platform.example"}, api: "127.0.0.1:0", apiTokens: newTokens(t),
 		}},
@@ -512,11 +512,11 @@ func TestRowsCannotBeWrittenInPostgreSQL(t *testing.T) {
 		"DROP TRIGGER no_space ON osb_instances")
 }
 
-// checkUnwritten spoils a store so that a worker's rows can't be written. Then /readyz answers 503 and the log says why,
-// once. Nothing is printed and nothing is sent. Once the store is repaired, the order goes on.
+// checkUnwritten spoils a store so that a worker's rows can't be written. Then /readyz answers 503 and the log says
+// why, once. Nothing is printed and nothing is sent. Once the store is repaired, the order goes on.
 func checkUnwritten(t *testing.T, store string, environment []string, execute func(string), spoil, repair string) {
 	t.Helper()
-	s := newSite(t)
+	s := newTestBroker(t)
 	t.Setenv("XDG_STATE_HOME", t.TempDir())
 	p := start(t, store, environment, "--broker", s.url, "--health-listen", "127.0.0.1:0")
 	p.Event("broker_reached")

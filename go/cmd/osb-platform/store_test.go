@@ -103,8 +103,8 @@ func TestOpenFolder(t *testing.T) {
 	}
 }
 
-// newProxy returns a proxy before the tests' server, the URL to use for a schema of its own, without a password, and the
-// environment with the passwords.
+// newProxy returns a proxy before the tests' server, the URL to use for a schema of its own, without a password, and
+// the environment with the passwords.
 func newProxy(t *testing.T, schema string) (proxy *storefaults.Proxy, address string, environment []string) {
 	t.Helper()
 	named := pgtest.With(t, pgtest.Schema(t, pgtest.URL(t), schema), "application_name", schema)
@@ -133,7 +133,7 @@ func TestStopWhileTheDatabaseHangs(t *testing.T) {
 		"osb_program_hangs": {"--stop-seconds", "1"}, "osb_program_hangs_default": nil,
 	} {
 		t.Run(schema, func(t *testing.T) {
-			s := newSite(t)
+			s := newTestBroker(t)
 			proxy, address, environment := newProxy(t, schema)
 			p := start(t, address, environment, append(options, "--broker", s.url)...)
 			p.Event("broker_reached")
@@ -166,7 +166,7 @@ func TestStopBeforeTheDatabaseAnswers(t *testing.T) {
 
 // A worker whose sessions the server has ended goes on, under its name.
 func TestSessionsThatAreEnded(t *testing.T) {
-	s := newSite(t)
+	s := newTestBroker(t)
 	_, address, environment := newProxy(t, "osb_program_ended")
 	setenv(t, environment)
 	p := start(t, address, environment, "--broker", s.url, "--worker", "one")
@@ -187,14 +187,14 @@ func endSessions(t *testing.T, name string) {
 		"WHERE application_name = '"+name+"'")
 }
 
-// If a worker loses its name while a request is in flight, the answer is written, and nothing more is sent for the order.
-// Then the worker goes on under its name.
+// If a worker loses its name while a request is in flight, the answer is written, and nothing more is sent for the
+// order. Then the worker goes on under its name.
 func TestSessionsThatAreEndedInFlight(t *testing.T) {
 	for schema, options := range map[string][]string{
 		"osb_program_flight": nil, "osb_program_flight_once": {"--once"},
 	} {
 		t.Run(schema, func(t *testing.T) {
-			s := newSite(t)
+			s := newTestBroker(t)
 			_, address, environment := newProxy(t, schema)
 			setenv(t, environment)
 			password := passwordFile(t)
@@ -264,8 +264,8 @@ func TestEmptyDatabase(t *testing.T) {
 	})
 }
 
-// bound is a store with the bindings one/1, one/2 and so on, which are ready, and the file with its key.
-func bound(t *testing.T, s *site, bindings int) (store, key string) {
+// storeWithBindings is a store with the bindings one/1, one/2 and so on, which are ready, and the file with its key.
+func storeWithBindings(t *testing.T, s *testBroker, bindings int) (store, key string) {
 	t.Helper()
 	store, key = newPath(t), newKey(t)
 	got := callWith(t, "secret\n", "--store", store, "--key-file", key, "broker", "add", "local", s.url,
@@ -289,8 +289,8 @@ func bound(t *testing.T, s *site, bindings int) (store, key string) {
 
 // The key of a store is replaced, and then the old one isn't needed.
 func TestRekey(t *testing.T) {
-	s := newSite(t)
-	store, key := bound(t, s, 3)
+	s := newTestBroker(t)
+	store, key := storeWithBindings(t, s, 3)
 	other, wrong := newKey(t), newKey(t)
 	const credentials = `{"credentials":{"folder":".*","token":".*"}}`
 	rekey := "rekey --key-file " + key + " --new-key-file " + other
@@ -323,7 +323,7 @@ func TestKeyReplacedBeforeWork(t *testing.T) {
 		if err != nil {
 			return err
 		}
-		r := &running{store: in, keys: old, settings: &runSettings{worker: "one", once: true}}
+		r := &worker{store: in, keys: old, settings: &runSettings{worker: "one", once: true}}
 		diff.NoError(t, rekey(ctx, places{store: store, keyFiles: []string{key}}, other, new(nothing), nil), "")
 		if err := r.engineRuns(ctx, ctx); !isAll("the store was used with another key.*", fmt.Sprint(err)) {
 			t.Error(err)
@@ -339,7 +339,7 @@ func (*nothing) Write(text []byte) (int, error) { return len(text), nil }
 
 // A `serve` that goes on with the old key after the key was replaced takes no password, and reads no credentials.
 func TestKeyReplacedBesideServe(t *testing.T) {
-	store, key := bound(t, newSite(t), 1)
+	store, key := storeWithBindings(t, newTestBroker(t), 1)
 	other := newKey(t)
 	p := launch(t, "serving", osbPlatform(nil, "serve", "--store", store, "--key-file", key, "--api", "127.0.0.1:0",
 		"--api-tokens", newTokens(t)))

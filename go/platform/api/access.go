@@ -234,7 +234,7 @@ func isPort(text string) bool {
 // canonical is a name in lower case, without the point at its end.
 func canonical(name string) string { return strings.TrimSuffix(strings.ToLower(name), ".") }
 
-// Allows returns whether a broker may be at a URL.
+// Allows reports whether a broker may be at a URL.
 func (h Hosts) Allows(text string) bool {
 	if h.rules == nil {
 		return true

@@ -1,6 +1,6 @@
 // Package api offers the calls of platform.Orders, and what a platform.Store has, over HTTP with JSON, so that a portal
-// needs no shell. The routes, the members of each body and the codes of the errors are in openapi.json, which
-// GET /v1/openapi.json answers with. A Reader reads what the API answers to GET, for the handler and for the page of the
+// needs no shell. The routes, the members of each body and the codes of the errors are in openapi.json, which GET
+// /v1/openapi.json answers with. A Reader reads what the API answers to GET, for the handler and for the page of the
 // program.
 //
 // Who asks gives a bearer token (RFC 6750), and the permissions of the token say what it may do (ReadTokens). Passwords
@@ -45,9 +45,9 @@ type Options struct {
 	Tokens []Token
 	// LongestBody is how many bytes the body of a request may have. It is 256 KiB by default.
 	LongestBody int64
-	// ParsedAtOnce is how many bytes of bodies are parsed and carried out at once, LongestBody or more. It is four times
-	// LongestBody by default. Others wait, and so do bodies beyond 16 MiB, or four times ParsedAtOnce, that have arrived
-	// or are on their way. Of both, a token gets as much as the others leave free.
+	// ParsedAtOnce is how many bytes of bodies are parsed and carried out at once, LongestBody or more. It is four
+	// times LongestBody by default. Others wait, and so do bodies beyond 16 MiB, or four times ParsedAtOnce, that have
+	// arrived or are on their way. Of both, a token gets as much as the others leave free.
 	ParsedAtOnce int64
 	// Timeout is how long a request may wait for the store. It is 30 seconds by default.
 	Timeout time.Duration
@@ -58,8 +58,8 @@ type Options struct {
 	// replaced since. It is called before a password or credentials are read or written, and after a password was
 	// written. It may be nil.
 	CheckKey func(context.Context) error
-	// BrokerHosts are those at which a broker may be that is added, or that gets another URL. By default they are all: a
-	// token that may write can have this program connect to any address then.
+	// BrokerHosts are those at which a broker may be that is added, or that gets another URL. By default they are all:
+	// a token that may write can have this program connect to any address then.
 	BrokerHosts Hosts
 	// Observe is called once for each request, when its answer is known. It returns at once. It may be nil.
 	Observe func(Exchange)
@@ -319,9 +319,9 @@ func textOf(body any) ([]byte, error) {
 	return printable(text.Bytes()), err
 }
 
-// printable is the same JSON, in which characters are escaped that a terminal wouldn't show, but carry out: controls, and
-// marks that turn the direction of the text round. Such characters are only in strings. Bytes that aren't UTF-8 become
-// U+FFFD, as readers of JSON read them.
+// printable is the same JSON, in which characters are escaped that a terminal wouldn't show, but carry out: controls,
+// and marks that turn the direction of the text round. Such characters are only in strings. Bytes that aren't UTF-8
+// become U+FFFD, as readers of JSON read them.
 func printable(text []byte) []byte {
 	isPrintable := func(r rune) bool { return r < 0x7f || r != utf8.RuneError && unicode.IsPrint(r) }
 	if bytes.IndexFunc(text, func(r rune) bool { return !isPrintable(r) }) < 0 {
@@ -486,7 +486,7 @@ func (p *problem) Error() string { return p.Code + ": " + p.Detail }
 
 func (p *problem) Unwrap() error { return p.cause }
 
-// Is returns whether the problem is ErrMalformed.
+// Is reports whether the problem is ErrMalformed.
 func (p *problem) Is(target error) bool { return target == ErrMalformed && p.Code == "malformed" }
 
 func newProblem(status int, code, detail string) *problem {
@@ -661,8 +661,8 @@ func nextName(decoder *json.Decoder, names map[string]bool) error {
 	return nil
 }
 
-// checkMembers is an error unless a text is an object whose members are the fields of a struct, and not null. encoding/json
-// takes other letters for the same, and null for no member.
+// checkMembers is an error unless a text is an object whose members are the fields of a struct, and not null.
+// encoding/json takes other letters for the same, and null for no member.
 func checkMembers(text []byte, to any) error {
 	var members map[string]json.RawMessage
 	if err := json.Unmarshal(text, &members); err != nil || members == nil {

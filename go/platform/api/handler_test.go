@@ -123,7 +123,7 @@ func TestBindings(t *testing.T) {
 	r := newRig(t)
 	id := r.ready()
 	path := "/v1/instances/" + id
-	bid := r.bound(id)
+	bid := r.bind(id)
 	shown := r.call("GET", path+"/bindings/"+bid, "").want(200, "")
 	if shown.at("state") != "ready" || shown.at("instance_id") != id || shown.at("life", "1", "state") != "wanted" {
 		t.Errorf("got %s, want it ready with its life", shown.text)
@@ -161,7 +161,7 @@ func TestPlanThatIsNotBindable(t *testing.T) {
 func TestCredentials(t *testing.T) {
 	r := newRig(t)
 	id := r.ready()
-	path := "/v1/instances/" + id + "/bindings/" + r.bound(id) + "/credentials"
+	path := "/v1/instances/" + id + "/bindings/" + r.bind(id) + "/credentials"
 	r.callAs(reading, "GET", path, "").want(403, "forbidden")
 	r.callAs(writing, "GET", path, "").want(403, "forbidden")
 	got := r.callAs(opening, "GET", path, "").want(200, "")
@@ -203,7 +203,7 @@ func TestPages(t *testing.T) {
 func TestFilters(t *testing.T) {
 	r := newRig(t)
 	id := r.ready()
-	r.bound(id) // isn't listed
+	r.bind(id) // isn't listed
 	r.call("POST", "/v1/instances", `{"id": "other", "service": "shelf", "plan": "small"}`).want(201, "")
 	for query, want := range map[string]int{
 		"": 2, "state=ready": 1, "state=ready&state=ordered": 2, "state=gone": 0, "broker=shelf": 2,
@@ -260,7 +260,7 @@ func TestBrokers(t *testing.T) {
 	diff.Equal(t, listed.at("items", "1", "catalogue_at"), "2026-01-01T00:00:00Z", "%s", listed.text)
 	shown := r.call("GET", "/v1/brokers/shelf", "").want(200, "")
 	diff.Equal(t, shown.at("catalogue", "services", "0", "name"), "shelf", "%s", shown.text)
-	for _, response := range []got{made, changed, listed, shown} {
+	for _, response := range []response{made, changed, listed, shown} {
 		diff.Lacks(t, response.text, "sesame", "")
 		diff.Lacks(t, response.text, string(before.Password), "")
 	}
@@ -310,7 +310,7 @@ func TestCounts(t *testing.T) {
 	if got := r.call("GET", "/v1/counts", "").want(200, ""); got.at("counts") != "[]" {
 		t.Errorf("got %s, want no counts", got.text)
 	}
-	r.bound(r.ready())
+	r.bind(r.ready())
 	got := r.call("GET", "/v1/counts", "").want(200, "")
 	for _, part := range []string{`"instance","state":"ready","count":1`, `"binding","state":"ready","count":1`} {
 		diff.Contains(t, got.text, part, "")
@@ -706,7 +706,7 @@ func TestSchemasHaveTheMembers(t *testing.T) {
 	check(t, errDescribed)
 	schemas := described.Components.Schemas
 	for name, example := range map[string]any{
-		"NewInstance": newInstance{}, "NewBinding": newBinding{}, "Abandon": reasonGiven{}, "NewBroker": newBroker{},
+		"NewInstance": newInstance{}, "NewBinding": newBinding{}, "Abandon": givenReason{}, "NewBroker": newBroker{},
 		"Settings": Settings{}, "Broker": Broker{}, "Binding": Record{}, "Record": Record{}, "Reason": Reason{},
 		"Flight": Flight{}, "Problem": problem{}, "Stay": Stay{}, "Instances": List{}, "Bindings": List{},
 		"Records": List{}, "Brokers": brokerList{}, "Counts": Counts{}, "": Count{},
@@ -897,8 +897,8 @@ func newRigOver(t *testing.T, store platform.Store) *rig {
 
 var check = diff.Must
 
-// A got is an answer.
-type got struct {
+// A response is an answer of the API.
+type response struct {
 	*rig
 	status int
 	header http.Header
@@ -907,12 +907,12 @@ type got struct {
 }
 
 // call asks with the token that has all permissions. Every answer is checked against the document.
-func (r *rig) call(method, target, body string) got {
+func (r *rig) call(method, target, body string) response {
 	r.Helper()
 	return r.callAs(all, method, target, body)
 }
 
-func (r *rig) callAs(token, method, target, body string) got {
+func (r *rig) callAs(token, method, target, body string) response {
 	r.Helper()
 	request := httptest.NewRequest(method, target, strings.NewReader(body))
 	if body != "" {
@@ -924,14 +924,14 @@ func (r *rig) callAs(token, method, target, body string) got {
 	return r.do(request)
 }
 
-func (r *rig) do(request *http.Request) got {
+func (r *rig) do(request *http.Request) response {
 	r.Helper()
 	asked := diff.Value(io.ReadAll(request.Body))(r.T)
 	request.Body = io.NopCloser(bytes.NewReader(asked))
 	recorder := httptest.NewRecorder()
 	r.handler.ServeHTTP(recorder, request)
 	text := diff.Value(io.ReadAll(recorder.Body))(r.T)
-	answered := got{rig: r, status: recorder.Code, header: recorder.Header(), text: string(text)}
+	answered := response{rig: r, status: recorder.Code, header: recorder.Header(), text: string(text)}
 	if len(text) > 0 {
 		check(r.T, json.Unmarshal(text, &answered.body))
 	}
@@ -943,7 +943,7 @@ func (r *rig) do(request *http.Request) got {
 }
 
 // checkDocumented checks an answer against the document, and so the body that was asked with, if it was accepted.
-func (r *rig) checkDocumented(request *http.Request, asked []byte, answered got) {
+func (r *rig) checkDocumented(request *http.Request, asked []byte, answered response) {
 	r.Helper()
 	method := request.Method
 	if method == http.MethodHead {
@@ -981,7 +981,7 @@ func (r *rig) checkDocumented(request *http.Request, asked []byte, answered got)
 }
 
 // want fails unless the answer has this status, and of an error this code.
-func (g got) want(status int, code string) got {
+func (g response) want(status int, code string) response {
 	g.Helper()
 	found, _ := g.body["code"].(string)
 	if g.status != status || found != code {
@@ -991,7 +991,7 @@ func (g got) want(status int, code string) got {
 }
 
 // at is the value at a path of members, as text.
-func (g got) at(path ...string) string {
+func (g response) at(path ...string) string {
 	g.Helper()
 	var value any = g.body
 	for _, segment := range path {
@@ -1009,7 +1009,7 @@ func (g got) at(path ...string) string {
 	return fmt.Sprint(value)
 }
 
-func (g got) items() []any {
+func (g response) items() []any {
 	g.Helper()
 	found, isList := g.body["items"].([]any)
 	if !isList {
@@ -1080,8 +1080,8 @@ func (r *rig) ready() string {
 	return id
 }
 
-// bound creates a binding that is ready.
-func (r *rig) bound(id string) string {
+// bind creates a binding that is ready.
+func (r *rig) bind(id string) string {
 	r.Helper()
 	bid := r.call("POST", "/v1/instances/"+id+"/bindings", `{"parameters": {}}`).want(201, "").at("id")
 	key := keyOfIDs(r.T, id, bid)

@@ -21,7 +21,7 @@ import (
 func TestAllBindings(t *testing.T) {
 	r := newRig(t)
 	one, two := r.ready(), r.ready()
-	first, second := r.bound(one), r.bound(two)
+	first, second := r.bind(one), r.bind(two)
 	r.call("POST", "/v1/instances/"+one+"/bindings", `{"id": "app"}`).want(201, "")
 	of := map[string]string{first: one, second: two, "app": one}
 	seen, target := map[string]bool{}, "/v1/bindings?limit=2"
@@ -57,8 +57,8 @@ func TestLatest(t *testing.T) {
 	id := r.ready()
 	r.ready()
 	r.order()
-	r.bound(id)
-	r.bound(id)
+	r.bind(id)
+	r.bind(id)
 	for _, path := range []string{"/v1/instances", "/v1/bindings", "/v1/instances/" + id + "/bindings"} {
 		usual, turned := r.idsOf(path+"?latest=false"), r.idsOf(path+"?latest=true")
 		for at, one := range usual {

@@ -30,7 +30,7 @@ type newBinding struct {
 	Tries        int             `json:"tries"`
 }
 
-type reasonGiven struct {
+type givenReason struct {
 	Because string `json:"because"`
 }
 
@@ -85,8 +85,8 @@ func (a *request) bind() (answer, error) {
 	return creation(e), nil
 }
 
-// chosenID is the id that an order names, or empty for a new GUID. An id that is given and empty is an error: a variable
-// of whoever asks may have been empty by mistake.
+// chosenID is the id that an order names, or empty for a new GUID. An id that is given and empty is an error: a
+// variable of whoever asks may have been empty by mistake.
 func chosenID(given *string) (string, error) {
 	switch {
 	case given == nil:
@@ -180,7 +180,7 @@ func (a *request) abandon() (answer, error) {
 	if err != nil {
 		return answer{}, err
 	}
-	var given reasonGiven
+	var given givenReason
 	if err := a.body(&given); err != nil {
 		return answer{}, err
 	}

@@ -23,7 +23,7 @@ type mark struct {
 }
 
 // marks are those of the rows of an answer.
-func (g got) marks() (found []mark) {
+func (g response) marks() (found []mark) {
 	g.Helper()
 	for _, item := range g.items() {
 		of := item.(map[string]any)
@@ -38,7 +38,7 @@ func (g got) marks() (found []mark) {
 }
 
 // walk are the rows of all pages of a list from a target on, by the cursors of this name, and the answers.
-func (r *rig) walk(target, name, parameter string) (rows []mark, pages []got) {
+func (r *rig) walk(target, name, parameter string) (rows []mark, pages []response) {
 	r.Helper()
 	list, _, _ := strings.Cut(strings.ReplaceAll(target, "&last=true", ""), "&after=")
 	for len(pages) < 100 {
@@ -59,7 +59,7 @@ func (r *rig) some() {
 	for n := 0; n < 3; n++ {
 		id := r.ready()
 		r.order()
-		r.bound(id)
+		r.bind(id)
 		r.call("DELETE", "/v1/instances/"+r.order(), "").want(202, "")
 		r.call("POST", "/v1/instances/"+id+"/bindings", `{}`).want(201, "")
 	}
@@ -134,7 +134,7 @@ func TestPagesBackwards(t *testing.T) {
 func TestPrefixOfRecords(t *testing.T) {
 	r := newRig(t)
 	id := r.ready()
-	bid := r.bound(id)
+	bid := r.bind(id)
 	of := map[string]string{"instances": id, "bindings": bid, "records": bid}
 	for kind, target := range of {
 		got := r.call("GET", "/v1/"+kind+"?prefix="+target[:13], "").want(200, "")
@@ -152,7 +152,7 @@ func TestPrefixOfRecords(t *testing.T) {
 func TestLifeInLists(t *testing.T) {
 	r := newRig(t)
 	id := r.ready() // ordered, wanted, ready
-	r.bound(id)
+	r.bind(id)
 	for _, path := range []string{"/v1/instances", "/v1/bindings", "/v1/records", "/v1/instances/" + id + "/bindings"} {
 		two := r.call("GET", path+"?life=2", "").want(200, "")
 		diff.Equal(t, two.at("items", "0", "life", "0", "state"), "wanted", "%s, %s", path, two.text)
@@ -463,7 +463,7 @@ func (s *retrying) Change(ctx context.Context, key platform.Key, step platform.S
 func TestKeyThatWasReplaced(t *testing.T) {
 	r := newRig(t)
 	id := r.ready()
-	credentials := "/v1/instances/" + id + "/bindings/" + r.bound(id) + "/credentials"
+	credentials := "/v1/instances/" + id + "/bindings/" + r.bind(id) + "/credentials"
 	r.call("GET", credentials, "").want(200, "")
 	const path, body = "/v1/brokers/shelf", `{"url": "https://shelf.example", "user": "me", "password": "new"}`
 	before := r.brokerNamed("shelf").Password

@@ -79,7 +79,7 @@ type Query struct {
 	Broker string   // or empty for all
 	Prefix string   // only those whose number begins with it; hyphens don't count
 	First  string   // only the tries of the order with this first id
-	// Unreadable is whether only records are wanted that can't be read. A page may have fewer then, or none: go on
+	// Unreadable asks only for records that can't be read. A page may have fewer then, or none: go on
 	// while it has a Next.
 	Unreadable bool
 	Order      Order // or empty for ByNumber

@@ -60,7 +60,7 @@ type Record struct {
 	First   string  `json:"first"` // the number of the first try
 	Last    *Reason `json:"last,omitempty"`
 	Failure *Reason `json:"failure,omitempty"` // why the creation has failed
-	// FailureMayPass is whether the order may be tried again under another id.
+	// FailureMayPass says that the order may be tried again under another id.
 	FailureMayPass bool `json:"failure_may_pass,omitempty"`
 
 	Dashboard string          `json:"dashboard_url,omitempty"`
@@ -76,7 +76,7 @@ type Record struct {
 	Now     *time.Time `json:"now,omitempty"` // the store's time, or nil in a list
 }
 
-// IsBinding returns whether the record is a binding, and not an instance.
+// IsBinding reports whether the record is a binding, and not an instance.
 func (r Record) IsBinding() bool { return r.InstanceNumber != "" }
 
 // Key returns the number of an instance, or that of a binding's instance, a slash, and that of the binding.

@@ -537,7 +537,7 @@ var (
 	ErrTimeOver = errors.New("the time of the exchange is over")
 	// ErrTooLong reports an answer that is longer than is read.
 	ErrTooLong = errors.New("the answer is too long")
-	// ErrCut reports a connection that ended before an answer had arrived whole.
+	// ErrCut reports a connection that ended before the whole answer arrived.
 	ErrCut = errors.New("the connection ended before an answer had come whole")
 	// ErrGarbled reports that what arrived can't be read as HTTP.
 	ErrGarbled = errors.New("the answer can't be read as HTTP")

@@ -186,7 +186,7 @@ func (c *connection) answer(request *http.Request) (*http.Response, error) {
 	}
 }
 
-// isQuiet returns whether nothing has arrived since the last answer, not even the end of the connection.
+// isQuiet reports whether nothing has arrived since the last answer, not even the end of the connection.
 func (c *connection) isQuiet() bool {
 	system, ok := c.bottom.Conn.(syscall.Conn)
 	if !ok {
@@ -310,7 +310,7 @@ type brokerKey struct{ name, url string }
 // A broker is what is known of one while the program runs: its address, and its connections.
 type broker struct {
 	address
-	// returns is whether the latest answer had the identity of its request. Only then is a connection kept.
+	// returns says that the latest answer carried the identity of its request. Only then is a connection kept.
 	returns atomic.Bool
 	used    chan struct{} // has an element for each connection that carries a request
 	longest time.Duration // for which a connection waits for a request

@@ -218,7 +218,7 @@ func patient(t *testing.T) *Client {
 	return c
 }
 
-// hasQuiet returns whether a connection waits, and nothing has arrived on it.
+// hasQuiet reports whether a connection waits, and nothing has arrived on it.
 func hasQuiet(c *Client) bool {
 	c.mutex.Lock()
 	defer c.mutex.Unlock()

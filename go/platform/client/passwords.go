@@ -47,8 +47,8 @@ func NewPasswords(vault platform.Vault, warn func(warning string), keys ...strin
 }
 
 // Of returns the password of a broker, in clear. A sealed one is opened under platform.PasswordContext. A file has it
-// on one line, as secrets.Secret reads it. If a file can't be read, but could be before, the password that it had then
-// counts, so that no order is lost while a file is replaced.
+// on one line, as secrets.Secret reads it. If a file can't be read, but could be before, the password that was in it
+// then counts, so that no order is lost while a file is replaced.
 //
 // Errors: the broker has no password, or a sealed one and there is no vault; those of the vault and of secrets.Secret.
 func (p *Passwords) Of(broker platform.Broker) (string, error) {
@@ -104,7 +104,7 @@ func (p *Passwords) ofFile(name string) (string, error) {
 	return known.password, nil
 }
 
-// isKey is whether a file has a key.
+// isKey reports whether a file has a key.
 func (p *Passwords) isKey(about os.FileInfo) bool {
 	for _, fingerprint := range p.keys {
 		if key, err := os.Stat(fingerprint); err == nil && os.SameFile(key, about) {

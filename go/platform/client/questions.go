@@ -22,7 +22,7 @@ type Answer struct {
 	Status             int
 	State              string // of a last operation: in progress, succeeded or failed; or empty
 	Error, Description string // the answer's, or empty
-	// IsUnsure is whether the answer isn't surely the broker's, because its body is no object. A gateway may have given
+	// IsUnsure says that the answer isn't surely the broker's, because its body is no object. A gateway may have given
 	// it. A broker may send a 410 without a body.
 	IsUnsure bool
 }
@@ -100,7 +100,7 @@ func questionTarget(prefix string, entry platform.Entry, isFetch bool) (string, 
 	return strings.TrimSuffix(path, "/last_operation") + "?" + query, nil
 }
 
-// tell is what an answer says of itself.
+// tell reads what an answer says of itself.
 func tell(got wholeAnswer) (Answer, error) {
 	details, err := osb.ReadDetails(got.body)
 	if err != nil {

@@ -31,7 +31,7 @@ const created = "order ordered; claim wanted; sent provision; answered empty; ta
 
 // The lines of an instance and a binding.
 func TestEvents(t *testing.T) {
-	s := newSite(t)
+	s := newTestPlatform(t)
 	key := s.create("one")
 	s.run()
 	want(t, "create", s.events(1), created)
@@ -53,7 +53,7 @@ func TestEvents(t *testing.T) {
 
 // The members of lines, and the chain of the texts.
 func TestMembers(t *testing.T) {
-	s := newSite(t)
+	s := newTestPlatform(t)
 	key := s.create("my first")
 	s.run()
 	text, request := "", ""
@@ -94,7 +94,7 @@ func TestMembers(t *testing.T) {
 
 // The text of a binding's record is a binding's, and its credentials have one digest: as answered and as recorded.
 func TestBinding(t *testing.T) {
-	s := newSite(t)
+	s := newTestPlatform(t)
 	s.create("one")
 	s.run()
 	from := len(s.lines())
@@ -122,7 +122,7 @@ func TestBinding(t *testing.T) {
 
 // A Fetch, and a poll that it follows. The Fetch has no attempt of its own.
 func TestFetch(t *testing.T) {
-	s := newSite(t)
+	s := newTestPlatform(t)
 	s.create("one")
 	s.run()
 	from := len(s.lines())
@@ -150,7 +150,7 @@ func TestFetch(t *testing.T) {
 
 // The line of a change is in the file before it is committed, and that of a request before it leaves.
 func TestOrder(t *testing.T) {
-	s := newSite(t)
+	s := newTestPlatform(t)
 	commits, requests := 0, 0
 	s.store.stepped = func(change *platform.Change) {
 		commits++
@@ -178,7 +178,7 @@ func TestOrder(t *testing.T) {
 func TestUndone(t *testing.T) {
 	for _, fails := range []error{errFull, errDoubt} {
 		undo := map[error]string{errFull: "undone", errDoubt: "undone doubtful"}[fails]
-		s := newSite(t)
+		s := newTestPlatform(t)
 		key := s.create("one")
 		failed := false
 		s.store.stepped = func(change *platform.Change) {
@@ -198,7 +198,7 @@ func TestUndone(t *testing.T) {
 
 // A row of a claim whose step fails below the journal isn't written: its change is undone, and that of the other isn't.
 func TestUndoneRow(t *testing.T) {
-	s := newSite(t)
+	s := newTestPlatform(t)
 	s.create("one")
 	s.create("two")
 	from := len(s.lines())
@@ -242,7 +242,7 @@ func (f failing) Claim(_ context.Context, _ []string, _ int, step platform.Step)
 
 func TestUndoneClaim(t *testing.T) {
 	for fails, want := range map[error]string{errFull: "undone; undone", errDoubt: "undone doubtful; undone doubtful"} {
-		s := newSite(t)
+		s := newTestPlatform(t)
 		w, err := Open(Options{Path: s.path + ".own", Most: 1 << 20})
 		check(t, err)
 		to := New(w, nil, func(err error) bool { return errors.Is(err, errDoubt) })
@@ -263,7 +263,7 @@ func TestUndoneClaim(t *testing.T) {
 
 // A record that has no text loses its line, and nothing else.
 func TestNoText(t *testing.T) {
-	s := newSite(t)
+	s := newTestPlatform(t)
 	path, failed := s.path+".own", 0
 	w, err := Open(Options{
 		Path: path, Most: 1 << 20, Failed: func(error) { failed++ },
@@ -287,7 +287,7 @@ func TestNoText(t *testing.T) {
 
 // The step of a transaction that is tried again is undone first.
 func TestTriedAgain(t *testing.T) {
-	s := newSite(t)
+	s := newTestPlatform(t)
 	s.create("one")
 	s.store.tries = 3
 	s.run()
@@ -297,7 +297,7 @@ func TestTriedAgain(t *testing.T) {
 
 // An order that isn't inserted is undone.
 func TestUsed(t *testing.T) {
-	s := newSite(t)
+	s := newTestPlatform(t)
 	s.create("one")
 	_, err := s.orders.Create(background, platform.NewInstance{Service: service, Plan: plan, ID: "one"})
 	if err == nil {
@@ -312,7 +312,7 @@ func TestUsed(t *testing.T) {
 
 // What is to be checked before an order is inserted is checked beside the journal, too.
 func TestOrderThatIsNotAllowed(t *testing.T) {
-	s := newSite(t)
+	s := newTestPlatform(t)
 	err := s.to.OrdersStore(s.store.Store).Insert(background, platform.Entry{
 		Order: platform.Order{Key: keyOf("one"), Broker: "shop", Body: json.RawMessage("{}")},
 	}, func(platform.Snapshot) error { return errFull })
@@ -325,7 +325,7 @@ func TestOrderThatIsNotAllowed(t *testing.T) {
 
 // A step that writes nothing has no line, and is no error.
 func TestStepThatWritesNothing(t *testing.T) {
-	s := newSite(t)
+	s := newTestPlatform(t)
 	key := s.create("one")
 	from := len(s.lines())
 	err := s.to.EngineStore(s.store.Store).Change(background, key,
@@ -336,7 +336,7 @@ func TestStepThatWritesNothing(t *testing.T) {
 
 // An order that wasn't sent is withdrawn.
 func TestWithdrawn(t *testing.T) {
-	s := newSite(t)
+	s := newTestPlatform(t)
 	_, err := s.orders.Remove(background, s.create("one"), false)
 	check(t, err)
 	want(t, "withdrawn", s.events(1), "order ordered; command withdrawn")
@@ -344,7 +344,7 @@ func TestWithdrawn(t *testing.T) {
 
 // The order under another id that follows a failed one is written down with the end of that one.
 func TestNextTry(t *testing.T) {
-	s := newSite(t)
+	s := newTestPlatform(t)
 	s.seller.answers = func(out platform.Outgoing) platform.Incoming {
 		if out.Request.Kind == osb.KindProvision {
 			return platform.Incoming{Lost: errors.New("no answer")}
@@ -368,7 +368,7 @@ func TestNextTry(t *testing.T) {
 
 // A command that changes the record: the retry of a deletion that hangs.
 func TestRetry(t *testing.T) {
-	s := newSite(t)
+	s := newTestPlatform(t)
 	key := s.create("one")
 	s.run()
 	s.seller.answers = func(platform.Outgoing) platform.Incoming {
@@ -388,7 +388,7 @@ func TestRetry(t *testing.T) {
 
 // An answer that has the time of another journal is followed by later lines.
 func TestTimes(t *testing.T) {
-	s := newSite(t)
+	s := newTestPlatform(t)
 	ahead := time.Now().Add(time.Hour).UnixMicro()
 	s.seller.answers = func(out platform.Outgoing) platform.Incoming {
 		in := sells(out)
@@ -406,7 +406,7 @@ func TestTimes(t *testing.T) {
 
 // No parameter, credential or password stands in a journal.
 func TestNoSecrets(t *testing.T) {
-	s := newSite(t)
+	s := newTestPlatform(t)
 	s.create("one")
 	s.run()
 	bound, err := s.orders.Bind(background, platform.NewBinding{Instance: "one"})
@@ -573,8 +573,8 @@ type line struct {
 	Version, Worker                     string
 }
 
-// A site is a platform whose journal is read.
-type site struct {
+// A testPlatform is a platform whose journal is read.
+type testPlatform struct {
 	t      *testing.T
 	path   string
 	store  *faulty
@@ -584,10 +584,10 @@ type site struct {
 	to     *Journal
 }
 
-func newSite(t *testing.T) *site {
+func newTestPlatform(t *testing.T) *testPlatform {
 	t.Helper()
 	folder := t.TempDir()
-	s := &site{t: t, path: filepath.Join(folder, "journal"), seller: &seller{answers: sells}}
+	s := &testPlatform{t: t, path: filepath.Join(folder, "journal"), seller: &seller{answers: sells}}
 	store, err := sqlite.Open(background, filepath.Join(folder, "store"))
 	check(t, err)
 	t.Cleanup(func() { check(t, store.Close()) })
@@ -611,7 +611,7 @@ func newSite(t *testing.T) *site {
 }
 
 // create orders an instance.
-func (s *site) create(id string) platform.Key {
+func (s *testPlatform) create(id string) platform.Key {
 	s.t.Helper()
 	made, err := s.orders.Create(background, platform.NewInstance{
 		Service: service, Plan: plan, ID: id, Parameters: json.RawMessage(`{"password":"` + parameter + `"}`),
@@ -621,12 +621,12 @@ func (s *site) create(id string) platform.Key {
 }
 
 // run runs the engine until nothing is due.
-func (s *site) run() {
+func (s *testPlatform) run() {
 	s.t.Helper()
 	check(s.t, s.engine.RunOnce(background))
 }
 
-func (s *site) lines() (lines []line) {
+func (s *testPlatform) lines() (lines []line) {
 	s.t.Helper()
 	text, err := os.ReadFile(s.path)
 	check(s.t, err)
@@ -640,14 +640,14 @@ func (s *site) lines() (lines []line) {
 	return lines
 }
 
-func (s *site) last() line {
+func (s *testPlatform) last() line {
 	s.t.Helper()
 	all := s.lines()
 	return all[len(all)-1]
 }
 
 // events are the events of the lines from one on, with what distinguishes them.
-func (s *site) events(from int) string {
+func (s *testPlatform) events(from int) string {
 	s.t.Helper()
 	var texts []string
 	for _, line := range s.lines()[from:] {

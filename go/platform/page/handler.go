@@ -219,7 +219,7 @@ func (h *handler) message(template string, f frame, status int, sentence string)
 	return status, out.Bytes()
 }
 
-// isNamed is whether a request names the page by an address at which it listens.
+// isNamed reports whether a request names the page by an address at which it listens.
 func (h *handler) isNamed(r *http.Request) bool {
 	given := strings.ToLower(r.Host)
 	for _, host := range h.Hosts {
@@ -230,7 +230,7 @@ func (h *handler) isNamed(r *http.Request) bool {
 	return h.isAddress(r, given)
 }
 
-// isAddress is whether a Host is an address of the connection of a request, or a name of it.
+// isAddress reports whether a Host is an address of the connection of a request, or a name of it.
 func (h *handler) isAddress(r *http.Request, given string) bool {
 	local, isKnown := r.Context().Value(http.LocalAddrContextKey).(net.Addr)
 	if !isKnown {
@@ -275,8 +275,8 @@ func digestOf(user, password string) [sha256.Size]byte {
 	return sha256.Sum256([]byte(user + "\x00" + password))
 }
 
-// isUser is whether a request has the password of a user, or none is asked for. It compares all of them in constant
-// time.
+// isUser reports whether a request has the password of a user, or none is asked for. It compares all of them in
+// constant time.
 func (h *handler) isUser(r *http.Request) bool {
 	if len(h.Users) == 0 {
 		return true
@@ -347,10 +347,10 @@ type target struct {
 	isStill  bool      // whether the page stays as it is, and isn't refreshed of itself
 }
 
-// isFirst is whether the first page is asked for, with what waits and what is in flight.
+// isFirst reports whether the first page is asked for, with what waits and what is in flight.
 func (a target) isFirst() bool { return a == target{isStill: a.isStill, order: a.order} }
 
-// isPaged is whether the rows are listed by time, on pages.
+// isPaged reports whether the rows are listed by time, on pages.
 func (a target) isPaged() bool { return a.find == "" && a.state != inFlight }
 
 // first asks for the first page of the same list.

@@ -99,7 +99,7 @@ func (l look) search(a target) (all []api.Record, err error) {
 	return append([]api.Record{whole}, all...), err
 }
 
-// holds is whether one of these rows has an id, as it is sent or as a number.
+// holds reports whether one of these rows has an id, as it is sent or as a number.
 func holds(all []api.Record, id string) bool {
 	for _, record := range all {
 		if record.Key() == id || record.ID == id && !record.IsBinding() || record.IsBinding() && record.InstanceID+"/"+record.ID == id {
@@ -184,7 +184,7 @@ func (l look) row(r api.Record, kind string) row {
 // leastWait is how long a further try must still wait for the wait to be shown.
 const leastWait = time.Second
 
-// waits is whether a row is a further try that isn't due yet.
+// waits reports whether a row is a further try that isn't due yet.
 func (l look) waits(r api.Record) bool {
 	return r.State == api.Ordered && r.Try > 1 && timeOf(r.Due).Sub(l.now) >= leastWait
 }
@@ -223,7 +223,7 @@ func nameOf(r api.Record) string {
 	return plain(r.ID)
 }
 
-// isBefore is whether a row comes before another one by time and key.
+// isBefore reports whether a row comes before another one by time and key.
 func isBefore(a, b api.Record) bool {
 	if !a.Since.Equal(b.Since) {
 		return a.Since.Before(b.Since)

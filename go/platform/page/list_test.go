@@ -37,11 +37,11 @@ func TestFind(t *testing.T) {
 		"zebra": 1, "fee1": 1, "0000000A": 1, "00000005-0000-4000-8000-000000000005": 1, "nothing": 0, "a/b/c": 0, "%22": 0, "%00": 0,
 	} {
 		t.Run(find, func(t *testing.T) {
-			text := got(t, h, "/?find="+find)
+			text := pageText(t, h, "/?find="+find)
 			diff.Equal(t, len(rowsIn(text)), want, "")
 		})
 	}
-	has(t, got(t, h, "/?find=00000051"), "of "+idOf(5).String())
+	has(t, pageText(t, h, "/?find=00000051"), "of "+idOf(5).String())
 }
 
 // many are rows in three states, some of which changed to it at the same time.
@@ -59,7 +59,7 @@ func many(number int) *fake {
 func walk(t *testing.T, h http.Handler, target, by string) (rows [][]string, captions []string) {
 	t.Helper()
 	for len(rows) <= 100 && target != "" {
-		text := got(t, h, target)
+		text := pageText(t, h, target)
 		rows = append(rows, rowsIn(text))
 		_, caption, _ := strings.Cut(part(t, text, "instances"), "<caption>")
 		caption, _, _ = strings.Cut(caption, ",")
@@ -103,15 +103,15 @@ func TestPages(t *testing.T) {
 			pages, captions := walk(t, h, target, "page-next")
 			diff.Check(t, join(pages), wanted, "the rows")
 			diff.Check(t, captions, []string{"1 to 50 of 121", "51 to 100 of 121", "101 to 121 of 121"}, "the pages")
-			if isSaid := strings.Contains(got(t, h, target), "while you turn pages"); isSaid == (target == "/?order=number") {
+			if isSaid := strings.Contains(pageText(t, h, target), "while you turn pages"); isSaid == (target == "/?order=number") {
 				t.Errorf("got %t, want it to say that pages may leave out rows, but in the order of the number", isSaid)
 			}
-			last := linkOf(got(t, h, target), "page-last")
+			last := linkOf(pageText(t, h, target), "page-last")
 			pages, captions = walk(t, h, last, "page-previous")
 			diff.Check(t, join(backwards(pages[:2])), wanted[21:], "backwards the last rows")
 			diff.Check(t, pages[2], wanted[:50], "backwards the first rows")
 			diff.Check(t, captions, []string{"72 to 121 of 121", "22 to 71 of 121", "1 to 50 of 121"}, "backwards the pages")
-			begin, end := got(t, h, target), got(t, h, last)
+			begin, end := pageText(t, h, target), pageText(t, h, last)
 			diff.Equal(t, linkOf(end, "page-first"), target, "the first page")
 			for text, names := range map[string][]string{
 				begin: {"page-first", "page-previous"}, end: {"page-next", "page-last"},
@@ -136,7 +136,7 @@ func TestPagesOfOneState(t *testing.T) {
 	for target, number := range map[string]int{"/?state=ordered": 100, "/?kind=bindings": 60} {
 		t.Run(target, func(t *testing.T) {
 			newest, _ := walk(t, h, target, "page-next")
-			oldest, _ := walk(t, h, linkOf(got(t, h, target), "order-oldest"), "page-next")
+			oldest, _ := walk(t, h, linkOf(pageText(t, h, target), "order-oldest"), "page-next")
 			diff.Equal(t, len(join(newest)), number, "rows")
 			diff.Check(t, join(newest), backwards(join(oldest)), "the rows in one order and in the other")
 		})
@@ -148,16 +148,16 @@ func TestFewRows(t *testing.T) {
 	store := many(50)
 	h := pageOf(t, store, Options{})
 	for _, target := range []string{"/", "/?page=last", "/?find=0"} {
-		if text := got(t, h, target); strings.Contains(text, `class="pages"`) || len(rowsIn(text)) != 50 {
+		if text := pageText(t, h, target); strings.Contains(text, `class="pages"`) || len(rowsIn(text)) != 50 {
 			t.Errorf("%s: got %s, want 50 rows and no links to pages", target, mainOf(text))
 		}
 	}
 	store.rows = append(store.rows, many(51).rows[0]) // the second page has the oldest row alone, until it is gone
 	store.rows[50].Key, store.rows[50].Since = platform.InstanceKey(idOf(0x51)), began.Add(-time.Hour)
-	behind := linkOf(got(t, h, "/"), "page-next")
+	behind := linkOf(pageText(t, h, "/"), "page-next")
 	store.rows = store.rows[:50]
-	text := got(t, h, behind)
-	if rows := rowsIn(got(t, h, linkOf(text, "page-first"))); len(rowsIn(text)) != 0 || len(rows) != 50 {
+	text := pageText(t, h, behind)
+	if rows := rowsIn(pageText(t, h, linkOf(text, "page-first"))); len(rowsIn(text)) != 0 || len(rows) != 50 {
 		t.Errorf("the first page: got %v, want 50 rows", rows)
 	}
 }
@@ -180,14 +180,14 @@ func TestTargets(t *testing.T) {
 func TestStill(t *testing.T) {
 	h := pageOf(t, shelf(), Options{})
 	for _, target := range []string{"/", "/?state=ready", pageOn(platform.InstanceKey(idOf(5)))} {
-		text := got(t, h, target)
+		text := pageText(t, h, target)
 		has(t, text, `data-refresh="5"`, `http-equiv="refresh" content="15"`)
-		still := got(t, h, linkOf(text, "refresh"))
+		still := pageText(t, h, linkOf(text, "refresh"))
 		diff.Lacks(t, still, "data-refresh", "%s", target)
 		diff.Lacks(t, still, "http-equiv", "%s", target)
 		diff.Equal(t, linkOf(still, "refresh"), target, "")
 	}
-	text := got(t, h, "/?still=1")
+	text := pageText(t, h, "/?still=1")
 	has(t, text, `<input type="hidden" name="still" value="1">`)
 	for _, match := range links.FindAllStringSubmatch(text, -1) {
 		if match[2] != "refresh" && !strings.Contains(match[1], "still=1") {
@@ -236,22 +236,22 @@ func TestOverSQLite(t *testing.T) {
 	for _, target := range []string{
 		"/", "/?state=ready", "/?kind=bindings", "/?find=0000000", "/?state=in-flight", "/?state=gone",
 	} {
-		a, b := rowsIn(got(t, one, target)), rowsIn(got(t, other, target))
+		a, b := rowsIn(pageText(t, one, target)), rowsIn(pageText(t, other, target))
 		diff.Equal(t, strings.Join(a, " "), strings.Join(b, " "), "%s", target)
 	}
-	text := got(t, other, "/")
+	text := pageText(t, other, "/")
 	for _, state := range states {
 		has(t, text, `id="go-`+string(state)+`"><strong>1</strong>`)
 	}
 	has(t, part(t, text, "waiting"), "1 unsettled", "The broker shut rejects")
 	has(t, part(t, text, "flights"), "Provision", "worker-1")
-	has(t, got(t, other, pageOn(platform.InstanceKey(idOf(5)))), `id="bindings"`, "1 binding")
+	has(t, pageText(t, other, pageOn(platform.InstanceKey(idOf(5)))), `id="bindings"`, "1 binding")
 	clean := func(now time.Time, snapshot platform.Snapshot) (*platform.Change, error) {
 		snapshot.Entry.State, snapshot.Entry.Since = platform.Cleaning, now
 		return &platform.Change{Entry: snapshot.Entry}, nil
 	}
 	check(t, store.Change(background, platform.InstanceKey(idOf(5)), clean))
-	has(t, got(t, other, pageOn(platform.InstanceKey(idOf(5)))), "2 states", `<span class="state ready">`)
+	has(t, pageText(t, other, pageOn(platform.InstanceKey(idOf(5)))), "2 states", `<span class="state ready">`)
 }
 
 // copies makes copies of the rows of a file, until there are so many. Each has another id and another time.
@@ -298,11 +298,11 @@ func TestLargeStore(t *testing.T) {
 		t.Skip("it makes 100,000 rows")
 	}
 	h := pageOf(t, large(t), Options{})
-	text := got(t, h, "/")
+	text := pageText(t, h, "/")
 	has(t, text, "<title>100,000 instances, 10,000 unsettled", "The first 5 of 10,000", "1 to 50 of 100,000")
-	deep := got(t, h, "/?state=gone")
+	deep := pageText(t, h, "/?state=gone")
 	for n := 0; n < 20; n++ {
-		deep = got(t, h, linkOf(deep, "page-next"))
+		deep = pageText(t, h, linkOf(deep, "page-next"))
 	}
 	has(t, deep, "1,001 to 1,050 of 10,000")
 	for _, target := range []string{
@@ -313,7 +313,7 @@ func TestLargeStore(t *testing.T) {
 		var times []time.Duration
 		for n := 0; n < 5; n++ {
 			began := time.Now()
-			got(t, h, target)
+			pageText(t, h, target)
 			times = append(times, time.Since(began))
 		}
 		sort.Slice(times, func(a, b int) bool { return times[a] < times[b] })
@@ -335,7 +335,7 @@ func checkEveryPage(t *testing.T, h http.Handler) {
 		"/?order=oldest&page=last": "page-previous",
 	} {
 		for n := 0; n < 10; n++ {
-			text := got(t, h, target)
+			text := pageText(t, h, target)
 			for _, row := range rowsIn(text) {
 				seen[row]++
 			}
@@ -413,7 +413,7 @@ func less(order platform.Ordering, a, b platform.Position) bool {
 	return a.Key.String() < b.Key.String()
 }
 
-// comesBefore is whether a position comes before another one in the order of a filter.
+// comesBefore reports whether a position comes before another one in the order of a filter.
 func comesBefore(filter platform.Filter, a, b platform.Position) bool {
 	if filter.Latest {
 		a, b = b, a

@@ -224,7 +224,7 @@ func (l look) parts(o *overview, a target, c counts, flights []api.Record) error
 	return nil
 }
 
-// isDenial returns whether a status rejects the user or the password.
+// isDenial reports whether a status rejects the user or the password.
 func isDenial(status int) bool {
 	return status == http.StatusUnauthorized || status == http.StatusForbidden
 }
@@ -234,7 +234,7 @@ type attention struct {
 	states []string
 	todo   string // with commands between `
 	isLong bool   // whether only those wait that are in their state for longer than longCleaning
-	// isUnreadable is whether only those wait that can't be read. Such a row stays in its state, so it is among the
+	// isUnreadable says that only those wait that can't be read. Such a row stays in its state, so it is among the
 	// first size rows of that state.
 	isUnreadable bool
 }

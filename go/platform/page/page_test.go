@@ -29,7 +29,7 @@ import (
 )
 
 func TestFirstPage(t *testing.T) {
-	text := got(t, pageOf(t, shelf(), Options{}), "/")
+	text := pageText(t, pageOf(t, shelf(), Options{}), "/")
 	for _, state := range states {
 		has(t, text, `id="go-`+string(state)+`"><strong>1</strong> <span class="state `+string(state)+`">`+string(state))
 	}
@@ -53,7 +53,7 @@ func TestFirstPage(t *testing.T) {
 
 func TestLifeInALine(t *testing.T) {
 	store := shelf()
-	text := part(t, got(t, pageOf(t, store, Options{}), "/?state=ready"), "instances")
+	text := part(t, pageText(t, pageOf(t, store, Options{}), "/?state=ready"), "instances")
 	has(t, text,
 		`<li><span class="state ordered">ordered</span> <time datetime="2025-12-31T03:04:05Z">2025-12-31 03:04:05`,
 		`<li><span class="state wanted">wanted</span> <time datetime="2025-12-31T04:04:05Z">04:04:05</time>`,
@@ -62,8 +62,8 @@ func TestLifeInALine(t *testing.T) {
 	for n := 0; n < 20; n++ {
 		store.lives[key] = append(store.lives[key], platform.Stay{State: platform.Cleaning, Since: began})
 	}
-	has(t, got(t, pageOf(t, store, Options{}), "/?state=ready"), "<li>17 states before</li>")
-	has(t, got(t, pageOf(t, store, Options{}), pageOn(key)), "24 states", `<th scope="row" role="rowheader">24</th>`)
+	has(t, pageText(t, pageOf(t, store, Options{}), "/?state=ready"), "<li>17 states before</li>")
+	has(t, pageText(t, pageOf(t, store, Options{}), pageOn(key)), "24 states", `<th scope="row" role="rowheader">24</th>`)
 }
 
 // A row that can't be read is shown with the others, and why it can't be read.
@@ -73,10 +73,10 @@ func TestUnreadableRow(t *testing.T) {
 	h := pageOf(t, store, Options{})
 	const why = "its record can't be read: the record: <b>"
 	for _, target := range []string{"/", "/?state=ready", pageOn(store.rows[4].Key)} {
-		text := html.UnescapeString(got(t, h, target))
+		text := html.UnescapeString(pageText(t, h, target))
 		diff.Equal(t, strings.Count(text, why), 1, "%s, %s, %q", target, mainOf(text), why)
 	}
-	diff.Equal(t, len(rowsIn(got(t, h, "/"))), len(states), "the list")
+	diff.Equal(t, len(rowsIn(pageText(t, h, "/"))), len(states), "the list")
 }
 
 // A row that can't be read needs attention if something is to be done for it.
@@ -87,7 +87,7 @@ func TestUnreadableRowNeedsAttention(t *testing.T) {
 			store.rows[at].Unreadable = "the record: <b>"
 		}
 	}
-	waiting := html.UnescapeString(part(t, got(t, pageOf(t, store, Options{}), "/"), "waiting"))
+	waiting := html.UnescapeString(part(t, pageText(t, pageOf(t, store, Options{}), "/"), "waiting"))
 	_, waiting, _ = strings.Cut(waiting, "<h3>Records that can't be read</h3>")
 	waiting, _, isFollowed := strings.Cut(waiting, "<h3>1 unsettled</h3>")
 	has(t, waiting, "2, the longest first", "Nothing is sent for such a record.",
@@ -99,7 +99,7 @@ func TestUnreadableRowNeedsAttention(t *testing.T) {
 }
 
 func TestEmptyStore(t *testing.T) {
-	text := got(t, pageOf(t, &fake{now: now}, Options{}), "/")
+	text := pageText(t, pageOf(t, &fake{now: now}, Options{}), "/")
 	has(t, text, "Nothing needs attention.", "No request is in flight.", "There are no brokers yet.",
 		"There are no instances yet. To create one, run <code>osb-platform create</code>.", "0 instances")
 	for _, state := range states {
@@ -111,7 +111,7 @@ func TestEmptyStore(t *testing.T) {
 // What is cleaned for a short time doesn't wait for a person.
 func TestShortCleaning(t *testing.T) {
 	store := shelf()
-	text := part(t, got(t, pageOf(t, store, Options{LongCleaning: 25 * time.Hour}), "/"), "waiting")
+	text := part(t, pageText(t, pageOf(t, store, Options{LongCleaning: 25 * time.Hour}), "/"), "waiting")
 	diff.Lacks(t, text, "cleaning", "the table of what waits")
 	has(t, text, "1 unsettled")
 }
@@ -122,13 +122,13 @@ func TestMuchWaits(t *testing.T) {
 		store.rows = append(store.rows, entryOf(platform.InstanceKey(idOf(0x100+n)), platform.Unsettled))
 		store.rows = append(store.rows, flying(entryOf(platform.InstanceKey(idOf(0x200+n)), platform.Cleaning)))
 	}
-	text := got(t, pageOf(t, store, Options{}), "/")
+	text := pageText(t, pageOf(t, store, Options{}), "/")
 	has(t, part(t, text, "waiting"), "8 unsettled", "The first 5 of 8, the longest first",
 		"The first 5, the longest first", "All 8 unsettled instances", "All 8 cleaning instances",
 		"All 1 cleaning-polling instance")
 	has(t, part(t, text, "flights"), "The first 5 of 8, by the end of their lease")
 	diff.Equal(t, linkOf(text, "more-unsettled"), "/?order=oldest&state=unsettled", "the link")
-	flights := got(t, pageOf(t, store, Options{}), linkOf(text, "more-in-flight"))
+	flights := pageText(t, pageOf(t, store, Options{}), linkOf(text, "more-in-flight"))
 	diff.Equal(t, len(rowsIn(flights)), 8, "the list")
 }
 
@@ -142,16 +142,16 @@ func TestInstancePage(t *testing.T) {
 	e.Failure = platform.Reason{At: began, Kind: "provision", Status: 500, Description: "no room"}
 	e.Names.Instance, e.Because, e.Unchanged, e.Removal = "my id", "nobody wants it", 3, platform.RemovedWhole
 	e.Due = now.Add(90 * time.Second)
-	text := got(t, pageOf(t, store, Options{}), pageOn(e.Key))
+	text := pageText(t, pageOf(t, store, Options{}), pageOn(e.Key))
 	has(t, text, "<h1>Instance <code>my id</code></h1>", "task-1", "https://dash.example", "{&#34;labels&#34;: {}}",
 		"poll, status 200, Code, it goes well, cut", "provision, status 500, no room", "nobody wants it",
 		"the last 3 requests", "that of its bindings first", "(in 1 min)", e.Key.String(), "1 of 3",
 		"4 states", "1 h</div>", "until now")
 	diff.Lacks(t, text, `href="https://dash`, "")
 	has(t, part(t, text, "bindings"), `id="b-`+e.Key.String()+"/"+idOf(0x51).String()+`"`, "1 binding")
-	bound := got(t, pageOf(t, store, Options{}), linkOf(text, "b-"+e.Key.String()+"/"+idOf(0x51).String()))
+	bound := pageText(t, pageOf(t, store, Options{}), linkOf(text, "b-"+e.Key.String()+"/"+idOf(0x51).String()))
 	has(t, bound, "<h1>Binding <code>"+idOf(0x51).String(), `<a href="`+pageOn(e.Key)+`" id="instance">`)
-	unsettled := got(t, pageOf(t, store, Options{}), pageOn(store.rows[8].Key))
+	unsettled := pageText(t, pageOf(t, store, Options{}), pageOn(store.rows[8].Key))
 	has(t, unsettled, "<code>osb-platform ask "+store.rows[8].Key.String(),
 		"<code>osb-platform remove "+store.rows[8].Key.String(),
 		"only if <code>ask</code> advises it, for example after a 410, or after a 200")
@@ -170,11 +170,11 @@ func TestChainOfTries(t *testing.T) {
 		store.rows = append(store.rows, e)
 	}
 	for _, e := range store.rows {
-		text := got(t, pageOf(t, store, Options{}), pageOn(e.Key))
+		text := pageText(t, pageOf(t, store, Options{}), pageOn(e.Key))
 		has(t, part(t, text, "tries"), "3 tries of one order", "try 1</span><span>provision, status 503, full 1",
 			"try 3")
 	}
-	alone := got(t, pageOf(t, shelf(), Options{}), pageOn(shelf().rows[4].Key))
+	alone := pageText(t, pageOf(t, shelf(), Options{}), pageOn(shelf().rows[4].Key))
 	diff.Lacks(t, alone, `id="tries"`, "an order without a further try")
 }
 
@@ -195,13 +195,13 @@ func TestChainOfBindings(t *testing.T) {
 	store.rows = append(store.rows, alone)
 	h := pageOf(t, store, Options{})
 	for _, e := range store.rows[2:4] {
-		text := got(t, h, pageOn(e.Key))
+		text := pageText(t, h, pageOn(e.Key))
 		has(t, part(t, text, "tries"), "2 tries of one order", "try 1</span><span>bind, status 422, ConcurrencyError, busy 1",
 			"try 2</span><span>bind, status 422, ConcurrencyError, busy 2", `href="`+pageOn(store.rows[2].Key)+`"`)
 		has(t, text, "<h1>Binding <code>"+e.Key.Binding.String(), fmt.Sprint(e.Try, " of 3"))
 	}
 	for _, e := range []platform.Entry{alone, of} {
-		text := got(t, h, pageOn(e.Key))
+		text := pageText(t, h, pageOn(e.Key))
 		diff.Lacks(t, text, `id="tries"`, "%v", e.Key)
 	}
 }
@@ -215,9 +215,9 @@ func TestWaitingTryOfBinding(t *testing.T) {
 	e.Try, e.First, e.Due = 2, idOf(1), now.Add(10*time.Minute)
 	h := pageOf(t, &fake{now: now, rows: []platform.Entry{of, before, e}}, Options{})
 	for _, target := range []string{"/?kind=bindings&state=ordered", pageOn(of.Key), pageOn(before.Key)} {
-		has(t, got(t, h, target), "<span>waits until 2026-01-03 03:14:05</span>")
+		has(t, pageText(t, h, target), "<span>waits until 2026-01-03 03:14:05</span>")
 	}
-	has(t, got(t, h, pageOn(e.Key)), "<dt>Why the try before failed</dt>"+
+	has(t, pageText(t, h, pageOn(e.Key)), "<dt>Why the try before failed</dt>"+
 		`<dd>bind, status 503, no room <span class="ago">(1 day ago)</span></dd>`)
 }
 
@@ -243,7 +243,7 @@ func TestWaitingTry(t *testing.T) {
 			for target, part := range map[string]string{
 				"/": until, "/?state=ordered": until, "/?find=00000002": until, pageOn(e.Key): why, pageOn(before.Key): until,
 			} {
-				text := got(t, h, target)
+				text := pageText(t, h, target)
 				diff.Equal(t, strings.Count(text, part), test.want, "%s, %q, %s", target, part, mainOf(text))
 			}
 		})
@@ -280,9 +280,9 @@ func TestReasons(t *testing.T) {
 			if test.want == "" {
 				want = `<td role="cell" data-name="Now" class="nothing"><div></div></td>`
 			}
-			has(t, part(t, got(t, h, "/?find=0"), "instances"), want)
+			has(t, part(t, pageText(t, h, "/?find=0"), "instances"), want)
 			if test.state == platform.Unsettled || test.state == platform.Cleaning {
-				has(t, part(t, got(t, h, "/"), "waiting"), `data-name="Reason"><div>`+test.want+`</div>`)
+				has(t, part(t, pageText(t, h, "/"), "waiting"), `data-name="Reason"><div>`+test.want+`</div>`)
 			}
 		})
 	}
@@ -298,8 +298,8 @@ func TestFlights(t *testing.T) {
 			e.Lease = platform.Lease{}
 		}
 		h := pageOf(t, &fake{now: now, rows: []platform.Entry{e}}, Options{})
-		has(t, got(t, h, "/"), "<span>Provision</span><span>"+want+"</span>")
-		has(t, got(t, h, pageOn(e.Key)), "<dd>Provision, "+want+"</dd>")
+		has(t, pageText(t, h, "/"), "<span>Provision</span><span>"+want+"</span>")
+		has(t, pageText(t, h, pageOn(e.Key)), "<dd>Provision, "+want+"</dd>")
 	}
 }
 
@@ -310,7 +310,7 @@ func TestLongLife(t *testing.T) {
 	for n := 0; n < longest+7; n++ {
 		store.lives[key] = append(store.lives[key], platform.Stay{State: platform.Cleaning, Since: began})
 	}
-	text := got(t, pageOf(t, store, Options{}), pageOn(key))
+	text := pageText(t, pageOf(t, store, Options{}), pageOn(key))
 	has(t, text, "<caption>1,011 states, of which the first 10 aren&#39;t shown</caption>",
 		`<th scope="row" role="rowheader">11</th>`, `<th scope="row" role="rowheader">1,011</th>`)
 	diff.Lacks(t, text, `<th scope="row" role="rowheader">10</th>`, "")
@@ -409,8 +409,8 @@ func answerTo(h http.Handler, r *http.Request) *httptest.ResponseRecorder {
 	return recorder
 }
 
-// got is the text of a page.
-func got(t *testing.T, h http.Handler, target string) string {
+// pageText is the text of a page.
+func pageText(t *testing.T, h http.Handler, target string) string {
 	t.Helper()
 	answered := answerTo(h, request("GET", target))
 	if answered.Code != http.StatusOK {
@@ -649,7 +649,7 @@ func TestOverRecordedAnswers(t *testing.T) {
 	h, answering := recordedPage(t)
 	const web, old, app = "00000001-0000-4000-8000-000000000001", "00000002-0000-4000-8000-000000000002",
 		"00000003-0000-4000-8000-000000000003"
-	text := got(t, h, "/")
+	text := pageText(t, h, "/")
 	has(t, text, "<title>2 instances, 1 unsettled - osb-platform</title>",
 		`As of <time datetime="2026-01-03T03:04:05Z">`, `id="go-ready"><strong>1</strong>`, `id="go-binding-unsettled"><strong>1</strong>`)
 	has(t, part(t, text, "waiting"), "<h3>1 unsettled</h3>", `href="/instance/`+web+`/binding/`+app+`"`, "of web-db",
@@ -659,11 +659,11 @@ func TestOverRecordedAnswers(t *testing.T) {
 	has(t, part(t, text, "brokers"), "https://folder.example", "2026-01-01 00:00:00", "catalogue, status 401, who are you")
 	has(t, part(t, text, "instances"), "17 states before", "1 to 2 of 2", "removal is asked for",
 		`href="/?after=bmV4dA&amp;from=2" id="page-next"`)
-	one := got(t, h, "/instance/web-db")
+	one := pageText(t, h, "/instance/web-db")
 	has(t, one, "<h1>Instance <code>web-db</code></h1>", "2 requests", "https://folder.example/web-db", web,
 		`{&#34;labels&#34;: {&#34;team&#34;: &#34;web&#34;, &#34;tier&#34;: 1}}`,
 		"3 states", "4 min 4 s", "23 h 59 min until now", `id="b-`+web+"/"+app+`"`, "1 binding")
-	if found := rowsIn(got(t, h, "/?find=web-db")); len(found) != 1 || found[0] != web {
+	if found := rowsIn(pageText(t, h, "/?find=web-db")); len(found) != 1 || found[0] != web {
 		t.Errorf("the search: got %v, want %s", found, web)
 	}
 	for target := range answering.answers {
@@ -711,10 +711,10 @@ func TestReadsOfAPage(t *testing.T) {
 		// The counts, what is in flight, what can't be read of those that are ordered and of those that are wanted, the
 		// brokers, and the list.
 		const ofFirst = 6
-		got(t, h, "/")
+		pageText(t, h, "/")
 		diff.Equal(t, reader.calls, ofFirst, "%d", number)
 		// The counts, what is in flight, and the list.
-		got(t, h, "/?state=ordered")
+		pageText(t, h, "/?state=ordered")
 		diff.Equal(t, reader.calls, ofFirst+3, "%d, %d", reader.calls-ofFirst, number)
 	}
 }

@@ -58,7 +58,7 @@ func TestEscaping(t *testing.T) {
 	h := pageOf(t, store, Options{})
 	find := "/?find=%22%3E%3Cscript%3Edocument.title%3C/script%3E"
 	for _, target := range append(targets(), find) {
-		text := got(t, h, target)
+		text := pageText(t, h, target)
 		for _, harm := range []string{"<script>document", "<b onload", "\x1b", "\u202e", "\x00"} {
 			diff.Lacks(t, text, harm, "%s", target)
 		}
@@ -79,7 +79,7 @@ func objectOf(t *testing.T, text string) []byte {
 func TestNoSecrets(t *testing.T) {
 	h := pageOf(t, shelf(), Options{})
 	for _, target := range targets() {
-		text := got(t, h, target)
+		text := pageText(t, h, target)
 		for _, secret := range []string{"hush", "parameters", "eyJ", "cloud"} {
 			diff.Lacks(t, text, secret, "%s", target)
 		}
@@ -370,7 +370,7 @@ func TestSlowReaders(t *testing.T) {
 		}()
 		<-slow.writing
 	}
-	got(t, h, "/")
+	pageText(t, h, "/")
 	close(letGo)
 	all.Wait()
 }
@@ -429,7 +429,7 @@ func TestLongTexts(t *testing.T) {
 	store.brokers[0].Reason = platform.Reason{Kind: "catalogue", Status: 500, Description: long, Lost: long}
 	h := pageOf(t, store, Options{})
 	for _, target := range targets() {
-		text := mainOf(got(t, h, target))
+		text := mainOf(pageText(t, h, target))
 		diff.Contains(t, text, "longlong", "%s", target)
 		if strings.Contains(text, much) || len(text) > 100_000 {
 			t.Errorf("%s: got %d bytes and one of the texts whole, want it cut", target, len(text))
@@ -555,7 +555,7 @@ func testHostileBroker(t *testing.T, answer string) {
 	}
 	areShort(t, logged.texts...)
 	areShort(t, row.Last.Error, row.Last.Description, row.Last.Lost, row.Failure.Description)
-	areShort(t, mainOf(got(t, pageOf(t, store, Options{}), pageOn(e.Key))))
+	areShort(t, mainOf(pageText(t, pageOf(t, store, Options{}), pageOn(e.Key))))
 }
 
 // So is what it says in the place of its catalogue.
@@ -575,7 +575,7 @@ func TestHostileCatalogue(t *testing.T) {
 				t.Error("got nothing written, want the reason")
 			}
 			areShort(t, append(logged.texts, err.Error(), said.Error, said.Description, said.Lost)...)
-			areShort(t, part(t, got(t, pageOf(t, store, Options{}), "/"), "brokers"))
+			areShort(t, part(t, pageText(t, pageOf(t, store, Options{}), "/"), "brokers"))
 		})
 	}
 }

@@ -389,8 +389,8 @@ func positionOf(filter platform.Filter, isBinding bool) (position []any) {
 	return position
 }
 
-// isOddOrder is whether padded isn't made for the database's order of texts: ICU can compare digits by the value of the
-// whole number. The server works it out when it plans a query.
+// isOddOrder selects whether padded isn't made for the database's order of texts: ICU can compare digits by the value
+// of the whole number. The server works it out when it plans a query.
 const isOddOrder = "'2' < '10'"
 
 // pad is the first or the last GUID that begins so. Between two GUIDs an index finds those that do, in each order of

@@ -156,7 +156,7 @@ func (p *process) release(t *testing.T) {
 }
 
 // The time that a step decides by is read after its rows are locked. A worker that has waited, or was paused before it
-// had the lock, doesn't decide by an old time.
+// held the lock, doesn't decide by an old time.
 func TestTheTimeOfAStep(t *testing.T) {
 	for n, test := range []struct {
 		name  string
@@ -234,7 +234,7 @@ func TestAWorkerThatIsPaused(t *testing.T) {
 			}()
 			gate.Await(t, done)
 			keys := claimFor(t, other, "other", 10)
-			if len(keys) == 0 || len(keys) == 4 { // all, if it had waited for the end of the session
+			if len(keys) == 0 || len(keys) == 4 { // all, if it waited for the end of the session
 				t.Errorf("the other worker: got %v claimed, want some, and not all", keys)
 			}
 			left := 4 - len(keys)

@@ -232,7 +232,7 @@ func within[T any](ctx context.Context, s *Store, work func(*call) (T, error)) (
 	}
 	defer s.running.Done()
 	this := &call{}
-	value, isLeft, err := bound(ctx, func() (T, error) { return work(this) })
+	value, isLeft, err := runWithin(ctx, func() (T, error) { return work(this) })
 	if isLeft {
 		this.end()
 	}
@@ -248,8 +248,8 @@ type outcome[T any] struct {
 	err   error
 }
 
-// bound returns what work returns. If isLeft is true, it has left work running, since the context has ended.
-func bound[T any](ctx context.Context, work func() (T, error)) (value T, isLeft bool, err error) {
+// runWithin returns what work returns. If isLeft is true, it has left work running, since the context has ended.
+func runWithin[T any](ctx context.Context, work func() (T, error)) (value T, isLeft bool, err error) {
 	if ctx.Done() == nil {
 		value, err = work()
 		return value, false, err
@@ -375,11 +375,11 @@ func (r *right) watch() {
 	}
 }
 
-// lives is whether the session has answered.
+// lives reports whether the session has answered.
 func (r *right) lives() bool {
 	ctx, cancel := context.WithTimeout(context.Background(), patience)
 	defer cancel()
-	_, isLeft, err := bound(ctx, func() (sql.Result, error) { return r.conn.ExecContext(ctx, "SELECT 1") })
+	_, isLeft, err := runWithin(ctx, func() (sql.Result, error) { return r.conn.ExecContext(ctx, "SELECT 1") })
 	return err == nil && !isLeft
 }
 

@@ -103,7 +103,7 @@ func await(t *testing.T, db *sql.DB, what, query string, parameters ...any) {
 	}
 }
 
-// isWaiting is whether a session of an application waits for a lock.
+// isWaiting selects whether a session of an application waits for a lock.
 const isWaiting = "SELECT EXISTS (SELECT FROM pg_stat_activity " +
 	"WHERE application_name = $1 AND wait_event_type = 'Lock')"
 

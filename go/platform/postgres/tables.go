@@ -76,10 +76,10 @@ INSERT INTO osb_broker_asked VALUES (1, 'of a later version of osb-platform, whi
     ON CONFLICT (one) DO UPDATE SET url = excluded.url;
 `
 
-// isSince02 is whether the tables have what version 0.2 didn't have: that is added in one transaction.
+// isSince02 selects whether the tables have what version 0.2 lacked: that is added in one transaction.
 const isSince02 = "SELECT to_regclass('osb_platform') IS NOT NULL"
 
-// isCurrent is whether nothing is missing.
+// isCurrent selects whether nothing is missing.
 var isCurrent = isSince02 + " AND NOT EXISTS (" + missingColumns() + ")"
 
 // missingColumns is a query of the statements that add the columns that the tables lack.
@@ -110,8 +110,8 @@ func typeOf(column platform.Column) string {
 	return "text"
 }
 
-// hasWorkers is whether a worker of version 0.2 may run over the tables: it holds a lock of its name (store.go). No
-// later worker runs before the tables are extended.
+// hasWorkers selects whether a worker of version 0.2 may run over the tables: it holds a lock of its name (store.go).
+// No later worker runs before the tables are extended.
 const hasWorkers = `
 SELECT to_regclass('osb_instances') IS NOT NULL AND EXISTS (SELECT FROM pg_locks JOIN pg_database ON oid = database
     WHERE locktype = 'advisory' AND classid = $1 AND objsubid = 2 AND granted AND datname = current_database())
@@ -126,7 +126,7 @@ const longestMigration = 15 * time.Minute
 
 var errWorkers = errors.New("a worker of version 0.2 runs over these tables. Stop all of its workers first")
 
-// hasTables is whether there are tables of a platform, of any version.
+// hasTables selects whether there are tables of a platform, of any version.
 const hasTables = "SELECT to_regclass('osb_instances') IS NOT NULL"
 
 // An extension brings the tables up to date in a transaction, and returns whether it has changed any.

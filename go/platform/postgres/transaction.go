@@ -20,7 +20,7 @@ const clock = "date_part('epoch', clock_timestamp())"
 // start is when the statement began, on the same clock.
 const start = "date_part('epoch', statement_timestamp())"
 
-// isFree is whether nobody has leased a row.
+// isFree is the condition that nobody has leased a row.
 const isFree = "(worker IS NULL OR leased_until < " + start + ")"
 
 // dueOf has the rows of a table that are due the longest, of each broker so many by its index, and then of all.
@@ -414,8 +414,8 @@ func soonest(due, now time.Time) time.Time {
 	return due
 }
 
-// allGone is whether no binding of an instance of the batch may exist. The row of the instance is locked, so none comes
-// into being until the transaction ends.
+// allGone reports whether no binding of an instance of the batch may exist. The row of the instance is locked, so none
+// comes into being until the transaction ends.
 func (b *batch) allGone(instance platform.Key) (bool, error) {
 	for key, row := range b.rows {
 		if key.IsBinding && key.Instance == instance.Instance && mayExist(row.entry) {
@@ -453,7 +453,7 @@ func (b *batch) readBound() (err error) {
 			instances = append(instances, key.String())
 		}
 	}
-	b.bound, _, err = bound(b.ctx, func() (map[string]bool, error) {
+	b.bound, _, err = runWithin(b.ctx, func() (map[string]bool, error) {
 		found := map[string]bool{}
 		rows, err := b.tx.QueryContext(b.ctx, boundOf, array(instances), array(bindings))
 		return found, each(rows, err, func(rows *sql.Rows) error {

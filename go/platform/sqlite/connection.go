@@ -212,7 +212,7 @@ func (c *connection) insert(entry platform.Entry) error {
 	return err
 }
 
-// isOne is whether a change is one statement, which needs nothing else to be undone.
+// isOne reports whether a change is one statement, which needs nothing else to be undone.
 func isOne(before platform.Entry, change *platform.Change) bool {
 	return change.Next == nil && before.State == change.Entry.State && !change.RemoveBindings && !change.WakeInstance
 }

@@ -304,7 +304,7 @@ func withoutIndex(is bool) string {
 	return ""
 }
 
-// of adds the conditions of a filter, except for those on states and the position. isUnindexed is whether no index of
+// of adds the conditions of a filter, except for those on states and the position. isUnindexed says that no index of
 // brokers is used.
 func (s *selection) of(filter platform.Filter, isUnindexed bool) {
 	if filter.Broker != "" {
@@ -398,7 +398,7 @@ func statesOf(filter platform.Filter) (of []platform.State) {
 	return of
 }
 
-// isBehind is whether rows in a state may come behind the position of a filter.
+// isBehind reports whether rows in a state may come behind the position of a filter.
 func isBehind(filter platform.Filter, state platform.State) bool {
 	switch {
 	case filter.After == nil || filter.Order == platform.ByTime:

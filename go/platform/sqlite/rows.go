@@ -504,7 +504,7 @@ const (
 )
 
 // schemaOf returns the number of the tables, and the statements that add the columns that they lack. Another program
-// may have a table of the same name: the columns tell them apart.
+// may have a table of the same name: the columns say which is which.
 func schemaOf(ctx context.Context, conn *sqlitefile.Conn) (found int64, missing []string, err error) {
 	columns, others := int64(0), int64(0)
 	err = sqlitefile.Patiently(ctx, func() error {

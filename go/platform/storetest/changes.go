@@ -528,7 +528,7 @@ func (d *dock) addBroker(store platform.Store) {
 	}))
 }
 
-// isRemoved is whether an instance is removed while its first binding is being deleted.
+// isRemoved reports whether an instance is removed while its first binding is being deleted.
 func isRemoved(instance osb.ID) bool { return instance[len(instance)-1]%2 == 0 }
 
 // Exchange is a request at the broker.

@@ -151,7 +151,7 @@ func (f *faulty) judge(failed string, got, before, want outcome) {
 	}
 }
 
-// isFault returns whether an error is that of a statement that was made to fail, and not of what was concluded from it.
+// isFault reports whether an error is that of a statement that was made to fail, and not of what was concluded from it.
 func isFault(err error) bool {
 	return strings.Contains(err.Error(), storefaults.ErrFault.Error())
 }

@@ -491,7 +491,8 @@ func TestRenew(t *testing.T) {
 	}
 }
 
-// What version 0.3 has sealed isn't accepted any more: neither written back, nor at another URL, nor by a further Renew.
+// What version 0.3 has sealed isn't accepted any more: neither written back, nor at another URL, nor by a further
+// Renew.
 func TestRenewOnce(t *testing.T) {
 	store, path := storeOf03(t)
 	brokers, err := store.Brokers(background)
@@ -553,8 +554,8 @@ func TestRenewWrittenBack(t *testing.T) {
 	}
 }
 
-// A password that doesn't open stays as it is, and the others are sealed again. A URL that was changed before is the one
-// that the password is sealed for: nobody can know it.
+// A password that doesn't open stays as it is, and the others are sealed again. A URL that was changed before is the
+// one that the password is sealed for: nobody can know it.
 func TestRenewUnopened(t *testing.T) {
 	store, path := storeOf03(t)
 	execute(t, path, "UPDATE osb_brokers SET password = (SELECT password FROM osb_brokers WHERE name = 'shop') "+
@@ -667,10 +668,10 @@ func TestRenewBesideStart(t *testing.T) {
 	}
 }
 
-// A contested store has another fingerprint whenever one is to be replaced: other processes renew it, too.
-type contested struct{ platform.Store }
+// A contestedStore store has another fingerprint whenever one is to be replaced: other processes renew it, too.
+type contestedStore struct{ platform.Store }
 
-func (contested) ReplaceFingerprint(context.Context, string, string) error {
+func (contestedStore) ReplaceFingerprint(context.Context, string, string) error {
 	return platform.ErrUnknown
 }
 
@@ -678,7 +679,7 @@ func (contested) ReplaceFingerprint(context.Context, string, string) error {
 func TestRenewContested(t *testing.T) {
 	store, _ := storeOf03(t)
 	v := newVault(t, one)
-	if _, err := v.Renew(background, contested{store}); !errors.Is(err, ErrRotating) || len(passwords(t, store, v)) != 0 {
+	if _, err := v.Renew(background, contestedStore{store}); !errors.Is(err, ErrRotating) || len(passwords(t, store, v)) != 0 {
 		t.Errorf("got %v and the passwords %v, want %v and none", err, passwords(t, store, v), ErrRotating)
 	}
 }

@@ -166,11 +166,11 @@ func (v *Vault) Rekey(sealed []byte, context string) (again []byte, isChanged bo
 	return again, err == nil, err
 }
 
-// Fingerprint is the same for the same first key, and shows nothing of it. It is 32 hexadecimal digits. It isn't the one
-// of version 0.3: by it a store says that its passwords are sealed under platform.PasswordContext (Renew).
+// Fingerprint is the same for the same first key, and shows nothing of it. It is 32 hexadecimal digits. It isn't the
+// one of version 0.3: by it a store says that its passwords are sealed under platform.PasswordContext (Renew).
 func (v *Vault) Fingerprint() string { return v.keys[0].fingerprint }
 
-// Knows returns whether one of the keys has this fingerprint. While a key is replaced, a store still has that of the
+// Knows reports whether one of the keys has this fingerprint. While a key is replaced, a store still has that of the
 // old one.
 func (v *Vault) Knows(fingerprint string) bool {
 	for _, key := range v.keys {

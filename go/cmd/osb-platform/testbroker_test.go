@@ -19,8 +19,8 @@ import (
 	"pippinterm/osb"
 )
 
-// A site is a broker that sells folders, over HTTP, in this process.
-type site struct {
+// A testBroker sells folders, over HTTP, in this process.
+type testBroker struct {
 	url string
 
 	mutex   sync.Mutex
@@ -28,19 +28,20 @@ type site struct {
 	held    chan struct{} // if it isn't nil, answers about instances and bindings wait until it is closed
 	asked   int           // requests about instances and bindings
 	seen    []string      // their methods and targets
-	// password is the one that is accepted, and refused is how many requests about instances and bindings had another.
+	// password is the one that is accepted, and refused is how many requests about instances and bindings came with
+	// another.
 	password string
 	refused  int
 }
 
-// newSite starts a broker with the standard catalogue of osb-broker.
-func newSite(t *testing.T) *site {
+// newTestBroker starts a broker with the standard catalogue of osb-broker.
+func newTestBroker(t *testing.T) *testBroker {
 	t.Helper()
-	return newSiteFor(t, broker.Silent{})
+	return newTestBrokerFor(t, broker.Silent{})
 }
 
-// newSiteFor is newSite of a broker whose requests an observer sees.
-func newSiteFor(t *testing.T, observer broker.Observer) *site {
+// newTestBrokerFor is newTestBroker of a broker whose requests an observer sees.
+func newTestBrokerFor(t *testing.T, observer broker.Observer) *testBroker {
 	t.Helper()
 	document := diff.Value(os.ReadFile("../osb-broker/catalogue.json"))(t)
 	catalogue := diff.Value(broker.NewCatalogue(document, true))(t)
@@ -62,7 +63,7 @@ func newSiteFor(t *testing.T, observer broker.Observer) *site {
 		defer close(swept)
 		sweeper.Run(ctx, stop, 2, 20*time.Millisecond)
 	}()
-	s := &site{password: "secret"}
+	s := &testBroker{password: "secret"}
 	server := httptest.NewServer(s.before(handler))
 	s.url = server.URL
 	t.Cleanup(func() {
@@ -76,14 +77,14 @@ func newSiteFor(t *testing.T, observer broker.Observer) *site {
 
 // answer has the next requests about instances and bindings answered with these statuses, and not by the broker. A 422
 // has the error ConcurrencyError.
-func (s *site) answer(statuses ...int) {
+func (s *testBroker) answer(statuses ...int) {
 	s.mutex.Lock()
 	defer s.mutex.Unlock()
 	s.instead = statuses
 }
 
 // hold has answers wait, until the function that it returns is called.
-func (s *site) hold() (release func()) {
+func (s *testBroker) hold() (release func()) {
 	held := make(chan struct{})
 	s.mutex.Lock()
 	defer s.mutex.Unlock()
@@ -99,21 +100,21 @@ func (s *site) hold() (release func()) {
 }
 
 // setPassword has another password accepted, and the one before refused.
-func (s *site) setPassword(password string) {
+func (s *testBroker) setPassword(password string) {
 	s.mutex.Lock()
 	defer s.mutex.Unlock()
 	s.password = password
 }
 
-// refusals is how many requests about instances and bindings had a wrong password.
-func (s *site) refusals() int {
+// refusals returns how many requests about instances and bindings came with a wrong password.
+func (s *testBroker) refusals() int {
 	s.mutex.Lock()
 	defer s.mutex.Unlock()
 	return s.refused
 }
 
-// admit is whether a request has the password. It gives the broker the one that it knows.
-func (s *site) admit(r *http.Request) bool {
+// admit reports whether a request has the password. It gives the broker the one that it knows.
+func (s *testBroker) admit(r *http.Request) bool {
 	user, password, _ := r.BasicAuth()
 	s.mutex.Lock()
 	defer s.mutex.Unlock()
@@ -125,27 +126,27 @@ func (s *site) admit(r *http.Request) bool {
 }
 
 // requests is how many requests there were about instances and bindings.
-func (s *site) requests() int {
+func (s *testBroker) requests() int {
 	s.mutex.Lock()
 	defer s.mutex.Unlock()
 	return s.asked
 }
 
 // since returns the methods and the targets of all requests about instances and bindings but the first.
-func (s *site) since(first int) []string {
+func (s *testBroker) since(first int) []string {
 	s.mutex.Lock()
 	defer s.mutex.Unlock()
 	return append([]string(nil), s.seen[first:]...)
 }
 
 // await waits for so many requests about instances and bindings.
-func (s *site) await(t *testing.T, count int) {
+func (s *testBroker) await(t *testing.T, count int) {
 	t.Helper()
 	waits.Until(t, fmt.Sprint(count, " requests were sent"), func() bool { return s.requests() >= count })
 }
 
 // before counts requests, answers some of them, and holds answers.
-func (s *site) before(next http.Handler) http.Handler {
+func (s *testBroker) before(next http.Handler) http.Handler {
 	return http.HandlerFunc(func(w http.ResponseWriter, r *http.Request) {
 		isAdmitted := s.admit(r)
 		if !isAdmitted {
