@@ -162,13 +162,15 @@ func TestTakenLost(t *testing.T) {
 	for state, want := range map[State]State{
 		Ordered: Cleaning, Polling: Polling, Cleaning: Cleaning, CleaningPolling: CleaningPolling,
 	} {
-		for _, key := range []Key{anInstance, aBinding} {
-			try := newTrial(t, rowIn(key, state), plain())
-			e := try.take(t, exchangeResult{kind: "kind", Incoming: Incoming{Lost: errors.New("cut")}}).Entry
-			if e.State != want || e.Passing != (state == Ordered) || e.Last.Lost != "cut" {
-				t.Errorf("from %s: got %s, passing %v, %+v, want %s and \"cut\"", state, e.State, e.Passing, e.Last, want)
+		t.Run(string(state), func(t *testing.T) {
+			for _, key := range []Key{anInstance, aBinding} {
+				try := newTrial(t, rowIn(key, state), plain())
+				e := try.take(t, exchangeResult{kind: "kind", Incoming: Incoming{Lost: errors.New("cut")}}).Entry
+				if e.State != want || e.Passing != (state == Ordered) || e.Last.Lost != "cut" {
+					t.Errorf("from %s: got %s, passing %v, %+v, want %s and \"cut\"", state, e.State, e.Passing, e.Last, want)
+				}
 			}
-		}
+		})
 	}
 }
 
@@ -202,11 +204,13 @@ func TestTakenInDoubt(t *testing.T) {
 		{}, {Worker: "other", Until: try.row.Lease.Until},
 		{Worker: "one", Until: try.row.Lease.Until.Add(time.Millisecond)},
 	} {
-		lease.Claim = try.row.Lease.Claim
-		row := with(try.row, func(e *Entry) { e.Lease = lease })
-		if change, err := takeAnswer(at(12), Snapshot{Entry: row}, try.sent, lost); change != nil || err != nil {
-			t.Errorf("leased by %v: got %v and %v, want none and no error", lease, change, err)
-		}
+		t.Run(fmt.Sprintf("leased by %v", lease), func(t *testing.T) {
+			lease.Claim = try.row.Lease.Claim
+			row := with(try.row, func(e *Entry) { e.Lease = lease })
+			if change, err := takeAnswer(at(12), Snapshot{Entry: row}, try.sent, lost); change != nil || err != nil {
+				t.Errorf("leased by %v: got %v and %v, want none and no error", lease, change, err)
+			}
+		})
 	}
 }
 
@@ -414,19 +418,23 @@ func TestTakenLast(t *testing.T) {
 		want[status] = verdict{unsure, false}
 	}
 	for _, key := range []Key{anInstance, aBinding} {
-		for status, want := range want {
-			row := longGone(key)
-			try := newTrial(t, row, usualTerms())
-			result := try.answer(status, `{}`)
-			shown, isOver := judgeLast(result.Incoming)
-			e := try.take(t, result).Entry
-			if shown != want.shown || isOver != want.isOver || e.HasLast == want.isOver || e.Rests() != want.isOver {
-				t.Errorf("%d: got %v, %v, %v, due %v; want %v", status, shown, isOver, e.HasLast, e.Due, want)
+		t.Run(fmt.Sprint(key), func(t *testing.T) {
+			for status, want := range want {
+				t.Run(fmt.Sprint(status), func(t *testing.T) {
+					row := longGone(key)
+					try := newTrial(t, row, usualTerms())
+					result := try.answer(status, `{}`)
+					shown, isOver := judgeLast(result.Incoming)
+					e := try.take(t, result).Entry
+					if shown != want.shown || isOver != want.isOver || e.HasLast == want.isOver || e.Rests() != want.isOver {
+						t.Errorf("%d: got %v, %v, %v, due %v; want %v", status, shown, isOver, e.HasLast, e.Due, want)
+					}
+					if e.State != Gone || e.Record != row.Record || e.Since != row.Since || e.Last.Status != status {
+						t.Errorf("%d: got the record changed to %s: %v, want it unchanged", status, e.State, e.Record)
+					}
+				})
 			}
-			if e.State != Gone || e.Record != row.Record || e.Since != row.Since || e.Last.Status != status {
-				t.Errorf("%d: got the record changed to %s: %v, want it unchanged", status, e.State, e.Record)
-			}
-		}
+		})
 	}
 	try := newTrial(t, longGone(anInstance), usualTerms())
 	lost := exchangeResult{Incoming: Incoming{Lost: errors.New("cut")}}

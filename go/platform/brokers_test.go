@@ -546,10 +546,12 @@ func TestIsAskedAlike(t *testing.T) {
 		"another hold":         {func(b *Broker) { b.Settings.Hold = &second }, false},
 		"a password in a file": {func(b *Broker) { b.PasswordFile = "p" }, false},
 	} {
-		one := Broker{Name: "shelf", URL: "https://shelf", User: "u"}
-		other := one
-		test.change(&other)
-		diff.Equal(t, isAskedAlike(one, other) && isAskedAlike(other, one), test.want, "%s", name)
+		t.Run(name, func(t *testing.T) {
+			one := Broker{Name: "shelf", URL: "https://shelf", User: "u"}
+			other := one
+			test.change(&other)
+			diff.Equal(t, isAskedAlike(one, other) && isAskedAlike(other, one), test.want, "%s", name)
+		})
 	}
 }
 
@@ -612,13 +614,15 @@ func TestSettingsOfABroker(t *testing.T) {
 			for to, isAllowed := range map[time.Duration]bool{
 				test.least - 1: false, test.least: true, longestSetting: true, longestSetting + 1: false,
 			} {
-				d, to := newDesk(t), to
-				err := d.orders.SetBroker(background, "shelf", func(b *Broker) error { test.set(&b.Settings, &to); return nil }, nil)
-				if isAllowed {
-					check(t, err)
-				} else {
-					wantFault(t, err, Invalid, "the "+name+" of a broker")
-				}
+				t.Run(to.String(), func(t *testing.T) {
+					d, to := newDesk(t), to
+					err := d.orders.SetBroker(background, "shelf", func(b *Broker) error { test.set(&b.Settings, &to); return nil }, nil)
+					if isAllowed {
+						check(t, err)
+					} else {
+						wantFault(t, err, Invalid, "the "+name+" of a broker")
+					}
+				})
 			}
 		})
 	}

@@ -233,7 +233,9 @@ func TestOptions(t *testing.T) {
 // Besides AtOnce, half as many may be in flight, and at least one.
 func TestMostInFlight(t *testing.T) {
 	for atOnce, want := range map[int]int{1: 2, 2: 3, 16: 24, 1024: 1536} {
-		diff.Equal(t, MostInFlight(atOnce), want, "MostInFlight(%d)", atOnce)
+		t.Run(fmt.Sprint(atOnce), func(t *testing.T) {
+			diff.Equal(t, MostInFlight(atOnce), want, "MostInFlight(%d)", atOnce)
+		})
 	}
 }
 

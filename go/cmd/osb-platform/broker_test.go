@@ -116,11 +116,13 @@ func TestRejectedBrokerLeavesNoStore(t *testing.T) {
 		{"One http://127.0.0.1:1 --password-file " + password, 78, ``, `.*the name of a broker.*`},
 		{"one http://192.0.2.1 --password-file " + password, 78, ``, `.*with http://.*`},
 	} {
-		expected.arguments = "broker add " + expected.arguments
-		wantLines(t, store, []line{expected})
-		if _, err := os.Stat(folder); !errors.Is(err, fs.ErrNotExist) {
-			t.Fatalf("%s: got %s (%v), want no such folder", expected.arguments, folder, err)
-		}
+		t.Run(expected.arguments, func(t *testing.T) {
+			expected.arguments = "broker add " + expected.arguments
+			wantLines(t, store, []line{expected})
+			if _, err := os.Stat(folder); !errors.Is(err, fs.ErrNotExist) {
+				t.Fatalf("%s: got %s (%v), want no such folder", expected.arguments, folder, err)
+			}
+		})
 	}
 	wantLines(t, store, []line{
 		{"broker add one http://127.0.0.1:1 --password-file " + password, 0, ``, `.*warning: .*`},

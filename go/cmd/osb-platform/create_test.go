@@ -298,13 +298,16 @@ func TestLaterDeletion(t *testing.T) {
 	polled.State = platform.CleaningPolling
 	rests.Due = time.Time{}
 	for _, test := range []struct {
+		name string
 		of   platform.Entry
 		want string
 	}{
-		{later, " (the deletion is due at " + at.UTC().Format("2006-01-02T15:04:05Z") + ")"},
-		{soon, ""}, {sent, ""}, {polled, ""}, {rests, ""},
+		{"later", later, " (the deletion is due at " + at.UTC().Format("2006-01-02T15:04:05Z") + ")"},
+		{"soon", soon, ""}, {"sent", sent, ""}, {"polled", polled, ""}, {"rests", rests, ""},
 	} {
-		diff.Equal(t, dueLater(test.of), test.want, "%+v", test.of)
+		t.Run(test.name, func(t *testing.T) {
+			diff.Equal(t, dueLater(test.of), test.want, "%+v", test.of)
+		})
 	}
 }
 

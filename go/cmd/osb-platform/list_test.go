@@ -4,6 +4,7 @@ import (
 	"bytes"
 	"context"
 	"encoding/json"
+	"fmt"
 	"io"
 	"os"
 	"path/filepath"
@@ -174,20 +175,22 @@ func TestColumns(t *testing.T) {
 	for withReasons, want := range map[bool]string{
 		false: "one\tready\t0001-01-01T00:00:00Z\ts\tp\tshop", true: "one\tready\t0001-01-01T00:00:00Z\ts\tp\tshop\twhy",
 	} {
-		var head, row, plain strings.Builder
-		shown := shownColumns(withReasons)
-		check(t, printHead(&head, shown))
-		check(t, printRow(&row, shown, e, true))
-		check(t, printRow(&plain, shown, e, false))
-		diff.Equal(t, plain.String(), want+"\n", "")
-		names, cells := strings.Fields(head.String()), strings.Split(want, "\t")
-		if len(names) != len(cells) || withReasons && names[len(names)-1] != "reason" {
-			t.Errorf("got the names %q and the cells %q, want one for each", names, cells)
-		}
-		for at, cell := range cells { // on a terminal, each cell is below its name
-			diff.Equal(t, strings.Index(head.String(), names[at]), strings.Index(row.String(), cell),
-				"%s, %q, %q", names[at], head.String(), row.String())
-		}
+		t.Run(fmt.Sprint("with reasons ", withReasons), func(t *testing.T) {
+			var head, row, plain strings.Builder
+			shown := shownColumns(withReasons)
+			check(t, printHead(&head, shown))
+			check(t, printRow(&row, shown, e, true))
+			check(t, printRow(&plain, shown, e, false))
+			diff.Equal(t, plain.String(), want+"\n", "")
+			names, cells := strings.Fields(head.String()), strings.Split(want, "\t")
+			if len(names) != len(cells) || withReasons && names[len(names)-1] != "reason" {
+				t.Errorf("got the names %q and the cells %q, want one for each", names, cells)
+			}
+			for at, cell := range cells { // on a terminal, each cell is below its name
+				diff.Equal(t, strings.Index(head.String(), names[at]), strings.Index(row.String(), cell),
+					"%s, %q, %q", names[at], head.String(), row.String())
+			}
+		})
 	}
 	help := call(t, "list", "--help").out
 	diff.Contains(t, help, "The columns are "+namesOfColumns()+".\n", "")

@@ -51,13 +51,15 @@ func TestLogObserver(t *testing.T) {
 		debugLevel: lines, infoLevel: lines[1:], warningLevel: {lines[1], lines[3], lines[4], lines[5]},
 		errorLevel: {lines[3]},
 	} {
-		var written bytes.Buffer
-		observeAll(observers{logObserver{eventLog: eventLog{logger: logs.New(&written), least: least}}})
-		got := strings.Split(strings.TrimSpace(written.String()), "\n")
-		for at, line := range got {
-			_, got[at], _ = strings.Cut(line, `Z",`)
-		}
-		diff.Equal(t, strings.Join(got, "\n"), strings.Join(want, "\n"), "%s", levels[least])
+		t.Run(levels[least], func(t *testing.T) {
+			var written bytes.Buffer
+			observeAll(observers{logObserver{eventLog: eventLog{logger: logs.New(&written), least: least}}})
+			got := strings.Split(strings.TrimSpace(written.String()), "\n")
+			for at, line := range got {
+				_, got[at], _ = strings.Cut(line, `Z",`)
+			}
+			diff.Equal(t, strings.Join(got, "\n"), strings.Join(want, "\n"), "%s", levels[least])
+		})
 	}
 }
 

@@ -278,13 +278,15 @@ func TestEnds(t *testing.T) {
 	} {
 		t.Run(string(test.state), func(t *testing.T) {
 			for is, want := range map[string]string{"created": test.created, "deleted": test.deleted} {
-				ends := map[string]end{"created": creationEnd, "deleted": deletionEnd}[is]
-				hasEnded, isGood := ends(platform.Entry{State: test.state, Due: test.due})
-				got := ""
-				if hasEnded {
-					got = map[bool]string{true: "good", false: "bad"}[isGood]
-				}
-				diff.Equal(t, got, want, "%s of %s", is, test.state)
+				t.Run(is, func(t *testing.T) {
+					ends := map[string]end{"created": creationEnd, "deleted": deletionEnd}[is]
+					hasEnded, isGood := ends(platform.Entry{State: test.state, Due: test.due})
+					got := ""
+					if hasEnded {
+						got = map[bool]string{true: "good", false: "bad"}[isGood]
+					}
+					diff.Equal(t, got, want, "%s of %s", is, test.state)
+				})
 			}
 		})
 	}

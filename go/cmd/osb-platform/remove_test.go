@@ -225,8 +225,10 @@ func TestAdviceOfDeletionsWithoutState(t *testing.T) {
 		for fetch, want := range map[finding]advice{
 			saysNothing: askWhetherExists, saysNone: askWhetherExists, saysHeld: repairWhole,
 		} {
-			diff.Equal(t, adviseDeletion(client.Answer{Status: 200}, fetch, hasTombstones), want,
-				"tombstones %v, Fetch %v", hasTombstones, fetch)
+			t.Run(fmt.Sprintf("tombstones %v, Fetch %v", hasTombstones, fetch), func(t *testing.T) {
+				diff.Equal(t, adviseDeletion(client.Answer{Status: 200}, fetch, hasTombstones), want,
+					"tombstones %v, Fetch %v", hasTombstones, fetch)
+			})
 		}
 	}
 }
@@ -243,7 +245,9 @@ func TestAdviceOfOthers(t *testing.T) {
 		platform.Unsettled: "the broker holds it. If it is yours, run 'osb-platform unbind one/app': that deletes it at " +
 			"the broker",
 	} {
-		diff.Equal(t, of(state).advice(client.Answer{Status: 200, State: "succeeded"}, nil), want, "%s", state)
+		t.Run(string(state), func(t *testing.T) {
+			diff.Equal(t, of(state).advice(client.Answer{Status: 200, State: "succeeded"}, nil), want, "%s", state)
+		})
 	}
 }
 

@@ -263,11 +263,13 @@ func TestWorkers(t *testing.T) {
 		{[]string{"--broker", "http://127.0.0.1:1", "--moved", "--once", "--seconds", "0.3"}, 1, "refused\n"},
 		{[]string{"--broker", s.url, "--moved", "--late-for", "0", "--pace", "0.5", "--threads", "2", "--once"}, 0, ""},
 	} {
-		command := osbPlatform(ownPassword, append([]string{"run", "--store", store},
-			test.arguments...)...)
-		out, _ := command.CombinedOutput()
-		diff.Equal(t, command.ProcessState.ExitCode(), test.status, "%v, %s", test.arguments, out)
-		diff.Contains(t, string(out), test.says, "%v", test.arguments)
+		t.Run(strings.Join(test.arguments, " "), func(t *testing.T) {
+			command := osbPlatform(ownPassword, append([]string{"run", "--store", store},
+				test.arguments...)...)
+			out, _ := command.CombinedOutput()
+			diff.Equal(t, command.ProcessState.ExitCode(), test.status, "%v, %s", test.arguments, out)
+			diff.Contains(t, string(out), test.says, "%v", test.arguments)
+		})
 	}
 	wantLines(t, store, []line{{"broker show default", 0, ".*password\tnone.*\nhold\t0\nfirst pace\t0.5\n.*", ``}})
 }
@@ -555,6 +557,8 @@ func TestDoubtful(t *testing.T) {
 		platform.ErrAway: true, sqlitefile.ErrUnknownCommit: true,
 		platform.ErrUsed: false, platform.ErrUnknown: false, sqlitefile.ErrBusy: false,
 	} {
-		diff.Equal(t, isDoubtful(fmt.Errorf("it has failed: %w", err)), want, "%v", err)
+		t.Run(err.Error(), func(t *testing.T) {
+			diff.Equal(t, isDoubtful(fmt.Errorf("it has failed: %w", err)), want, "%v", err)
+		})
 	}
 }

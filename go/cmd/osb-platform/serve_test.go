@@ -150,18 +150,20 @@ func TestWholeWayOverAPI(t *testing.T) {
 func pageShows(t *testing.T, p *process) {
 	t.Helper()
 	for host, want := range map[string]int{"": 200, "platform.example": 200, "elsewhere.example": 421} {
-		request, err := http.NewRequest("GET", p.page+"/instance/one", nil)
-		check(t, err)
-		request.Host = host
-		given, err := http.DefaultClient.Do(request)
-		check(t, err)
-		text, err := io.ReadAll(given.Body)
-		_ = given.Body.Close()
-		diff.NoError(t, err, "%q, %s", host, text)
-		diff.Equal(t, given.StatusCode, want, "%q, %s", host, text)
-		if isShown := strings.Contains(string(text), "Instance <code>one</code>"); isShown != (want == 200) {
-			t.Errorf("%q: got %s, want the instance: %t", host, text, want == 200)
-		}
+		t.Run(host, func(t *testing.T) {
+			request, err := http.NewRequest("GET", p.page+"/instance/one", nil)
+			check(t, err)
+			request.Host = host
+			given, err := http.DefaultClient.Do(request)
+			check(t, err)
+			text, err := io.ReadAll(given.Body)
+			_ = given.Body.Close()
+			diff.NoError(t, err, "%q, %s", host, text)
+			diff.Equal(t, given.StatusCode, want, "%q, %s", host, text)
+			if isShown := strings.Contains(string(text), "Instance <code>one</code>"); isShown != (want == 200) {
+				t.Errorf("%q: got %s, want the instance: %t", host, text, want == 200)
+			}
+		})
 	}
 }
 

@@ -94,12 +94,14 @@ func TestStatusOfFiles(t *testing.T) {
 // A folder of the store that other accounts can write to is reported.
 func TestOpenFolder(t *testing.T) {
 	for mode, isOpen := range map[os.FileMode]bool{0o777: true, 0o770: true, 0o755: false, 0o700: false} {
-		store := newStore(t)
-		check(t, os.Chmod(filepath.Dir(store), mode))
-		got := call(t, "run", "--once", "--store", store)
-		if strings.Contains(got.failed, `"event":"folder_open"`) != isOpen {
-			t.Errorf("a folder of mode %o: want it reported: %v; got %s", mode, isOpen, got.failed)
-		}
+		t.Run(fmt.Sprintf("%o", mode), func(t *testing.T) {
+			store := newStore(t)
+			check(t, os.Chmod(filepath.Dir(store), mode))
+			got := call(t, "run", "--once", "--store", store)
+			if strings.Contains(got.failed, `"event":"folder_open"`) != isOpen {
+				t.Errorf("a folder of mode %o: want it reported: %v; got %s", mode, isOpen, got.failed)
+			}
+		})
 	}
 }
 
@@ -349,10 +351,12 @@ func TestKeyReplacedBesideServe(t *testing.T) {
 	wantLines(t, store, []line{{"rekey --key-file " + key + " --new-key-file " + other, 0, `encrypted again: .*`, ``}})
 	const body = `{"url": "http://127.0.0.1:1", "user": "me", "password": "new"}`
 	for method, path := range map[string]string{"PUT": "/v1/brokers/local", "GET": credentials} {
-		given := map[string]string{"PUT": body}[method]
-		if got := c.call(409, method, path, given); !isAll("the key of the store was replaced.*", got["detail"].(string)) {
-			t.Errorf("%s: got %v, want that the key was replaced", method, got)
-		}
+		t.Run(method, func(t *testing.T) {
+			given := map[string]string{"PUT": body}[method]
+			if got := c.call(409, method, path, given); !isAll("the key of the store was replaced.*", got["detail"].(string)) {
+				t.Errorf("%s: got %v, want that the key was replaced", method, got)
+			}
+		})
 	}
 	p.stop()
 	over(t, store, func(ctx context.Context, in platform.Store) error {

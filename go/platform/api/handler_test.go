@@ -211,8 +211,11 @@ func TestFilters(t *testing.T) {
 		"first=" + id: 1,
 		"first=other": 1,
 	} {
-		got := r.call("GET", "/v1/instances?"+query, "").want(200, "")
-		diff.Equal(t, len(got.items()), want, "%s, %s", query, got.text)
+		t.Run(query, func(t *testing.T) {
+			r.in(t)
+			got := r.call("GET", "/v1/instances?"+query, "").want(200, "")
+			diff.Equal(t, len(got.items()), want, "%s, %s", query, got.text)
+		})
 	}
 	for _, query := range []string{
 		"state=lost", "limit=0", "limit=1001", "limit=x", "prefix=xyz", "prefix=-", "after=x", "after=e30",
@@ -356,8 +359,11 @@ func TestTokens(t *testing.T) {
 func TestARejectedTokenKeepsNoConnection(t *testing.T) {
 	r := newRig(t)
 	for token, want := range map[string]string{"": "close", "wrong": "close", writing: "close", reading: ""} {
-		got := r.callAs(token, "GET", "/v1/counts", "")
-		diff.Equal(t, got.header.Get("Connection"), want, "%d", got.status)
+		t.Run(token, func(t *testing.T) {
+			r.in(t)
+			got := r.callAs(token, "GET", "/v1/counts", "")
+			diff.Equal(t, got.header.Get("Connection"), want, "%d", got.status)
+		})
 	}
 }
 
@@ -421,23 +427,26 @@ func TestStoreThatFails(t *testing.T) {
 		fmt.Errorf("postgres at 10.0.0.1: %w", platform.ErrAway): {503, "store_away"},
 		errors.New("disk of 10.0.0.1"):                           {500, "internal"},
 	} {
-		store.err = failed
-		for _, target := range []string{
-			"/v1/instances", "/v1/instances/a", "/v1/instances/a/bindings", "/v1/brokers", "/v1/brokers/shelf",
-			"/v1/counts", "/v1/records", "/v1/records?order=newest", "/v1/in-flight",
-		} {
-			got := r.call("GET", target, "").want(want.status, want.code)
-			diff.Lacks(t, got.text, "10.0.0.1", "")
-			if last := r.exchanges[len(r.exchanges)-1]; !errors.Is(last.Err, failed) || last.Code != want.code {
-				t.Errorf("the observer: got %+v, want the error and its code", last)
+		t.Run(want.code, func(t *testing.T) {
+			r.in(t)
+			store.err = failed
+			for _, target := range []string{
+				"/v1/instances", "/v1/instances/a", "/v1/instances/a/bindings", "/v1/brokers", "/v1/brokers/shelf",
+				"/v1/counts", "/v1/records", "/v1/records?order=newest", "/v1/in-flight",
+			} {
+				got := r.call("GET", target, "").want(want.status, want.code)
+				diff.Lacks(t, got.text, "10.0.0.1", "")
+				if last := r.exchanges[len(r.exchanges)-1]; !errors.Is(last.Err, failed) || last.Code != want.code {
+					t.Errorf("the observer: got %+v, want the error and its code", last)
+				}
+				if isAway := want.status == 503; isAway != (got.header.Get("Retry-After") != "") {
+					t.Errorf("Retry-After: got %q, want one exactly with 503", got.header.Get("Retry-After"))
+				}
 			}
-			if isAway := want.status == 503; isAway != (got.header.Get("Retry-After") != "") {
-				t.Errorf("Retry-After: got %q, want one exactly with 503", got.header.Get("Retry-After"))
-			}
-		}
-		r.call("POST", "/v1/instances", `{"service": "shelf", "plan": "small"}`).want(want.status, want.code)
-		r.call("PUT", "/v1/brokers/shelf", `{"url": "https://shelf.example", "user": "u"}`).want(want.status, want.code)
-		r.call("DELETE", "/v1/instances/a", "").want(want.status, want.code)
+			r.call("POST", "/v1/instances", `{"service": "shelf", "plan": "small"}`).want(want.status, want.code)
+			r.call("PUT", "/v1/brokers/shelf", `{"url": "https://shelf.example", "user": "u"}`).want(want.status, want.code)
+			r.call("DELETE", "/v1/instances/a", "").want(want.status, want.code)
+		})
 	}
 }
 
@@ -768,8 +777,10 @@ func TestValidator(t *testing.T) {
 		`"0001-01-01T00:00:00Z"`: openapi3.NewDateTimeSchema(), `"x"`: openapi3.NewUUIDSchema(),
 		`"true"`: openapi3.NewBoolSchema(), `[1]`: openapi3.NewArraySchema().WithItems(openapi3.NewObjectSchema()),
 	} {
-		diff.Error(t, checkText(of.NewRef(), []byte(text)),
-			"%s of the type %s and the format %q", text, of.Type, of.Format)
+		t.Run(text, func(t *testing.T) {
+			diff.Error(t, checkText(of.NewRef(), []byte(text)),
+				"%s of the type %s and the format %q", text, of.Type, of.Format)
+		})
 	}
 }
 
@@ -1089,4 +1100,11 @@ func (r *rig) bind(id string) string {
 	sealed := diff.Value(r.vault.Seal([]byte(secret), key.String()))(r.T)
 	r.answer(key, 201, func(e *platform.Entry) { e.Credentials = sealed })
 	return bid
+}
+
+// in has failures of the rig be those of a row of a table, until the row ends.
+func (r *rig) in(t *testing.T) {
+	table := r.T
+	r.T = t
+	t.Cleanup(func() { r.T = table })
 }

@@ -43,8 +43,11 @@ func TestAllBindings(t *testing.T) {
 	for query, want := range map[string]int{
 		"state=ready": 2, "state=ordered": 1, "broker=shelf": 3, "broker=none": 0,
 	} {
-		got := r.call("GET", "/v1/bindings?"+query, "").want(200, "")
-		diff.Equal(t, len(got.items()), want, "%s, %s", query, got.text)
+		t.Run(query, func(t *testing.T) {
+			r.in(t)
+			got := r.call("GET", "/v1/bindings?"+query, "").want(200, "")
+			diff.Equal(t, len(got.items()), want, "%s, %s", query, got.text)
+		})
 	}
 	r.call("GET", "/v1/bindings?first="+one, "").want(400, "malformed")
 	r.callAs(writing, "GET", "/v1/bindings", "").want(403, "forbidden")

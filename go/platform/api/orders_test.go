@@ -70,18 +70,21 @@ func TestOrderOfTime(t *testing.T) {
 	r := newRig(t)
 	r.some()
 	for path, count := range map[string]int{"/v1/records": 15, "/v1/instances": 9, "/v1/bindings": 6} {
-		want := r.call("GET", path+"?limit=1000", "").want(200, "").marks()
-		sort.Slice(want, func(a, b int) bool {
-			if !want[a].since.Equal(want[b].since) {
-				return want[a].since.Before(want[b].since)
+		t.Run(path, func(t *testing.T) {
+			r.in(t)
+			want := r.call("GET", path+"?limit=1000", "").want(200, "").marks()
+			sort.Slice(want, func(a, b int) bool {
+				if !want[a].since.Equal(want[b].since) {
+					return want[a].since.Before(want[b].since)
+				}
+				return want[a].key < want[b].key
+			})
+			if len(want) != count {
+				t.Fatalf("%s: got %v, want %d records", path, want, count)
 			}
-			return want[a].key < want[b].key
+			r.bothWays(path+"?order=oldest&limit=4", want)
+			r.bothWays(path+"?order=newest&limit=4", reverse(want))
 		})
-		if len(want) != count {
-			t.Fatalf("%s: got %v, want %d records", path, want, count)
-		}
-		r.bothWays(path+"?order=oldest&limit=4", want)
-		r.bothWays(path+"?order=newest&limit=4", reverse(want))
 	}
 	both := r.call("GET", "/v1/records?order=oldest&state=ready&state=ordered&state=ready", "").want(200, "")
 	diff.Equal(t, len(both.items()), 3+3+3+3, "the list, %s", both.text)
@@ -137,9 +140,12 @@ func TestPrefixOfRecords(t *testing.T) {
 	bid := r.bind(id)
 	of := map[string]string{"instances": id, "bindings": bid, "records": bid}
 	for kind, target := range of {
-		got := r.call("GET", "/v1/"+kind+"?prefix="+target[:13], "").want(200, "")
-		diff.Equal(t, len(got.items()), 1, "%s, %s", kind, got.text)
-		diff.Equal(t, got.at("items", "0", "id"), target, "%s, %s", kind, got.text)
+		t.Run(kind, func(t *testing.T) {
+			r.in(t)
+			got := r.call("GET", "/v1/"+kind+"?prefix="+target[:13], "").want(200, "")
+			diff.Equal(t, len(got.items()), 1, "%s, %s", kind, got.text)
+			diff.Equal(t, got.at("items", "0", "id"), target, "%s, %s", kind, got.text)
+		})
 	}
 	bound := r.call("GET", "/v1/records?prefix="+bid, "").want(200, "")
 	diff.Equal(t, bound.at("items", "0", "instance_id"), id, "%s", bound.text)
@@ -426,7 +432,10 @@ func TestTriesOfBinding(t *testing.T) {
 	for body, want := range map[string]string{
 		`{}`: "3", `{"id": "a"}`: "1", `{"id": "b", "tries": 5}`: "5", `{"tries": 0}`: "3",
 	} {
-		diff.Equal(t, r.call("POST", path, body).want(201, "").at("tries"), want, "%s", body)
+		t.Run(body, func(t *testing.T) {
+			r.in(t)
+			diff.Equal(t, r.call("POST", path, body).want(201, "").at("tries"), want, "%s", body)
+		})
 	}
 	r.call("POST", path, `{"tries": 101}`).want(400, "invalid")
 	r.call("POST", path, `{"tries": "1"}`).want(400, "malformed")

@@ -242,22 +242,24 @@ func (f failing) Claim(_ context.Context, _ []string, _ int, step platform.Step)
 
 func TestUndoneClaim(t *testing.T) {
 	for fails, want := range map[error]string{errFull: "undone; undone", errDoubt: "undone doubtful; undone doubtful"} {
-		s := newTestPlatform(t)
-		w, err := Open(Options{Path: s.path + ".own", Most: 1 << 20})
-		check(t, err)
-		to := New(w, nil, func(err error) bool { return errors.Is(err, errDoubt) })
-		_, err = to.EngineStore(failing{s.store, fails}).Claim(background, nil, 2,
-			func(_ time.Time, snapshot platform.Snapshot) (*platform.Change, error) {
-				snapshot.State = platform.Withdrawn
-				return &platform.Change{Entry: snapshot.Entry}, nil
-			})
-		if !errors.Is(err, fails) {
-			t.Error(err)
-		}
-		s.path += ".own"
-		if got := s.events(1); got != "claim withdrawn; claim withdrawn; "+want {
-			t.Errorf("%v: got %s, want two claims and then %s", fails, got, want)
-		}
+		t.Run(fails.Error(), func(t *testing.T) {
+			s := newTestPlatform(t)
+			w, err := Open(Options{Path: s.path + ".own", Most: 1 << 20})
+			check(t, err)
+			to := New(w, nil, func(err error) bool { return errors.Is(err, errDoubt) })
+			_, err = to.EngineStore(failing{s.store, fails}).Claim(background, nil, 2,
+				func(_ time.Time, snapshot platform.Snapshot) (*platform.Change, error) {
+					snapshot.State = platform.Withdrawn
+					return &platform.Change{Entry: snapshot.Entry}, nil
+				})
+			if !errors.Is(err, fails) {
+				t.Error(err)
+			}
+			s.path += ".own"
+			if got := s.events(1); got != "claim withdrawn; claim withdrawn; "+want {
+				t.Errorf("%v: got %s, want two claims and then %s", fails, got, want)
+			}
+		})
 	}
 }
 

@@ -170,9 +170,11 @@ func TestTargets(t *testing.T) {
 		{state: "ready", after: at, skipped: 3}, {order: api.ByNumber, isLast: true},
 		{before: at, skipped: 50, order: api.Oldest}, {isLast: true, bindings: true}, {state: "gone", isStill: true},
 	} {
-		target := diff.Value(url.Parse(a.target()))(t)
-		read := diff.Value(readAsked(target.Query()))(t)
-		diff.Check(t, read, a, "%v", target)
+		t.Run(a.target(), func(t *testing.T) {
+			target := diff.Value(url.Parse(a.target()))(t)
+			read := diff.Value(readAsked(target.Query()))(t)
+			diff.Check(t, read, a, "%v", target)
+		})
 	}
 }
 

@@ -243,8 +243,10 @@ func TestWaitingTry(t *testing.T) {
 			for target, part := range map[string]string{
 				"/": until, "/?state=ordered": until, "/?find=00000002": until, pageOn(e.Key): why, pageOn(before.Key): until,
 			} {
-				text := pageText(t, h, target)
-				diff.Equal(t, strings.Count(text, part), test.want, "%s, %q, %s", target, part, mainOf(text))
+				t.Run(target, func(t *testing.T) {
+					text := pageText(t, h, target)
+					diff.Equal(t, strings.Count(text, part), test.want, "%s, %q, %s", target, part, mainOf(text))
+				})
 			}
 		})
 	}
@@ -293,13 +295,15 @@ func TestFlights(t *testing.T) {
 	for until, want := range map[time.Duration]string{
 		time.Minute: "worker-1", -200 * time.Second: "worker-1, lease ran out 3 min ago", 0: "no worker has it",
 	} {
-		e := flying(entryOf(platform.InstanceKey(idOf(1)), platform.Wanted))
-		if e.Lease.Until = now.Add(until); until == 0 {
-			e.Lease = platform.Lease{}
-		}
-		h := pageOf(t, &fake{now: now, rows: []platform.Entry{e}}, Options{})
-		has(t, pageText(t, h, "/"), "<span>Provision</span><span>"+want+"</span>")
-		has(t, pageText(t, h, pageOn(e.Key)), "<dd>Provision, "+want+"</dd>")
+		t.Run(want, func(t *testing.T) {
+			e := flying(entryOf(platform.InstanceKey(idOf(1)), platform.Wanted))
+			if e.Lease.Until = now.Add(until); until == 0 {
+				e.Lease = platform.Lease{}
+			}
+			h := pageOf(t, &fake{now: now, rows: []platform.Entry{e}}, Options{})
+			has(t, pageText(t, h, "/"), "<span>Provision</span><span>"+want+"</span>")
+			has(t, pageText(t, h, pageOn(e.Key)), "<dd>Provision, "+want+"</dd>")
+		})
 	}
 }
 
@@ -474,7 +478,9 @@ func TestAgo(t *testing.T) {
 		24*time.Hour - time.Second: "23 h ago", 24 * time.Hour: "1 day ago", 48 * time.Hour: "2 days ago",
 		1041 * 24 * time.Hour: "1,041 days ago", -time.Second: "in 1 s", -90 * time.Second: "in 1 min",
 	} {
-		diff.Equal(t, ago(length), want, "%v", length)
+		t.Run(want, func(t *testing.T) {
+			diff.Equal(t, ago(length), want, "%v", length)
+		})
 	}
 }
 
@@ -483,13 +489,17 @@ func TestLasting(t *testing.T) {
 		0: "0 s", 59 * time.Second: "59 s", 61 * time.Second: "1 min 1 s", 3 * time.Hour: "3 h",
 		49 * time.Hour: "2 days 1 h", -time.Hour: "0 s", 24*time.Hour + time.Second: "1 day 1 s",
 	} {
-		diff.Equal(t, lasting(length), want, "%v", length)
+		t.Run(want, func(t *testing.T) {
+			diff.Equal(t, lasting(length), want, "%v", length)
+		})
 	}
 }
 
 func TestThousands(t *testing.T) {
 	for number, want := range map[int]string{0: "0", 999: "999", 1000: "1,000", 1234567: "1,234,567"} {
-		diff.Equal(t, thousands(number), want, "%d", number)
+		t.Run(want, func(t *testing.T) {
+			diff.Equal(t, thousands(number), want, "%d", number)
+		})
 	}
 }
 

@@ -5,6 +5,7 @@ import (
 	"database/sql"
 	"encoding/json"
 	"errors"
+	"fmt"
 	"math/rand"
 	"runtime"
 	"strings"
@@ -108,21 +109,25 @@ func TestSoonest(t *testing.T) {
 	for _, test := range []struct{ due, want time.Time }{
 		{time.Time{}, now}, {now.Add(time.Hour), now}, {now, now}, {now.Add(-time.Hour), now.Add(-time.Hour)},
 	} {
-		if got := soonest(test.due, now); !got.Equal(test.want) {
-			t.Errorf("due at %v: got %v, want %v", test.due, got, test.want)
-		}
+		t.Run(test.due.UTC().String(), func(t *testing.T) {
+			if got := soonest(test.due, now); !got.Equal(test.want) {
+				t.Errorf("due at %v: got %v, want %v", test.due, got, test.want)
+			}
+		})
 	}
 }
 
 func TestSealed(t *testing.T) {
 	for _, sealed := range []bytea{nil, {}, {0, 255, 7}} {
-		text, err := json.Marshal(sealed)
-		check(t, err)
-		read := bytea{1}
-		err = json.Unmarshal(text, &read)
-		if err != nil || string(read) != string(sealed) || (read == nil) != (sealed == nil) {
-			t.Errorf("%[1]v, written as %[2]s: got %[3]v, %[4]v, want %[1]v", []byte(sealed), text, []byte(read), err)
-		}
+		t.Run(fmt.Sprint(sealed), func(t *testing.T) {
+			text, err := json.Marshal(sealed)
+			check(t, err)
+			read := bytea{1}
+			err = json.Unmarshal(text, &read)
+			if err != nil || string(read) != string(sealed) || (read == nil) != (sealed == nil) {
+				t.Errorf("%[1]v, written as %[2]s: got %[3]v, %[4]v, want %[1]v", []byte(sealed), text, []byte(read), err)
+			}
+		})
 	}
 	if err := json.Unmarshal([]byte(`"\\xzz"`), new(bytea)); err == nil {
 		t.Error("what isn't hexadecimal: got no error, want one")
@@ -226,27 +231,29 @@ func TestQueriesUseIndexes(t *testing.T) {
 	check(t, err)
 	defer conn.Close()
 	const key = "00000000-0000-4000-8000-000000000007"
-	const row = `[{"id": "` + key + `"}]`
+	const text = `[{"id": "` + key + `"}]`
 	byKey, _ := listing(platform.Filter{Order: platform.ByKey, Most: 10})
-	queries := map[string]string{
-		lockDue:        "'{one}', 16, 96",
-		nextDue:        "'{one}'",
-		oldestDue:      "",
-		lockInstance:   quote(key),
-		lockBinding:    quote(key, key),
-		writeRows:      quote(row, row, row, "{"+key+"}", "{"+key+"}"),
-		boundOf:        quote("{"+key+"}", "{}"),
-		removeBindings: quote("{"+key+"}") + ", 1",
-		wakeInstances:  quote("{"+key+"}") + ", 1",
-		inFlight:       "10",
-		readAll:        quote("{"+key+"}", "{"+key+"}"),
-		byKey:          "",
-		leasedBy:       quote("me"),
+	queries := map[string]struct{ query, values string }{
+		"lockDue":        {lockDue, "'{one}', 16, 96"},
+		"nextDue":        {nextDue, "'{one}'"},
+		"oldestDue":      {oldestDue, ""},
+		"lockInstance":   {lockInstance, quote(key)},
+		"lockBinding":    {lockBinding, quote(key, key)},
+		"writeRows":      {writeRows, quote(text, text, text, "{"+key+"}", "{"+key+"}")},
+		"boundOf":        {boundOf, quote("{"+key+"}", "{}")},
+		"removeBindings": {removeBindings, quote("{"+key+"}") + ", 1"},
+		"wakeInstances":  {wakeInstances, quote("{"+key+"}") + ", 1"},
+		"inFlight":       {inFlight, "10"},
+		"readAll":        {readAll, quote("{"+key+"}", "{"+key+"}")},
+		"byKey":          {byKey, ""},
+		"leasedBy":       {leasedBy, quote("me")},
 	}
-	for query, values := range queries {
-		for _, mode := range []string{"force_custom_plan", "force_generic_plan"} {
-			wantIndexed(t, conn, query, values, mode)
-		}
+	for name, row := range queries {
+		t.Run(name, func(t *testing.T) {
+			for _, mode := range []string{"force_custom_plan", "force_generic_plan"} {
+				wantIndexed(t, conn, row.query, row.values, mode)
+			}
+		})
 	}
 }
 

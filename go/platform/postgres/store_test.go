@@ -292,9 +292,11 @@ func TestRoundTrips(t *testing.T) {
 			return err
 		}},
 	} {
-		proxy.Tally()
-		diff.NoError(t, test.call(), "%s", test.name)
-		diff.Equal(t, proxy.Tally().Trips, test.want, "%s: round trips", test.name)
+		t.Run(test.name, func(t *testing.T) {
+			proxy.Tally()
+			diff.NoError(t, test.call(), "%s", test.name)
+			diff.Equal(t, proxy.Tally().Trips, test.want, "%s: round trips", test.name)
+		})
 	}
 }
 

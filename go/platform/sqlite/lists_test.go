@@ -35,9 +35,11 @@ func TestLongestDue(t *testing.T) {
 	}{
 		{3, due(1, 4, 2, 3), due(1, 2, 3)}, {4, due(4, 3, 2, 1), due(1, 2, 3, 4)}, {5, due(2, 1), due(1, 2)}, {1, due(), due()},
 	} {
-		if got := longestDue(test.found, test.most); fmt.Sprint(got) != fmt.Sprint(test.want) {
-			t.Errorf("at most %d: got %v, want %v", test.most, got, test.want)
-		}
+		t.Run(fmt.Sprint(test.most, " of ", len(test.found)), func(t *testing.T) {
+			if got := longestDue(test.found, test.most); fmt.Sprint(got) != fmt.Sprint(test.want) {
+				t.Errorf("at most %d: got %v, want %v", test.most, got, test.want)
+			}
+		})
 	}
 }
 

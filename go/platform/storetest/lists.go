@@ -51,38 +51,39 @@ func testList(t *testing.T, open opener) {
 	yes, no, of, none, third := true, false, instance(0x20002).Instance, instance(0x777).Instance, id(3)
 	last, bound := instance(0x10000*19+19).Instance, binding(0x40002, 0x20002).Binding
 	for _, test := range []struct {
+		name   string
 		filter platform.Filter
 		has    func(platform.Entry) bool
 	}{
-		{platform.Filter{}, func(platform.Entry) bool { return true }},
+		{"all", platform.Filter{}, func(platform.Entry) bool { return true }},
 		{
-			platform.Filter{States: []platform.State{platform.Ready}},
+			"a state", platform.Filter{States: []platform.State{platform.Ready}},
 			func(e platform.Entry) bool { return e.State == platform.Ready },
 		},
 		{
-			platform.Filter{States: []platform.State{platform.Wanted, platform.Gone, platform.Wanted}},
+			"two states", platform.Filter{States: []platform.State{platform.Wanted, platform.Gone, platform.Wanted}},
 			func(e platform.Entry) bool { return e.State == platform.Wanted || e.State == platform.Gone },
 		},
-		{platform.Filter{States: []platform.State{"no such state'"}}, func(platform.Entry) bool { return false }},
-		{platform.Filter{Broker: "two"}, func(e platform.Entry) bool { return e.Broker == "two" }},
-		{platform.Filter{Broker: "tw"}, func(platform.Entry) bool { return false }},
-		{platform.Filter{Bindings: &yes}, func(e platform.Entry) bool { return e.Key.IsBinding }},
-		{platform.Filter{Bindings: &no}, func(e platform.Entry) bool { return !e.Key.IsBinding }},
+		{"no state", platform.Filter{States: []platform.State{"no such state'"}}, func(platform.Entry) bool { return false }},
+		{"a broker", platform.Filter{Broker: "two"}, func(e platform.Entry) bool { return e.Broker == "two" }},
+		{"no broker", platform.Filter{Broker: "tw"}, func(platform.Entry) bool { return false }},
+		{"bindings", platform.Filter{Bindings: &yes}, func(e platform.Entry) bool { return e.Key.IsBinding }},
+		{"instances", platform.Filter{Bindings: &no}, func(e platform.Entry) bool { return !e.Key.IsBinding }},
 		{
-			platform.Filter{Instance: &of},
+			"the bindings of an instance", platform.Filter{Instance: &of},
 			func(e platform.Entry) bool { return e.Key.IsBinding && e.Key.Instance == of },
 		},
-		{platform.Filter{Instance: &none}, func(platform.Entry) bool { return false }},
-		{platform.Filter{Instance: &of, Bindings: &no}, func(platform.Entry) bool { return false }},
-		{platform.Filter{First: &third}, func(e platform.Entry) bool { return e.First == third }},
-		{platform.Filter{First: &of}, func(e platform.Entry) bool { return e.First == of }}, // the first try itself
-		{platform.Filter{First: &bound}, func(e platform.Entry) bool { return e.First == bound }},
+		{"the bindings of no instance", platform.Filter{Instance: &none}, func(platform.Entry) bool { return false }},
+		{"instances of an instance", platform.Filter{Instance: &of, Bindings: &no}, func(platform.Entry) bool { return false }},
+		{"tries", platform.Filter{First: &third}, func(e platform.Entry) bool { return e.First == third }},
+		{"the first try itself", platform.Filter{First: &of}, func(e platform.Entry) bool { return e.First == of }},
+		{"tries of a binding", platform.Filter{First: &bound}, func(e platform.Entry) bool { return e.First == bound }},
 		{
-			platform.Filter{First: &third, Instance: &last},
+			"tries at an instance", platform.Filter{First: &third, Instance: &last},
 			func(e platform.Entry) bool { return e.First == third && e.Key.IsBinding && e.Key.Instance == last },
 		},
 		{
-			platform.Filter{
+			"tries at a broker in two states", platform.Filter{
 				First: &third, Broker: "one", Bindings: &no, States: []platform.State{platform.Ordered, platform.Ready},
 			},
 			func(e platform.Entry) bool {
@@ -91,7 +92,9 @@ func testList(t *testing.T, open opener) {
 			},
 		},
 	} {
-		wantList(t, store, rows, test.filter, test.has)
+		t.Run(test.name, func(t *testing.T) {
+			wantList(t, store, rows, test.filter, test.has)
+		})
 	}
 	for _, prefix := range []string{
 		"0", "00000000-0000-4000-8000-0000000", "00000000-0000-4000-8000-00000002",
@@ -198,17 +201,19 @@ func testPages(t *testing.T, open opener) {
 		{State: platform.Ordered, Since: future(0)}:                  7,
 		{State: platform.Ordered, Since: all[2].Since, Key: keys[2]}: 3,
 	} {
-		position := position
-		rows, err := store.List(background, platform.Filter{After: &position})
-		check(t, err)
-		wantKeys(t, fmt.Sprintf("after %+v", position), rows, keys[want:]...)
-		before := want // the row at a position isn't behind it in either order
-		if want > 0 && keys[want-1] == position.Key {
-			before--
-		}
-		rows, err = store.List(background, platform.Filter{After: &position, Latest: true})
-		check(t, err)
-		wantKeys(t, fmt.Sprintf("before %+v", position), rows, backwards(keys[:before])...)
+		t.Run(fmt.Sprint(position.State, " ", position.Since.UTC(), " ", position.Key), func(t *testing.T) {
+			position := position
+			rows, err := store.List(background, platform.Filter{After: &position})
+			check(t, err)
+			wantKeys(t, fmt.Sprintf("after %+v", position), rows, keys[want:]...)
+			before := want // the row at a position isn't behind it in either order
+			if want > 0 && keys[want-1] == position.Key {
+				before--
+			}
+			rows, err = store.List(background, platform.Filter{After: &position, Latest: true})
+			check(t, err)
+			wantKeys(t, fmt.Sprintf("before %+v", position), rows, backwards(keys[:before])...)
+		})
 	}
 }
 

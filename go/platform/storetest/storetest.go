@@ -456,22 +456,24 @@ func testTexts(t *testing.T, open opener) {
 			{"with \x00 in it", false},
 			{"not UTF-8: \xff\xc3 \xed\xa0\x80", false},
 		} {
-			want := full(t, key)
-			want.Order = order(key).Order
-			setTexts(&want, test.text)
-			change(t, store, key, func(change *platform.Change) { change.Entry = want })
-			got := read(t, store, key)
-			if test.isExact {
-				wantEntry(t, test.text, got, want)
-				continue
-			}
-			for _, text := range textsOf(&got) {
-				if *text != test.text && !utf8.ValidString(*text) {
-					t.Errorf("%q: got %q, want it in UTF-8", test.text, *text)
+			t.Run(fmt.Sprintf("%v %q", key, test.text), func(t *testing.T) {
+				want := full(t, key)
+				want.Order = order(key).Order
+				setTexts(&want, test.text)
+				change(t, store, key, func(change *platform.Change) { change.Entry = want })
+				got := read(t, store, key)
+				if test.isExact {
+					wantEntry(t, test.text, got, want)
+					return
 				}
-			}
-			setTexts(&got, test.text)
-			wantEntry(t, test.text, got, want)
+				for _, text := range textsOf(&got) {
+					if *text != test.text && !utf8.ValidString(*text) {
+						t.Errorf("%q: got %q, want it in UTF-8", test.text, *text)
+					}
+				}
+				setTexts(&got, test.text)
+				wantEntry(t, test.text, got, want)
+			})
 		}
 	}
 }
@@ -599,7 +601,9 @@ func testCancelled(t *testing.T, open opener) {
 		},
 	}
 	for name, call := range calls {
-		diff.ErrorIs(t, call(), context.Canceled, "%s", name)
+		t.Run(name, func(t *testing.T) {
+			diff.ErrorIs(t, call(), context.Canceled, "%s", name)
+		})
 	}
 	wantEntry(t, "the row", read(t, store, instance(1)), before)
 	if _, err := store.Read(background, instance(2)); !errors.Is(err, platform.ErrUnknown) {

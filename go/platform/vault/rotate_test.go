@@ -613,28 +613,30 @@ func (b *breaking) ReplaceFingerprint(ctx context.Context, before, after string)
 // Wherever it ends in the middle, the next one finishes it, and version 0.3 rejects the store from the first write on.
 func TestRenewInTheMiddle(t *testing.T) {
 	for _, fault := range []breaking{{changes: 0, marks: 0}, {changes: 0, marks: 1}, {changes: 2, marks: 1}, {changes: 3, marks: 1}} {
-		store, _ := storeOf03(t)
-		fault.Store = store
-		marks := fault.marks
-		v := newVault(t, one)
-		if _, err := v.Renew(background, &fault); !errors.Is(err, errFailing) {
-			t.Errorf("the end: got %v, want %v", err, errFailing)
-		}
-		if got := writtenIn(t, store); marks > 0 && got != now+" "+former || !errors.Is(v.Fits(got), ErrOldPasswords) {
-			t.Errorf("the fingerprint: got %q, want both with %v", got, ErrOldPasswords)
-		}
-		end, _, err := store.Only(background, "of version 0.3")
-		check(t, err)
-		if _, err := v.Renew(background, store); !errors.Is(err, ErrWorkers) {
-			t.Errorf("with a worker: got %v, want %v", err, ErrWorkers)
-		}
-		end()
-		if _, err := v.Renew(background, store); err != nil || writtenIn(t, store) != now {
-			t.Errorf("the next one: got %v, want it done", err)
-		}
-		if got := passwords(t, store, v); len(got) != 2 || got["shop"] != "hunter2" {
-			t.Errorf("the passwords: got %v, want both", got)
-		}
+		t.Run(fmt.Sprintf("after %d changes and %d marks", fault.changes, fault.marks), func(t *testing.T) {
+			store, _ := storeOf03(t)
+			fault.Store = store
+			marks := fault.marks
+			v := newVault(t, one)
+			if _, err := v.Renew(background, &fault); !errors.Is(err, errFailing) {
+				t.Errorf("the end: got %v, want %v", err, errFailing)
+			}
+			if got := writtenIn(t, store); marks > 0 && got != now+" "+former || !errors.Is(v.Fits(got), ErrOldPasswords) {
+				t.Errorf("the fingerprint: got %q, want both with %v", got, ErrOldPasswords)
+			}
+			end, _, err := store.Only(background, "of version 0.3")
+			check(t, err)
+			if _, err := v.Renew(background, store); !errors.Is(err, ErrWorkers) {
+				t.Errorf("with a worker: got %v, want %v", err, ErrWorkers)
+			}
+			end()
+			if _, err := v.Renew(background, store); err != nil || writtenIn(t, store) != now {
+				t.Errorf("the next one: got %v, want it done", err)
+			}
+			if got := passwords(t, store, v); len(got) != 2 || got["shop"] != "hunter2" {
+				t.Errorf("the passwords: got %v, want both", got)
+			}
+		})
 	}
 }
 
