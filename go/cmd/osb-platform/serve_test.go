@@ -388,12 +388,12 @@ type lockedStore struct {
 	letGo   chan struct{}
 }
 
-func (s *lockedStore) List(ctx context.Context, filter platform.Filter) ([]platform.Entry, error) {
+func (s *lockedStore) Positions(ctx context.Context, filter platform.Filter) ([]platform.Position, error) {
 	if filter.Bindings != nil && *filter.Bindings {
 		s.listing <- struct{}{}
 		<-s.letGo
 	}
-	return s.Store.List(ctx, filter)
+	return s.Store.Positions(ctx, filter)
 }
 
 // A lockedBuffer is a buffer that several goroutines write to.
