@@ -121,13 +121,9 @@ func TestOfStore(t *testing.T) {
 	const document = `{"services": [{"id": "s", "name": "n", "description": "d", "bindable": false, "plans": [
 		{"id": "p", "name": "n", "description": "d", "x-osb-asynchronous": false}]}]}`
 	without, err := NewCatalogue([]byte(document), false)
-	if err != nil {
-		t.Fatal(err)
-	}
+	diff.Must(t, err)
 	of, err := without.OfStore("the-id")
-	if err != nil {
-		t.Fatal(err)
-	}
+	diff.Must(t, err)
 	for _, text := range [][]byte{of.document, of.returning, of.Document()} {
 		if bytes.Count(text, []byte(`"x-osb-store":"the-id"`)) != 1 {
 			t.Errorf("got %s, want the id once", text)

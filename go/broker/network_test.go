@@ -116,9 +116,7 @@ func (w *world) passPoint(point string) {
 
 func (w *world) check(err error) {
 	w.t.Helper()
-	if err != nil {
-		w.t.Fatal(err)
-	}
+	check(w.t, err)
 }
 
 // mood is how the next call of the backend goes: 0 fails before, 1 fails after it was done, 2 is rejected.

@@ -66,9 +66,7 @@ func statusOf(t *testing.T, address net.Addr, request string) int {
 	connection, err := net.Dial(address.Network(), address.String())
 	check(t, err)
 	defer connection.Close()
-	if _, err := io.WriteString(connection, request); err != nil {
-		t.Fatal(err)
-	}
+	diff.Value(io.WriteString(connection, request))(t)
 	answer, err := http.ReadResponse(bufio.NewReader(connection), nil)
 	check(t, err)
 	defer answer.Body.Close()

@@ -21,10 +21,7 @@ import (
 func open(t *testing.T, folder string, backend broker.Backend) *bench {
 	t.Helper()
 	it := &bench{observed: &recorder{}}
-	var err error
-	if it.store, err = sqlite.Open(context.Background(), filepath.Join(folder, "store"), it.observed); err != nil {
-		t.Fatal(err)
-	}
+	it.store = diff.Value(sqlite.Open(context.Background(), filepath.Join(folder, "store"), it.observed))(t)
 	it.Service = broker.NewService(
 		catalogueFor(t, catalogue), it.store, backend, newMemoryLocks(), broker.Rules{}, it.observed)
 	return it
@@ -257,9 +254,7 @@ func TestLostLockOfPendingWork(t *testing.T) {
 			overtake := backend.overtake
 			backend.overtake = nil
 			for _, before := range test.before {
-				if _, err := b.Handle(ctx, before); err != nil {
-					t.Fatal(err)
-				}
+				diff.Value(b.Handle(ctx, before))(t)
 			}
 			backend.overtake = overtake
 			if given, err := b.Handle(ctx, test.asked); !errors.Is(err, broker.ErrLostLock) {
@@ -433,9 +428,7 @@ func TestTakeUpReportsALockThatStaysTaken(t *testing.T) {
 		t.Fatalf("got %v, want it taken up", err)
 	}
 	b.since(t, key, time.Hour)
-	if lock, err = locks.Lock(ctx, key); err != nil {
-		t.Fatal(err)
-	}
+	lock = diff.Value(locks.Lock(ctx, key))(t)
 	defer lock.Unlock()
 	diff.NoError(t, b.TakeUp(ctx, key), "nothing is unfinished")
 }

@@ -252,9 +252,7 @@ func (g ground) folders(name string) *folders.Folders {
 
 func (g ground) check(err error) {
 	g.t.Helper()
-	if err != nil {
-		g.t.Fatal(err)
-	}
+	check(g.t, err)
 }
 
 func (g ground) tie(store broker.NamedStore, backend broker.Backend) {

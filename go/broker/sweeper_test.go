@@ -29,10 +29,7 @@ type bench struct {
 func newBench(t *testing.T, backend broker.Backend, locks broker.Locks) *bench {
 	t.Helper()
 	it := &bench{observed: &recorder{}}
-	var err error
-	if it.store, err = sqlite.Open(context.Background(), filepath.Join(t.TempDir(), "store"), it.observed); err != nil {
-		t.Fatal(err)
-	}
+	it.store = diff.Value(sqlite.Open(context.Background(), filepath.Join(t.TempDir(), "store"), it.observed))(t)
 	t.Cleanup(func() { _ = it.store.Close() })
 	it.Service = broker.NewService(catalogueFor(t, catalogue), it.store, backend, locks, broker.Rules{}, it.observed)
 	return it

@@ -42,10 +42,7 @@ func newTestBroker(t *testing.T, s setting) *testBroker {
 	ctx := context.Background()
 	it := &testBroker{shelf: newShelf(func() int { return 9 }), observed: &recorder{}, expected: newExpected()}
 	it.shelf.asked = func(r broker.Request) { it.checkSent(t, r) }
-	var err error
-	if it.store, err = sqlite.Open(ctx, filepath.Join(t.TempDir(), "store"), it.observed); err != nil {
-		t.Fatal(err)
-	}
+	it.store = diff.Value(sqlite.Open(ctx, filepath.Join(t.TempDir(), "store"), it.observed))(t)
 	t.Cleanup(func() { _ = it.store.Close() })
 	backend := broker.Backend(it.shelf)
 	if s.over != nil {

@@ -13,9 +13,7 @@ import (
 // The server ends what takes too long in a session of the store.
 func TestLimitsOfASession(t *testing.T) {
 	store, err := Open(context.Background(), pgtest.Schema(t, pgtest.URL(t), "osb_store_limits"), 1, broker.Silent{})
-	if err != nil {
-		t.Fatal(err)
-	}
+	check(t, err)
 	defer store.Close()
 	for name, want := range map[string]string{
 		"lock_timeout": "30s", "statement_timeout": "30s", "idle_in_transaction_session_timeout": "1min",

@@ -66,12 +66,8 @@ func TestURLThatLeadsToAnotherStore(t *testing.T) {
 	defer store.Close()
 	second := open(t, pgtest.Schema(t, pgtest.URL(t), other))
 	for _, opened := range []*postgres.Store{store, second} {
-		if _, err := opened.Begin(ctx, broker.Untied); err != nil {
-			t.Fatal(err)
-		}
-		if _, err := opened.ID(ctx); err != nil {
-			t.Fatal(err)
-		}
+		diff.Value(opened.Begin(ctx, broker.Untied))(t)
+		diff.Value(opened.ID(ctx))(t)
 	}
 	check(t, second.Close())
 	swap := func() {
@@ -125,9 +121,7 @@ func TestReadyCommits(t *testing.T) {
 	url, ctx := pgtest.Schema(t, pgtest.URL(t), "osb_store_ready"), context.Background()
 	store := open(t, url)
 	defer store.Close()
-	if _, err := store.Begin(ctx, broker.Untied); err != nil {
-		t.Fatal(err)
-	}
+	diff.Value(store.Begin(ctx, broker.Untied))(t)
 	diff.NoError(t, store.Ready(ctx), "")
 	trigger(t, url, "osb_store", "DEFERRABLE INITIALLY DEFERRED", "RAISE EXCEPTION 'no';")
 	if err := store.Ready(ctx); err == nil {

@@ -175,9 +175,7 @@ func TestMigration(t *testing.T) {
 			"is_tied INTEGER NOT NULL DEFAULT 0)",
 		"INSERT INTO store VALUES (1, 'a store', 1)",
 	} {
-		if _, err := old.Exec(statement, nil); err != nil {
-			t.Fatal(err)
-		}
+		diff.Value(old.Exec(statement, nil))(t)
 	}
 	texts := []string{
 		`{"marked":false,"row":{"phase":"ready","plan":"` + plan.String() + `","service":"` + service.String() +
@@ -186,9 +184,7 @@ func TestMigration(t *testing.T) {
 	}
 	for n, text := range texts {
 		values := []driver.Value{keyOf(n).String(), text, false}
-		if _, err := old.Exec("INSERT INTO holdings VALUES (?, ?, ?)", values); err != nil {
-			t.Fatal(err)
-		}
+		diff.Value(old.Exec("INSERT INTO holdings VALUES (?, ?, ?)", values))(t)
 	}
 	check(t, old.Close())
 	s := open(t, path, broker.Silent{})
@@ -214,9 +210,7 @@ func TestNoStore(t *testing.T) {
 	foreign := filepath.Join(folder, "foreign")
 	made, err := (&sqlite3.SQLiteDriver{}).Open("file:" + foreign)
 	check(t, err)
-	if _, err := made.(*sqlite3.SQLiteConn).Exec("CREATE TABLE bindings (x)", nil); err != nil {
-		t.Fatal(err)
-	}
+	diff.Value(made.(*sqlite3.SQLiteConn).Exec("CREATE TABLE bindings (x)", nil))(t)
 	check(t, made.Close())
 	for _, path := range []string{folder, foreign} {
 		_, err := Open(context.Background(), path, broker.Silent{})
@@ -375,9 +369,7 @@ func BenchmarkRead(b *testing.B) {
 	check(b, s.Change(context.Background(), keyOf(1), 0, provision(keyOf(1))))
 	b.ReportAllocs()
 	for n := 0; n < b.N; n++ {
-		if _, err := s.Read(context.Background(), keyOf(1)); err != nil {
-			b.Fatal(err)
-		}
+		diff.Value(s.Read(context.Background(), keyOf(1)))(b)
 	}
 }
 

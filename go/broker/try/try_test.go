@@ -101,9 +101,7 @@ func TestRequests(t *testing.T) {
 			t.Errorf("%v: got the requests %v, want them repeated exactly for a plan that is repeated", key, requests)
 		}
 		var body map[string]any
-		if err := json.Unmarshal(first.Body, &body); err != nil {
-			t.Fatal(err)
-		}
+		diff.Must(t, json.Unmarshal(first.Body, &body))
 		isComplete := body["organization_guid"] != nil && body["space_guid"] != nil && body["context"] != nil &&
 			string(first.Member("parameters")) == `{"size":"small"}`
 		if body["service_id"] != "s" || body["plan_id"] != "p" || isComplete == key.IsBinding {
@@ -527,9 +525,7 @@ var (
 
 func TestPlans(t *testing.T) {
 	plans, err := Plans([]byte(document))
-	if err != nil {
-		t.Fatal(err)
-	}
+	diff.Must(t, err)
 	diff.Check(t, plans, []Plan{small, large, queue, largeQueue}, "the plans")
 	for _, text := range []string{"", "[", `{"services": 1}`, `{"services": [{"id": "s", "plans": [{"name": "p"}]}]}`} {
 		t.Run(fmt.Sprintf("%q", text), func(t *testing.T) {
@@ -781,10 +777,7 @@ func tries(ctx context.Context, t *testing.T, backend broker.Backend, locks brok
 			found.ok = append(found.ok, step.Name)
 		}
 	}
-	var err error
-	if found.Result, err = Run(ctx, backend, locks, options); err != nil {
-		t.Fatal(err)
-	}
+	found.Result = diff.Value(Run(ctx, backend, locks, options))(t)
 	if found.OK != len(found.ok) || found.Failed != len(found.failed) {
 		t.Errorf("got %+v, want the counts of the steps %q and %q", found.Result, found.ok, found.failed)
 	}

@@ -41,9 +41,7 @@ func (s *servedBroker) raw(bytes string) string {
 	s.t.Helper()
 	conn := s.dial()
 	defer conn.Close()
-	if _, err := conn.Write([]byte(bytes)); err != nil {
-		s.t.Fatal(err)
-	}
+	diff.Value(conn.Write([]byte(bytes)))(s.t)
 	check(s.t, conn.CloseWrite())
 	given, err := io.ReadAll(conn)
 	if err != nil {
@@ -248,10 +246,7 @@ func newInside(t *testing.T) *inside {
 	queue := logs.NewQueue(io.Discard)
 	t.Cleanup(func() { _ = queue.Close(ctx) })
 	r := &server{settings: s, log: logs.New(queue)}
-	var err error
-	if r.access, err = accessOf(s, r.log); err != nil {
-		t.Fatal(err)
-	}
+	r.access = diff.Value(accessOf(s, r.log))(t)
 	check(t, r.open(ctx, ctx, queue))
 	t.Cleanup(r.parts.closeAll)
 	it.handler = health.New(ctx, health.Options{

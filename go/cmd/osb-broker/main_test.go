@@ -372,9 +372,7 @@ func TestExistingCommand(t *testing.T) {
 	}
 	check(t, os.Rename(own, own+".elsewhere"))
 	isMissing()
-	if err := os.Mkdir(own, 0o700); err != nil { // where the disk is mounted
-		t.Fatal(err)
-	}
+	check(t, os.Mkdir(own, 0o700)) // where the disk is mounted
 	isMissing()
 	diff.Equal(t, len(diff.Value(os.ReadDir(own))(t)), 0, "the folder")
 }

@@ -94,9 +94,7 @@ func later(t *testing.T, state string, seconds int) {
 	t.Helper()
 	store := diff.Value(sql.Open("sqlite3", filepath.Join(state, "holdings.sqlite")))(t)
 	defer store.Close()
-	if _, err := store.Exec("UPDATE holdings SET ended = ended - ?", 1000*seconds); err != nil {
-		t.Fatal(err)
-	}
+	diff.Value(store.Exec("UPDATE holdings SET ended = ended - ?", 1000*seconds))(t)
 }
 
 // With --ids-return-after, an id can be created again once its end is that long ago. Without it, it can't.
@@ -253,9 +251,7 @@ func TestARejectedLoginIsAnsweredAtOnce(t *testing.T) {
 		t.Run(fmt.Sprint(test.status), func(t *testing.T) {
 			conn := s.dial()
 			began := time.Now()
-			if _, err := fmt.Fprintf(conn, "PUT %s HTTP/1.1%sContent-Length: 100\r\n\r\n", test.target, test.head); err != nil {
-				t.Fatal(err)
-			}
+			diff.Value(fmt.Fprintf(conn, "PUT %s HTTP/1.1%sContent-Length: 100\r\n\r\n", test.target, test.head))(t)
 			given, err := http.ReadResponse(bufio.NewReader(conn), nil)
 			check(t, err)
 			body, err := io.ReadAll(given.Body)

@@ -225,9 +225,7 @@ func oldState(t *testing.T) string {
 	store := diff.Value(sql.Open("sqlite3", filepath.Join(state, "holdings.sqlite")))(t)
 	defer store.Close()
 	var name string
-	if _, err := store.ExecContext(context.Background(), "PRAGMA journal_mode = WAL; "+string(dump)); err != nil {
-		t.Fatal(err)
-	}
+	diff.Value(store.ExecContext(context.Background(), "PRAGMA journal_mode = WAL; "+string(dump)))(t)
 	check(t, store.QueryRow("SELECT name FROM store").Scan(&name))
 	files := map[string]string{".owner": name + "\n", ".locks": ""}
 	for _, instance := range oldInstances() {

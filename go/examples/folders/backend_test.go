@@ -97,9 +97,7 @@ func withoutRights(t *testing.T, folder string) (restore func()) {
 		return func() {}
 	}
 	const nobody = 65534
-	if err := os.Chmod(filepath.Dir(folder), 0o711); err != nil { // the folder of all folders of the test
-		t.Fatal(err)
-	}
+	check(t, os.Chmod(filepath.Dir(folder), 0o711)) // the folder of all folders of the test
 	check(t, os.Chown(folder, nobody, nobody))
 	runtime.LockOSThread() // the right belongs to the thread
 	check(t, syscall.Setfsuid(nobody))

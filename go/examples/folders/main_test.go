@@ -12,6 +12,7 @@ import (
 	"testing"
 	"time"
 
+	"pippinterm/internal/diff"
 	"pippinterm/osb"
 )
 
@@ -48,18 +49,14 @@ func start(t *testing.T, state string) *servedBroker {
 func (s *servedBroker) end() {
 	s.t.Helper()
 	s.stop()
-	if err := <-s.ended; err != nil {
-		s.t.Fatal(err)
-	}
+	check(s.t, <-s.ended)
 }
 
 // ask sends a request for a plan, as a platform does, and returns the status and the body of the answer.
 func (s *servedBroker) ask(method, target, plan string) (int, string) {
 	s.t.Helper()
 	status, body, err := s.try(method, target, plan)
-	if err != nil {
-		s.t.Fatal(err)
-	}
+	check(s.t, err)
 	return status, body
 }
 
@@ -198,9 +195,7 @@ func TestCutRequest(t *testing.T) {
 	connection, err := net.Dial("tcp", strings.TrimPrefix(s.url, "http://"))
 	check(t, err)
 	defer connection.Close()
-	if _, err := io.WriteString(connection, "PUT /v2/service_inst"); err != nil {
-		t.Fatal(err)
-	}
+	diff.Value(io.WriteString(connection, "PUT /v2/service_inst"))(t)
 	check(t, connection.(*net.TCPConn).CloseWrite())
 	answer, err := io.ReadAll(connection)
 	if err != nil || !strings.HasPrefix(string(answer), "HTTP/1.1 408 ") {

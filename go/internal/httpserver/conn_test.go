@@ -69,9 +69,7 @@ func TestWhatIsReadAheadIsntAnsweredWith408(t *testing.T) {
 				read("while the handler answers the "+request, "")
 				accepted.end()
 				read("before the answer to the "+request+" is written", "")
-				if err := accepted.SetReadDeadline(time.Unix(1, 0)); err != nil { // as net/http does to end reading ahead
-					t.Fatal(err)
-				}
+				check(t, accepted.SetReadDeadline(time.Unix(1, 0))) // as net/http does to end reading ahead
 				read("when reading ahead is ended", "")
 				if request == "first" {
 					wait()

@@ -130,9 +130,7 @@ func TestStopAnswersWhatRuns(t *testing.T) {
 	waits.Until(t, "all three are accepted", func() bool { return listener.Connections() == 4 })
 	cancel()
 	<-isStopping
-	if err := silent.SetReadDeadline(time.Now().Add(3 * time.Second)); err != nil { // net/http closes it after 5
-		t.Fatal(err)
-	}
+	check(t, silent.SetReadDeadline(time.Now().Add(3*time.Second))) // net/http closes it after 5
 	diff.Equal(t, silent.rest()+idle.rest(), "", "the silent and the idle one")
 	diff.Equal(t, takes(listener.Addr().String()), false, "a new connection")
 	select {

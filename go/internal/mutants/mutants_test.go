@@ -40,9 +40,7 @@ func TestPatterns(t *testing.T) {
 	here := os.Getenv("PWD") // its path through the link, from which go list knows the packages' names
 	top := filepath.Dir(filepath.Dir(here))
 	t.Setenv("PWD", top)
-	if err := os.Chdir(top); err != nil { // where make mutants runs
-		t.Fatal(err)
-	}
+	diff.Must(t, os.Chdir(top)) // where make mutants runs
 	defer func() { _ = os.Chdir(here) }()
 	packages := diff.Value(load(context.Background(), tags, ordinary...))(t)
 	isLoaded := make(map[string]bool)

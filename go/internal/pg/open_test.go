@@ -169,9 +169,7 @@ func TestLost(t *testing.T) {
 	defer conn.Close()
 	var pid int
 	check(t, conn.QueryRowContext(context.Background(), "SELECT pg_backend_pid()").Scan(&pid))
-	if _, err := db.Exec("SELECT pg_terminate_backend($1, 5000)", pid); err != nil {
-		t.Fatal(err)
-	}
+	diff.Value(db.Exec("SELECT pg_terminate_backend($1, 5000)", pid))(t)
 	_, err = conn.ExecContext(context.Background(), "SELECT 1")
 	diff.Equal(t, pg.IsLost(err), true, "a session that has ended, %v", err)
 	_, err = db.Exec("SELECT 1 / 0")

@@ -239,9 +239,7 @@ func TestRelativePaths(t *testing.T) {
 	defer func() { _ = os.Chdir(before) }()
 	state, err := filepath.Rel(filepath.Dir(program), filepath.Join(folder, "new", "state"))
 	check(t, err)
-	if _, err := New(ctx, "./backend", Options{State: state}); err != nil {
-		t.Fatal(err)
-	}
+	diff.Value(New(ctx, "./backend", Options{State: state}))(t)
 	text, err := os.ReadFile(folder + "/new/state/pwd")
 	if err != nil || !strings.HasSuffix(strings.TrimSpace(string(text)), "/new/state") {
 		t.Errorf("the working directory: got %q, %v, want new/state", text, err)
@@ -461,7 +459,7 @@ var _ broker.LateTiedBackend = bindingsWithCredentials{}
 // The folder keeps the name of the first store, also if an earlier version has used the folder before.
 func TestOwner(t *testing.T) {
 	state := t.TempDir()
-	ok(t, os.WriteFile(filepath.Join(state, "sold before"), nil, 0o600))
+	check(t, os.WriteFile(filepath.Join(state, "sold before"), nil, 0o600))
 	first := newBackend(t, Options{State: state}, "")
 	if owner, err := first.Owner(ctx); owner != "" || err != nil {
 		t.Errorf("the owner of a new folder: got %q and %v, want none and no error", owner, err)
@@ -475,7 +473,7 @@ func TestOwner(t *testing.T) {
 		t.Errorf("the owner after a restart: got %q and %v, want \"one\" and no error", owner, err)
 	}
 	left, err := os.ReadDir(state)
-	ok(t, err)
+	check(t, err)
 	for n, name := range []string{".locks", ".owner", "sold before"} {
 		if len(left) != 3 || left[n].Name() != name {
 			t.Fatalf("the folder: got %v, want three files", left)
@@ -489,7 +487,7 @@ func TestOwner(t *testing.T) {
 // If nobody can tell the owner, Owner fails, and Own too.
 func TestOwnerThatIsUnreadable(t *testing.T) {
 	backend := newBackend(t, Options{}, "")
-	ok(t, os.Mkdir(backend.state+ownerFile, 0o700))
+	check(t, os.Mkdir(backend.state+ownerFile, 0o700))
 	if owner, err := backend.Owner(ctx); err == nil {
 		t.Errorf("Owner: got %q, want an error", owner)
 	}
@@ -559,9 +557,7 @@ func TestLockOutlivesTheBroker(t *testing.T) {
 			} else {
 				lock.Unlock()
 			}
-			if _, err := goOn.WriteString("go\n"); err != nil {
-				t.Fatal(err)
-			}
+			diff.Value(goOn.WriteString("go\n"))(t)
 			mustLock(t, locks).Unlock()
 			if _, err := os.Stat(state + "/done"); err != nil {
 				t.Errorf("the program's work before the lock is free: got %v, want it done", err)
@@ -607,11 +603,11 @@ type lockingBackend interface {
 func serviceOf(t *testing.T, backend lockingBackend, observer broker.Observer) (*broker.Service, broker.Store) {
 	t.Helper()
 	document, err := os.ReadFile(examples + "own-catalogue.json")
-	ok(t, err)
+	check(t, err)
 	catalogue, err := broker.NewCatalogue(document, true)
-	ok(t, err)
+	check(t, err)
 	store, err := sqlite.Open(ctx, filepath.Join(t.TempDir(), "holdings.sqlite"), broker.Silent{})
-	ok(t, err)
+	check(t, err)
 	t.Cleanup(func() { _ = store.Close() })
 	rules := broker.Rules{WaitForPoll: time.Minute}
 	return broker.NewService(catalogue, store, backend, backend.Locks(), rules, observer), store
@@ -626,7 +622,7 @@ func provision(t *testing.T) broker.Visit {
 		Plan:    osb.MustParseID("11111111-0000-0000-0000-0000000000b1"),
 	}
 	request, err := json.Marshal(instance)
-	ok(t, err)
+	check(t, err)
 	return broker.Visit{Key: instance.Key, Asked: asked, Request: request}
 }
 
@@ -654,11 +650,11 @@ func TestNobodyIsToldWhatAProcessStillChanges(t *testing.T) {
 		t.Errorf("got %v, %v, want the work pending", snapshot.Holding, err)
 	}
 	_, err = goOn.WriteString("go\n")
-	ok(t, err)
+	check(t, err)
 	mustLock(t, backend.Locks()).Unlock()
-	ok(t, service.TakeUp(ctx, instance.Key))
+	check(t, service.TakeUp(ctx, instance.Key))
 	snapshot, err := store.Read(ctx, instance.Key)
-	ok(t, err)
+	check(t, err)
 	if row, isHeld := snapshot.Holding.Row(); !isHeld || row.Phase != osb.PhaseReady || isPending(snapshot) {
 		t.Errorf("in the end: got %v in the store, want it ready", snapshot.Holding)
 	}

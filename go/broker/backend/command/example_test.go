@@ -46,44 +46,39 @@ func exist(t *testing.T, backend bindingsWithCredentials, wanted, wantedBinding 
 	}
 }
 
-func ok(t *testing.T, err error) {
-	t.Helper()
-	check(t, err)
-}
-
 func TestExampleLife(t *testing.T) {
 	backend := databases(t, nil)
 	exist(t, backend, broker.None, broker.None)
-	ok(t, backend.Create(ctx, instance))
+	check(t, backend.Create(ctx, instance))
 	exist(t, backend, broker.Whole, broker.None)
 	for _, name := range []string{whole, whole + "-wal"} { // SQLite has the second beside the database
-		ok(t, os.WriteFile(backend.state+"/"+name, []byte("of the user"), 0o600))
+		check(t, os.WriteFile(backend.state+"/"+name, []byte("of the user"), 0o600))
 	}
-	ok(t, backend.Create(ctx, instance)) // once more, which leaves the content alone
+	check(t, backend.Create(ctx, instance)) // once more, which leaves the content alone
 	for _, name := range []string{whole, whole + "-wal"} {
 		if text, err := os.ReadFile(backend.state + "/" + name); err != nil || string(text) != "of the user" {
 			t.Errorf("after another Create: got %q in %s, %v, want it as the user left it", text, name, err)
 		}
 	}
 	created, err := backend.CreateBinding(ctx, binding)
-	ok(t, err)
+	check(t, err)
 	exist(t, backend, broker.Whole, broker.Whole)
 	var credentials struct{ Database, Token string }
-	ok(t, json.Unmarshal(created, &credentials))
+	check(t, json.Unmarshal(created, &credentials))
 	if credentials.Database != whole || len(credentials.Token) != 36 {
 		t.Errorf("the credentials: got %s, want the database and a token", created)
 	}
 	if again, err := backend.Credentials(ctx, binding); err != nil || string(again) != string(created) {
 		t.Errorf("Credentials: got %s, %v, want %s", again, err, created)
 	}
-	ok(t, backend.DeleteBinding(ctx, binding))
+	check(t, backend.DeleteBinding(ctx, binding))
 	exist(t, backend, broker.Whole, broker.None)
 	again, err := backend.CreateBinding(ctx, binding)
 	if err != nil || string(again) == string(created) {
 		t.Errorf("a new binding: got %s, %v, want other credentials than the old one's", again, err)
 	}
-	ok(t, backend.DeleteBinding(ctx, binding))
-	ok(t, backend.Delete(ctx, instance))
+	check(t, backend.DeleteBinding(ctx, binding))
+	check(t, backend.Delete(ctx, instance))
 	exist(t, backend, broker.None, broker.None)
 	if left := resources(t, backend); len(left) != 0 {
 		t.Errorf("left: got %v, want none", left)
@@ -94,20 +89,20 @@ func TestExampleLife(t *testing.T) {
 func resources(t *testing.T, backend bindingsWithCredentials) []string {
 	t.Helper()
 	found, err := filepath.Glob(backend.state + "/[0-9a-f]*")
-	ok(t, err)
+	check(t, err)
 	return found
 }
 
 // Other users of the machine can't read what the program creates.
 func TestExampleIsPrivate(t *testing.T) {
 	backend := databases(t, nil)
-	ok(t, backend.Create(ctx, instance))
+	check(t, backend.Create(ctx, instance))
 	_, err := backend.CreateBinding(ctx, binding)
-	ok(t, err)
+	check(t, err)
 	for name, wanted := range map[string]os.FileMode{whole: 0o600, bound: 0o600} {
 		t.Run(name, func(t *testing.T) {
 			found, err := os.Stat(backend.state + "/" + name)
-			ok(t, err)
+			check(t, err)
 			if found.Mode().Perm() != wanted {
 				t.Errorf("the mode of %s: got %v, want %v", name, found.Mode(), wanted)
 			}
@@ -118,10 +113,10 @@ func TestExampleIsPrivate(t *testing.T) {
 // A power cut may bring back a part beside the resource.
 func TestExampleWithAPartBesideIt(t *testing.T) {
 	backend := databases(t, nil)
-	ok(t, backend.Create(ctx, instance))
-	ok(t, os.WriteFile(backend.state+"/"+whole+"-part", []byte("deleted"), 0o600))
+	check(t, backend.Create(ctx, instance))
+	check(t, os.WriteFile(backend.state+"/"+whole+"-part", []byte("deleted"), 0o600))
 	exist(t, backend, broker.Whole, broker.None)
-	ok(t, backend.Delete(ctx, instance))
+	check(t, backend.Delete(ctx, instance))
 	if left := resources(t, backend); len(left) != 0 {
 		t.Errorf("left: got %v, want none", left)
 	}
@@ -131,7 +126,7 @@ func TestExampleWithAPartBesideIt(t *testing.T) {
 func TestExampleThatCanNotLook(t *testing.T) {
 	backend := databases(t, nil)
 	exist(t, backend, broker.None, broker.None)
-	ok(t, os.RemoveAll(backend.state))
+	check(t, os.RemoveAll(backend.state))
 	if there, err := backend.Look(ctx, instance); err == nil {
 		t.Errorf("Look without its folder: got %v, want an error", there)
 	}
@@ -145,10 +140,10 @@ func TestExampleThatCanNotLook(t *testing.T) {
 func TestExampleWithSimilarNames(t *testing.T) {
 	backend := databases(t, nil)
 	for _, name := range []string{"x" + whole, whole + "x", bound + "x", "x" + bound, whole + ".x-part"} {
-		ok(t, os.Mkdir(backend.state+"/"+name, 0o700))
+		check(t, os.Mkdir(backend.state+"/"+name, 0o700))
 	}
 	exist(t, backend, broker.None, broker.None)
-	ok(t, os.Mkdir(backend.state+"/"+bound+"-part", 0o700))
+	check(t, os.Mkdir(backend.state+"/"+bound+"-part", 0o700))
 	exist(t, backend, broker.None, broker.Part)
 }
 
@@ -163,14 +158,14 @@ func TestExampleRejectsOtherCalls(t *testing.T) {
 
 func TestExampleCatalogue(t *testing.T) {
 	document, err := os.ReadFile(examples + "own-catalogue.json")
-	ok(t, err)
-	ok(t, osb.CheckCatalogue(document, osb.Endpoints{Bindings: true, FetchingBindings: true}))
+	check(t, err)
+	check(t, osb.CheckCatalogue(document, osb.Endpoints{Bindings: true, FetchingBindings: true}))
 	for name, read := range map[string]func([]byte) ([]osb.Plan, error){
 		"instances": osb.CataloguePlans, "bindings": osb.BindingModes,
 	} {
 		t.Run(name, func(t *testing.T) {
 			plans, err := read(document)
-			ok(t, err)
+			check(t, err)
 			var modes []bool
 			for _, plan := range plans {
 				modes = append(modes, plan.IsAsynchronous)
@@ -189,20 +184,20 @@ func TestExampleOutlivesAPowerCut(t *testing.T) {
 	fakes := map[string]string{}
 	for name, then := range map[string]string{"mv": "list", "rm": "list", "sync": `echo "sync $*" >>.trace`} {
 		path, err := exec.LookPath(name)
-		ok(t, err)
+		check(t, err)
 		fakes[name] = list + path + ` "$@" && ` + then
 	}
 	backend := databases(t, fakes)
 	isDurable := func(resource string, call func() error) {
 		t.Helper()
 		disk := newDisk(t, backend.state, resource)
-		ok(t, call())
+		check(t, call())
 		disk.trace()
 		disk.isWritten()
 	}
 	isDurable(whole, func() error { return backend.Create(ctx, instance) })
 	for _, name := range []string{whole, whole + "-wal", whole + "-shm"} {
-		ok(t, os.WriteFile(backend.state+"/"+name, []byte("of the user"), 0o600))
+		check(t, os.WriteFile(backend.state+"/"+name, []byte("of the user"), 0o600))
 	}
 	isDurable(bound, func() error { _, err := backend.CreateBinding(ctx, binding); return err })
 	isDurable(bound, func() error { return backend.DeleteBinding(ctx, binding) })
@@ -231,7 +226,7 @@ type disk struct {
 // newDisk returns the disk before a call, and begins a new trace. All that exists is on disk.
 func newDisk(t *testing.T, state, resource string) *disk {
 	d := &disk{T: t, state: state, resource: resource, synced: map[string]bool{}}
-	ok(t, os.WriteFile(state+"/.trace", nil, 0o600))
+	check(t, os.WriteFile(state+"/.trace", nil, 0o600))
 	d.since = []listing{d.now()}
 	for name, file := range d.now() {
 		d.synced[file] = true
@@ -248,7 +243,7 @@ func (d *disk) now() listing {
 	find := exec.Command("find", ".", "-maxdepth", "1", "-name", "[0-9a-f]*", "-printf", printed)
 	find.Dir = d.state
 	out, err := find.Output()
-	ok(d.T, err)
+	check(d.T, err)
 	return namesIn(string(out))
 }
 
@@ -265,7 +260,7 @@ func namesIn(text string) listing {
 func (d *disk) trace() {
 	d.Helper()
 	text, err := os.ReadFile(d.state + "/.trace")
-	ok(d.T, err)
+	check(d.T, err)
 	for _, line := range strings.Split(strings.TrimSpace(string(text)), "\n") {
 		command, rest, _ := strings.Cut(line, " ")
 		last := d.since[len(d.since)-1]
@@ -324,7 +319,7 @@ func TestExampleThatIsKilled(t *testing.T) {
 	fakes := map[string]string{}
 	for _, name := range []string{"cat", "mv", "rm", "sync"} {
 		path, err := exec.LookPath(name)
-		ok(t, err)
+		check(t, err)
 		if name == "sync" {
 			path = "true"
 		}
@@ -352,9 +347,9 @@ func TestExampleThatIsKilled(t *testing.T) {
 func killedAt(t *testing.T, backend bindingsWithCredentials, at int) *broker.Request {
 	t.Helper()
 	for _, path := range resources(t, backend) {
-		ok(t, os.RemoveAll(path))
+		check(t, os.RemoveAll(path))
 	}
-	ok(t, os.WriteFile(backend.state+"/.left", []byte(fmt.Sprintln(at)), 0o600))
+	check(t, os.WriteFile(backend.state+"/.left", []byte(fmt.Sprintln(at)), 0o600))
 	if backend.Create(ctx, instance) != nil {
 		return &instance
 	}
@@ -384,12 +379,12 @@ func goOnWith(
 		}
 	}
 	left, err := look(ctx, request)
-	ok(t, err)
+	check(t, err)
 	if left != broker.Whole && wanted == broker.Whole {
-		ok(t, create(ctx, request))
+		check(t, create(ctx, request))
 	}
 	if left != broker.None && wanted == broker.None {
-		ok(t, remove(ctx, request))
+		check(t, remove(ctx, request))
 	}
 	if there, err := look(ctx, request); err != nil || there != wanted {
 		t.Errorf("%v was left: got %v, %v, want %v", left, there, err, wanted)

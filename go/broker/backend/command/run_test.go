@@ -90,7 +90,7 @@ func TestInputThatStaysOpen(t *testing.T) {
 	const text = `exec 4<&0; sleep 600 <&4 >/dev/null 2>&1 3>&- & echo $! >pid`
 	backend := newBackend(t, Options{Limit: 20 * time.Second}, text)
 	diff.NoError(t, backend.Create(ctx, request), "Create")
-	ok(t, syscall.Kill(pidOf(t, backend), syscall.SIGKILL)) // it still runs
+	check(t, syscall.Kill(pidOf(t, backend), syscall.SIGKILL)) // it still runs
 }
 
 // A run isn't over before the program has exited and its outputs are closed.
@@ -111,9 +111,7 @@ func TestEndOfARun(t *testing.T) {
 				t.Errorf("Create returned while the work was going on: got %v, want it to wait", err)
 			case <-time.After(50 * time.Millisecond):
 			}
-			if _, err := goOn.WriteString("go\n"); err != nil {
-				t.Fatal(err)
-			}
+			diff.Value(goOn.WriteString("go\n"))(t)
 			diff.NoError(t, <-ended, "Create")
 			if _, err := os.Stat(backend.state + "/done"); err != nil {
 				t.Errorf("Create before the work was done: got %v, want no error", err)
@@ -178,9 +176,7 @@ func TestCancel(t *testing.T) {
 func read(t *testing.T, file *os.File) {
 	t.Helper()
 	check(t, file.SetReadDeadline(time.Now().Add(10*time.Second)))
-	if _, err := file.Read(make([]byte, 1)); err != nil {
-		t.Fatal(err)
-	}
+	diff.Value(file.Read(make([]byte, 1)))(t)
 }
 
 // A process that has left the group isn't killed. As long as it has the lock or an output open, no other call begins,
@@ -208,9 +204,7 @@ func TestProcessThatLeftTheGroup(t *testing.T) {
 			if free, err := backend.Locks().TryLock(ctx, instance.Key); free != nil || err != nil {
 				t.Errorf("the lock of a process that still runs: got %v, %v, want none", free, err)
 			}
-			if _, err := io.WriteString(goOn, "go\n"); err != nil {
-				t.Fatal(err)
-			}
+			diff.Value(io.WriteString(goOn, "go\n"))(t)
 			mustLock(t, backend.Locks()).Unlock()
 		})
 	}
@@ -237,12 +231,12 @@ func TestServerThatHasTheLock(t *testing.T) {
 	backend.grace = 20 * time.Millisecond
 	lock := mustLock(t, backend.Locks())
 	defer lock.Unlock()
-	ok(t, backend.Create(lock.Context(ctx), instance))
+	check(t, backend.Create(lock.Context(ctx), instance))
 	there, err := backend.Look(lock.Context(ctx), instance)
 	if there != broker.None || !errors.Is(err, filelock.ErrLent) {
 		t.Errorf("Look while the server runs: got %v and %v, want %v and %v", there, err, broker.None, filelock.ErrLent)
 	}
-	ok(t, syscall.Kill(pidOf(t, backend), syscall.SIGKILL))
+	check(t, syscall.Kill(pidOf(t, backend), syscall.SIGKILL))
 	backend.grace = 10 * time.Second
 	if there, err := backend.Look(lock.Context(ctx), instance); there != broker.Whole || err != nil {
 		t.Errorf("Look after the server has ended: got %v and %v, want %v and no error", there, err, broker.Whole)
@@ -253,9 +247,9 @@ func TestServerThatHasTheLock(t *testing.T) {
 func pidOf(t *testing.T, backend bindingsWithCredentials) int {
 	t.Helper()
 	text, err := os.ReadFile(filepath.Join(backend.state, "pid"))
-	ok(t, err)
+	check(t, err)
 	pid, err := strconv.Atoi(strings.TrimSpace(string(text)))
-	ok(t, err)
+	check(t, err)
 	return pid
 }
 
@@ -300,10 +294,10 @@ func TestRunsLeaveNothing(t *testing.T) {
 	backend.timeout += "-that-does-not-exist"
 	diff.ErrorIs(t, backend.Create(lock.Context(ctx), instance), os.ErrNotExist, "without the command timeout")
 	lent, err := filelock.Lend(lock.Context(ctx), time.Minute)
-	ok(t, err)
+	check(t, err)
 	backend.grace = 10 * time.Millisecond
 	diff.ErrorIs(t, backend.Create(lock.Context(ctx), instance), filelock.ErrLent, "with a lock that is lent")
-	ok(t, lent.Close())
+	check(t, lent.Close())
 	diff.Equal(t, openFiles(t), before, "files open")
 	if pid, err := syscall.Wait4(-1, nil, syscall.WNOHANG, nil); err != syscall.ECHILD {
 		t.Errorf("the children: got %d, %v, want %v", pid, err, syscall.ECHILD)
@@ -398,7 +392,7 @@ func TestWorkOverTheLimitEnds(t *testing.T) {
 		t.Errorf("the Provision: got %v, %v, want 500", response, err)
 	}
 	snapshot, err := store.Read(ctx, instance.Key)
-	ok(t, err)
+	check(t, err)
 	if row, isHeld := snapshot.Holding.Row(); isHeld || isPending(snapshot) {
 		t.Errorf("in the end: got %v in the store, want none", row)
 	}
@@ -434,7 +428,7 @@ func isPendingAfter(t *testing.T, limit time.Duration) bool {
 	left, goOn := fifo(t, backend.state+"/left"), fifo(t, backend.state+"/go")
 	service, store := serviceOf(t, hasty{backend, limit}, broker.Silent{})
 	response, err := service.Handle(ctx, provision(t))
-	ok(t, left.SetReadDeadline(time.Now().Add(time.Millisecond)))
+	check(t, left.SetReadDeadline(time.Now().Add(time.Millisecond)))
 	if _, late := left.Read(make([]byte, 1)); errors.Is(late, os.ErrDeadlineExceeded) {
 		return false
 	}
@@ -442,17 +436,17 @@ func isPendingAfter(t *testing.T, limit time.Duration) bool {
 		!strings.Contains(err.Error(), "it ran longer than") {
 		t.Errorf("the Provision: got %v, %v, want %v", response, err, filelock.ErrLent)
 	}
-	ok(t, service.TakeUp(ctx, instance.Key))
+	check(t, service.TakeUp(ctx, instance.Key))
 	snapshot, err := store.Read(ctx, instance.Key)
-	if ok(t, err); !isPending(snapshot) {
+	if check(t, err); !isPending(snapshot) {
 		t.Errorf("while the process runs: got %v, want the work pending", snapshot.Holding)
 	}
 	_, err = goOn.WriteString("go\n")
-	ok(t, err)
+	check(t, err)
 	mustLock(t, backend.Locks()).Unlock()
-	ok(t, service.TakeUp(ctx, instance.Key))
+	check(t, service.TakeUp(ctx, instance.Key))
 	snapshot, err = store.Read(ctx, instance.Key)
-	ok(t, err)
+	check(t, err)
 	if row, isHeld := snapshot.Holding.Row(); !isHeld || row.Phase != osb.PhaseReady || isPending(snapshot) {
 		t.Errorf("in the end: got %v in the store, want it ready", snapshot.Holding)
 	}

@@ -38,14 +38,14 @@ func TestCrashes(t *testing.T) {
 				t.Run(wanted.String(), func(t *testing.T) {
 					f := newFolders(t, t.TempDir())
 					for _, before := range c.before {
-						ok(t, before(f))
+						check(t, before(f))
 					}
 					if !crashes(c.point, func() { _ = c.broken(f) }) {
 						t.Errorf("got no crash at %s, want one", c.point)
 					}
 					after := newFolders(t, f.top)
 					has(t, after, c.request, c.left)
-					ok(t, []func(*Folders) error{c.delete, c.create}[goOn](after))
+					check(t, []func(*Folders) error{c.delete, c.create}[goOn](after))
 					has(t, after, c.request, wanted)
 				})
 			}

@@ -28,9 +28,9 @@ func TestOrderOfFsyncs(t *testing.T) {
 		seen = append(seen, strings.Join(found, " "))
 		return nil
 	})
-	ok(t, f.Create(ctx, first))
+	check(t, f.Create(ctx, first))
 	leave(t, f.top+"/"+whole+"/data")
-	ok(t, f.Delete(ctx, first))
+	check(t, f.Delete(ctx, first))
 	wanted := []string{".bindings .locks " + whole, ".bindings .locks " + part + " data", ".bindings .locks"}
 	diff.Check(t, seen, wanted, "what was there at the fsyncs")
 }

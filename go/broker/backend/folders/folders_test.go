@@ -35,17 +35,11 @@ func requestOf(key broker.Key) broker.Request {
 func newFolders(t *testing.T, top string) *Folders {
 	t.Helper()
 	f, err := New(top)
-	ok(t, err)
+	check(t, err)
 	return f
 }
 
-// ok fails the test if there is an error.
-func ok(t *testing.T, err error) {
-	t.Helper()
-	if err != nil {
-		t.Fatal(err)
-	}
-}
+var check = diff.Must
 
 // has fails the test unless Look or LookBinding returns what is wanted.
 func has(t *testing.T, f *Folders, request broker.Request, wanted broker.There) {
@@ -63,7 +57,7 @@ func has(t *testing.T, f *Folders, request broker.Request, wanted broker.There) 
 func names(t *testing.T, folder string) []string {
 	t.Helper()
 	entries, err := os.ReadDir(folder)
-	ok(t, err)
+	check(t, err)
 	found := []string{}
 	for _, entry := range entries {
 		found = append(found, entry.Name())
@@ -73,18 +67,18 @@ func names(t *testing.T, folder string) []string {
 
 func TestLife(t *testing.T) {
 	f := newFolders(t, filepath.Join(t.TempDir(), "new", "instances"))
-	ok(t, f.Create(ctx, other))
+	check(t, f.Create(ctx, other))
 	has(t, f, first, broker.None)
-	ok(t, f.Create(ctx, first))
+	check(t, f.Create(ctx, first))
 	has(t, f, first, broker.Whole)
 	for _, path := range []string{f.whole(first.Key.Instance), f.top, filepath.Dir(f.top), f.bindings()} {
 		found, err := os.Stat(path)
-		ok(t, err)
+		check(t, err)
 		diff.Equal(t, found.Mode(), os.ModeDir|0o700, "the mode of %s", path)
 	}
-	ok(t, os.WriteFile(f.whole(first.Key.Instance)+"/data", []byte("of the user"), 0o400))
-	ok(t, f.Sync(ctx, first))
-	ok(t, f.Delete(ctx, first))
+	check(t, os.WriteFile(f.whole(first.Key.Instance)+"/data", []byte("of the user"), 0o400))
+	check(t, f.Sync(ctx, first))
+	check(t, f.Delete(ctx, first))
 	has(t, f, first, broker.None)
 	has(t, f, other, broker.Whole)
 	wanted := []string{".bindings", ".locks", other.Key.Instance.String()}
@@ -113,9 +107,9 @@ func TestWhateverIsLeft(t *testing.T) {
 				has(t, f, first, c.there)
 				for again := 0; again < 2; again++ {
 					if wanted == broker.Whole {
-						ok(t, f.Create(ctx, first))
+						check(t, f.Create(ctx, first))
 					} else {
-						ok(t, f.Delete(ctx, first))
+						check(t, f.Delete(ctx, first))
 					}
 					has(t, f, first, wanted)
 				}
@@ -123,7 +117,7 @@ func TestWhateverIsLeft(t *testing.T) {
 				if c.there == broker.Whole && wanted == broker.Whole && err != nil {
 					t.Errorf("a folder that existed: got %v, want it left as it was", err)
 				}
-				ok(t, f.Delete(ctx, first))
+				check(t, f.Delete(ctx, first))
 				if found := names(t, f.top); !reflect.DeepEqual(found, []string{".bindings", ".locks"}) {
 					t.Errorf("left: got %v, want the folders of bindings and of locks", found)
 				}
@@ -135,8 +129,8 @@ func TestWhateverIsLeft(t *testing.T) {
 // leave creates a file, and the folders above it.
 func leave(t *testing.T, path string) {
 	t.Helper()
-	ok(t, os.MkdirAll(filepath.Dir(path), 0o700))
-	ok(t, os.WriteFile(path, []byte("x"), 0o600))
+	check(t, os.MkdirAll(filepath.Dir(path), 0o700))
+	check(t, os.WriteFile(path, []byte("x"), 0o600))
 }
 
 // A top as version 0.2 has left it: a folder with its file, a part, and the owner.
@@ -144,16 +138,16 @@ func TestFoldersOfVersion02(t *testing.T) {
 	top := t.TempDir()
 	leave(t, top+"/"+first.Key.Instance.String()+"/instance.json")
 	leave(t, top+"/"+partPrefix+other.Key.Instance.String()+"/instance.json")
-	ok(t, os.WriteFile(top+"/.owner", []byte("the store\n"), 0o600))
-	ok(t, os.WriteFile(top+"/.locks", nil, 0o644))
+	check(t, os.WriteFile(top+"/.owner", []byte("the store\n"), 0o600))
+	check(t, os.WriteFile(top+"/.locks", nil, 0o644))
 	f := newFolders(t, top)
 	has(t, f, first, broker.Whole)
 	has(t, f, other, broker.Part)
 	if owner, err := f.Owner(ctx); owner != "the store" || err != nil {
 		t.Errorf("the owner: got %q and %v, want \"the store\" and no error", owner, err)
 	}
-	ok(t, f.Delete(ctx, first))
-	ok(t, f.Delete(ctx, other))
+	check(t, f.Delete(ctx, first))
+	check(t, f.Delete(ctx, other))
 	has(t, f, first, broker.None)
 	has(t, f, other, broker.None)
 }
@@ -161,12 +155,12 @@ func TestFoldersOfVersion02(t *testing.T) {
 func TestLinksAreNotFollowed(t *testing.T) {
 	f, precious := newFolders(t, t.TempDir()), t.TempDir()
 	leave(t, precious+"/data")
-	ok(t, f.Create(ctx, first))
-	ok(t, os.Symlink(precious, f.whole(first.Key.Instance)+"/link"))
-	ok(t, os.Symlink(precious, f.whole(other.Key.Instance)))
+	check(t, f.Create(ctx, first))
+	check(t, os.Symlink(precious, f.whole(first.Key.Instance)+"/link"))
+	check(t, os.Symlink(precious, f.whole(other.Key.Instance)))
 	for _, request := range []broker.Request{first, other} {
 		has(t, f, request, broker.Whole)
-		ok(t, f.Delete(ctx, request))
+		check(t, f.Delete(ctx, request))
 		has(t, f, request, broker.None)
 	}
 	if _, err := os.Stat(precious + "/data"); err != nil {
@@ -178,7 +172,7 @@ func TestLinksAreNotFollowed(t *testing.T) {
 func TestNobodyCanLook(t *testing.T) {
 	bound := requestOf(broker.BindingKey(first.Key.Instance, other.Key.Instance))
 	loop := filepath.Join(t.TempDir(), "loop")
-	ok(t, os.Symlink(loop, loop))
+	check(t, os.Symlink(loop, loop))
 	f := newFolders(t, t.TempDir())
 	f.top = loop
 	if there, err := f.Look(ctx, first); !errors.Is(err, syscall.ELOOP) {
@@ -216,22 +210,22 @@ func TestRemoved(t *testing.T) {
 	if err := removeFile(folder + "/full"); err == nil {
 		t.Error("got nil, want that the folder isn't empty")
 	}
-	ok(t, removeFile(folder+"/none"))
+	check(t, removeFile(folder+"/none"))
 }
 
 // The top may be a symbolic link, and the path relative.
 func TestTopBehindALink(t *testing.T) {
 	folder := t.TempDir()
-	ok(t, os.Symlink(t.TempDir(), folder+"/link"))
+	check(t, os.Symlink(t.TempDir(), folder+"/link"))
 	before, err := os.Getwd()
-	ok(t, err)
-	ok(t, os.Chdir(folder))
-	defer func() { ok(t, os.Chdir(before)) }()
+	check(t, err)
+	check(t, os.Chdir(folder))
+	defer func() { check(t, os.Chdir(before)) }()
 	f := newFolders(t, "link")
-	ok(t, f.Create(ctx, first))
+	check(t, f.Create(ctx, first))
 	has(t, f, first, broker.Whole)
 	diff.Equal(t, f.top, folder+"/link", "the top")
-	ok(t, f.Delete(ctx, first))
+	check(t, f.Delete(ctx, first))
 }
 
 // Two backends over one top have the same locks.
@@ -257,8 +251,8 @@ var (
 func withInstances(t *testing.T) *Folders {
 	t.Helper()
 	f := newFolders(t, t.TempDir())
-	ok(t, f.Create(ctx, first))
-	ok(t, f.Create(ctx, other))
+	check(t, f.Create(ctx, first))
+	check(t, f.Create(ctx, other))
 	return f
 }
 
@@ -266,9 +260,9 @@ func withInstances(t *testing.T) *Folders {
 func bind(t *testing.T, f *Folders, request broker.Request) (text string, read credentials) {
 	t.Helper()
 	created, err := f.CreateBinding(ctx, request)
-	ok(t, err)
+	check(t, err)
 	has(t, f, request, broker.Whole)
-	ok(t, json.Unmarshal(created, &read))
+	check(t, json.Unmarshal(created, &read))
 	return string(created), read
 }
 
@@ -290,10 +284,10 @@ func TestLifeOfABinding(t *testing.T) {
 		t.Errorf("a second creation: got %s, want %s", again, text)
 	}
 	found, err := os.Stat(f.binding(bound.Key))
-	ok(t, err)
+	check(t, err)
 	diff.Equal(t, found.Mode(), 0o600, "the mode of the file")
-	ok(t, f.Sync(ctx, bound))
-	ok(t, f.DeleteBinding(ctx, bound))
+	check(t, f.Sync(ctx, bound))
+	check(t, f.DeleteBinding(ctx, bound))
 	has(t, f, bound, broker.None)
 	if _, err := f.Credentials(ctx, bound); !errors.Is(err, fs.ErrNotExist) {
 		t.Errorf("the credentials of a binding that was deleted: got %v, want %v", err, fs.ErrNotExist)
@@ -312,7 +306,7 @@ func TestBindingsLeaveTheRestAlone(t *testing.T) {
 		t.Errorf("got bindings %v, %v, %v, want credentials of their own", one, two, three)
 	}
 	leave(t, f.whole(first.Key.Instance)+"/data")
-	ok(t, f.DeleteBinding(ctx, bound))
+	check(t, f.DeleteBinding(ctx, bound))
 	has(t, f, same, broker.Whole)
 	has(t, f, sameSide, broker.Whole)
 	has(t, f, first, broker.Whole)
@@ -329,17 +323,17 @@ func TestWhateverIsLeftOfABinding(t *testing.T) {
 		for _, wanted := range []broker.There{broker.Whole, broker.None} {
 			t.Run(name+" to "+wanted.String(), func(t *testing.T) {
 				f := withInstances(t)
-				ok(t, os.WriteFile(f.bindingPart(bound.Key), []byte(text), 0o600))
+				check(t, os.WriteFile(f.bindingPart(bound.Key), []byte(text), 0o600))
 				has(t, f, bound, broker.Part)
 				for again := 0; again < 2; again++ {
 					if wanted == broker.Whole {
 						bind(t, f, bound)
 					} else {
-						ok(t, f.DeleteBinding(ctx, bound))
+						check(t, f.DeleteBinding(ctx, bound))
 					}
 					has(t, f, bound, wanted)
 				}
-				ok(t, f.DeleteBinding(ctx, bound))
+				check(t, f.DeleteBinding(ctx, bound))
 				if found := names(t, f.bindings()); len(found) != 0 {
 					t.Errorf("left: got %v, want none", found)
 				}
@@ -360,11 +354,11 @@ func TestBindingOfAnInstanceThatDoesNotExist(t *testing.T) {
 func TestLinkInThePlaceOfABinding(t *testing.T) {
 	f, precious := withInstances(t), t.TempDir()+"/data"
 	leave(t, precious)
-	ok(t, os.Symlink(precious, f.bindingPart(bound.Key)))
+	check(t, os.Symlink(precious, f.bindingPart(bound.Key)))
 	if _, err := f.CreateBinding(ctx, bound); err == nil {
 		t.Error("CreateBinding: got no error, want one")
 	}
-	ok(t, f.DeleteBinding(ctx, bound))
+	check(t, f.DeleteBinding(ctx, bound))
 	bind(t, f, bound)
 	if text, err := os.ReadFile(precious); err != nil || string(text) != "x" {
 		t.Errorf("got %q, %v, want what the link leads to left as it was", text, err)
@@ -373,7 +367,7 @@ func TestLinkInThePlaceOfABinding(t *testing.T) {
 
 func TestCredentialsThatAreNotJSON(t *testing.T) {
 	f := withInstances(t)
-	ok(t, os.WriteFile(f.binding(bound.Key), []byte(`{"folder":`), 0o600))
+	check(t, os.WriteFile(f.binding(bound.Key), []byte(`{"folder":`), 0o600))
 	if text, err := f.Credentials(ctx, bound); err == nil {
 		t.Errorf("Credentials: got %s, want an error", text)
 	}
@@ -385,7 +379,7 @@ func TestOrderOfFsyncsOfABinding(t *testing.T) {
 	var seen [][]string
 	f.bindingsSync.init(func() error { seen = append(seen, names(t, f.bindings())); return nil })
 	bind(t, f, bound)
-	ok(t, f.DeleteBinding(ctx, bound))
+	check(t, f.DeleteBinding(ctx, bound))
 	diff.Check(t, seen, [][]string{{bindingName(bound.Key)}, {}}, "what was there at the fsyncs")
 }
 
@@ -399,11 +393,11 @@ func TestOwner(t *testing.T) {
 			t.Errorf("Own(%s): got %q and %v, want \"one\" and no error", store, owner, err)
 		}
 	}
-	ok(t, f.Create(ctx, first))
+	check(t, f.Create(ctx, first))
 	if owner, err := f.Own(ctx, "two"); owner != "one" || err != nil {
 		t.Errorf("Own with a folder: got %q and %v, want \"one\" and no error", owner, err)
 	}
-	ok(t, f.Delete(ctx, first))
+	check(t, f.Delete(ctx, first))
 	if found := names(t, f.top); !reflect.DeepEqual(found, []string{".bindings", ".locks", ".owner"}) {
 		t.Errorf("left: got %v, want the bindings, the locks and the owner", found)
 	}
@@ -413,7 +407,7 @@ func TestFoldersWithoutAnOwner(t *testing.T) {
 	for _, name := range []string{first.Key.Instance.String(), partPrefix + first.Key.Instance.String()} {
 		t.Run(name, func(t *testing.T) {
 			f := newFolders(t, t.TempDir())
-			ok(t, os.Mkdir(f.top+"/"+name, 0o700))
+			check(t, os.Mkdir(f.top+"/"+name, 0o700))
 			if owner, err := f.Own(ctx, "one"); err == nil || !strings.Contains(err.Error(), ".owner") {
 				t.Errorf("with %s: Own got %q, %v, want an error that names .owner", name, owner, err)
 			}
@@ -454,9 +448,9 @@ func unlistableFolder(t *testing.T) string {
 	folder := t.TempDir()
 	if os.Geteuid() == 0 {
 		const nobody = 65534
-		ok(t, os.Chown(folder, nobody, nobody))
+		check(t, os.Chown(folder, nobody, nobody))
 		for above := filepath.Dir(folder); above != os.TempDir() && above != "/"; above = filepath.Dir(above) {
-			ok(t, os.Chmod(above, 0o755))
+			check(t, os.Chmod(above, 0o755))
 		}
 		runtime.LockOSThread()
 		_, _, _ = syscall.RawSyscall(syscall.SYS_SETFSUID, nobody, 0, 0) // of this thread
@@ -465,7 +459,7 @@ func unlistableFolder(t *testing.T) string {
 			runtime.UnlockOSThread()
 		})
 	}
-	ok(t, os.Chmod(folder, 0o300))
+	check(t, os.Chmod(folder, 0o300))
 	t.Cleanup(func() { _ = os.Chmod(folder, 0o700) })
 	if _, err := os.ReadDir(folder); !errors.Is(err, fs.ErrPermission) {
 		t.Fatalf("got %v, want a folder that can't be listed", err)
@@ -500,7 +494,7 @@ func TestLabel(t *testing.T) {
 		if syscall.Setxattr(f.top, labelAttribute, []byte("x"), 0) != nil {
 			t.Skip("the file system of the temporary folder has no extended attributes")
 		}
-		ok(t, f.Create(ctx, first))
+		check(t, f.Create(ctx, first))
 		var text [256]byte
 		n, err := syscall.Getxattr(f.whole(first.Key.Instance), labelAttribute, text[:])
 		if err != nil || string(text[:n]) != wanted {
@@ -515,7 +509,7 @@ func TestLabel(t *testing.T) {
 			`","service":"` + first.ServiceID + `"}` + "\n"
 		f := newFolders(t, t.TempDir())
 		f.setAttribute = func(string, string, []byte, int) error { return syscall.ENOTSUP }
-		ok(t, f.Create(ctx, first))
+		check(t, f.Create(ctx, first))
 		text, err := os.ReadFile(f.whole(first.Key.Instance) + "/instance.json")
 		if err != nil || string(text) != wanted {
 			t.Errorf("the file: got %q, %v, want %q", text, err, wanted)
@@ -528,13 +522,13 @@ func TestLabel(t *testing.T) {
 func TestLabelHasNumbers(t *testing.T) {
 	sold := soldAs{"postgres", "small"}
 	text, err := sold.textOf(first.Key.Instance)
-	ok(t, err)
+	check(t, err)
 	var label map[string]string
-	ok(t, json.Unmarshal(text, &label))
+	check(t, json.Unmarshal(text, &label))
 	wanted := ""
 	for _, attribute := range [][2]string{{"service", "postgres"}, {"plan", "small"}} {
 		number, err := osb.IDOfText(attribute[1])
-		ok(t, err)
+		check(t, err)
 		if label[attribute[0]] != number.String() {
 			t.Errorf("%s: got %s, want %v", attribute[0], label[attribute[0]], number)
 		}

@@ -532,28 +532,20 @@ func (r *rig) drop() {
 func (r *rig) column(query string, arguments ...any) (found []string) {
 	r.t.Helper()
 	rows, err := r.admin.Query(query, arguments...)
-	if err != nil {
-		r.t.Fatal(err)
-	}
+	check(r.t, err)
 	defer rows.Close()
 	for rows.Next() {
 		var it string
-		if err := rows.Scan(&it); err != nil {
-			r.t.Fatal(err)
-		}
+		check(r.t, rows.Scan(&it))
 		found = append(found, it)
 	}
-	if err := rows.Err(); err != nil {
-		r.t.Fatal(err)
-	}
+	check(r.t, rows.Err())
 	return found
 }
 
 func (r *rig) exists(from string, arguments ...any) (is bool) {
 	r.t.Helper()
-	if err := r.admin.QueryRow("SELECT EXISTS (SELECT FROM "+from+")", arguments...).Scan(&is); err != nil {
-		r.t.Fatal(err)
-	}
+	check(r.t, r.admin.QueryRow("SELECT EXISTS (SELECT FROM "+from+")", arguments...).Scan(&is))
 	return is
 }
 
@@ -574,9 +566,7 @@ func (r *rig) openUntied(change ...func(*postgres.Options)) *postgres.Databases 
 		set(&options)
 	}
 	d, err := postgres.Open(context.Background(), r.url, options)
-	if err != nil {
-		r.t.Fatal(err)
-	}
+	check(r.t, err)
 	r.t.Cleanup(func() { _ = d.Close() })
 	return d
 }
@@ -607,9 +597,7 @@ func newInstance(t *testing.T) broker.Key { return broker.InstanceKey(randomID(t
 
 func randomID(t *testing.T) (id osb.ID) {
 	t.Helper()
-	if _, err := rand.Read(id[:]); err != nil {
-		t.Fatal(err)
-	}
+	diff.Value(rand.Read(id[:]))(t)
 	return id
 }
 

@@ -60,9 +60,7 @@ var (
 // The statements of Rekey have a limit, so that it doesn't wait for ever for a server that is silent.
 func TestLongestStatementOfRekey(t *testing.T) {
 	listener, err := net.Listen("tcp", "127.0.0.1:0")
-	if err != nil {
-		t.Fatal(err)
-	}
+	diff.Must(t, err)
 	defer listener.Close()
 	begun := make(chan string, 10)
 	go func() {

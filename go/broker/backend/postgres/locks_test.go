@@ -189,9 +189,7 @@ func TestALockThatOutlivesItsClient(t *testing.T) {
 	if !r.exists("pg_roles WHERE rolname = $1 AND NOT rolcanlogin", postgres.NameOf(key)) {
 		t.Error("got a role that can log in before its database exists, want it without login")
 	}
-	if _, err := template.ExecContext(context.Background(), "COMMIT"); err != nil {
-		t.Fatal(err)
-	}
+	diff.Value(template.ExecContext(context.Background(), "COMMIT"))(t)
 	ctx, cancel := context.WithTimeout(context.Background(), time.Minute)
 	defer cancel()
 	next, err := second.Locks().Lock(ctx, key)

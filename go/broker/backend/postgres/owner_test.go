@@ -241,9 +241,7 @@ func TestRekeyBesideAnotherStore(t *testing.T) {
 	r.open()
 	other := r.sibling()
 	theirs := other.openUntied()
-	if _, err := theirs.Own(context.Background(), "00000000-0000-4000-8000-00000000bbbb"); err != nil {
-		t.Fatal(err)
-	}
+	diff.Value(theirs.Own(context.Background(), "00000000-0000-4000-8000-00000000bbbb"))(t)
 	key := createInstance(t, theirs).request.Key
 	if left := r.rekey(secret, another); len(left) > 0 {
 		t.Errorf("left: got %v, want none", left)
@@ -332,9 +330,7 @@ func TestAnotherStore(t *testing.T) {
 	for name, other := range map[string]*rig{"with a role of its own": newRig(t), "with the same role": r.sibling()} {
 		t.Run(name, func(t *testing.T) {
 			second := other.openUntied()
-			if _, err := second.Own(context.Background(), "00000000-0000-4000-8000-00000000bbbb"); err != nil {
-				t.Fatal(err)
-			}
+			diff.Value(second.Own(context.Background(), "00000000-0000-4000-8000-00000000bbbb"))(t)
 			wantForeign(t, second, lock(t, second, it.request.Key))
 			wantThere(t, d, it, broker.Whole)
 			pgtest.Exec(t, r.customer(it.request.Key), "SELECT * FROM t")

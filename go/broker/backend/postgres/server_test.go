@@ -92,9 +92,7 @@ func (r *rig) in(database string, statements ...string) {
 	r.t.Helper()
 	db := pgtest.DB(r.t, pgtest.In(r.t, pgtest.URL(r.t), database))
 	pgtest.Exec(r.t, db, statements...)
-	if err := pg.Close(db); err != nil { // otherwise nobody can copy the database
-		r.t.Fatal(err)
-	}
+	check(r.t, pg.Close(db)) // otherwise nobody can copy the database
 }
 
 func withTemplate(name string) func(*postgres.Options) {
