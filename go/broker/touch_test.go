@@ -2,10 +2,10 @@ package broker_test
 
 import (
 	"context"
-	"reflect"
 	"testing"
 
 	"pippinterm/broker"
+	"pippinterm/internal/diff"
 )
 
 // A toucher is a broker without a sweeper. It keeps the keys that are touched.
@@ -44,10 +44,10 @@ func (u *toucher) check(t *testing.T, key broker.Key, cases []touchCase) {
 		if test.isTouched {
 			want = []broker.Key{key}
 		}
-		if given.status != test.status || !reflect.DeepEqual(u.touched, want) {
-			t.Errorf("%s %s: got %d %s and %v touched, want %d and %v", test.method, test.target, given.status,
-				given.body, u.touched, test.status, want)
+		if given.status != test.status {
+			t.Errorf("%s %s: got %d %s, want %d", test.method, test.target, given.status, given.body, test.status)
 		}
+		diff.Check(t, u.touched, want, "%s %s: the keys that are touched", test.method, test.target)
 	}
 }
 
@@ -145,9 +145,10 @@ func TestTouchOfFailedBindings(t *testing.T) {
 	u.takeUp(t, key)
 	u.touched = nil
 	given := message{method: "DELETE", target: one + names(bindLater)}.serve(u.handler)
-	if want := []broker.Key{key}; given.status != 422 || !reflect.DeepEqual(u.touched, want) {
-		t.Errorf("got %d %s and %v touched, want %v", given.status, given.body, u.touched, want)
+	if given.status != 422 {
+		t.Errorf("got %d %s, want 422", given.status, given.body)
 	}
+	diff.Check(t, u.touched, []broker.Key{key}, "the keys that are touched")
 	u.takeUp(t, key)
 	u.check(t, key, []touchCase{{"DELETE", one + names(bindLater), "", 200, false}})
 }

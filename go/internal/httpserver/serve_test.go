@@ -169,15 +169,10 @@ func TestDefaultTimes(t *testing.T) {
 
 // So has a Listener.
 func TestDefaultsOfAListener(t *testing.T) {
-	got := Options{}.withDefaults()
-	if got.Connections != 800 || got.PerAddress != 200 || got.Silent != 5*time.Second || got.Write != half ||
-		got.Observer == nil {
-		t.Errorf("got %+v, want 800 connections, 200 of an address, 5 s of silence, 30 s to write, and an observer", got)
-	}
-	got = Options{Connections: 10, PerAddress: 4, Silent: 1, Write: 2}.withDefaults()
-	if got.Connections != 10 || got.PerAddress != 4 || got.Silent != 1 || got.Write != 2 {
-		t.Errorf("got %+v, want it as it was", got)
-	}
+	want := Options{Connections: 800, PerAddress: 200, Silent: 5 * time.Second, Write: half, Observer: noObserver{}}
+	diff.Check(t, Options{}.withDefaults(), want, "the defaults")
+	want = Options{Connections: 10, PerAddress: 4, Silent: 1, Write: 2, Observer: noObserver{}}
+	diff.Check(t, want.withDefaults(), want, "what has no need of defaults")
 }
 
 func TestStopHasALimit(t *testing.T) {

@@ -7,11 +7,11 @@ import (
 	"os"
 	"os/exec"
 	"path/filepath"
-	"reflect"
 	"strings"
 	"testing"
 
 	"pippinterm/broker"
+	"pippinterm/internal/diff"
 	"pippinterm/osb"
 )
 
@@ -170,9 +170,7 @@ func TestExampleCatalogue(t *testing.T) {
 			for _, plan := range plans {
 				modes = append(modes, plan.IsAsynchronous)
 			}
-			if !reflect.DeepEqual(modes, []bool{false, true}) {
-				t.Errorf("of %s: got plans that are asynchronous %v, want one of each", name, modes)
-			}
+			diff.Check(t, modes, []bool{false, true}, "which plans of %s are asynchronous", name)
 		})
 	}
 }
@@ -305,9 +303,7 @@ func (d *disk) isWritten() {
 	d.Helper()
 	now := d.now()
 	for _, change := range d.since {
-		if !reflect.DeepEqual(change, now) {
-			d.Errorf("got %v on disk, want %v", change, now)
-		}
+		diff.Check(d, change, now, "what is on disk")
 	}
 	if file, exists := now[d.resource]; exists && !d.synced[file] {
 		d.Errorf("got the content of %s in memory alone, want it on disk", d.resource)

@@ -7,7 +7,6 @@ import (
 	"io/fs"
 	"os"
 	"path/filepath"
-	"reflect"
 	"runtime"
 	"strings"
 	"sync"
@@ -118,9 +117,7 @@ func TestWhateverIsLeft(t *testing.T) {
 					t.Errorf("a folder that existed: got %v, want it left as it was", err)
 				}
 				check(t, f.Delete(ctx, first))
-				if found := names(t, f.top); !reflect.DeepEqual(found, []string{".bindings", ".locks"}) {
-					t.Errorf("left: got %v, want the folders of bindings and of locks", found)
-				}
+				diff.Check(t, names(t, f.top), []string{".bindings", ".locks"}, "what is left")
 			})
 		}
 	}
@@ -310,9 +307,7 @@ func TestBindingsLeaveTheRestAlone(t *testing.T) {
 	has(t, f, same, broker.Whole)
 	has(t, f, sameSide, broker.Whole)
 	has(t, f, first, broker.Whole)
-	if found := names(t, f.whole(first.Key.Instance)); !reflect.DeepEqual(found, []string{"data"}) {
-		t.Errorf("the folder: got %v, want data", found)
-	}
+	diff.Check(t, names(t, f.whole(first.Key.Instance)), []string{"data"}, "the folder")
 }
 
 // Whatever a crash has left of a binding, CreateBinding completes it and DeleteBinding deletes it.
@@ -398,9 +393,7 @@ func TestOwner(t *testing.T) {
 		t.Errorf("Own with a folder: got %q and %v, want \"one\" and no error", owner, err)
 	}
 	check(t, f.Delete(ctx, first))
-	if found := names(t, f.top); !reflect.DeepEqual(found, []string{".bindings", ".locks", ".owner"}) {
-		t.Errorf("left: got %v, want the bindings, the locks and the owner", found)
-	}
+	diff.Check(t, names(t, f.top), []string{".bindings", ".locks", ".owner"}, "what is left")
 }
 
 func TestFoldersWithoutAnOwner(t *testing.T) {
