@@ -108,7 +108,7 @@ def test_minimize(storm: Path, replay: Path, programs: list[str], tmp_path: Path
     """
     given, shortest, report = tmp_path / "given", tmp_path / "shortest", tmp_path / "report"
     given.write_text("2.1 answer-late\n3.1 request-late\n3.2 answer-slow\n4.1 request-late\n4.2 answer-slow\n")
-    times = "--seconds", "4", "--request-seconds", "1", "--late-seconds", "5", "--seed", "1", "--instances", "8"
+    times = "--seconds", "4", "--request-seconds", "1", "--late-seconds", "15", "--seed", "1", "--instances", "8"
     words = *times, "--without", "tombstones", "--json", str(report)
     shrinks = "--minimize", "--faults", str(given), "--faults-to", str(shortest)
     assert _DIFFERS.search(storming(storm, replay, programs, tmp_path / "first", *words, *shrinks))
