@@ -15,7 +15,8 @@ import (
 	"unicode"
 )
 
-// creation is a valid Provision or Bind of the target that accepts an asynchronous operation. change may change its body.
+// creation is a valid Provision or Bind of the target that accepts an asynchronous operation. change may change its
+// body.
 func (r *Runner) creation(k key, change func(object)) request {
 	body := object{"service_id": r.target.Service, "plan_id": r.target.Plan}
 	if k.binding == "" {

@@ -35,8 +35,8 @@ type Config struct {
 	Commands          Commands
 }
 
-// Commands are commands of the shell. Each may be empty. The lists are of what exists at a broker, or of what a platform
-// has.
+// Commands are commands of the shell. Each may be empty. The lists are of what exists at a broker, or of what a
+// platform has.
 type Commands struct {
 	List         string // prints the id of each instance, one on a line
 	ListBindings string // prints the ids of the instance and the binding for each binding
