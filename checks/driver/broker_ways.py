@@ -7,8 +7,8 @@ from __future__ import annotations
 
 import re
 
-from driver import left_out
-from driver.world import Design
+from driver import broker_left_out as left_out
+from driver.broker_world import Design
 
 LOCKED = "the platform sends a provision | 1 begins for attempt 1 | 1 gets the lock"
 BEGUN = f"{LOCKED} | 1 writes its work"

@@ -9,22 +9,12 @@ from __future__ import annotations
 from functools import lru_cache
 from typing import NamedTuple, Union
 
+from driver.events import FAILED, RETURNED, Plan
 from network import model
 from network.model import Answer, Held, Request
 
 # The request whose work is pending, or the phase of an operation that runs: "making" or "deleting".
 Task = Union[Request, str]
-
-# What becomes of a commit. If it is unsure, the driver doesn't know whether the transaction was written.
-RETURNED, FAILED, WRITTEN, NOT_WRITTEN = "returned", "failed", "unsure, written", "unsure, not written"
-COMMITS = [RETURNED, FAILED, WRITTEN, NOT_WRITTEN]
-
-
-class Plan(NamedTuple):
-    """The mode of the plan, and the rule of the first Poll."""
-
-    mode: str
-    first_poll: bool = False
 
 
 class Stage(NamedTuple):

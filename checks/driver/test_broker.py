@@ -1,5 +1,5 @@
-"""Steps every world of drivers that can come about. In each, the row, the resource and the answers are the network's.
-If an obligation is left out, a wrong world comes about.
+"""Steps every world of a broker's drivers that can come about. In each, the row, the resource and the answers are the
+network's. If an obligation is left out, a wrong world comes about.
 
 OSB_EXAMPLES=1 steps larger bounds, too, which takes two minutes more.
 """
@@ -7,15 +7,14 @@ OSB_EXAMPLES=1 steps larger bounds, too, which takes two minutes more.
 from __future__ import annotations
 
 import os
-from collections.abc import Callable
 from typing import NamedTuple
 
 import pytest
-from driver.left_out import LateCommitAtUnsure, UncomparedNumberAtUnsure
-from driver.model import Plan
-from driver.states import disagreement, explore, unsound
-from driver.ways import WAYS
-from driver.world import Design, World
+from driver.broker_left_out import LateCommitAtUnsure, UncomparedNumberAtUnsure
+from driver.broker_ways import WAYS
+from driver.broker_world import Design, World, disagreement, unsound
+from driver.events import Plan
+from driver.states import Explored, explore
 from whole import ANEW
 
 SYNC, ASYNC, FIRST_POLL = Plan("sync"), Plan("async"), Plan("async", first_poll=True)
@@ -44,8 +43,8 @@ def names(bounds: Bounds) -> str:
     return f"{plan}, attempts {bounds.attempts}, drivers {bounds.drivers}"
 
 
-def sound(plan: Plan) -> Callable[[World], str | None]:
-    return lambda world: disagreement(world) or unsound(plan, world)
+def step(design: Design) -> Explored[World]:
+    return explore(design.start, design.steps, lambda world: disagreement(world) or unsound(design.plan, world))
 
 
 # The stages that come about, of a driver whose number the row has (an owner), and of one whose number it hasn't.
@@ -73,7 +72,7 @@ def stages(worlds: list[World]) -> set[str]:
 @pytest.mark.parametrize("bounds", BOUNDS, ids=names)
 def test_design(bounds: Bounds) -> None:
     plan, attempts, drivers, count = bounds
-    explored = explore(Design(plan, attempts, drivers), sound(plan))
+    explored = step(Design(plan, attempts, drivers))
     assert explored.wrong is None, explored.way
     assert stages(explored.worlds) == (STAGES - OPERATIONS if plan == SYNC else STAGES)
     assert len(explored.worlds) == count
@@ -82,7 +81,7 @@ def test_design(bounds: Bounds) -> None:
 def test_plan_without_a_mode() -> None:
     """Each request is answered at once."""
     plan = Plan("-")
-    explored = explore(Design(plan, 2, 2), sound(plan))
+    explored = step(Design(plan, 2, 2))
     assert explored.wrong is None, explored.way
     assert stages(explored.worlds) == {"TryLock", "Begin", "Begin, locked", "Done"}
 
@@ -106,12 +105,13 @@ def test_ways_are_of_all_obligations() -> None:
 @pytest.mark.parametrize("design", WAYS, ids=name)
 def test_obligation_that_is_left_out(design: type[Design]) -> None:
     """The shortest way to a wrong world is the one in the table."""
-    explored = explore(design(SYNC, 1, 2, puts_off=False))
+    left_out = design(SYNC, 1, 2, puts_off=False)
+    explored = explore(left_out.start, left_out.steps, disagreement)
     assert (explored.way, explored.wrong) == WAYS[design]
 
 
 @pytest.mark.slow
 @pytest.mark.parametrize("design", NOT_NEEDED, ids=name)
 def test_part_that_is_not_needed(design: type[Design]) -> None:
-    explored = explore(design(SYNC, 1, 2), sound(SYNC))
+    explored = step(design(SYNC, 1, 2))
     assert explored.wrong is None, explored.way

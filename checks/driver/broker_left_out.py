@@ -4,8 +4,9 @@ program that carries out what a driver says.
 
 from __future__ import annotations
 
-from driver.model import BEGIN, FAILED, NOT_WRITTEN, RETURNED, WRITTEN, Task, Transaction, answering, worked
-from driver.world import Design, Driver, Steps, World, answer_words
+from driver.broker_model import BEGIN, Task, Transaction, answering, worked
+from driver.broker_world import Design, Driver, Steps, World
+from driver.events import FAILED, NOT_WRITTEN, RETURNED, WRITTEN, answer_words
 from network.model import Held
 
 # ---- the database, and what waits for its commits

@@ -1,4 +1,4 @@
-"""Drivers at one instance, step by step, beside the network of network.model.
+"""Drivers of a broker at one instance, step by step, beside the network of network.model.
 
 A world has a row in a database, a lock, a resource in a backend, and drivers. Each step of a driver is none or one
 event of the network. A step is wrong if the network doesn't have the event, or if the event leaves another row.
@@ -10,30 +10,24 @@ from collections.abc import Iterator
 from functools import lru_cache
 from typing import NamedTuple
 
-from driver.model import (
-    BEGIN,
+from driver import states
+from driver.broker_model import BEGIN, DONE, TRY_LOCK, Stage, Task, Transaction, after_commit, transaction, worked
+from driver.events import (
+    COMMIT_WORDS,
     COMMITS,
-    DONE,
     FAILED,
+    GATEWAY,
     NOT_WRITTEN,
-    RETURNED,
-    TRY_LOCK,
+    REQUESTS,
     WRITTEN,
     Plan,
-    Stage,
-    Task,
-    Transaction,
-    after_commit,
-    transaction,
-    worked,
+    answer_words,
+    can_have_ended,
+    happen,
+    held_words,
 )
 from network import model
-from network.model import Answer, Given, Held, Instance, Request
-
-# The requests of the platform, by their kind.
-REQUESTS = {kind: Request(kind, True) for kind in model.BUSY}
-# What a gateway answers in the place of the broker.
-GATEWAY = Answer(500, "malformed")
+from network.model import Answer, Given, Held, Request
 
 
 class Driver(NamedTuple):
@@ -89,58 +83,9 @@ class World(NamedTuple):
         return self._replace(answers=self.answers | {answer})
 
 
-# ---- the events of the network
-
-
-class Event(NamedTuple):
-    """What an event of the network leaves, and the answer that it gives."""
-
-    held: Held
-    worker: int | None
-    given: Given | None = None
-
-
-@lru_cache(maxsize=None)
-def happen(
-    plan: Plan, event: str, attempt: int, request: Request | None, held: Held, worker: int | None, resource: str
-) -> Event | None:
-    """The event of the network, or None if it doesn't apply. "" is no event."""
-    network = Instance(plan.mode, True, plan.first_poll, held=held, worker=worker, resource=resource)
-    if request is not None:
-        network.sent = [request] * attempt
-    if event != "" and not network.happen(f"{event} {attempt}" if event in ("arrive", "put-off") else event):
-        return None
-    return Event(network.held, network.worker, network.given[0] if network.given else None)
-
-
-@lru_cache(maxsize=None)
-def can_have_ended(mode: str, request: Request, outcome: str, resource: str) -> bool:
-    """Whether the work of this request may have ended so and left this resource."""
-    if outcome.startswith("refused") and request.kind != "provision":
-        return False
-    return model.can_have_ended(mode, Held(work=request), outcome, resource)
-
-
 # ---- words
 
 
-def answer_words(answer: Answer | None) -> str:
-    return f"{answer.status} {answer.body}" if answer else "-"
-
-
-def held_words(held: Held) -> str:
-    words = [f"a row in {held.row.phase}"] if held.row else []
-    words += [f"a pending {held.work.kind}"] if held.work else []
-    words += ["a tombstone"] if held.tombstone else []
-    return " and ".join(words) or "nothing"
-
-
-COMMIT_WORDS = {
-    RETURNED: "",
-    FAILED: "; the commit fails",
-    WRITTEN: "; the commit is unsure, and was written",
-    NOT_WRITTEN: "; the commit is unsure, and wasn't written",
-}
 # What a transaction reads that writes nothing, by the stage that comes next.
 READ_WORDS = {
     "AwaitLock": "reads that it needs the lock",
@@ -318,3 +263,52 @@ class Design:
             wrong = f"the network has given no {answer_words(stage.answer)} to attempt {driver.attempt}"
             world = world._replace(wrong=wrong)
         return world.put(at, driver._replace(stage=stage, was_given=is_given and stage.name == "End"))
+
+
+# ---- what is so in each world
+
+
+def disagreement(world: World) -> str | None:
+    return states.disagreement(world.state, world.row, world.resource)
+
+
+def unsound(plan: Plan, world: World) -> str | None:
+    """What doesn't hold of the owner, whose number the row has, and of the driver that has the lock."""
+    owners = [it for it in world.drivers if it.owns]
+    holders = [it for it in world.drivers if it.has_lock]
+    if len(owners) > 1 or len(holders) > 1:
+        return "two drivers have the number of the row, or the lock"
+    works = any(it.stage.name == "Work" for it in holders)
+    if works and model.is_made(world.row) is None:
+        return "a driver works, and no work is pending and no operation runs"
+    for owner in owners:
+        if works and owner.stage.name in ("End", "Finish"):
+            return "a driver works, and the owner knows the outcome already"
+        if not knows(plan, world, owner):
+            return f"what the owner knows at {owner.stage.name} isn't so"
+    return None
+
+
+def knows(plan: Plan, world: World, owner: Driver) -> bool:
+    """Whether what the owner knows at its stage is so."""
+    row, work, _, _ = world.row
+    name, _, task, outcome, earlier = owner.stage
+    # The pending work is that of the owner's request, which the network will answer. A take-up has no request.
+    is_own = work is not None and (owner.attempt == 0 or (work, world.worker) == (world.request(owner), owner.attempt))
+    if name == "Unsure":
+        return is_own
+    if name == "Work" and isinstance(task, Request):
+        return is_own and work == task
+    if name == "Work":
+        return work is None and row is not None and row.phase == task
+    if name == "Finish":
+        whole = {True: "whole", False: "absent", None: "-"}[model.is_made(world.row)]
+        return work is None and whole != "-" and (outcome == "failed" or world.resource == whole)
+    if name != "End":
+        return True
+    assert outcome is not None
+    if work is None:
+        return earlier is not None and owner.was_given
+    ended = model.end(plan.mode, world.row, outcome)
+    is_same = earlier is None or ended is not None and ended[1] == earlier
+    return is_own and is_same and not owner.was_given and can_have_ended(plan.mode, work, outcome, world.resource)
