@@ -1,1 +1,1 @@
-"""Steps everything that can come about of a broker's drivers at one instance, beside the network of checks/network."""
+"""Steps everything that can come about of the drivers at one instance, beside the network of checks/network."""

@@ -25,6 +25,7 @@ class AnyWorld(Protocol):
 
 
 World = TypeVar("World", bound=AnyWorld)
+Design = TypeVar("Design")
 # What tells two worlds apart.
 Key = tuple[object, ...]
 # The world before each world, and the step from there.
@@ -74,6 +75,12 @@ def way_to(key: Key, came: Came) -> tuple[str, ...]:
         way.append(at[1])
         at = came[at[0]]
     return tuple(reversed(way))
+
+
+def below(design: type[Design]) -> set[type[Design]]:
+    """The designs that leave something out."""
+    found = set(design.__subclasses__())
+    return found.union(*(below(it) for it in found))
 
 
 def disagreement(state: str | None, held: Held, resource: str) -> str | None:

@@ -14,7 +14,7 @@ from driver.broker_left_out import LateCommitAtUnsure, UncomparedNumberAtUnsure
 from driver.broker_ways import WAYS
 from driver.broker_world import Design, World, disagreement, unsound
 from driver.events import Plan
-from driver.states import Explored, explore
+from driver.states import Explored, below, explore
 from whole import ANEW
 
 SYNC, ASYNC, FIRST_POLL = Plan("sync"), Plan("async"), Plan("async", first_poll=True)
@@ -91,11 +91,6 @@ def test_plan_without_a_mode() -> None:
 
 def name(design: type[Design]) -> str:
     return design.__name__
-
-
-def below(design: type[Design]) -> set[type[Design]]:
-    found = set(design.__subclasses__())
-    return found.union(*(below(it) for it in found))
 
 
 def test_ways_are_of_all_obligations() -> None:
