@@ -25,9 +25,9 @@ PACKAGES = {
 
 def needs(*commands: str, packages: Mapping[str, str] = PACKAGES, path: str | None = None) -> None:
     """Skips the test unless each of these commands is installed."""
-    for it in commands:
-        if shutil.which(it, path=path) is None:
-            pytest.skip(f"{it} isn't installed (Debian: {packages.get(it, it)})")
+    for command in commands:
+        if shutil.which(command, path=path) is None:
+            pytest.skip(f"{command} isn't installed (Debian: {packages.get(command, command)})")
 
 
 def ran(

@@ -45,11 +45,11 @@ def audit(replay: Path, library: Path, tmp_path: Path) -> Audit:
 
     def run(*journals: Journal | Path | str, options: tuple[str, ...] = ("--json", "--jobs", "1")) -> Ran:
         paths: list[Path | str] = []
-        for it in journals:
-            if isinstance(it, Journal):
-                paths += it.files(tmp_path)
+        for journal in journals:
+            if isinstance(journal, Journal):
+                paths += journal.files(tmp_path)
             else:
-                paths.append(it)
+                paths.append(journal)
         return audited(*options, *map(str, paths))
 
     return run

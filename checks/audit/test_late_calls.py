@@ -56,8 +56,8 @@ class Moment(NamedTuple):
 def moments(story: list[str]) -> list[Moment]:
     """Behind each statement."""
     found, now = [], Moment("absent", False, ())
-    for it in story:
-        words = it.split()
+    for event in story:
+        words = event.split()
         if words[1] == "begin" and words[2] in ("create", "delete"):
             now = now._replace(
                 resource="part", perhaps=(now.resource, {"create": "whole", "delete": "absent"}[words[2]])

@@ -97,10 +97,15 @@ def test_texts_of_other_types(name: str) -> None:
     others: list[dict[str, Any]] = [{**holding, "row": {**row, it: wrong}} for it in row]
     others += [{**holding, "work": {**work, it: wrong}} for it in work if not (it == "id" and isinstance(wrong, str))]
     others += [{**holding, it: wrong} for it in holding if not (it == "attributes" and isinstance(wrong, str))]
-    for it in others:
-        if it["tombstone"] is True or it["row"] is None or it["work"] is None:
+    for other in others:
+        if other["tombstone"] is True or other["row"] is None or other["work"] is None:
             continue  # these are texts of other holdings
-        if name == "a truth" and it["work"] == work and it["row"] == row and it["attributes"] == holding["attributes"]:
+        if (
+            name == "a truth"
+            and other["work"] == work
+            and other["row"] == row
+            and other["attributes"] == holding["attributes"]
+        ):
             continue  # of `accepts_incomplete`
         with pytest.raises(NoText):
-            held_in(json.dumps(it))
+            held_in(json.dumps(other))

@@ -296,10 +296,10 @@ def test_form_of_lines(audit: Audit, tmp_path: Path, name: str) -> None:
     """A line may be any object of JSON with the members. What is reported is the same."""
     paths = journals_in(tmp_path, BOUND.replace("B answer 1 201", "B answer 1 200"))
     wanted = audit(*paths)
-    for it in paths:
-        lines = it.read_text().splitlines()
-        it.write_text("".join(f"{FORMS[name](line)}\n" for line in lines), newline="")
-        assert it.read_text().splitlines() != lines
+    for path in paths:
+        lines = path.read_text().splitlines()
+        path.write_text("".join(f"{FORMS[name](line)}\n" for line in lines), newline="")
+        assert path.read_text().splitlines() != lines
     assert audit(*paths) == wanted and wanted.status == 1 and wanted.report["differences"][0]["line"] == 10
 
 
@@ -581,8 +581,8 @@ def test_lines_of_programs_that_go_on(audit: Audit, tmp_path: Path) -> None:
     assert (ran.status, ran.report["events"], ran.report["differences"]) == (0, 7, [])
     (reason,) = ran.report["unjudged"]
     assert reason["why"] == "it went on after the audit had begun" and reason["first"]["line"] == 6
-    for it in paths:
-        os.utime(it, (now / 1e6 - 60, now / 1e6 - 60))
+    for path in paths:
+        os.utime(path, (now / 1e6 - 60, now / 1e6 - 60))
     ran = audit(*paths)
     assert (ran.status, ran.report["events"], ran.report["unjudged"]) == (0, 9, [])
 

@@ -155,8 +155,8 @@ def after_instance(broker: Broker, cell: Any, binding: Held) -> tuple[Any, ...]:
 
 def steps(broker: Broker, both: Both) -> Iterator[Both]:
     instance, binding = both
-    for it in after_instance(broker, instance, seen_of_binding(binding.life.held)):
-        yield Both(it, binding)
+    for following in after_instance(broker, instance, seen_of_binding(binding.life.held)):
+        yield Both(following, binding)
     for bound in after_binding(broker, binding, seen_of_instance(instance.held)):
         yield Both(instance, bound)
 
@@ -197,9 +197,9 @@ def explore(broker: Broker) -> Explored:
         why = wrong(broker, both)
         if why is not None:
             return Explored(len(seen), taken, f"{why}: {both}")
-        for it in steps(broker, both):
+        for step in steps(broker, both):
             taken += 1
-            if it not in seen:
-                seen.add(it)
-                todo.append(it)
+            if step not in seen:
+                seen.add(step)
+                todo.append(step)
     return Explored(len(seen), taken, None)

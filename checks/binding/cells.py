@@ -264,8 +264,8 @@ class World:
         instance, *bindings = numbers
         faces, agree = self.bindings.faces, self.bindings.agree
         found = frozenset[str]()
-        for it in bindings:
-            found |= self.between(self.instances.faces[instance], faces[it])
+        for binding in bindings:
+            found |= self.between(self.instances.faces[instance], faces[binding])
         if self.instances.agree[instance] and all(agree[it] for it in bindings):
             return found
         return found | {LIVES_AGREE}
@@ -279,11 +279,11 @@ class World:
             why = self.broken(numbers).intersection(promises)
             if why:
                 return Explored(came, numbers, why, steps)
-            for it in self.after(numbers):
+            for following in self.after(numbers):
                 steps += 1
-                if it not in came:
-                    came[it] = numbers
-                    todo.append(it)
+                if following not in came:
+                    came[following] = numbers
+                    todo.append(following)
         return Explored(came, None, frozenset(), steps)
 
     # ---- rounds without a fault

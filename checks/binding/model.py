@@ -96,8 +96,8 @@ class Rules(NamedTuple):
     without: frozenset[str] = frozenset()
     # The answer to a Bind that is put off.
     refusal: Answer = BUSY["provision"]
-    # Whether a round without a fault gives a resource new credentials. Otherwise the resource has those that it had,
-    # and 0 if it had none.
+    # Whether a round without a fault gives a resource new credentials. Otherwise the resource keeps its credentials,
+    # or 0 for none.
     renews: bool = True
 
     def has(self, part: str) -> bool:
@@ -430,8 +430,8 @@ class Binding(Life):
             self.row = 0
         elif phase != "ready":
             self.row = self.credentials
-        for it in self.given[given:]:
-            gives = self.sent[it.attempt - 1].kind == "provision" and it.answer.status in (200, 201)
+        for response in self.given[given:]:
+            gives = self.sent[response.attempt - 1].kind == "provision" and response.answer.status in (200, 201)
             if gives and phase == "ready" and "stored credentials" in self.without:
                 self.make_anew()
             self.beside.append(self.row if gives else 0)

@@ -1,6 +1,6 @@
 """Compares osb_binding_network with the model, event by event.
 
-The program of the crate service_cases tells what there is after each line. OSB_EXAMPLES=10 takes ten times as many
+The program of the crate service_cases prints what there is after each line. OSB_EXAMPLES=10 takes ten times as many
 steps, from a seed that is drawn at random and printed.
 """
 

@@ -50,8 +50,8 @@ each_program = pytest.mark.parametrize("folder", PROGRAMS)
 def test_schema(file: Path) -> None:
     found = documents(file)
     assert found
-    for it in found:
-        assert faults(it, schemas.KINDS[it["kind"]]) == []
+    for resource in found:
+        assert faults(resource, schemas.KINDS[resource["kind"]]) == []
 
 
 def _put(*path: Any, value: Any) -> Callable[[Value], None]:
@@ -237,8 +237,8 @@ def test_configuration(folder: str) -> None:
     (made,) = kustomization(folder)["configMapGenerator"]
     used = set()
     for workload in workloads(folder):
-        for it in program(workload).get("env", []):
-            reference = it.get("valueFrom", {}).get("configMapKeyRef")
+        for variable in program(workload).get("env", []):
+            reference = variable.get("valueFrom", {}).get("configMapKeyRef")
             if reference:
                 assert reference["name"] == made["name"]
                 used.add(reference["key"])
@@ -251,8 +251,8 @@ def test_configuration(folder: str) -> None:
 @each_workload
 def test_own_selector(folder: str, workload: Value) -> None:
     assert selected(folder, workload["spec"]["selector"]["matchLabels"]) == [workload]
-    for it in pod(workload)["topologySpreadConstraints"]:
-        assert selected(folder, it["labelSelector"]["matchLabels"]) == [workload]
+    for constraint in pod(workload)["topologySpreadConstraints"]:
+        assert selected(folder, constraint["labelSelector"]["matchLabels"]) == [workload]
     assert pod(workload)["serviceAccountName"] in [it["metadata"]["name"] for it in of_kind(folder, "ServiceAccount")]
     if workload["kind"] == "StatefulSet":
         assert workload["spec"]["serviceName"] in [it["metadata"]["name"] for it in of_kind(folder, "Service")]
@@ -265,8 +265,8 @@ def test_services(folder: str) -> None:
         pods = selected(folder, service["spec"]["selector"])
         assert pods
         for port in service["spec"]["ports"]:
-            for it in pods:
-                assert port["targetPort"] in [one["name"] for one in program(it)["ports"]]
+            for workload in pods:
+                assert port["targetPort"] in [one["name"] for one in program(workload)["ports"]]
 
 
 LISTENS = {"broker": "listen", "api": "api", "health": "health-listen"}

@@ -36,7 +36,7 @@ SHAPES: dict[str, Callable[[int], str]] = {
 
 
 def most_resident(pid: int) -> int:
-    """The most bytes that a process has had in memory at once."""
+    """The most bytes of a process that were in memory at once."""
     status = Path(f"/proc/{pid}/status").read_text(encoding="utf-8")
     return int(status.partition("VmHWM:")[2].split()[0]) * 1024
 

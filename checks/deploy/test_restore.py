@@ -74,8 +74,8 @@ def copy(store: Path, to: Path) -> None:
 
 def restore(store: Path, of: Path) -> None:
     """Puts the copy in place of the store."""
-    for it in store.parent.glob(f"{store.name}-*"):
-        it.unlink()
+    for file in store.parent.glob(f"{store.name}-*"):
+        file.unlink()
     shutil.copy(of, store)
 
 

@@ -26,7 +26,7 @@ class AnyWorld(Protocol):
 
 World = TypeVar("World", bound=AnyWorld)
 Design = TypeVar("Design")
-# What tells two worlds apart.
+# The parts by which two worlds differ.
 Key = tuple[object, ...]
 # The world before each world, and the step from there.
 Came = dict[Key, Optional[tuple[Key, str]]]

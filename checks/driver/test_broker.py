@@ -60,10 +60,10 @@ OPERATIONS = {"Finish", "owner: Finish"}
 
 def stages(worlds: list[World]) -> set[str]:
     found = set()
-    for it in {it for world in worlds for it in world.drivers}:
-        words = f"{'owner: ' if it.owns else ''}{it.stage.name}{', locked' if it.stage.locked else ''}"
-        words += ", remembers" if it.stage.answer else ""
-        found.add(words + (" what was given" if it.was_given else ""))
+    for driver in {it for world in worlds for it in world.drivers}:
+        words = f"{'owner: ' if driver.owns else ''}{driver.stage.name}{', locked' if driver.stage.locked else ''}"
+        words += ", remembers" if driver.stage.answer else ""
+        found.add(words + (" what was given" if driver.was_given else ""))
     return found
 
 

@@ -120,8 +120,10 @@ def same(place: str, kind: str, value: Any, length: int = 0) -> Iterator[str]:
     elif kind == "struct osb_id":
         yield " && ".join(f"{place}.{name} == {half}" for name, half in zip(("high", "low"), halves(value)))
     elif kind in STRUCTS:
-        for it in STRUCTS[kind].variables:
-            yield from same(f"{place}.{it.name}", it.type, (value or {}).get(it.name), it.length)
+        for variable in STRUCTS[kind].variables:
+            yield from same(
+                f"{place}.{variable.name}", variable.type, (value or {}).get(variable.name), variable.length
+            )
     else:
         yield f"{place} == {plain(kind, value)}"
 

@@ -89,9 +89,9 @@ def test_ctypes_lays_out_the_structs_as_the_compiler_does(tmp_path: Path) -> Non
     for name, struct in STRUCTS.items():
         twin = getattr(_header, f"C{pascal(struct.name)}")
         lines.append(f'_Static_assert(sizeof({name}) == {ctypes.sizeof(twin)}, "{name}");')
-        for it in struct.variables:
-            offset = f"offsetof({name}, {it.name}) == {getattr(twin, it.name).offset}"
-            lines.append(f'_Static_assert({offset}, "{name}.{it.name}");')
+        for variable in struct.variables:
+            offset = f"offsetof({name}, {variable.name}) == {getattr(twin, variable.name).offset}"
+            lines.append(f'_Static_assert({offset}, "{name}.{variable.name}");')
     (tmp_path / "layout.c").write_text("\n".join(lines), encoding="utf-8")
     run("gcc", "-std=c11", "-Wall", "-Wextra", "-Werror", "-Iinclude", "-fsyntax-only", tmp_path / "layout.c")
 

@@ -141,7 +141,7 @@ def test_functions_of_one_name(crate: Path, proofs: str, is_fit: bool) -> None:
     (crate / proofs).mkdir(parents=True)
     fit = list(must_fail.fit([edit(crate, "one", ("        1", "        3"), file="src/pair.rt")], crate))
     assert len(fit) == is_fit
-    # A module's own function is told from that of the module below it, and not the other way round.
+    # A module's own function differs from that of the module below it, and not the other way round.
     (crate / "src" / "pair").mkdir()
     (crate / "src" / "pair" / "inner.rt").write_text("fn second() -> u8 {\n    4\n}\n", encoding="utf-8")
     (crate / "proofs" / "pair" / "inner" / "second").mkdir(parents=True)

@@ -1,4 +1,4 @@
-"""Which library scripts/go links: the one that it is told, whatever Go has in its cache."""
+"""Which library scripts/go links: the one in LIBOSB_FOLDER, whatever Go has in its cache."""
 from __future__ import annotations
 
 import os

@@ -24,7 +24,7 @@ pytestmark = pytest.mark.slow
 
 
 def after(line: str, told: str) -> str:
-    """What a program tells of one line."""
+    """What a program prints for one line."""
     assert told.startswith(f"{line}  ")
     return told.removeprefix(f"{line}  ").rstrip("\n")
 

@@ -37,7 +37,7 @@ class Design(NamedTuple):
         return model.begin(mode, self.first_poll and self.has("first poll"), held, request)
 
     def ends(self, held: Held, resource: str) -> Iterator[tuple[str, Held, Answer | None]]:
-        """How the pending work or the operation may end, told truly."""
+        """How the pending work or the operation may end, if it is reported truly."""
         if held.work is not None:
             mode = self.modes[held.work.plan]
             if not self.has("pending work"):

@@ -1,6 +1,6 @@
 """Compares osb_network, and the records and holdings of libosb, with a second model of them.
 
-What osb_network makes of an event is told by the program of the crate service_cases. What a record and a holding of
+The program of the crate service_cases prints what osb_network makes of an event. What a record and a holding of
 libosb make of it is asked through the package osb. Both are the proved code.
 
 OSB_EXAMPLES=10 compares ten times as many events, drawn at random (checks/generated.py).

@@ -1,4 +1,4 @@
-"""Chromium without a window, as a browser that does what it is told: by its own protocol over two pipes."""
+"""Chromium without a window, controlled by its own protocol over two pipes."""
 from __future__ import annotations
 
 import base64
@@ -30,7 +30,7 @@ _FLAGS = (
 
 
 class Broken(Exception):
-    """The browser has ended, says nothing more, or can't do what it was told."""
+    """The browser has ended, says nothing more, or can't do what was asked."""
 
 
 def found() -> str | None:
@@ -145,11 +145,11 @@ def browser(path: str) -> Iterator[Browser]:
             stderr=subprocess.DEVNULL,
             env={**os.environ, "HOME": folder},
         )
-        for it in (theirs, ours):
-            os.close(it)
+        for end in (theirs, ours):
+            os.close(end)
         stack.callback(_end, process)
-        for it in (to, back):
-            stack.callback(os.close, it)
+        for end in (to, back):
+            stack.callback(os.close, end)
         yield Browser(to, back)
 
 

@@ -121,9 +121,9 @@ def _lived(life: _Life, state: str, steps: list[Answer | None], chance: Random) 
         return life
     life.record = Record.create(life.instance, SERVICE, PLAN, True)[0]
     life.come("wanted", at)
-    for it in steps:
+    for step in steps:
         at += chance.uniform(0.05, 9.0)
-        life.step(it, at)
+        life.step(step, at)
     if state == "abandoned":
         life.come(state, at + 60.0)
     return life

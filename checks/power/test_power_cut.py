@@ -75,16 +75,16 @@ def test_power_cut(broker: Path, tmp_path: Path) -> None:
         facts, stop = Facts(), threading.Event()
         with serving(broker, made.top / "state") as live:
             customers = [Customer(number, live.port, facts, stop) for number in range(CUSTOMERS)]
-            for it in customers:
-                it.start()
+            for customer in customers:
+                customer.start()
             for _ in range(CUTS):
                 time.sleep(draw.uniform(0.3, 1.2))
                 before, cut, after = facts.now(), made.cut(), facts.now()
                 # what was known before the cut, and about which no request was sent until after it
                 cuts.append(({key: what for key, what in before.items() if after.get(key) == what}, cut))
             stop.set()
-            for it in customers:
-                it.join(60)
+            for customer in customers:
+                customer.join(60)
             assert [it.error for it in customers] == [None] * CUSTOMERS
         for known, cut in cuts:
             with made.after(cut) as top:
@@ -133,6 +133,6 @@ def existing(state: Path) -> dict[str, str]:
     found = {it.name: "" for it in top.iterdir() if not it.name.startswith(".")}
     assert all(str(Id.of(name)) == name for name in found)
     assert not [it for it in top.iterdir() if it.name.startswith(".part")]
-    for it in (top / ".bindings").iterdir():
-        found[it.name] = json.loads(it.read_text())["token"]
+    for file in (top / ".bindings").iterdir():
+        found[file.name] = json.loads(file.read_text())["token"]
     return found

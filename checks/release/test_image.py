@@ -49,13 +49,13 @@ def test_references(layout: Path, version: str) -> None:
     """Two, over one layer. Each starts its program as nobody."""
     assert json.loads((layout / "oci-layout").read_text()) == {"imageLayoutVersion": "1.0.0"}
     found = {}
-    for it in json.loads((layout / "index.json").read_text())["manifests"]:
-        manifest = blob(layout, it["digest"])
+    for entry in json.loads((layout / "index.json").read_text())["manifests"]:
+        manifest = blob(layout, entry["digest"])
         config = blob(layout, manifest["config"]["digest"])
         assert (config["os"], config["architecture"]) == ("linux", "amd64")
         assert config["config"]["Labels"]["org.opencontainers.image.version"] == version
         (layer,) = manifest["layers"]
-        name = it["annotations"]["org.opencontainers.image.ref.name"]
+        name = entry["annotations"]["org.opencontainers.image.ref.name"]
         found[name] = config["config"]["User"], config["config"]["Entrypoint"], layer["digest"]
     assert len({it[2] for it in found.values()}) == 1
     assert {name: it[:2] for name, it in found.items()} == {

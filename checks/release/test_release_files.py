@@ -164,8 +164,8 @@ def test_completion(dist: Path, version: str, tmp_path: Path) -> None:
     complete = f"{stand_in}; . {script}; {words}; COMP_TYPE=9; __start_osb-broker; echo ${{COMPREPLY[*]}}"
     found = run("bash", "-c", complete, PATH=f"{top}/usr/bin:{os.environ['PATH']}")
     assert found.split()[0] == "--listen"
-    for it in ("osb-platform", "osb-storm"):
-        assert (top / f"usr/share/zsh/vendor-completions/_{it}").read_text().startswith(f"#compdef {it}\n")
+    for program in ("osb-platform", "osb-storm"):
+        assert (top / f"usr/share/zsh/vendor-completions/_{program}").read_text().startswith(f"#compdef {program}\n")
 
 
 def test_c_program_over_the_development_package(dist: Path, version: str, tmp_path: Path) -> None:

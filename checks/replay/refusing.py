@@ -58,7 +58,7 @@ class Refuser:
         return Tried(Ran(ran.returncode, ran.stdout.decode(), ran.stderr.decode()), counts)
 
 
-# ---- the library calls, as the program refusal_cases tells of them
+# ---- the library calls, as the program refusal_cases prints them
 
 
 class Call(NamedTuple):
@@ -75,7 +75,7 @@ class Call(NamedTuple):
 
 
 def calls(out: str) -> list[Call]:
-    """The calls that are told, each in four lines."""
+    """The calls that are printed, each in four lines."""
     lines = [line.partition(" ") for line in out.splitlines()]
     assert [first for first, _, _ in lines] == ["before", "call", "returned", "after"] * (len(lines) // 4)
     return [Call(*(rest for _, _, rest in lines[at : at + 4])) for at in range(0, len(lines), 4)]

@@ -29,7 +29,7 @@ REASONS = {
     500: "InternalServerError",
     503: "ServiceUnavailable",
 }
-# What a person is told if the broker says no more.
+# What a person reads if the broker says no more.
 USUAL = {
     "AsyncRequired": "This plan needs a client that takes asynchronous operations.",
     "ConcurrencyError": "Another operation on this instance is in progress.",

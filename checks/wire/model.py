@@ -407,9 +407,9 @@ def conflicts(sold: str | None, body: bytes) -> bool:
 
 def plan_version(document: bytes, service: int | None, plan: int | None) -> str | None:
     """The version of the first plan of this number, of the first service of this number that has one."""
-    for it in entries(members(document) or {}, "services"):
-        plans = [own for own in entries(it, "plans") if number_at(own) == plan]
-        if number_at(it) == service and plans:
+    for service_entry in entries(members(document) or {}, "services"):
+        plans = [own for own in entries(service_entry, "plans") if number_at(own) == plan]
+        if number_at(service_entry) == service and plans:
             info = plans[0].get("maintenance_info")
             return text_at(dict(info.pairs), "version") if isinstance(info, Pairs) else None
     return None

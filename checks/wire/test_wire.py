@@ -70,5 +70,5 @@ def test_neighbours_of_requests(asked: Asked) -> None:
     changed = [asked._replace(target=target) for target in neighbours(asked.target, IN_TARGET)]
     if asked.body:
         changed += [asked._replace(body=body) for body in neighbours(asked.body, IN_PROVISION)]
-    for it in changed:
-        assert read_request(it) == model.asked(*it), it
+    for message in changed:
+        assert read_request(message) == model.asked(*message), message

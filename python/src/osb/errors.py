@@ -24,7 +24,7 @@ class Refusal(OsbError):
     """A request that a broker refuses before it looks at any instance, with the answer to send.
 
     `http_status` and `body` are that answer's. The status is one of REFUSED_TARGET to REFUSED_SPACE,
-    REFUSED_MAINTENANCE, REFUSED_BINDING, REFUSED_APP, or MEMORY where an out-of-memory error is to be told.
+    REFUSED_MAINTENANCE, REFUSED_BINDING, REFUSED_APP, or MEMORY for an out-of-memory error.
     """
 
     def __init__(self, status: int) -> None:
