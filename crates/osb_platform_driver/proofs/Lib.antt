@@ -1,0 +1,5 @@
+pub mod Rows
+pub mod Grown
+pub mod Sent
+pub mod Sound
+pub mod Always
