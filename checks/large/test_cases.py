@@ -132,10 +132,10 @@ def test_many_instances_of_a_platform() -> None:
     assert tell([f"load {text}", "recorded"]).endswith(f"\n{recorded}")
 
 
-def test_texts_that_nest_without_an_end() -> None:
+@pytest.mark.parametrize("text", ["[" * 1_000_000, '{"a":' * 200_000], ids=["arrays", "objects"])
+def test_texts_that_nest_without_an_end(text: str) -> None:
     """`load` needs no deeper stack for them."""
-    for text in ("[" * 1_000_000, '{"a":' * 200_000):
-        assert after(f"load {text}", told_by("library_cases")([f"load {text}"])) == "NotJson"
+    assert after(f"load {text}", told_by("library_cases")([f"load {text}"])) == "NotJson"
 
 
 # ---- requests
@@ -174,9 +174,9 @@ def test_a_long_request_of_guids() -> None:
     assert body == "  " + body_of(parameters_of(0, LENGTH), GUID.format("a0"), GUID.format("b1"), PLACES)
 
 
-def test_a_deep_request() -> None:
+@pytest.mark.parametrize(("depth", "what"), [(126, "read"), (127, "400"), (10_000, "400")])
+def test_a_deep_request(depth: int, what: str) -> None:
     """What a broker can't read any more is written all the same, whole."""
-    for depth, what in ((126, "read"), (127, "400"), (10_000, "400")):
-        line = f"bind {depth} 1"
-        wanted = f"{what} {body_of(parameters_of(depth, 1), 's', 'p', {})}"
-        assert after(line, told_by("library_cases")([line])) == wanted
+    line = f"bind {depth} 1"
+    wanted = f"{what} {body_of(parameters_of(depth, 1), 's', 'p', {})}"
+    assert after(line, told_by("library_cases")([line])) == wanted

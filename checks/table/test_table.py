@@ -5,6 +5,7 @@ import re
 from pathlib import Path
 from typing import Mapping
 
+import pytest
 from table import crates
 
 from api.generate import CALLS, STRUCTS, files
@@ -62,7 +63,11 @@ def test_no_call_has_the_name_of_one_that_is_gone() -> None:
     assert not {it.name for it in CALLS} & set(REMOVED_CALLS)
 
 
-def test_both_packages_call_each_export() -> None:
-    for folder, call in (("go/osb", r"\bC\.(osb_\w+)\("), ("python/src/osb", r"\blib(?:rary)?\.(osb_\w+)[(,]")):
-        sources = "".join(it.read_text(encoding="utf-8") for it in (TOP / folder).glob("*.*") if it.is_file())
-        assert set(re.findall(call, sources)) == {it.name for it in CALLS}, folder
+@pytest.mark.parametrize(
+    ("folder", "call"),
+    [("go/osb", r"\bC\.(osb_\w+)\("), ("python/src/osb", r"\blib(?:rary)?\.(osb_\w+)[(,]")],
+    ids=["go", "python"],
+)
+def test_each_package_calls_each_export(folder: str, call: str) -> None:
+    sources = "".join(it.read_text(encoding="utf-8") for it in (TOP / folder).glob("*.*") if it.is_file())
+    assert set(re.findall(call, sources)) == {it.name for it in CALLS}

@@ -41,14 +41,17 @@ def test_new_ids() -> None:
         assert (text[14], text[19] in "89ab") == ("4", True), text
 
 
-def test_names_are_shown() -> None:
-    """By `print` and in f-strings, alike in every Python; a number is what it was."""
-    for it, name in (
-        (State.READY, "ready"),
-        (Phase.DELETE_FAILED, "delete-failed"),
-        (Status.NOT_UTF8, "not-utf8"),
-    ):
-        assert (str(it), f"{it}", f"{it:>20}") == (name, name, name.rjust(20))
+@pytest.mark.parametrize(
+    ("value", "name"),
+    [(State.READY, "ready"), (Phase.DELETE_FAILED, "delete-failed"), (Status.NOT_UTF8, "not-utf8")],
+)
+def test_names_are_shown(value: State | Phase | Status, name: str) -> None:
+    """By `print` and in f-strings, alike in every Python."""
+    assert (str(value), f"{value}", f"{value:>20}") == (name, name, name.rjust(20))
+
+
+def test_numbers_are_shown() -> None:
+    """A number is what it was."""
     assert (int(State.READY), State(2), f"{State.READY.value:02}") == (
         2,
         State.READY,
@@ -93,8 +96,9 @@ def test_no_text(of: type[Record] | type[Holding]) -> None:
     assert status_of(lambda: of.from_text("\ud800")) == Status.NOT_UTF8
 
 
-def test_unfinished_holdings() -> None:
-    for held, is_it in (
+@pytest.mark.parametrize(
+    ("holding", "is_unfinished"),
+    [
         (Holding.NONE, False),
         (Holding(row(Phase.READY)), False),
         (Holding(row(Phase.FAILED)), False),
@@ -102,5 +106,7 @@ def test_unfinished_holdings() -> None:
         (Holding(row(Phase.DELETING)), True),
         (Holding(work=request(Kind.PROVISION)), True),
         (Holding(row(Phase.READY, SYNC), request(Kind.DEPROVISION)), True),
-    ):
-        assert held.is_unfinished == is_it, held
+    ],
+)
+def test_unfinished_holdings(holding: Holding, is_unfinished: bool) -> None:
+    assert holding.is_unfinished == is_unfinished
