@@ -46,22 +46,37 @@ type Settings struct {
 	LongestPoll *time.Duration `json:"longest_poll,omitempty"`
 }
 
-// keptSettings are what a Store keeps of Broker.Settings and Broker.Store, in one column.
+// BrokerColumns are the columns of a Broker.
+var BrokerColumns = Columns[Broker]{
+	column("name", func(b *Broker) *string { return &b.Name }).notNull(),
+	column("url", func(b *Broker) *string { return &b.URL }).notNull(),
+	column("username", func(b *Broker) *string { return &b.User }).notNull(),
+	column("password", func(b *Broker) *[]byte { return &b.Password }),
+	column("password_file", func(b *Broker) *string { return &b.PasswordFile }).notNull(),
+	textColumn("settings", func(b *Broker) *settingsText { return (*settingsText)(b) }),
+	textColumn("catalogue", func(b *Broker) *jsonText { return (*jsonText)(&b.Catalogue) }),
+	column("catalogue_at", func(b *Broker) *time.Time { return &b.CatalogueAt }),
+	textColumn("reason", func(b *Broker) *reasonText { return (*reasonText)(&b.Reason) }),
+}
+
+// A settingsText is Broker.Settings and Broker.Store.
+type settingsText Broker
+
+// keptSettings are a settingsText in JSON.
 type keptSettings struct {
 	Settings
 	Store string `json:"store,omitempty"`
 }
 
-// SettingsText is what a Store keeps of Settings and Store, in one column.
-func (b Broker) SettingsText() ([]byte, error) {
-	return json.Marshal(keptSettings{b.Settings, b.Store})
+func (s *settingsText) MarshalText() ([]byte, error) {
+	return json.Marshal(keptSettings{s.Settings, s.Store})
 }
 
-// ReadSettings reads what SettingsText has written, also in version 0.3, which wrote no Store.
-func (b *Broker) ReadSettings(text []byte) error {
+// UnmarshalText reads what MarshalText has written, also in version 0.3, which wrote no Store.
+func (s *settingsText) UnmarshalText(text []byte) error {
 	var kept keptSettings
 	err := json.Unmarshal(text, &kept)
-	b.Settings, b.Store = kept.Settings, kept.Store
+	s.Settings, s.Store = kept.Settings, kept.Store
 	return err
 }
 

@@ -9,9 +9,9 @@ import (
 	"pippinterm/osb"
 )
 
-// A Column is a member of an Entry as every Store keeps it. If the tables of a Store lack the column, the Store adds it
+// A Column is a member of an Entry or a Broker as every Store keeps it. If the tables of a Store lack the column, the Store adds it
 // when it is opened. Each row that is there has NULL then, which leaves the member its zero value.
-type Column struct {
+type Column[T any] struct {
 	Name string
 	// NotNull says that an empty text is written as it is, and not as NULL.
 	NotNull bool
@@ -20,7 +20,7 @@ type Column struct {
 	// IsLong says that the member may be long: Store.ReadAll leaves it out.
 	IsLong bool
 	// Member returns a pointer to the member: a *string, *int, *bool, *time.Time, *time.Duration or *[]byte, or a Text.
-	Member func(*Entry) any
+	Member func(*T) any
 }
 
 // A Text is a member that is kept as a text, or some members that are kept together in one. MarshalText returns nil for
@@ -30,33 +30,35 @@ type Text interface {
 	encoding.TextUnmarshaler
 }
 
-func column[T string | int | bool | time.Time | time.Duration | []byte](name string, member func(*Entry) *T) Column {
-	return Column{Name: name, Member: func(e *Entry) any { return member(e) }}
+func column[T any, M string | int | bool | time.Time | time.Duration | []byte](
+	name string, member func(*T) *M,
+) Column[T] {
+	return Column[T]{Name: name, Member: func(of *T) any { return member(of) }}
 }
 
-func textColumn[T Text](name string, member func(*Entry) T) Column {
-	return Column{Name: name, Member: func(e *Entry) any { return member(e) }}
+func textColumn[T any, M Text](name string, member func(*T) M) Column[T] {
+	return Column[T]{Name: name, Member: func(of *T) any { return member(of) }}
 }
 
-func (c Column) notNull() Column {
+func (c Column[T]) notNull() Column[T] {
 	c.NotNull = true
 	return c
 }
 
-func (c Column) long() Column {
+func (c Column[T]) long() Column[T] {
 	c.IsLong = true
 	return c
 }
 
-func (c Column) ofBinding() Column {
+func (c Column[T]) ofBinding() Column[T] {
 	c.IsOfBinding = true
 	return c
 }
 
-// Value returns what the column of an entry has: nil for NULL, or a string, an int, a bool, a time.Time, a time.Duration
+// Value returns what the column has: nil for NULL, or a string, an int, a bool, a time.Time, a time.Duration
 // or a []byte.
-func (c Column) Value(e *Entry) (any, error) {
-	switch member := c.Member(e).(type) {
+func (c Column[T]) Value(of *T) (any, error) {
+	switch member := c.Member(of).(type) {
 	case *string:
 		if *member != "" || c.NotNull {
 			return *member, nil
@@ -86,10 +88,10 @@ func (c Column) Value(e *Entry) (any, error) {
 }
 
 // Columns are columns of a table.
-type Columns []Column
+type Columns[T any] []Column[T]
 
 // Of returns the columns that instances have, or that bindings have.
-func (c Columns) Of(isBinding bool) (of Columns) {
+func (c Columns[T]) Of(isBinding bool) (of Columns[T]) {
 	for _, column := range c {
 		if isBinding || !column.IsOfBinding {
 			of = append(of, column)
@@ -99,7 +101,7 @@ func (c Columns) Of(isBinding bool) (of Columns) {
 }
 
 // Names returns the names of the columns.
-func (c Columns) Names() (names []string) {
+func (c Columns[T]) Names() (names []string) {
 	for _, column := range c {
 		names = append(names, column.Name)
 	}
@@ -166,12 +168,11 @@ func (r *recordText) UnmarshalText(text []byte) (err error) {
 	return err
 }
 
-// A ReasonText is a Reason, which is NULL if it is zero.
-type ReasonText Reason
+// A reasonText is a Reason, which is NULL if it is zero.
+type reasonText Reason
 
-// MarshalText writes the reason.
-func (r *ReasonText) MarshalText() ([]byte, error) {
-	if *r == (ReasonText{}) {
+func (r *reasonText) MarshalText() ([]byte, error) {
+	if *r == (reasonText{}) {
 		return nil, nil
 	}
 	reason := Reason(*r)
@@ -179,8 +180,7 @@ func (r *ReasonText) MarshalText() ([]byte, error) {
 	return json.Marshal(reason)
 }
 
-// UnmarshalText reads the reason.
-func (r *ReasonText) UnmarshalText(text []byte) error {
+func (r *reasonText) UnmarshalText(text []byte) error {
 	if err := json.Unmarshal(text, (*Reason)(r)); err != nil {
 		return err
 	}

@@ -49,7 +49,7 @@ func TestColumnsOfInstances(t *testing.T) {
 // columnsOf are the values of all columns of an entry.
 func columnsOf(t *testing.T, entry Entry) (values []any) {
 	t.Helper()
-	for _, column := range append(append(Columns{}, OrderColumns...), StateColumns...) {
+	for _, column := range append(append(Columns[Entry]{}, OrderColumns...), StateColumns...) {
 		value, err := column.Value(&entry)
 		check(t, err)
 		values = append(values, value)
@@ -68,7 +68,7 @@ func TestTexts(t *testing.T) {
 		got := want
 		got.Service, got.Plan, got.Body, got.Metadata, got.Operation = osb.ID{}, osb.ID{}, nil, nil, nil
 		got.Record, got.IsSent, got.Last, got.DueSince, got.Failure = osb.Record{}, false, Reason{}, time.Time{}, Reason{}
-		for _, column := range append(append(Columns{}, OrderColumns...), StateColumns...) {
+		for _, column := range append(append(Columns[Entry]{}, OrderColumns...), StateColumns...) {
 			value, err := column.Value(&want)
 			check(t, err)
 			text, isText := value.(string)
@@ -86,6 +86,31 @@ func TestTexts(t *testing.T) {
 	}
 }
 
+// Each member of a broker has a column, or is kept in one with others.
+func TestColumnsOfBrokers(t *testing.T) {
+	hold, got := time.Second, Broker{}
+	want := Broker{
+		Name: "one", URL: "http://one", User: "u", Password: []byte("p"), PasswordFile: "f", Store: "s",
+		Settings: Settings{Hold: &hold}, Catalogue: json.RawMessage("{}"), CatalogueAt: at(1),
+		Reason: Reason{Kind: "catalogue", At: at(1)},
+	}
+	for _, column := range BrokerColumns {
+		value, err := column.Value(&want)
+		check(t, err)
+		switch member := column.Member(&got).(type) {
+		case *string:
+			*member = value.(string)
+		case *[]byte:
+			*member = value.([]byte)
+		case *time.Time:
+			*member = value.(time.Time)
+		case Text:
+			check(t, member.UnmarshalText([]byte(value.(string))))
+		}
+	}
+	diff.Check(t, got, want, "a broker")
+}
+
 // A record that can't be written is an error, and a member of another type is a slip.
 func TestValuesThatCannotBeWritten(t *testing.T) {
 	entry := Entry{Order: Order{Key: anInstance}, IsSent: true}
@@ -97,7 +122,7 @@ func TestValuesThatCannotBeWritten(t *testing.T) {
 			t.Error("a float64: got a value, want a panic")
 		}
 	}()
-	_, _ = Column{Member: func(*Entry) any { return new(float64) }}.Value(&entry)
+	_, _ = Column[Entry]{Member: func(*Entry) any { return new(float64) }}.Value(&entry)
 }
 
 // What a Store keeps of the last reason is read again, with since when the row is due. A text of version 0.2 is read,

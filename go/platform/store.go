@@ -330,7 +330,7 @@ type Entry struct {
 // OrderColumns are the columns of an Order, which never change, and StateColumns those of what has become of it. A Store
 // has columns of its own for Key, Names and First.
 var (
-	OrderColumns = Columns{
+	OrderColumns = Columns[Entry]{
 		column("broker", func(e *Entry) *string { return &e.Broker }).notNull(),
 		textColumn("service", func(e *Entry) *osb.ID { return &e.Service }),
 		textColumn("plan", func(e *Entry) *osb.ID { return &e.Plan }),
@@ -342,7 +342,7 @@ var (
 		column("try_number", func(e *Entry) *int { return &e.Try }),
 		column("most_tries", func(e *Entry) *int { return &e.Tries }),
 	}
-	StateColumns = Columns{
+	StateColumns = Columns[Entry]{
 		column("state", func(e *Entry) *string { return (*string)(&e.State) }).notNull(),
 		column("since", func(e *Entry) *time.Time { return &e.Since }),
 		textColumn("record", func(e *Entry) *recordText { return (*recordText)(e) }),
@@ -356,7 +356,7 @@ var (
 		column("worker", func(e *Entry) *string { return &e.Lease.Worker }),
 		column("leased_until", func(e *Entry) *time.Time { return &e.Lease.Until }),
 		textColumn("last", func(e *Entry) *lastText { return (*lastText)(e) }), // behind worker
-		textColumn("failure", func(e *Entry) *ReasonText { return (*ReasonText)(&e.Failure) }),
+		textColumn("failure", func(e *Entry) *reasonText { return (*reasonText)(&e.Failure) }),
 		column("passing", func(e *Entry) *bool { return &e.Passing }),
 		column("after", func(e *Entry) *time.Duration { return &e.After }),
 		column("dashboard", func(e *Entry) *string { return &e.Dashboard }),

@@ -17,15 +17,25 @@ import (
 	"pippinterm/platform"
 )
 
-// The columns of an order, which are written once, and of what has become of it, without the key: id, and of osb_bound
-// also binding. Times are seconds since 1970, as version 0.2 has them.
+type (
+	entryColumn  = platform.Column[platform.Entry]
+	entryColumns = platform.Columns[platform.Entry]
+)
+
+// The columns of the key, of an order, which are written once, and of what has become of it. Times are seconds since
+// 1970, as version 0.2 has them.
 var (
-	orderColumns = append(append(platform.Columns{}, platform.OrderColumns...),
-		platform.Column{Name: "names", Member: func(e *platform.Entry) any { return (*namesText)(&e.Names) }},
-		platform.Column{Name: "first", Member: func(e *platform.Entry) any { return &e.First }},
+	keyColumns = entryColumns{
+		{Name: "id", Member: func(e *platform.Entry) any { return &e.Key.Instance }},
+		{Name: "binding", IsOfBinding: true, Member: func(e *platform.Entry) any { return &e.Key.Binding }},
+	}
+	orderColumns = append(append(entryColumns{}, platform.OrderColumns...),
+		entryColumn{Name: "names", Member: func(e *platform.Entry) any { return (*namesText)(&e.Names) }},
+		entryColumn{Name: "first", Member: func(e *platform.Entry) any { return &e.First }},
 	)
-	stateColumns = platform.StateColumns
-	rowColumns   = append(append(platform.Columns{}, orderColumns...), stateColumns...)
+	stateColumns   = platform.StateColumns
+	changedColumns = append(append(entryColumns{}, keyColumns...), stateColumns...)
+	rowColumns     = append(append(append(entryColumns{}, keyColumns...), orderColumns...), stateColumns...)
 )
 
 // A namesText is platform.Names as an object.
@@ -43,17 +53,13 @@ func (n *namesText) MarshalText() ([]byte, error) { return json.Marshal(names(*n
 
 func (n *namesText) UnmarshalText(text []byte) error { return json.Unmarshal(text, (*names)(n)) }
 
-// objectOf is an object with the key of an entry and these columns, as json_populate_recordset reads it. So a statement
-// has one parameter for any number of rows.
-func objectOf(entry platform.Entry, columns platform.Columns) ([]byte, error) {
-	var object bytes.Buffer
-	encoder := json.NewEncoder(&object)
-	object.WriteString(`{"id":"` + entry.Key.Instance.String() + `"`)
-	if entry.Key.IsBinding {
-		object.WriteString(`,"binding":"` + entry.Key.Binding.String() + `"`)
-	}
-	for _, column := range columns {
-		value, err := column.Value(&entry)
+// objectOf is an object with columns of an entry or a broker, as json_populate_recordset reads it. So a statement has
+// one parameter for any number of rows.
+func objectOf[T any](of *T, columns platform.Columns[T]) ([]byte, error) {
+	object := bytes.NewBufferString("{")
+	encoder := json.NewEncoder(object)
+	for n, column := range columns {
+		value, err := column.Value(of)
 		if err != nil {
 			return nil, err
 		}
@@ -67,7 +73,10 @@ func objectOf(entry platform.Entry, columns platform.Columns) ([]byte, error) {
 		case []byte:
 			value = bytea(it)
 		}
-		object.WriteString(`,"` + column.Name + `":`)
+		if n > 0 {
+			object.WriteString(",")
+		}
+		object.WriteString(`"` + column.Name + `":`)
 		if err := encoder.Encode(value); err != nil {
 			return nil, err
 		}
@@ -76,14 +85,10 @@ func objectOf(entry platform.Entry, columns platform.Columns) ([]byte, error) {
 	return object.Bytes(), nil
 }
 
-// lineOf is an array with the key and the columns of a row, as entryOf reads it, or one without the columns that may be
-// long. It has NULL for the columns that the table doesn't have.
+// lineOf is an array with the columns of a row, as entryOf reads it, or one without the columns that may be long. It has
+// NULL for the columns that the table doesn't have.
 func lineOf(row string, isBinding, isBrief bool) string {
-	binding := "NULL"
-	if isBinding {
-		binding = row + ".binding"
-	}
-	parts := []string{row + ".id", binding}
+	parts := []string{}
 	for _, column := range rowColumns {
 		if column.IsOfBinding && !isBinding || column.IsLong && isBrief {
 			parts = append(parts, "NULL")
@@ -97,29 +102,45 @@ func lineOf(row string, isBinding, isBrief bool) string {
 // entryOf is the entry of a line. If columns can't be read, the entry has all others, and unreadable is the error of the
 // first of them. Without a key there is no entry, but an error.
 func entryOf(line []byte) (entry platform.Entry, unreadable, err error) {
-	var id, binding *string
-	members, texts := []any{&id, &binding}, make([]*string, len(rowColumns))
-	for n, column := range rowColumns {
-		members = append(members, memberOf(column.Member(&entry), &texts[n]))
-	}
-	if err := json.Unmarshal(line, &members); err != nil {
-		return entry, nil, fmt.Errorf("a row: %w", err)
-	}
-	if entry.Key, err = keyOf(orEmpty(id), orEmpty(binding)); err != nil {
+	texts, err := readLine(line, rowColumns, &entry)
+	if err != nil {
 		return entry, nil, err
 	}
-	for n, column := range rowColumns { // once all others are read
+	if entry.Key, err = keyOf(orEmpty(texts[0]), orEmpty(texts[1])); err != nil {
+		return entry, nil, err
+	}
+	others := len(keyColumns)
+	return entry, readTexts(texts[others:], rowColumns[others:], &entry, entry.Key.String()), nil
+}
+
+// readLine reads an array of columns, and returns the texts of those that are a Text: readTexts reads them, once all
+// others are read.
+func readLine[T any](line []byte, columns platform.Columns[T], of *T) (texts []*string, err error) {
+	texts = make([]*string, len(columns))
+	members := []any{}
+	for n, column := range columns {
+		members = append(members, memberOf(column.Member(of), &texts[n]))
+	}
+	if err := json.Unmarshal(line, &members); err != nil {
+		return nil, fmt.Errorf("a row: %w", err)
+	}
+	return texts, nil
+}
+
+// readTexts reads all texts that can be read. The error is that of the first one that can't.
+func readTexts[T any](texts []*string, columns platform.Columns[T], of *T, name string) (failed error) {
+	for n, column := range columns {
 		if texts[n] == nil {
 			continue
 		}
-		if err := column.Member(&entry).(platform.Text).UnmarshalText([]byte(*texts[n])); err != nil {
-			unreadable = either(unreadable, fmt.Errorf("the column %s of %v: %w", column.Name, entry.Key, err))
+		if err := column.Member(of).(platform.Text).UnmarshalText([]byte(*texts[n])); err != nil {
+			failed = either(failed, fmt.Errorf("the column %s of %s: %w", column.Name, name, err))
 		}
 	}
-	return entry, unreadable, nil
+	return failed
 }
 
-// memberOf is what a member of an entry is read into from JSON: itself, or text.
+// memberOf is what a member is read into from JSON: itself, or text.
 func memberOf(member any, text **string) any {
 	switch member := member.(type) {
 	case *time.Time:
@@ -230,32 +251,11 @@ func (s *bytea) UnmarshalJSON(text []byte) error {
 	return err
 }
 
-func textOf(value any) (string, error) {
-	text, err := json.Marshal(value)
-	return string(text), err
-}
-
-// orNull is a text as a column has it: NULL if it is empty.
-func orNull(text string) *string {
-	if text == "" {
-		return nil
-	}
-	text = storable(text)
-	return &text
-}
-
 func orEmpty(text *string) string {
 	if text == nil {
 		return ""
 	}
 	return *text
-}
-
-func raw(text *string) json.RawMessage {
-	if text == nil || *text == "" {
-		return nil
-	}
-	return json.RawMessage(*text)
 }
 
 // storable is a text that a column of PostgreSQL has: others would be rejected with each try, and their work would
@@ -264,70 +264,32 @@ func storable(text string) string {
 	return strings.ReplaceAll(strings.ToValidUTF8(text, "\uFFFD"), "\x00", "\uFFFD")
 }
 
-// A brokerRow is one of osb_brokers.
-type brokerRow struct {
-	Name         string  `json:"name"`
-	URL          string  `json:"url"`
-	Username     string  `json:"username"`
-	Password     bytea   `json:"password"`
-	PasswordFile string  `json:"password_file"`
-	Settings     string  `json:"settings"`
-	Catalogue    *string `json:"catalogue"`
-	CatalogueAt  seconds `json:"catalogue_at"`
-	Reason       *string `json:"reason"`
-}
+// brokerLine is an array of brokerColumns.
+var (
+	brokerColumns = platform.BrokerColumns
+	brokerLine    = "json_build_array(" + strings.Join(brokerColumns.Names(), ", ") + ")"
+)
 
-var brokerColumns = []string{
-	"url", "username", "password", "password_file", "settings", "catalogue", "catalogue_at", "reason",
-}
-
-func brokerRowOf(broker platform.Broker) (it brokerRow, err error) {
-	it = brokerRow{
-		Name: storable(broker.Name), URL: storable(broker.URL), Username: storable(broker.User),
-		Password: broker.Password, PasswordFile: storable(broker.PasswordFile),
-		Catalogue: orNull(string(broker.Catalogue)), CatalogueAt: seconds(broker.CatalogueAt),
+// brokerOf is the broker of an array of brokerLine.
+func brokerOf(line []byte) (broker platform.Broker, err error) {
+	texts, err := readLine(line, brokerColumns, &broker)
+	if err == nil {
+		err = readTexts(texts, brokerColumns, &broker, "the broker "+broker.Name)
 	}
-	settings, err := broker.SettingsText()
-	if err != nil {
-		return it, err
-	}
-	it.Settings = string(settings)
-	reason, err := (*platform.ReasonText)(&broker.Reason).MarshalText()
-	it.Reason = orNull(string(reason))
-	return it, err
-}
-
-func (r brokerRow) broker() (platform.Broker, error) {
-	it := platform.Broker{
-		Name: r.Name, URL: r.URL, User: r.Username, Password: r.Password, PasswordFile: r.PasswordFile,
-		Catalogue: raw(r.Catalogue), CatalogueAt: time.Time(r.CatalogueAt),
-	}
-	err := it.ReadSettings([]byte(r.Settings))
-	if r.Reason != nil {
-		err = either(err, (*platform.ReasonText)(&it.Reason).UnmarshalText([]byte(*r.Reason)))
-	}
-	if err != nil {
-		err = fmt.Errorf("the broker %s: %w", r.Name, err)
-	}
-	return it, err
+	return broker, err
 }
 
 // Brokers returns all brokers, by name.
 func (s *Store) Brokers(ctx context.Context) ([]platform.Broker, error) {
 	return within(ctx, s, func(*call) ([]platform.Broker, error) {
 		found := []platform.Broker{}
-		const brokers = "SELECT row_to_json(t) FROM osb_brokers AS t ORDER BY name"
-		rows, err := s.db.QueryContext(ctx, brokers)
+		rows, err := s.db.QueryContext(ctx, "SELECT "+brokerLine+" FROM osb_brokers ORDER BY name")
 		err = each(rows, err, func(rows *sql.Rows) error {
 			var text []byte
 			if err := rows.Scan(&text); err != nil {
 				return err
 			}
-			var it brokerRow
-			if err := json.Unmarshal(text, &it); err != nil {
-				return err
-			}
-			broker, err := it.broker()
+			broker, err := brokerOf(text)
 			found = append(found, broker)
 			return err
 		})
@@ -336,16 +298,14 @@ func (s *Store) Brokers(ctx context.Context) ([]platform.Broker, error) {
 }
 
 // lockBroker keeps a broker from being dropped, and readBroker from being changed too.
-const (
-	lockBroker = "SELECT name FROM osb_brokers WHERE name = $1 FOR KEY SHARE"
-	readBroker = `
-WITH t AS MATERIALIZED (SELECT * FROM osb_brokers WHERE name = $1 FOR NO KEY UPDATE) SELECT row_to_json(t) FROM t
-`
-)
+const lockBroker = "SELECT name FROM osb_brokers WHERE name = $1 FOR KEY SHARE"
 
 var (
-	insertBroker = inserting("osb_brokers", "name, "+strings.Join(brokerColumns, ", "))
-	updateBroker = "UPDATE osb_brokers AS t SET " + assignments(brokerColumns) +
+	readBroker = `
+WITH t AS MATERIALIZED (SELECT * FROM osb_brokers WHERE name = $1 FOR NO KEY UPDATE) SELECT ` + brokerLine + ` FROM t
+`
+	insertBroker = inserting("osb_brokers", brokerColumns.Names())
+	updateBroker = "UPDATE osb_brokers AS t SET " + assignments(brokerColumns[1:].Names()) +
 		" FROM json_populate_record(NULL::osb_brokers, $1) AS v WHERE t.name = v.name"
 )
 
@@ -389,11 +349,7 @@ func lockedBroker(ctx context.Context, tx *sql.Tx, name string) (platform.Broker
 	if err := tx.QueryRowContext(ctx, readBroker, name).Scan(&text); err != nil {
 		return platform.Broker{}, orUnknown(err, name)
 	}
-	var it brokerRow
-	if err := json.Unmarshal(text, &it); err != nil {
-		return platform.Broker{}, err
-	}
-	return it.broker()
+	return brokerOf(text)
 }
 
 // orUnknown is platform.ErrUnknown if a query for a broker has found none.
@@ -406,15 +362,11 @@ func orUnknown(err error, name string) error {
 
 // writeBroker writes a broker. If there is none to write, the error is the other one.
 func writeBroker(ctx context.Context, tx *sql.Tx, query string, broker platform.Broker, otherwise error) error {
-	it, err := brokerRowOf(broker)
+	object, err := objectOf(&broker, brokerColumns)
 	if err != nil {
 		return err
 	}
-	text, err := textOf(it)
-	if err != nil {
-		return err
-	}
-	done, err := tx.ExecContext(ctx, query, text)
+	done, err := tx.ExecContext(ctx, query, string(object))
 	return one(done, err, fmt.Errorf("%w: the broker %s", otherwise, broker.Name))
 }
 

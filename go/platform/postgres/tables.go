@@ -96,7 +96,7 @@ func missingColumns() string {
 }
 
 // typeOf is the type of a column that is added.
-func typeOf(column platform.Column) string {
+func typeOf(column entryColumn) string {
 	switch column.Member(&platform.Entry{}).(type) {
 	case *int:
 		return "integer"

@@ -225,19 +225,20 @@ func lockForInsert(ctx context.Context, tx *sql.Tx, entry platform.Entry) (snaps
 }
 
 var (
-	insertInstance = inserting("osb_instances", strings.Join(append(rowColumns.Of(false).Names(), "id"), ", "))
-	insertBinding  = inserting("osb_bound", strings.Join(append(rowColumns.Of(true).Names(), "id", "binding"), ", "))
+	insertInstance = inserting("osb_instances", rowColumns.Of(false).Names())
+	insertBinding  = inserting("osb_bound", rowColumns.Names())
 )
 
 // inserting is a statement that inserts a row, unless its key has one.
-func inserting(table, columns string) string {
+func inserting(table string, names []string) string {
+	columns := strings.Join(names, ", ")
 	return "INSERT INTO " + table + " (" + columns + ") SELECT " + columns +
 		" FROM json_populate_record(NULL::" + table + ", $1) ON CONFLICT DO NOTHING"
 }
 
 // insert inserts the row of a new order. If its key has a row, the error is platform.ErrUsed.
 func insert(ctx context.Context, tx *sql.Tx, entry platform.Entry) error {
-	object, err := objectOf(entry, rowColumns.Of(entry.Key.IsBinding))
+	object, err := objectOf(&entry, rowColumns.Of(entry.Key.IsBinding))
 	if err != nil {
 		return err
 	}
@@ -349,7 +350,7 @@ func (b *batch) take(key platform.Key, change platform.Change) error {
 	it := b.rows[key]
 	before, entry := it.entry, change.Entry
 	entry.Order = before.Order
-	object, err := objectOf(entry, stateColumns)
+	object, err := objectOf(&entry, changedColumns.Of(entry.Key.IsBinding))
 	if err != nil {
 		return err
 	}
@@ -402,7 +403,7 @@ func (b *batch) wake(instance platform.Key) {
 
 // set has an entry written in place of the one that was read.
 func (b *batch) set(it *lockedRow, entry platform.Entry) {
-	object, err := objectOf(entry, stateColumns)
+	object, err := objectOf(&entry, changedColumns.Of(entry.Key.IsBinding))
 	it.entry, it.toSend = entry, object
 	b.failed = either(b.failed, err)
 }

@@ -33,7 +33,7 @@ type connection struct {
 // A table has the columns of one of the two tables of rows, without its key, and the statements. state are the columns
 // that change.
 type table struct {
-	row, state                                                 platform.Columns
+	row, state                                                 entryColumns
 	read, readBriefly, insert, update, updateInState, postpone *sqlitefile.Statement
 }
 
@@ -126,11 +126,12 @@ func (c *connection) ofReading() map[**sqlitefile.Statement]string {
 
 // ofBrokers are the statements of brokers.
 func (c *connection) ofBrokers() map[**sqlitefile.Statement]string {
+	columns := brokerColumns.Names()
 	return map[**sqlitefile.Statement]string{
-		&c.brokers:      "SELECT name, " + join(brokerColumns) + " FROM osb_brokers ORDER BY name",
-		&c.broker:       "SELECT name, " + join(brokerColumns) + " FROM osb_brokers WHERE name = ?",
-		&c.insertBroker: inserting("osb_brokers", append([]string{"name"}, brokerColumns...)...),
-		&c.updateBroker: updating("osb_brokers", "name = ?", brokerColumns),
+		&c.brokers:      "SELECT " + join(columns) + " FROM osb_brokers ORDER BY name",
+		&c.broker:       "SELECT " + join(columns) + " FROM osb_brokers WHERE name = ?",
+		&c.insertBroker: inserting("osb_brokers", columns...),
+		&c.updateBroker: updating("osb_brokers", "name = ?", columns[1:]),
 		&c.dropBroker:   "DELETE FROM osb_brokers WHERE name = ?",
 		&c.brokerUsed: "SELECT 1 FROM osb_instances WHERE broker = ?1 UNION ALL " +
 			"SELECT 1 FROM osb_bindings WHERE broker = ?1 LIMIT 1",

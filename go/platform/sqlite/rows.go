@@ -3,7 +3,6 @@ package sqlite
 import (
 	"context"
 	"database/sql/driver"
-	"encoding/json"
 	"errors"
 	"fmt"
 	"math"
@@ -15,40 +14,47 @@ import (
 	"pippinterm/platform"
 )
 
+type (
+	entryColumn  = platform.Column[platform.Entry]
+	entryColumns = platform.Columns[platform.Entry]
+)
+
 // The columns of an order, which are written once, and of what has become of it. The first two of these are in more
 // indexes than the others, and change less often.
 var (
 	orderColumns = append(named(platform.OrderColumns),
-		platform.Column{Name: "instance_name", Member: func(e *platform.Entry) any {
+		entryColumn{Name: "instance_name", Member: func(e *platform.Entry) any {
 			return &name{&e.Names.Instance, e.Key.Instance}
 		}},
-		platform.Column{Name: "service_name", Member: func(e *platform.Entry) any {
+		entryColumn{Name: "service_name", Member: func(e *platform.Entry) any {
 			return &name{&e.Names.Service, e.Service}
 		}},
-		platform.Column{Name: "plan_name", Member: func(e *platform.Entry) any { return &name{&e.Names.Plan, e.Plan} }},
-		platform.Column{Name: "binding_name", IsOfBinding: true, Member: func(e *platform.Entry) any {
+		entryColumn{Name: "plan_name", Member: func(e *platform.Entry) any { return &name{&e.Names.Plan, e.Plan} }},
+		entryColumn{Name: "binding_name", IsOfBinding: true, Member: func(e *platform.Entry) any {
 			return &name{&e.Names.Binding, e.Key.Binding}
 		}},
-		platform.Column{Name: "first", Member: func(e *platform.Entry) any { return (*first)(e) }},
+		entryColumn{Name: "first", Member: func(e *platform.Entry) any { return (*first)(e) }},
 	)
 	stateColumns = append(named(platform.StateColumns),
-		platform.Column{Name: "may_exist", IsOfBinding: true, Member: func(e *platform.Entry) any {
+		entryColumn{Name: "may_exist", IsOfBinding: true, Member: func(e *platform.Entry) any {
 			mayExist := e.IsSent && !e.Record.IsGone() && e.State != platform.Abandoned
 			return &mayExist // for platform.Snapshot.AllGone
 		}},
 	)
-	rowColumns = append(append(platform.Columns{}, orderColumns...), stateColumns...)
+	rowColumns = append(append(entryColumns{}, orderColumns...), stateColumns...)
+
+	brokerColumns = named(platform.BrokerColumns)
 )
 
 // lasting is how many of stateColumns stay as they are if the state stays.
 const lasting = 2
 
 // named are columns as a file has them. Some have another name there, and an identity isn't NULL.
-func named(columns platform.Columns) platform.Columns {
+func named[T any](columns platform.Columns[T]) platform.Columns[T] {
 	names := map[string]string{
-		"own_id": "is_own", "try_number": "try", "passing": "is_passing", "after": "after_ms",
+		"own_id": "is_own", "try_number": "try", "passing": "is_passing", "after": "after_ms", "username": "user",
 	}
-	columns = append(platform.Columns{}, columns...)
+	columns = append(platform.Columns[T]{}, columns...)
 	for at, column := range columns {
 		if name, isOther := names[column.Name]; isOther {
 			columns[at].Name = name
@@ -124,11 +130,11 @@ func keyValues(key platform.Key) []driver.Value {
 	return []driver.Value{key.Instance.String()}
 }
 
-// valuesOf are the values of columns of an entry.
-func valuesOf(entry *platform.Entry, columns platform.Columns) ([]driver.Value, error) {
+// valuesOf are the values of columns of an entry or a broker.
+func valuesOf[T any](of *T, columns platform.Columns[T]) ([]driver.Value, error) {
 	values := make([]driver.Value, 0, len(columns)+2) // and a key
 	for _, column := range columns {
-		value, err := column.Value(entry)
+		value, err := column.Value(of)
 		if err != nil {
 			return nil, err
 		}
@@ -157,20 +163,6 @@ func seconds(at time.Time) driver.Value {
 func round(at time.Time) time.Time {
 	const most = time.Millisecond - time.Nanosecond
 	return time.UnixMilli(at.Add(most).UnixMilli()).UTC()
-}
-
-func jsonValue(text json.RawMessage) driver.Value {
-	if text == nil {
-		return nil
-	}
-	return string(text)
-}
-
-func blobValue(bytes []byte) driver.Value {
-	if bytes == nil {
-		return nil
-	}
-	return bytes
 }
 
 // A row has the values of a row that was read, and gives them one after another. It keeps the first error.
@@ -211,13 +203,6 @@ func (r *row) optional() *string {
 	}
 	text := r.text()
 	return &text
-}
-
-func (r *row) json() json.RawMessage {
-	if text := r.optional(); text != nil && *text != "" {
-		return json.RawMessage(*text)
-	}
-	return nil
 }
 
 func (r *row) blob() []byte {
@@ -263,9 +248,7 @@ func (r *row) at() time.Time {
 func entryOf(values []driver.Value) (entry platform.Entry, err error) {
 	r := &row{values: values}
 	entry.Key = r.key()
-	for _, column := range rowColumns {
-		r.read(column, &entry)
-	}
+	readColumns(r, rowColumns, &entry)
 	key, names := entry.Key, &entry.Names
 	names.Instance = orNumber(names.Instance, key.Instance)
 	names.Service, names.Plan = orNumber(names.Service, entry.Service), orNumber(names.Plan, entry.Plan)
@@ -289,23 +272,25 @@ func orNumber(name string, id osb.ID) string {
 	return name
 }
 
-// read reads the next column.
-func (r *row) read(column platform.Column, entry *platform.Entry) {
-	switch member := column.Member(entry).(type) {
-	case *string:
-		*member = r.text()
-	case *int:
-		*member = int(r.number())
-	case *bool:
-		*member = r.number() != 0
-	case *time.Time:
-		*member = r.at()
-	case *time.Duration:
-		*member = time.Duration(r.number()) * time.Millisecond
-	case *[]byte:
-		*member = r.blob()
-	case platform.Text:
-		r.readText(column.Name, member)
+// readColumns reads the next columns.
+func readColumns[T any](r *row, columns platform.Columns[T], of *T) {
+	for _, column := range columns {
+		switch member := column.Member(of).(type) {
+		case *string:
+			*member = r.text()
+		case *int:
+			*member = int(r.number())
+		case *bool:
+			*member = r.number() != 0
+		case *time.Time:
+			*member = r.at()
+		case *time.Duration:
+			*member = time.Duration(r.number()) * time.Millisecond
+		case *[]byte:
+			*member = r.blob()
+		case platform.Text:
+			r.readText(column.Name, member)
+		}
 	}
 }
 
@@ -554,7 +539,7 @@ func missingColumns(ctx context.Context, conn *sqlitefile.Conn) (statements []st
 }
 
 // typeOf is the type of a column that is added.
-func typeOf(column platform.Column) string {
+func typeOf(column entryColumn) string {
 	switch column.Member(&platform.Entry{}).(type) {
 	case *int, *bool, *time.Duration:
 		return "integer"

@@ -380,11 +380,6 @@ func unlock(file *os.File) {
 	_ = file.Close()
 }
 
-// The columns of a broker, but its name.
-var brokerColumns = []string{
-	"url", "user", "password", "password_file", "settings", "catalogue", "catalogue_at", "reason",
-}
-
 // Brokers returns all brokers, by name.
 func (s *Store) Brokers(ctx context.Context) (brokers []platform.Broker, err error) {
 	err = s.read(ctx, func(c *connection) error {
@@ -400,29 +395,21 @@ func (s *Store) Brokers(ctx context.Context) (brokers []platform.Broker, err err
 
 func brokerOf(values []driver.Value) (broker platform.Broker, err error) {
 	r := &row{values: values}
-	broker.Name, broker.URL, broker.User = r.text(), r.text(), r.text()
-	broker.Password, broker.PasswordFile = r.blob(), r.text()
-	settings := r.text()
-	broker.Catalogue, broker.CatalogueAt = r.json(), r.at()
-	r.readText("reason", (*platform.ReasonText)(&broker.Reason))
-	err = r.err
-	if err == nil {
-		err = broker.ReadSettings([]byte(settings))
-	}
-	if err != nil {
-		err = fmt.Errorf("sqlite: the broker %s: %w", broker.Name, err)
+	readColumns(r, brokerColumns, &broker)
+	if r.err != nil {
+		err = fmt.Errorf("sqlite: the broker %s: %w", broker.Name, r.err)
 	}
 	return broker, err
 }
 
 // AddBroker writes a new broker.
 func (s *Store) AddBroker(ctx context.Context, broker platform.Broker) error {
-	values, err := brokerValues(broker)
+	values, err := valuesOf(&broker, brokerColumns)
 	if err != nil {
 		return err
 	}
 	return s.write(ctx, func(c *connection) error {
-		return one(platform.ErrUsed)(c.insertBroker.Run(append([]driver.Value{broker.Name}, values...)...))
+		return one(platform.ErrUsed)(c.insertBroker.Run(values...))
 	})
 }
 
@@ -446,11 +433,11 @@ func (s *Store) ChangeBroker(
 		if err != nil || after == nil {
 			return err
 		}
-		values, err := brokerValues(*after)
+		values, err := valuesOf(after, brokerColumns)
 		if err != nil {
 			return err
 		}
-		return one(platform.ErrUnknown)(c.updateBroker.Run(append(values, name)...))
+		return one(platform.ErrUnknown)(c.updateBroker.Run(append(values[1:], name)...))
 	})
 }
 
@@ -467,18 +454,6 @@ func one(otherwise error) func(rows int64, err error) error {
 		}
 		return err
 	}
-}
-
-func brokerValues(broker platform.Broker) ([]driver.Value, error) {
-	settings, err := broker.SettingsText()
-	if err != nil {
-		return nil, err
-	}
-	reason, err := (*platform.ReasonText)(&broker.Reason).MarshalText()
-	return []driver.Value{
-		broker.URL, broker.User, blobValue(broker.Password), broker.PasswordFile, string(settings),
-		jsonValue(broker.Catalogue), seconds(broker.CatalogueAt), jsonValue(reason),
-	}, err
 }
 
 // DropBroker deletes a broker of which nothing was ever ordered.

@@ -178,7 +178,7 @@ func full(t *testing.T, key platform.Key) platform.Entry {
 }
 
 // fill gives each member a value that has none.
-func fill(entry *platform.Entry, columns platform.Columns) {
+func fill(entry *platform.Entry, columns platform.Columns[platform.Entry]) {
 	for n, column := range columns.Of(entry.Key.IsBinding) {
 		switch member := column.Member(entry).(type) {
 		case *string:
