@@ -328,11 +328,7 @@ func (s *selection) after(filter platform.Filter, columns string) {
 	position, isBinding := *filter.After, strings.HasSuffix(columns, "instance, id")
 	var values []driver.Value
 	if strings.HasPrefix(columns, "since") {
-		since := seconds(position.Since)
-		if since == nil {
-			since = -never
-		}
-		values = append(values, since)
+		values = append(values, seconds(position.Since))
 	}
 	values = append(values, position.Key.Instance.String())
 	if isBinding {

@@ -153,9 +153,6 @@ func valuesOf[T any](of *T, columns platform.Columns[T]) ([]driver.Value, error)
 
 // seconds are a time as a column has it: seconds since 1970, in whole milliseconds.
 func seconds(at time.Time) driver.Value {
-	if at.IsZero() {
-		return nil
-	}
 	return float64(round(at).UnixMilli()) / 1000
 }
 
