@@ -15,6 +15,14 @@ WAYS = {True: CREATION, False: DELETION}
 NOT_NEEDED = {NoFirstLook, NoLookAfterSync}
 
 
+def name(design: type[Design]) -> str:
+    return design.__name__
+
+
+BELOW: set[type[Design]] = below(Design)
+LEFT_OUT = sorted(BELOW, key=name)
+
+
 def step(design: Design) -> Explored[World]:
     return explore(design.start, design.steps, lambda world: design.untrue(world) or design.stuck(world))
 
@@ -28,16 +36,12 @@ def test_design(creates: bool, worlds: int) -> None:
     assert len(explored.worlds) == worlds
 
 
-def name(design: type[Design]) -> str:
-    return design.__name__
-
-
 def test_ways_are_of_all_obligations() -> None:
-    assert below(Design) == {*CREATION, *DELETION, *NOT_NEEDED}
+    assert BELOW == {*CREATION, *DELETION, *NOT_NEEDED}
 
 
 @pytest.mark.parametrize("creates", [True, False], ids=["creation", "deletion"])
-@pytest.mark.parametrize("design", sorted(below(Design), key=name), ids=name)
+@pytest.mark.parametrize("design", LEFT_OUT, ids=name)
 def test_obligation_that_is_left_out(design: type[Design], creates: bool) -> None:
     """The shortest way is the one in the table. Without one, the outcome is true all the same."""
     explored = step(design(creates))
