@@ -3,12 +3,11 @@ from __future__ import annotations
 
 import json
 import re
-from pathlib import Path
 
 import pytest
 from commands import needs
 from docs.guides import PLATFORM, healthy, moved
-from docs.pages import TOP, block, covers, packages, read
+from docs.pages import block, covers, packages, read
 from docs.programs import commands_of, help_of, options_of
 from docs.workdir import Workdir, wait_for
 
@@ -231,15 +230,6 @@ def test_variables() -> None:
     assert len(program) > 2 and set(re.findall(r"^\| `([A-Z_]+)` \|", table, re.MULTILINE)) == program
 
 
-def test_errors_in_metrics() -> None:
-    """The table of metrics names each value of the label error, and no other."""
-    listed = re.search(r"^var knownErrors = (.*?)^}", read("go/cmd/osb-platform/metrics.go"), re.MULTILINE | re.DOTALL)
-    row = re.search(r"^\| `osb_platform_rejections_total\S+ \| (.*?) \| ", read("docs/operating.md"), re.MULTILINE)
-    assert listed is not None and row is not None
-    program = set(re.findall('"([A-Za-z]+)"', listed[1])) | {"other", "none"}
-    assert len(program) > 5 and set(re.findall("`([A-Za-z]+)`", row[1])) - {"error"} == program
-
-
 def test_routes() -> None:
     """The table has each route of the API's description, and no other."""
     described = json.loads(read("go/platform/api/openapi.json"))["paths"]
@@ -262,25 +252,3 @@ def test_queries_of_lists() -> None:
     table = read(PLATFORM).partition("\n| query | which rows |\n|---|---|\n")[2].partition("\n\n")[0]
     named = [name for row in table.splitlines() for name in re.findall(r"`([a-z]+)=", row.split(" | ")[0])]
     assert len(program) > 10 and sorted(named) == sorted(program)
-
-
-def sources() -> str:
-    """What the platform is made of, without its tests."""
-    parts = [
-        TOP / "go" / it
-        for it in ("cmd/osb-platform", "platform", "internal/httpserver/health", "internal/httpserver", "internal/logs")
-    ]
-    files: list[Path] = sorted(it for part in parts for it in part.rglob("*.go") if not it.name.endswith("_test.go"))
-    return "".join(it.read_text(encoding="utf-8") for it in files)
-
-
-def test_events() -> None:
-    """The table has each event that the program logs by its name, and no other."""
-    code = sources()
-    program = set(re.findall(r'(?:\.at\(\w+, |Event: |\bfail\()"([a-z_]+)"', code))
-    program |= set(re.findall(r'"([a-z_]+_reloaded)"', code))
-    table = read(PLATFORM).partition("\n### What a worker prints")[2].partition("\n### ")[0]
-    rows = re.findall(r"^\| (`[a-z_]+`(?:, `[a-z_]+`)*) \|", table, re.MULTILINE)
-    guide = {it for row in rows for it in re.findall("`(.*?)`", row)}
-    assert len(program) > 20 and sorted(program - guide) == []
-    assert sorted(it for it in guide if f'"{it}"' not in code) == []
