@@ -168,7 +168,7 @@ func (s *scene) serve(w http.ResponseWriter, r *http.Request) {
 func (s *scene) speak(w http.ResponseWriter, given step) {
 	conn, _, err := w.(http.Hijacker).Hijack()
 	if err != nil {
-		s.t.Error(err)
+		s.t.Errorf("got the error %v, want none", err)
 		return
 	}
 	defer conn.Close()
@@ -255,7 +255,7 @@ func (s *scene) run() {
 	case s.refusing && !errors.Is(err, platform.ErrUnreached):
 		s.t.Fatalf("RunOnce while the login is refused: got %v, want %v", err, platform.ErrUnreached)
 	case !s.refusing && err != nil:
-		s.t.Fatal(err)
+		s.t.Fatalf("RunOnce: got the error %v, want none", err)
 	}
 }
 

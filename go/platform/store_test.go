@@ -272,7 +272,7 @@ func TestFaultsNameIDs(t *testing.T) {
 			err := test.call()
 			wantFault(t, err, Conflict, test.text)
 			if err != nil && strings.Contains(err.Error(), e.Key.String()) {
-				t.Error(err)
+				t.Errorf("got the error %v, want one without the key", err)
 			}
 		})
 	}

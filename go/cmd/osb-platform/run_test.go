@@ -107,7 +107,7 @@ func TestWholeWay(t *testing.T) {
 	log := p.stop()
 	var read struct{ Credentials struct{ Token string } }
 	if err := json.Unmarshal(text, &read); err != nil || read.Credentials.Token == "" {
-		t.Fatal(err)
+		t.Fatalf("got the credentials %s, %v, want a token", text, err)
 	}
 	for name, output := range map[string]string{"the log": log, "standard output": p.out.String()} {
 		diff.Lacks(t, output, read.Credentials.Token, "%s", name)

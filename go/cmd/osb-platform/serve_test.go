@@ -64,8 +64,8 @@ func (c caller) call(status int, method, path, body string) jsonObject {
 		c.t.Fatalf("%s %s: got %d %s, want %d", method, path, given, text, status)
 	}
 	var read jsonObject
-	if err := json.Unmarshal(text, &read); err != nil && len(text) > 0 {
-		c.t.Fatal(err)
+	if len(text) > 0 {
+		check(c.t, json.Unmarshal(text, &read))
 	}
 	return read
 }
@@ -81,9 +81,8 @@ func (c caller) try(method, path, body string) (status int, text []byte) {
 	given, err := c.client.Do(request)
 	check(c.t, err)
 	defer given.Body.Close()
-	if text, err = io.ReadAll(given.Body); err != nil {
-		c.t.Fatal(err)
-	}
+	text, err = io.ReadAll(given.Body)
+	check(c.t, err)
 	return given.StatusCode, text
 }
 
@@ -560,9 +559,7 @@ func execute(t *testing.T, store, statement string) {
 	t.Helper()
 	made := diff.Value((&sqlite3.SQLiteDriver{}).Open("file:" + store + "?_busy_timeout=5000"))(t)
 	defer made.Close()
-	if _, err := made.(*sqlite3.SQLiteConn).Exec(statement, nil); err != nil {
-		t.Fatal(err)
-	}
+	diff.Value(made.(*sqlite3.SQLiteConn).Exec(statement, nil))(t)
 }
 
 // A connection to the page that sends nothing is closed soon: it takes the place of another one.

@@ -328,7 +328,7 @@ func TestKeyReplacedBeforeWork(t *testing.T) {
 		r := &worker{store: in, keys: old, settings: &runSettings{worker: "one", once: true}}
 		diff.NoError(t, rekey(ctx, places{store: store, keyFiles: []string{key}}, other, new(nothing), nil), "")
 		if err := r.engineRuns(ctx, ctx); !isAll("the store was used with another key.*", fmt.Sprint(err)) {
-			t.Error(err)
+			t.Errorf("got the error %v, want that the key is another", err)
 		}
 		return nil
 	})
@@ -388,7 +388,7 @@ func executeIn(t *testing.T, store, statements string) {
 	t.Helper()
 	db := diff.Value(sql.Open("sqlite3", store))(t)
 	if _, err := db.Exec(statements); err != nil {
-		t.Error(err)
+		t.Errorf("got the error %v, want none", err)
 	}
 	diff.NoError(t, db.Close(), "")
 }

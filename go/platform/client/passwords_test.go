@@ -18,9 +18,8 @@ func TestSealedPassword(t *testing.T) {
 	safe, err := vault.New([]byte(strings.Repeat("k", vault.ShortestKey)))
 	check(t, err)
 	broker := platform.Broker{Name: "postgres", URL: "https://one.example", User: "platform", PasswordFile: "nowhere"}
-	if broker.Password, err = safe.Seal([]byte(secret), platform.PasswordContext(broker)); err != nil {
-		t.Fatal(err)
-	}
+	broker.Password, err = safe.Seal([]byte(secret), platform.PasswordContext(broker))
+	check(t, err)
 	passwords := NewPasswords(safe, nil)
 	if got, err := passwords.Of(broker); got != secret || err != nil {
 		t.Errorf("got %q, %v, want %q", got, err, secret)
@@ -33,9 +32,8 @@ func TestSealedPassword(t *testing.T) {
 			b.URL, b.User = b.URL+" 8:platform", ""
 		},
 		"as version 0.3 did": func(b *platform.Broker) {
-			if b.Password, err = safe.Seal([]byte(secret), "broker postgres"); err != nil {
-				t.Fatal(err)
-			}
+			b.Password, err = safe.Seal([]byte(secret), "broker postgres")
+			check(t, err)
 		},
 	} {
 		t.Run(what, func(t *testing.T) {

@@ -119,7 +119,7 @@ func TestUnansweredQuestion(t *testing.T) {
 		fetched, failed := c.Fetch(context.Background(), at(server.url), entry)
 		for _, err := range []error{err, failed} {
 			if err == nil || strings.Contains(err.Error(), secret) {
-				t.Error(err)
+				t.Errorf("got the error %v, want one without the secret", err)
 			}
 		}
 		if last != (Answer{}) || fetched != (Answer{}) {
@@ -197,7 +197,7 @@ func TestCatalogueTime(t *testing.T) {
 	}
 	_, _, err = c.Catalogue(context.Background(), platform.Broker{Name: "postgres", URL: "broker.example"})
 	if err == nil || !strings.Contains(err.Error(), "https://") {
-		t.Error(err)
+		t.Errorf("got the error %v, want one that asks for https://", err)
 	}
 }
 
@@ -207,7 +207,7 @@ func TestCatalogueAlone(t *testing.T) {
 	c := patient(t)
 	for range [3]int{} {
 		if _, _, err := c.Catalogue(context.Background(), at(server.url)); err != nil {
-			t.Error(err)
+			t.Errorf("got the error %v, want none", err)
 		}
 	}
 	if requests, connections := server.arrivals(); len(requests) != 3 || connections != 3 {

@@ -252,9 +252,7 @@ func TestUndoneClaim(t *testing.T) {
 					snapshot.State = platform.Withdrawn
 					return &platform.Change{Entry: snapshot.Entry}, nil
 				})
-			if !errors.Is(err, fails) {
-				t.Error(err)
-			}
+			diff.ErrorIs(t, err, fails, "")
 			s.path += ".own"
 			if got := s.events(1); got != "claim withdrawn; claim withdrawn; "+want {
 				t.Errorf("%v: got %s, want two claims and then %s", fails, got, want)
@@ -278,9 +276,7 @@ func TestNoText(t *testing.T) {
 			snapshot.Entry.IsSent = true
 			return &platform.Change{Entry: snapshot.Entry}, nil
 		})
-	if !errors.Is(err, osb.ErrBadRecord) { // that of the store
-		t.Error(err)
-	}
+	diff.ErrorIs(t, err, osb.ErrBadRecord, "") // that of the store
 	s.path = path
 	if failed != 1 || w.LostLines() != 1 {
 		t.Errorf("got %d failures and %d lines lost, want 1 and 1: %s", failed, w.LostLines(), s.events(0))

@@ -97,9 +97,7 @@ func fill(b *testing.B, rows int) string {
 		url = address + "&search_path=" + schema
 	}
 	for _, text := range []string{"DROP SCHEMA IF EXISTS " + schema + " CASCADE", "CREATE SCHEMA " + schema} {
-		if _, err := db.Exec(text); err != nil {
-			b.Fatal(err)
-		}
+		diff.Value(db.Exec(text))(b)
 	}
 	store := open(b, url)
 	polled := order(instance(0))
@@ -113,12 +111,8 @@ func fill(b *testing.B, rows int) string {
 		"'names', json_build_object('instance', c.id, 'service', service, 'plan', plan)::text)) AS t " +
 		"FROM osb_instances AS t, LATERAL (SELECT n, '00000000-0000-4000-8000-' || lpad(to_hex(n), 12, '0') AS id " +
 		"FROM generate_series(1, $1 - 1) AS n) AS c) AS s"
-	if _, err := db.Exec(copies, rows, stepped); err != nil {
-		b.Fatal(err)
-	}
-	if _, err := db.Exec("ANALYZE"); err != nil {
-		b.Fatal(err)
-	}
+	diff.Value(db.Exec(copies, rows, stepped))(b)
+	diff.Value(db.Exec("ANALYZE"))(b)
 	return url
 }
 

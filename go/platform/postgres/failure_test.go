@@ -531,7 +531,7 @@ func TestAServerThatHangsInAStep(t *testing.T) {
 		return nil, err
 	})
 	if !errors.Is(err, platform.ErrAway) || !errors.Is(err, context.Canceled) {
-		t.Error(err)
+		t.Errorf("got the error %v, want %v and %v", err, platform.ErrAway, context.Canceled)
 	}
 	diff.NoError(t, store.Close(), "")
 	wantQuick(t, begun)

@@ -150,9 +150,7 @@ func (p *process) until(t *testing.T, word string) (keys []string) {
 // release has the process go on.
 func (p *process) release(t *testing.T) {
 	t.Helper()
-	if _, err := io.WriteString(p.in, "\n"); err != nil {
-		t.Fatal(err)
-	}
+	diff.Value(io.WriteString(p.in, "\n"))(t)
 }
 
 // The time that a step decides by is read after its rows are locked. A worker that has waited, or was paused before it
@@ -251,9 +249,7 @@ func TestAWorkerThatIsPaused(t *testing.T) {
 					t.Errorf("%v: got %+v, %v, want the lease of the worker other", key, entry.Lease, err)
 				}
 			}
-			if err := paused.Ready(background); err != nil { // it goes on, with another session
-				t.Error(err)
-			}
+			diff.NoError(t, paused.Ready(background), "") // it goes on, with another session
 		})
 	}
 }

@@ -111,10 +111,8 @@ const isWaiting = "SELECT EXISTS (SELECT FROM pg_stat_activity " +
 func terminate(t *testing.T, application string) {
 	t.Helper()
 	db := pgtest.DB(t, pgtest.URL(t))
-	if _, err := db.Exec("SELECT pg_terminate_backend(pid, 5000) FROM pg_stat_activity WHERE application_name = $1",
-		application); err != nil {
-		t.Fatal(err)
-	}
+	diff.Value(db.Exec("SELECT pg_terminate_backend(pid, 5000) FROM pg_stat_activity WHERE application_name = $1",
+		application))(t)
 }
 
 // schemaNamed is a URL of a schema of its own, whose sessions have its name.
@@ -245,9 +243,7 @@ func TestRoundTrips(t *testing.T) {
 	for _, key := range []platform.Key{instance(1), binding(1, 1)} {
 		check(t, store.Change(background, key, nothing))
 	}
-	if _, err := store.Claim(background, []string{"one"}, 1, count(new(int))); err != nil {
-		t.Fatal(err)
-	}
+	diff.Value(store.Claim(background, []string{"one"}, 1, count(new(int))))(t)
 	lease := func(state platform.State) platform.Step {
 		return func(now time.Time, snapshot platform.Snapshot) (*platform.Change, error) {
 			snapshot.Entry.State, snapshot.Entry.Lease = state, platform.Lease{Worker: "me", Until: now.Add(time.Hour)}

@@ -265,9 +265,7 @@ func TestAWorkerOf02(t *testing.T) {
 	check(t, err)
 	defer conn.Close()
 	const name = "SELECT pg_advisory_lock(1869832816, 12345)" // as version 0.2 has it: osbp, and a digest
-	if _, err := conn.ExecContext(background, name); err != nil {
-		t.Fatal(err)
-	}
+	diff.Value(conn.ExecContext(background, name))(t)
 	_, err = postgres.Open(background, url, 1)
 	if err == nil || !strings.Contains(err.Error(), "Stop all of its workers") {
 		t.Errorf("beside a worker: got %v, want one that says to stop the workers", err)
@@ -275,9 +273,7 @@ func TestAWorkerOf02(t *testing.T) {
 	if _, isLasting := pg.Remedy(err); !isLasting {
 		t.Error("got an error that passes, want one that lasts")
 	}
-	if _, err := conn.ExecContext(background, "SELECT pg_advisory_unlock_all()"); err != nil {
-		t.Fatal(err)
-	}
+	diff.Value(conn.ExecContext(background, "SELECT pg_advisory_unlock_all()"))(t)
 	diff.NoError(t, open(t, url).Close(), "")
 }
 
@@ -411,9 +407,7 @@ func TestReadingLocksNothing(t *testing.T) {
 	defer func() { _ = tx.Rollback() }()
 	const lock = "LOCK TABLE osb_instances, osb_bound, osb_lives, osb_brokers, osb_broker_asked, osb_platform " +
 		"IN EXCLUSIVE MODE"
-	if _, err := tx.Exec(lock); err != nil {
-		t.Fatal(err)
-	}
+	diff.Value(tx.Exec(lock))(t)
 	run(t, tx, "SELECT pg_advisory_xact_lock($1)", 0x6F73625F696E7374) // of those that create the tables
 	ctx, cancel := context.WithTimeout(background, 10*time.Second)
 	defer cancel()

@@ -71,9 +71,7 @@ func TestReadingLocksNothing(t *testing.T) {
 	defer made.Close()
 	writer := made.(*sqlite3.SQLiteConn)
 	for _, text := range []string{"BEGIN IMMEDIATE", "UPDATE osb_instances SET tries = 7"} {
-		if _, err := writer.Exec(text, nil); err != nil {
-			t.Fatal(err)
-		}
+		diff.Value(writer.Exec(text, nil))(t)
 	}
 	begun := time.Now()
 	second := open(t, path)
@@ -111,7 +109,7 @@ func TestUnreadableRows(t *testing.T) {
 	}
 	executeIn(t, path, "UPDATE osb_instances SET since = 1 WHERE since = 'x'")
 	if _, err := s.List(background, platform.Filter{}); err != nil {
-		t.Error(err)
+		t.Errorf("got the error %v, want none", err)
 	}
 	spoil(t, keyOf(1000), "id")
 	if entries, err := s.List(background, platform.Filter{}); err == nil {

@@ -332,7 +332,7 @@ func TestMigrationsAtOnce(t *testing.T) {
 			defer all.Done()
 			s, err := Open(background, path)
 			if err != nil {
-				t.Error(err)
+				t.Errorf("got the error %v, want none", err)
 				return
 			}
 			if rows, err := s.List(background, platform.Filter{}); err != nil || len(rows) != 12 {
@@ -480,7 +480,7 @@ func TestOldWorkerRuns(t *testing.T) {
 	unlock(lock)
 	end, _, err := open(t, path).Only(background, "worker-1")
 	if err != nil || end == nil {
-		t.Fatal(err)
+		t.Fatalf("got no right to be worker-1, %v, want it", err)
 	}
 	defer end()
 	open(t, path) // beside workers of this version
@@ -501,9 +501,7 @@ func TestQueriesUseIndexes(t *testing.T) {
 		filters = append(filters, filter)
 	}
 	for _, filter := range filters {
-		if _, err := s.List(background, filter); err != nil {
-			t.Fatal(err)
-		}
+		diff.Value(s.List(background, filter))(t)
 	}
 	err := s.read(background, func(c *connection) error {
 		for query := range c.lists {

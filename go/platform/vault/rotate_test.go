@@ -314,9 +314,7 @@ func TestRotateInTheMiddle(t *testing.T) {
 func TestRotateFurther(t *testing.T) {
 	r := newRig(t, newVault(t, one), 9)
 	_, err := newVault(t, other, one).Rotate(background, failing{r, nil})
-	if !errors.Is(err, errFailing) {
-		t.Fatal(err)
-	}
+	diff.ErrorIs(t, err, errFailing, "the rotation")
 	if done, err := newVault(t, third, other, one).Rotate(background, r); err != nil || done != (Rotation{9, 1}) {
 		t.Errorf("got %+v, %v, want %+v", done, err, Rotation{9, 1})
 	}
@@ -515,9 +513,7 @@ func TestRenewOnce(t *testing.T) {
 	}
 	// with another key, even the fingerprint of version 0.3 doesn't help
 	_, err = newVault(t, other, one).Rotate(background, store)
-	if !errors.Is(err, ErrUnopened) { // that of shop
-		t.Error(err)
-	}
+	diff.ErrorIs(t, err, ErrUnopened, "") // that of shop
 	execute(t, path, "UPDATE osb_store SET fingerprint = '"+former+"'")
 	if _, err := newVault(t, other).Renew(background, store); !errors.Is(err, ErrStoreKey) {
 		t.Errorf("with the new key alone: got %v, want %v", err, ErrStoreKey)
@@ -697,7 +693,7 @@ func TestRenewAtOnce(t *testing.T) {
 		go func() {
 			defer all.Done()
 			if _, err := newVault(t, one).Renew(background, own); err != nil {
-				t.Error(err)
+				t.Errorf("got the error %v, want none", err)
 			}
 			diff.NoError(t, own.Close(), "")
 		}()

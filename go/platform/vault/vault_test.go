@@ -166,10 +166,10 @@ func TestRotated(t *testing.T) {
 		t.Errorf("got %x, changed: %v, %v, want no change", same, isChanged, err)
 	}
 	if _, _, err := during.Rekey(old, there); !errors.Is(err, ErrChanged) {
-		t.Error(err)
+		t.Errorf("got the error %v, want %v", err, ErrChanged)
 	}
 	if _, _, err := after.Rekey(old, here); !errors.Is(err, ErrOtherKey) {
-		t.Error(err)
+		t.Errorf("got the error %v, want %v", err, ErrOtherKey)
 	}
 }
 
