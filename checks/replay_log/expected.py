@@ -25,7 +25,7 @@ def by_program(program: Path, log: Log, paths: list[str], options: list[str]) ->
     said = ran.err
     if ran.status == 1:
         line, _, fault = said.removeprefix("osb-replay: line ").rstrip("\n").partition(": ")
-        said = f"{log.place(paths, int(line))}: {fault}"
+        said = f"{log.position(paths, int(line))}: {fault}"
     return Came(ran.status, ran.out, said)
 
 

@@ -48,7 +48,7 @@ class Log(NamedTuple):
             paths.append(str(path))
         return paths
 
-    def place(self, paths: list[str], line: int) -> str:
+    def position(self, paths: list[str], line: int) -> str:
         """How a line of the whole is named."""
         for path, its in zip(paths, self.files()):
             if line <= len(its):

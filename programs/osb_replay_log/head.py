@@ -5,14 +5,14 @@ from typing import NamedTuple, Sequence
 
 from osb_replay_log.faults import FAULTY, Unreplayed
 from osb_replay_log.lines import Kind, is_head, kind_of
-from osb_replay_log.logs import Log, Place, Stretch, lines_of, stretches
+from osb_replay_log.logs import Log, Position, Stretch, lines_of, stretches
 
 
 class Head(NamedTuple):
-    """The plan lines, each with its place, and where the first line stands that is none of the head."""
+    """The plan lines, each with its position, and where the first line stands that is none of the head."""
 
     plans: tuple[bytes, ...]
-    places: tuple[Place, ...]
+    positions: tuple[Position, ...]
     log: int
     offset: int
 
@@ -24,7 +24,7 @@ class Head(NamedTuple):
 def head_of(logs: Sequence[Log], most: int, chunk: int) -> Head:
     """Reads the head. More plans than `most` are refused."""
     plans: list[bytes] = []
-    places: list[Place] = []
+    positions: list[Position] = []
     for number, log in enumerate(logs):
         line = offset = 0
         for stretch in stretches(log, 0, chunk):
@@ -34,14 +34,14 @@ def head_of(logs: Sequence[Log], most: int, chunk: int) -> Head:
                         line, offset = line + 1, offset + 1
                         continue
                     if not is_head(text):
-                        return Head(tuple(plans), tuple(places), number, offset)
+                        return Head(tuple(plans), tuple(positions), number, offset)
                     line, offset = line + 1, offset + len(text) + 1
                     if kind_of(text) is Kind.PLAN:
                         plans.append(text)
-                        places.append(Place(log.path, line))
+                        positions.append(Position(log.path, line))
                     if len(plans) > most:
                         raise Unreplayed(FAULTY, f"{log.path}: it has more plans than the {most} lines of a part")
-    return Head(tuple(plans), tuple(places), len(logs), 0)
+    return Head(tuple(plans), tuple(positions), len(logs), 0)
 
 
 def body_of(logs: Sequence[Log], head: Head, chunk: int) -> list[Stretch]:

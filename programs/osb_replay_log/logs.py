@@ -126,7 +126,7 @@ def _streamed(read: Iterator[bytes], margin: int) -> Iterator[bytes]:
         yield carried
 
 
-class Place(NamedTuple):
+class Position(NamedTuple):
     """Where a line stands: the file, and the line's number in it."""
 
     path: str

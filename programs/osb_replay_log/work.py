@@ -11,7 +11,7 @@ from osb_replay_log.head import Head, body_of, head_of
 from osb_replay_log.logs import Log, Stretch, lines_of
 from osb_replay_log.parting import Parted, Parting, part
 from osb_replay_log.parts import Bucket, Done, Faulty, finish
-from osb_replay_log.places import first_fault
+from osb_replay_log.positions import first_fault
 from osb_replay_log.program import Program
 from osb_replay_log.progress import Progress
 from osb_replay_log.spool import Room
@@ -81,8 +81,8 @@ def _samples(body: Sequence[Stretch]) -> Iterator[Stretch]:
 def _judge_head(work: Work, head: Head) -> None:
     fault = work.program.run([head.text()], work.room.file("head"))
     if fault is not None:
-        place = head.places[fault.line - 1]
-        raise Unreplayed(FAULTY, f"{place.path}: line {place.line}: {fault.name}")
+        position = head.positions[fault.line - 1]
+        raise Unreplayed(FAULTY, f"{position.path}: line {position.line}: {fault.name}")
 
 
 def _part(work: Work, engine: Engine, plans: int, body: Sequence[Stretch], many: int, estimate: int) -> list[Parted]:

@@ -13,7 +13,7 @@ from osb_replay_log import reports
 from osb_replay_log.faults import Unreplayed
 from osb_replay_log.logs import from_paths, lines_of, stretches
 from osb_replay_log.parts import Faulty
-from osb_replay_log.places import first_fault
+from osb_replay_log.positions import first_fault
 from osb_replay_log.program import Fault, Program
 from osb_replay_log.spool import Room
 
