@@ -2,11 +2,7 @@ package api
 
 import (
 	"context"
-	"encoding/json"
 	"fmt"
-	"net/url"
-	"os"
-	"path/filepath"
 	"regexp"
 	"strings"
 	"testing"
@@ -14,7 +10,6 @@ import (
 
 	"pippinterm/internal/diff"
 	"pippinterm/platform"
-	"pippinterm/platform/sqlite"
 )
 
 // The bindings of all instances are one list.
@@ -119,107 +114,4 @@ func (r *rig) idsOf(target string) (found []string) {
 		}
 		next = "&after=" + cursor
 	}
-}
-
-// The answers that the tests of the page have are those of the document, and so is what they are asked by.
-func TestRecordedAnswersAreDocumented(t *testing.T) {
-	text := diff.Value(os.ReadFile("../page/testdata/recorded.json"))(t)
-	var answers map[string]json.RawMessage
-	check(t, json.Unmarshal(text, &answers))
-	if len(answers) < 10 {
-		t.Errorf("got %d, want at least 10", len(answers))
-	}
-	check(t, errDescribed)
-	for target, body := range answers {
-		at := diff.Value(url.Parse(target))(t)
-		found, _, _ := routeOf("GET", at.EscapedPath())
-		if found == nil || found.needs != Read {
-			t.Errorf("%s: got no such path, want one to read", target)
-			continue
-		}
-		operation := described.Paths[found.pattern].Get
-		for name, values := range at.Query() {
-			of := operation.Parameters.GetByInAndName("query", name)
-			for _, value := range values {
-				if of == nil || of.Schema.Value.Enum != nil && of.Schema.Value.VisitJSON(value) != nil {
-					t.Errorf("%s: got no %s=%s in the query, want one", target, name, value)
-				}
-			}
-		}
-		diff.NoError(t, checkText(operation.Responses.Get(200).Value.Content["application/json"].Schema, body),
-			"%s", target)
-	}
-}
-
-// A testStore is a store in SQLite, of which tests choose what is read. A call that reads doesn't end with its context:
-// the tests of limits are about the handler's waits, however long a busy machine takes for SQLite.
-type testStore struct {
-	*sqlite.Store
-	now  time.Time                                  // by its clock, if it isn't zero
-	rows map[platform.Key]func(row *platform.Entry) // what changes a row that is read
-	err  error                                      // of every call that reads, or nil
-}
-
-func newStore(t *testing.T) *testStore {
-	t.Helper()
-	store := diff.Value(sqlite.Open(background, filepath.Join(t.TempDir(), "instances.sqlite")))(t)
-	t.Cleanup(func() { check(t, store.Close()) })
-	return &testStore{Store: store, rows: map[platform.Key]func(*platform.Entry){}}
-}
-
-// fails returns the error of the test, if there is one, and otherwise that of the store.
-func (s *testStore) fails(err error) error {
-	if s.err != nil {
-		return s.err
-	}
-	return err
-}
-
-// read reads a row as the test has it.
-func (s *testStore) read(e *platform.Entry) {
-	if change := s.rows[e.Key]; change != nil {
-		change(e)
-	}
-}
-
-func (s *testStore) Read(_ context.Context, key platform.Key) (platform.Entry, error) {
-	e, err := s.Store.Read(background, key)
-	s.read(&e)
-	return e, s.fails(err)
-}
-
-func (s *testStore) Positions(_ context.Context, filter platform.Filter) ([]platform.Position, error) {
-	found, err := s.Store.Positions(background, filter)
-	return found, s.fails(err)
-}
-
-func (s *testStore) ReadAll(_ context.Context, keys []platform.Key) ([]platform.Entry, error) {
-	found, err := s.Store.ReadAll(background, keys)
-	for at := range found {
-		s.read(&found[at])
-	}
-	return found, s.fails(err)
-}
-
-func (s *testStore) Counts(context.Context) ([]platform.Count, error) {
-	found, err := s.Store.Counts(background)
-	return found, s.fails(err)
-}
-
-func (s *testStore) InFlight(_ context.Context, most int) ([]platform.Entry, error) {
-	found, err := s.Store.InFlight(background, most)
-	return found, s.fails(err)
-}
-
-func (s *testStore) Brokers(context.Context) ([]platform.Broker, error) {
-	found, err := s.Store.Brokers(background)
-	return found, s.fails(err)
-}
-
-func (s *testStore) NextDue(_ context.Context, names []string) (due, now time.Time, err error) {
-	due, now, err = s.Store.NextDue(background, names)
-	if !s.now.IsZero() {
-		now = s.now
-	}
-	return due, now, s.fails(err)
 }
