@@ -94,7 +94,8 @@ def name(design: type[Design]) -> str:
 
 
 def test_ways_are_of_all_obligations() -> None:
-    assert below(Design) == {*WAYS, *NOT_NEEDED}
+    of_broker = {it for it in below(Design) if it.__module__ == LateCommitAtUnsure.__module__}
+    assert of_broker == {*WAYS, *NOT_NEEDED}
 
 
 @pytest.mark.parametrize("design", WAYS, ids=name)
