@@ -114,10 +114,7 @@ type jsonText json.RawMessage
 func (j *jsonText) MarshalText() ([]byte, error) { return *j, nil }
 
 func (j *jsonText) UnmarshalText(text []byte) error {
-	*j = nil
-	if len(text) > 0 {
-		*j = append(*j, text...)
-	}
+	*j = append(jsonText(nil), text...)
 	return nil
 }
 
@@ -128,7 +125,7 @@ func (o *operationText) MarshalText() ([]byte, error) {
 	if o.Operation == nil {
 		return nil, nil
 	}
-	return append([]byte{}, *o.Operation...), nil
+	return []byte(*o.Operation), nil
 }
 
 func (o *operationText) UnmarshalText(text []byte) error {
@@ -181,13 +178,9 @@ func (r *reasonText) MarshalText() ([]byte, error) {
 }
 
 func (r *reasonText) UnmarshalText(text []byte) error {
-	if err := json.Unmarshal(text, (*Reason)(r)); err != nil {
-		return err
-	}
-	if !r.At.IsZero() {
-		r.At = r.At.UTC()
-	}
-	return nil
+	err := json.Unmarshal(text, (*Reason)(r))
+	r.At = r.At.UTC()
+	return err
 }
 
 // A lastText is Entry.Last, Entry.Lease.Claim and Entry.DueSince.
@@ -221,9 +214,7 @@ func (l *lastText) UnmarshalText(text []byte) error {
 		return err
 	}
 	l.Last = kept.Reason
-	if !l.Last.At.IsZero() {
-		l.Last.At = l.Last.At.UTC()
-	}
+	l.Last.At = l.Last.At.UTC()
 	if l.Lease.Worker != "" {
 		l.Lease.Claim = kept.Claim
 	}

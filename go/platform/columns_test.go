@@ -11,104 +11,68 @@ import (
 	"pippinterm/osb"
 )
 
-// Each member of an order and of an entry has a column.
+// Each member of an entry and of a broker has a column, or is kept in one with others.
 func TestColumns(t *testing.T) {
-	otherwise := map[string]bool{
-		"Order": true, "Key": true, "Names": true, "First": true, // each Store has its own columns
-		"Record": true, "IsSent": true, // one needs the other
-		"Unreadable": true, // nothing writes it
+	operation, hold := "task", time.Second
+	columns := append(append(Columns[Entry]{}, OrderColumns...), StateColumns...)
+	for _, key := range []Key{anInstance, aBinding} {
+		entry := rowIn(key, Ready)
+		entry.Names = Names{Instance: "i", Binding: "b", Service: "s", Plan: "p"}
+		entry.Body, entry.Metadata = json.RawMessage("{}"), json.RawMessage(`{"labels": {}}`)
+		entry.Operation, entry.Credentials = &operation, []byte("sealed")
+		entry.SentUntil, entry.PolledSince, entry.Due, entry.DueSince, entry.After = at(1), at(2), at(3), at(4), time.Second
+		entry.Lease = Lease{Worker: "one", Until: at(5), Claim: "a claim"}
+		entry.Last, entry.Failure = Reason{Kind: "poll"}, Reason{At: at(6), Kind: "bind", Status: 400}
+		wantKept(t, columns, entry, Entry{Order: Order{Key: entry.Key, Names: entry.Names, First: entry.First}})
 	}
-	operation, examples := "task", map[reflect.Type]reflect.Value{}
-	for _, example := range []any{
-		"text", 7, true, time.Second, at(1), []byte("bytes"), json.RawMessage("{}"), &operation, id("1"),
-		Ready, Removed, Lease{Worker: "one"}, Reason{Kind: "poll"},
-	} {
-		examples[reflect.TypeOf(example)] = reflect.ValueOf(example)
-	}
-	for _, member := range reflect.VisibleFields(reflect.TypeOf(Entry{})) {
-		t.Run(member.Name, func(t *testing.T) {
-			var entry Entry
-			if otherwise[member.Name] {
-				return
-			}
-			reflect.ValueOf(&entry).Elem().FieldByIndex(member.Index).Set(examples[member.Type])
-			if reflect.DeepEqual(columnsOf(t, entry), columnsOf(t, Entry{})) {
-				t.Error("got no column, want one in OrderColumns or in StateColumns")
-			}
-		})
+	wantKept(t, BrokerColumns, Broker{
+		Password: []byte("sealed"), Settings: Settings{Hold: &hold}, Catalogue: json.RawMessage("{}"),
+		CatalogueAt: at(1), Reason: Reason{Kind: "catalogue"},
+	}, Broker{})
+	if got, want := StateColumns.Of(false).Names(), StateColumns.Of(true).Names(); len(got) != len(want)-1 {
+		t.Errorf("got %d columns of an instance, want all but one", len(got))
 	}
 }
 
-// An instance has all columns but one.
-func TestColumnsOfInstances(t *testing.T) {
-	if got, want := len(StateColumns.Of(false).Names()), len(StateColumns.Of(true).Names())-1; got != want {
-		t.Errorf("got %d columns, want %d", got, want)
-	}
-}
-
-// columnsOf are the values of all columns of an entry.
-func columnsOf(t *testing.T, entry Entry) (values []any) {
+// wantKept fails if a member isn't the same once it was written and read. Zero texts, numbers and booleans get a value.
+func wantKept[T any](t *testing.T, columns Columns[T], want, got T) {
 	t.Helper()
-	for _, column := range append(append(Columns[Entry]{}, OrderColumns...), StateColumns...) {
-		value, err := column.Value(&entry)
-		check(t, err)
-		values = append(values, value)
-	}
-	return values
-}
-
-// What a Text has written, it reads. NULL is read as the zero value.
-func TestTexts(t *testing.T) {
-	operation := ""
-	full := rowIn(aBinding, Ready)
-	full.Body, full.Metadata, full.Operation = json.RawMessage("{}"), json.RawMessage(`{"labels": {}}`), &operation
-	full.Failure = Reason{At: at(1), Kind: "bind", Status: 400}
-	full.Last, full.DueSince = Reason{Kind: "poll"}, at(2)
-	for _, want := range []Entry{full, rowIn(anInstance, Polling), rowIn(anInstance, Ordered)} {
-		got := want
-		got.Service, got.Plan, got.Body, got.Metadata, got.Operation = osb.ID{}, osb.ID{}, nil, nil, nil
-		got.Record, got.IsSent, got.Last, got.DueSince, got.Failure = osb.Record{}, false, Reason{}, time.Time{}, Reason{}
-		for _, column := range append(append(Columns[Entry]{}, OrderColumns...), StateColumns...) {
-			value, err := column.Value(&want)
-			check(t, err)
-			text, isText := value.(string)
-			if member, isOne := column.Member(&got).(Text); isOne && isText {
-				diff.NoError(t, member.UnmarshalText([]byte(text)), "%s", column.Name)
-			}
-		}
-		diff.Check(t, got, want, "%v", want.Key)
-	}
-	for _, column := range StateColumns {
-		member, isOne := column.Member(&Entry{}).(Text)
-		if isOne && column.Name != "operation" && column.Name != "metadata" && member.UnmarshalText([]byte("x")) == nil {
-			t.Errorf("%s: got no error for x, want one", column.Name)
+	for _, of := range reflect.VisibleFields(reflect.TypeOf(want)) {
+		switch member := reflect.ValueOf(&want).Elem().FieldByIndex(of.Index); {
+		case !member.IsZero() || of.Name == "Unreadable":
+		case of.Type.Kind() == reflect.String:
+			member.SetString("a text")
+		case of.Type.Kind() == reflect.Int:
+			member.SetInt(1)
+		case of.Type.Kind() == reflect.Bool:
+			member.SetBool(true)
+		default:
+			t.Errorf("%s: got no value, want one from this test", of.Name)
 		}
 	}
-}
-
-// Each member of a broker has a column, or is kept in one with others.
-func TestColumnsOfBrokers(t *testing.T) {
-	hold, got := time.Second, Broker{}
-	want := Broker{
-		Name: "one", URL: "http://one", User: "u", Password: []byte("p"), PasswordFile: "f", Store: "s",
-		Settings: Settings{Hold: &hold}, Catalogue: json.RawMessage("{}"), CatalogueAt: at(1),
-		Reason: Reason{Kind: "catalogue", At: at(1)},
-	}
-	for _, column := range BrokerColumns {
+	for _, column := range columns {
 		value, err := column.Value(&want)
 		check(t, err)
 		switch member := column.Member(&got).(type) {
 		case *string:
 			*member = value.(string)
-		case *[]byte:
-			*member = value.([]byte)
+		case *int:
+			*member = value.(int)
+		case *bool:
+			*member = value.(bool)
 		case *time.Time:
 			*member = value.(time.Time)
+		case *time.Duration:
+			*member = value.(time.Duration)
+		case *[]byte:
+			*member = value.([]byte)
 		case Text:
 			check(t, member.UnmarshalText([]byte(value.(string))))
 		}
+		_, err = column.Value(new(T))
+		diff.NoError(t, err, "a zero %s", column.Name)
 	}
-	diff.Check(t, got, want, "a broker")
+	diff.Check(t, got, want, "what is read")
 }
 
 // A record that can't be written is an error, and a member of another type is a slip.
