@@ -183,23 +183,23 @@ def wrong(broker: Broker, both: Both) -> str | None:
     return None
 
 
-class Explored(NamedTuple):
+class Exploration(NamedTuple):
     many: int
     steps: int
     wrong: str | None
 
 
-def explore(broker: Broker) -> Explored:
+def explore(broker: Broker) -> Exploration:
     """Steps everything that can come about, up to the first that is wrong."""
     seen, todo, taken = {Both()}, deque([Both()]), 0
     while todo:
         both = todo.popleft()
         why = wrong(broker, both)
         if why is not None:
-            return Explored(len(seen), taken, f"{why}: {both}")
+            return Exploration(len(seen), taken, f"{why}: {both}")
         for step in steps(broker, both):
             taken += 1
             if step not in seen:
                 seen.add(step)
                 todo.append(step)
-    return Explored(len(seen), taken, None)
+    return Exploration(len(seen), taken, None)

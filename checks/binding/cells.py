@@ -3,7 +3,7 @@
 Two lives that differ only in their numbers are one cell. It has what is recorded and held, the resource, the request
 that is out and those before it, the answers that may be taken, and the credentials up to renaming. A cell stands for
 the first life that was found with it. What a life may do depends on what it sees of the others (model.Face), so what
-comes of a cell is found once for each model.Allowed.
+comes of a cell is found once for each model.Permissions.
 
 Run these at the top of the repository:
 
@@ -32,13 +32,13 @@ from binding.model import (
     PARTS,
     PROMISES,
     SETTLES,
-    Allowed,
     Binding,
+    BoundInstance,
     Face,
     Life,
     Order,
+    Permissions,
     Rules,
-    Tied,
     broken,
     clone,
     new_binding,
@@ -160,8 +160,8 @@ class Lives:
         self.lives: list[Life] = []
         self.faces: list[Face] = []
         self.agree: list[bool] = []
-        self.known: dict[tuple[int, Allowed], list[tuple[str, int]]] = {}
-        self.rounds: dict[tuple[int, Allowed, bool], int] = {}
+        self.known: dict[tuple[int, Permissions], list[tuple[str, int]]] = {}
+        self.rounds: dict[tuple[int, Permissions, bool], int] = {}
         self.number(start)
 
     def number(self, life: Life) -> int:
@@ -173,12 +173,12 @@ class Lives:
             self.agree.append(life.agrees())
         return self.numbers[cell]
 
-    def copy(self, number: int, allowed: Allowed) -> Life:
+    def copy(self, number: int, allowed: Permissions) -> Life:
         life = clone(self.lives[number])
         life.allowed = allowed
         return life
 
-    def after(self, number: int, allowed: Allowed) -> list[tuple[str, int]]:
+    def after(self, number: int, allowed: Permissions) -> list[tuple[str, int]]:
         """The cells that come of this one, each with an event."""
         key = number, allowed
         if key not in self.known:
@@ -190,7 +190,7 @@ class Lives:
             self.known[key] = [(event, after) for after, event in found.items() if after != number]
         return self.known[key]
 
-    def round(self, number: int, allowed: Allowed, removing: bool) -> int:
+    def round(self, number: int, allowed: Permissions, removing: bool) -> int:
         key = number, allowed, removing
         if key not in self.rounds:
             life = self.copy(number, allowed)
@@ -220,7 +220,7 @@ def forget_lives() -> None:
 Numbers = tuple[int, ...]
 
 
-class Explored(NamedTuple):
+class Exploration(NamedTuple):
     """All that came about, each with what it came from; the first that is wrong, and why; and the number of steps."""
 
     came: dict[Numbers, Numbers | None]
@@ -243,11 +243,11 @@ class World:
         self.for_binding = lru_cache(maxsize=None)(lambda face: of_binding(rules, face))
         self.between = lru_cache(maxsize=None)(broken)
 
-    def of_instance(self, numbers: Numbers) -> Allowed:
+    def of_instance(self, numbers: Numbers) -> Permissions:
         faces = self.bindings.faces
         return self.for_instance(*(faces[it] for it in numbers[1:]))
 
-    def of_binding(self, instance: int) -> Allowed:
+    def of_binding(self, instance: int) -> Permissions:
         return self.for_binding(self.instances.faces[instance])
 
     def after(self, numbers: Numbers) -> Iterator[Numbers]:
@@ -270,7 +270,7 @@ class World:
             return found
         return found | {LIVES_AGREE}
 
-    def explore(self, promises: Collection[str] = PROMISES) -> Explored:
+    def explore(self, promises: Collection[str] = PROMISES) -> Exploration:
         """Steps everything that can come about, up to the first that breaks one of the promises."""
         came: dict[Numbers, Numbers | None] = {self.start: None}
         todo, steps = deque([self.start]), 0
@@ -278,13 +278,13 @@ class World:
             numbers = todo.popleft()
             why = self.broken(numbers).intersection(promises)
             if why:
-                return Explored(came, numbers, why, steps)
+                return Exploration(came, numbers, why, steps)
             for following in self.after(numbers):
                 steps += 1
                 if following not in came:
                     came[following] = numbers
                     todo.append(following)
-        return Explored(came, None, frozenset(), steps)
+        return Exploration(came, None, frozenset(), steps)
 
     # ---- rounds without a fault
 
@@ -316,17 +316,17 @@ class World:
     # ---- the way to one
 
     def way(self, came: dict[Numbers, Numbers | None], numbers: Numbers) -> list[str]:
-        """The events that lead there, as lines for model.Tied."""
+        """The events that lead there, as lines for model.BoundInstance."""
         path = [numbers]
         while (before := came[path[-1]]) is not None:
             path.append(before)
-        tied, way = Tied(self.rules, *self.orders), []
+        tied, way = BoundInstance(self.rules, *self.orders), []
         for target in reversed(path[:-1]):
             line, tied = self.step_to(tied, target)
             way.append(line)
         return way
 
-    def step_to(self, tied: Tied, target: Numbers) -> tuple[str, Tied]:
+    def step_to(self, tied: BoundInstance, target: Numbers) -> tuple[str, BoundInstance]:
         """An event that leads to these cells, and what there is then."""
         for at, life in enumerate(tied.lives):
             name = f"binding {at}" if at else "instance"
@@ -336,7 +336,7 @@ class World:
                     return f"{name} {event}", after
         raise AssertionError(f"no event leads to {target}")
 
-    def numbers_of(self, tied: Tied) -> Numbers | None:
+    def numbers_of(self, tied: BoundInstance) -> Numbers | None:
         """The numbers of the cells; None if one has none."""
         instance = self.instances.numbers.get(cell_of(tied.instance))
         found = [self.bindings.numbers.get(cell_of(it)) for it in tied.bindings]
@@ -345,7 +345,7 @@ class World:
 
 
 class Way(NamedTuple):
-    """A shortest way to a broken promise: what is kept, the plans, the promise, and the events for model.Tied."""
+    """A shortest way to a broken promise: what is kept, the plans, the promise, and events for a BoundInstance."""
 
     rules: Rules
     instance: Order
@@ -405,7 +405,7 @@ def tell_way(rules: Rules) -> None:
     for instance, binding in ORDERS:
         way = shortest_way(rules, instance, binding, promised(rules))
         if way is not None:
-            tied = Tied(rules, instance, binding)
+            tied = BoundInstance(rules, instance, binding)
             print(f"instance {instance.told()}, binding {binding.told()}: BROKEN: {way.broken}")
             for line in way.events:
                 tied.happen(line)

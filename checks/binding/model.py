@@ -126,7 +126,7 @@ class Face(NamedTuple):
         return self.row_ready and not self.pending
 
 
-class Allowed(NamedTuple):
+class Permissions(NamedTuple):
     """What the rules allow a life for now."""
 
     create: bool = True
@@ -137,7 +137,7 @@ class Allowed(NamedTuple):
     drop: bool = False
 
 
-def of_instance(rules: Rules, bindings: Iterable[Face]) -> Allowed:
+def of_instance(rules: Rules, bindings: Iterable[Face]) -> Permissions:
     """What an instance is allowed, by what is seen of its bindings."""
     seen = list(bindings)
     held = [it for it in seen if it.held]
@@ -146,17 +146,17 @@ def of_instance(rules: Rules, bindings: Iterable[Face]) -> Allowed:
     if not rules.has("rule b of waiting rows"):
         held = [it for it in held if not it.waiting]
     remove = not rules.has("rule c of removal") or all(it.rests for it in seen)
-    return Allowed(remove=remove, begin=not rules.has("rule b") or not held)
+    return Permissions(remove=remove, begin=not rules.has("rule b") or not held)
 
 
-def of_binding(rules: Rules, instance: Face) -> Allowed:
+def of_binding(rules: Rules, instance: Face) -> Permissions:
     """What a binding is allowed, by what is seen of its instance.
 
     Without c no record is deleted: the id could be used twice.
     """
     creation = rules.has("rule c of creation")
     there = instance.there if rules.has("rule a of pending work") else instance.row_ready
-    return Allowed(
+    return Permissions(
         create=not creation or instance.is_ready,
         begin=not rules.has("rule a") or there,
         forget=rules.has("deletion of tombstones") and instance.tombstone,
@@ -197,7 +197,7 @@ class Life(Instance):
 
     # The kind that a rule is about.
     tied: ClassVar[str] = "deprovision"
-    allowed: Allowed = Allowed()
+    allowed: Permissions = Permissions()
     without: frozenset[str] = frozenset()
     truthful: bool = False
     # Without "one transaction": the number of the request that has passed the rule, and hasn't begun yet.
@@ -507,7 +507,7 @@ def broken(instance: Face, binding: Face) -> frozenset[str]:
     return frozenset(promise for promise, it in checks.items() if it)
 
 
-class Tied:
+class BoundInstance:
     """An instance, and its bindings by their numbers from 1."""
 
     def __init__(self, rules: Rules, instance: Order, *bindings: Order) -> None:
@@ -518,7 +518,7 @@ class Tied:
     def lives(self) -> list[Life]:
         return [self.instance, *self.bindings]
 
-    def clone(self) -> Tied:
+    def clone(self) -> BoundInstance:
         other = copy.copy(self)
         other.instance, other.bindings = clone(self.instance), [clone(it) for it in self.bindings]
         return other

@@ -8,7 +8,7 @@ from collections.abc import Iterator
 import pytest
 from binding import alone
 from binding.cells import ORDERS, Cell, World, cell_of, forget_lives, promised, shortest_way
-from binding.model import OF_THE_BROKER, PROMISES, SETTLES, Order, Rules, Tied
+from binding.model import OF_THE_BROKER, PROMISES, SETTLES, BoundInstance, Order, Rules
 from binding.walks import services
 from binding.ways import ALL, FIRST_POLL, SYNC, WAYS
 from network.model import error
@@ -107,7 +107,7 @@ def test_any_platform_without_a_part(part: str) -> None:
 def test_way(name: str) -> None:
     """Each event applies, and the last one breaks the promise. If nothing is left out, none is ever broken."""
     rules, instance, binding, promise, events = ALL[name]
-    without, design = Tied(rules, instance, binding), Tied(BOTH, instance, binding)
+    without, design = BoundInstance(rules, instance, binding), BoundInstance(BOTH, instance, binding)
     for event in events:
         assert promise not in without.broken()
         assert without.happen(event)

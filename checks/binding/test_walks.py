@@ -7,7 +7,7 @@ from collections import Counter
 from itertools import islice
 
 import pytest
-from binding.model import Binding, Life, Order, Rules, Tied
+from binding.model import Binding, BoundInstance, Life, Order, Rules
 from binding.walks import MADE, services, walk
 from network.model import BUSY
 
@@ -39,9 +39,9 @@ def test_walks() -> None:
 # ---- what the rules keep from happening
 
 
-def ready(binding: Order) -> Tied:
+def ready(binding: Order) -> BoundInstance:
     """An instance that is recorded ready, and a binding that nothing has happened to."""
-    tied = Tied(Rules(), Order("sync"), binding)
+    tied = BoundInstance(Rules(), Order("sync"), binding)
     assert all(tied.happen(f"instance {event}") for event in MADE["sync", False])
     return tied
 
@@ -52,7 +52,7 @@ def answer_to(life: Life) -> object:
 
 def test_a_bind_is_put_off() -> None:
     for binding in (Order("sync"), Order("async"), Order("async", first_poll=True)):
-        tied = Tied(Rules(platform=False), Order("sync"), binding)
+        tied = BoundInstance(Rules(platform=False), Order("sync"), binding)
         assert tied.happen("binding 1 create") and tied.happen("binding 1 arrive 1")
         assert answer_to(tied.bindings[0]) == BUSY["provision"] == (503, "error")
         assert "; - - -; absent; credentials - -" in tied.bindings[0].words()
@@ -78,7 +78,7 @@ def test_a_poll_is_not_put_off() -> None:
 
 
 def test_what_the_platform_refuses() -> None:
-    tied = Tied(Rules(), Order("sync"), Order("sync"))
+    tied = BoundInstance(Rules(), Order("sync"), Order("sync"))
     assert not tied.happen("binding 1 create")
     tied = ready(Order("sync"))
     assert tied.happen("binding 1 create") and not tied.happen("instance remove")

@@ -62,7 +62,7 @@ from collections.abc import Iterator
 from itertools import islice
 
 from binding.cells import ORDERS
-from binding.model import Binding, Life, Order, Rules, Tied
+from binding.model import Binding, BoundInstance, Life, Order, Rules
 from network.walks import Step, any_event, likely
 
 # `osb_binding_network` deletes no records, and a round without a fault leaves the credentials.
@@ -76,7 +76,7 @@ MADE = {
 }
 
 
-def three_rounds(tied: Tied, life: Life, removing: bool) -> None:
+def three_rounds(tied: BoundInstance, life: Life, removing: bool) -> None:
     """An instance that was settled is gone after two removing rounds; a third changes nothing."""
     for number in range(3):
         tied.allow()
@@ -84,12 +84,12 @@ def three_rounds(tied: Tied, life: Life, removing: bool) -> None:
         assert life is not tied.instance or not removing or number == 0 or life.state in (None, "gone")
 
 
-def settle(tied: Tied) -> None:
+def settle(tied: BoundInstance) -> None:
     for _ in range(3):
         tied.round()
 
 
-def remove(tied: Tied) -> None:
+def remove(tied: BoundInstance) -> None:
     """Five rounds are enough."""
     for life, removing in ((tied.instance, False), *((it, True) for it in tied.bindings), (tied.instance, True)):
         three_rounds(tied, life, removing)
@@ -118,7 +118,7 @@ class Walk:
     """An instance and its bindings, and what is drawn for them."""
 
     def __init__(self, draw: random.Random, rules: Rules, *orders: Order) -> None:
-        self.draw, self.orders, self.tied = draw, orders, Tied(rules, *orders)
+        self.draw, self.orders, self.tied = draw, orders, BoundInstance(rules, *orders)
         sides = [side for side, kept in (("platform", rules.platform), ("broker", rules.broker)) if kept]
         line = f"service {' '.join(sides) or '-'}: {'; '.join(order.told() for order in orders)}"
         self.begun = Step(line, f"new: {self.tied.words()}")

@@ -1,7 +1,7 @@
 """The shortest ways to a broken promise: one for each part of the design that is left out.
 
-Each is a list of events for model.Tied, the last of which breaks the promise. None of them is broken if nothing is left
-out. In the events, I stands for the instance, and B for its binding.
+Each is a list of events for model.BoundInstance, the last of which breaks the promise. None of them is broken if
+nothing is left out. In the events, I stands for the instance, and B for its binding.
 
 `PYTHONPATH=checks python3 -m binding.cells --without PART ..` finds such a way.
 """

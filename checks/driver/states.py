@@ -33,7 +33,7 @@ Came = dict[Key, Optional[tuple[Key, str]]]
 
 
 @dataclass
-class Explored(Generic[World]):
+class Exploration(Generic[World]):
     """The worlds that came about, the number of their steps, and the shortest way to a wrong world."""
 
     worlds: list[World]
@@ -44,7 +44,7 @@ class Explored(Generic[World]):
 
 def explore(
     start: World, steps_of: Callable[[World], Iterable[tuple[str, World]]], judge: Callable[[World], str | None]
-) -> Explored[World]:
+) -> Exploration[World]:
     """Steps every world that can come about, or stops at the first wrong one."""
     numbers: dict[object, int] = {}
 
@@ -64,8 +64,8 @@ def explore(
             worlds.append(after)
             wrong = after.wrong or judge(after)
             if wrong is not None:
-                return Explored(worlds, steps, way_to(there, came), wrong)
-    return Explored(worlds, steps)
+                return Exploration(worlds, steps, way_to(there, came), wrong)
+    return Exploration(worlds, steps)
 
 
 def way_to(key: Key, came: Came) -> tuple[str, ...]:

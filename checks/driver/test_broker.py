@@ -14,7 +14,7 @@ from driver.broker_left_out import LateCommitAtUnsure, UncomparedNumberAtUnsure
 from driver.broker_ways import WAYS
 from driver.broker_world import Design, World, disagreement, unsound
 from driver.events import Plan
-from driver.states import Explored, below, explore
+from driver.states import Exploration, below, explore
 from whole import ANEW
 
 SYNC, ASYNC, FIRST_POLL = Plan("sync"), Plan("async"), Plan("async", first_poll=True)
@@ -43,7 +43,7 @@ def names(bounds: Bounds) -> str:
     return f"{plan}, attempts {bounds.attempts}, drivers {bounds.drivers}"
 
 
-def step(design: Design) -> Explored[World]:
+def step(design: Design) -> Exploration[World]:
     return explore(design.start, design.steps, lambda world: disagreement(world) or unsound(design.plan, world))
 
 

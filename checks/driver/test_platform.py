@@ -15,7 +15,7 @@ from driver.events import Plan
 from driver.platform_left_out import SentAgain, UnwrittenAnswer
 from driver.platform_ways import ASYNC, HARM, HARMLESS, SYNC, Way
 from driver.platform_world import Design, Rounds, World, disagreement, unsound
-from driver.states import Explored, below, explore
+from driver.states import Exploration, below, explore
 from whole import ANEW
 
 FIRST_POLL = Plan("async", first_poll=True)
@@ -43,7 +43,7 @@ def names(bounds: Bounds) -> str:
     return f"{plan}, attempts {bounds.attempts}, drivers {bounds.drivers}"
 
 
-def step(design: Design, is_strict: bool = True) -> Explored[World]:
+def step(design: Design, is_strict: bool = True) -> Exploration[World]:
     rounds = Rounds(design)
 
     def judge(world: World) -> str | None:

@@ -128,7 +128,7 @@ def same(place: str, kind: str, value: Any, length: int = 0) -> Iterator[str]:
         yield f"{place} == {plain(kind, value)}"
 
 
-class Written:
+class CaseText:
     """The C of one case: its constants, and then its calls with what is so after each."""
 
     def __init__(self, case: Case) -> None:
@@ -310,7 +310,7 @@ def write(to: Path) -> None:
     for call, found in itertools.groupby(cases(), lambda case: case.call):
         functions.append(f"case_{call}")
         lines += [f"static void case_{call}(void)", "{"]
-        lines += [line for case in found for line in Written(case).lines()]
+        lines += [line for case in found for line in CaseText(case).lines()]
         lines += ["}", ""]
     lines += ["static void call_cases(void)", "{", *(f"    {it}();" for it in functions), "}", ""]
     to.write_text("\n".join(lines), encoding="ascii")

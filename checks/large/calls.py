@@ -24,7 +24,7 @@ OWNER = re.compile(r"^impl(?:<[^>]*>)? (\w+)")
 USED = re.compile(r"^pub use (\w+)::(?:\{([^}]*)\}|(\w+));", re.MULTILINE)
 
 
-class Shown(NamedTuple):
+class VisibleNames(NamedTuple):
     """What callers of a crate see: whole modules, and names of the others."""
 
     modules: set[str]
@@ -57,10 +57,10 @@ def errors() -> set[str]:
     return found
 
 
-def _shown(crate: str) -> Shown:
+def _shown(crate: str) -> VisibleNames:
     lib = _text(CRATES / crate / "src" / "lib.rt")
     names = {name for _, some, one in USED.findall(lib) for name in re.findall(r"\w+", some or one)}
-    return Shown(set(re.findall(r"^pub mod (\w+);", lib, re.MULTILINE)), names)
+    return VisibleNames(set(re.findall(r"^pub mod (\w+);", lib, re.MULTILINE)), names)
 
 
 def _owner(text: str, at: int) -> str:
@@ -72,7 +72,7 @@ def _owner(text: str, at: int) -> str:
     return owner
 
 
-def _name(crate: str, module: str, owner: str, name: str, shown: Shown) -> str:
+def _name(crate: str, module: str, owner: str, name: str, shown: VisibleNames) -> str:
     """How a caller names a call, or an empty text if no caller can."""
     if (owner or name) in shown.names:
         return "::".join(filter(None, (crate, owner, name)))

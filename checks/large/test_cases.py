@@ -17,7 +17,7 @@ from binding.model import Order
 from binding.walks import MADE, RULES, Walk
 from crate_programs import told_by
 from network.cases import in_a_line, teller
-from network.walks import Seen
+from network.walks import Tally
 from network.walks import Walk as Life
 
 pytestmark = pytest.mark.slow
@@ -95,7 +95,7 @@ def test_a_list_of_many_events() -> None:
 
 def test_rounds_of_an_instance_with_many_answers() -> None:
     """`Instance::step` and `settle`: the platform takes none of the answers, gives the Provision up and cleans up."""
-    walk = Life(Seen(), "sync", True, False)
+    walk = Life(Tally(), "sync", True, False)
     for event in ("create", *["arrive 1"] * LIST, "timeout", "settle"):
         walk.happen(event)
     told = teller()([step.line for step in walk.steps])

@@ -34,7 +34,7 @@ def name(line: str) -> str:
 
 
 @dataclass
-class Seen:
+class Tally:
     """How often each came about."""
 
     phases: Counter[str] = field(default_factory=Counter)
@@ -50,10 +50,10 @@ class Seen:
         return wanted | {it for it in map(name, EVENTS) if it not in always and not self.skipped[it]}
 
 
-class Alone:
+class LoneBroker:
     """A broker that sells two plans, one of which may be none, and one instance."""
 
-    def __init__(self, seen: Seen, modes: tuple[str, str], first_poll: bool) -> None:
+    def __init__(self, seen: Tally, modes: tuple[str, str], first_poll: bool) -> None:
         self.seen, self.design, self.cell = seen, Design(modes, first_poll), Any()
         self.begun = f"alone {' '.join(modes)} {'first-poll' if first_poll else '-'}"
         self.steps: list[Step] = []

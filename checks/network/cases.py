@@ -10,10 +10,10 @@ from collections.abc import Callable, Iterator
 from pathlib import Path
 
 from crate_programs import told_by
-from network.alone import Alone
-from network.alone import Seen as SeenAlone
+from network.alone import LoneBroker
+from network.alone import Tally as LoneTally
 from network.model import Instance
-from network.walks import Seen, Step, Walk
+from network.walks import Step, Tally, Walk
 
 TellEach = Callable[[list[str]], list[str]]
 
@@ -49,7 +49,7 @@ def many(begun: str, events: list[str]) -> str:
 
 def alone(begun: str, events: list[str]) -> str:
     one, other, rule = begun.split(" ")
-    broker = Alone(SeenAlone(), (one, other), rule == "first-poll")
+    broker = LoneBroker(LoneTally(), (one, other), rule == "first-poll")
     for event in events:
         broker.happen(event)
     return broker.in_a_line().wanted
@@ -78,7 +78,7 @@ def walks() -> Iterator[Walk]:
         order, _, events = line.partition(": ")
         if order.startswith("order "):
             mode, accepts, rule = order.split(" ")[1:]
-            walk = Walk(Seen(), mode, accepts == "accepts", rule == "first-poll")
+            walk = Walk(Tally(), mode, accepts == "accepts", rule == "first-poll")
             for event in events.split(", "):
                 walk.happen(event)
             yield walk

@@ -259,7 +259,7 @@ def wrong_in_any(design: Design, cell: Any) -> str | None:
 Cell = TypeVar("Cell")
 
 
-class Explored(Generic[Cell]):
+class Exploration(Generic[Cell]):
     """All cells, and the shortest way to a wrong one."""
 
     def __init__(self, cells: list[Cell], wrong: str | None) -> None:
@@ -268,7 +268,7 @@ class Explored(Generic[Cell]):
 
 def explore(
     start: Cell, steps: Callable[[Cell], Iterable[tuple[str, Cell]]], wrong: Callable[[Cell], str | None]
-) -> Explored[Cell]:
+) -> Exploration[Cell]:
     """Steps every cell that can come about, or stops at the first wrong one."""
     came: dict[Cell, tuple[Cell, str] | None] = {start: None}
     todo = deque([start])
@@ -281,9 +281,9 @@ def explore(
             while at is not None:
                 way.append(f"{at[1]}, after {at[0]}")
                 at = came[at[0]]
-            return Explored(list(came), "\n".join(reversed(way)))
+            return Exploration(list(came), "\n".join(reversed(way)))
         for event, after in steps(cell):
             if after not in came:
                 came[after] = (cell, event)
                 todo.append(after)
-    return Explored(list(came), None)
+    return Exploration(list(came), None)

@@ -44,7 +44,7 @@ def is_done(call: Callable[..., None], *given: object) -> bool:
     return True
 
 
-class Shipped(Instance):
+class LibraryInstance(Instance):
     """An instance of which libosb has the record and the holding."""
 
     def __init__(self, mode: str, accepts: bool, first_poll: bool) -> None:
@@ -146,12 +146,12 @@ class Shipped(Instance):
 def tell(lines: list[str]) -> list[str]:
     """What there is after each line of a walk, by the record and the holding of libosb."""
     told: list[str] = []
-    instance = Shipped("-", False, False)
+    instance = LibraryInstance("-", False, False)
     for line in lines:
         word, _, rest = line.partition(" ")
         if word == "order":
             mode, accepts, first = rest.split(" ")
-            instance = Shipped(mode, accepts == "accepts", first == "first-poll")
+            instance = LibraryInstance(mode, accepts == "accepts", first == "first-poll")
             told.append(f"new: {instance.told(0)}")
             continue
         before = len(instance.given)

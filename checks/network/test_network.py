@@ -17,11 +17,11 @@ from hypothesis import given
 from hypothesis import strategies as st
 from hypothesis.stateful import RuleBasedStateMachine, initialize, precondition, rule, run_state_machine_as_test
 from network import cases, shipped
-from network.alone import Alone
-from network.alone import Seen as SeenAlone
+from network.alone import LoneBroker
+from network.alone import Tally as LoneTally
 from network.cases import TellEach, at_once, in_a_line
 from network.model import MODES, OUTCOMES, RESOURCES, is_made
-from network.walks import Seen, Step, Walk, any_event, likely
+from network.walks import Step, Tally, Walk, any_event, likely
 
 # hypothesis gives it no type.
 run_machine: Callable[..., object] = run_state_machine_as_test
@@ -64,11 +64,11 @@ class Events(RuleBasedStateMachine):
     def __init__(self, tell: TellEach) -> None:
         super().__init__()
         self.tell = tell
-        self.walk = Walk(Seen(), "-", False, False)
+        self.walk = Walk(Tally(), "-", False, False)
 
     @initialize(mode=st.sampled_from(MODES), accepts=st.booleans(), first_poll=st.booleans())
     def order(self, mode: str, accepts: bool, first_poll: bool) -> None:
-        self.walk = Walk(Seen(), mode, accepts, first_poll)
+        self.walk = Walk(Tally(), mode, accepts, first_poll)
 
     @precondition(lambda self: self.walk.instance.state is None)
     @rule()
@@ -146,7 +146,7 @@ ACCEPTS = [True] * 6 + [False]
 
 
 @st.composite
-def walks(draw: st.DrawFn, seen: Seen) -> Walk:
+def walks(draw: st.DrawFn, seen: Tally) -> Walk:
     """An order and at most 250 events, most of which are likely to apply; few come after the end."""
     mode = draw(st.sampled_from(["async"] * 10 + ["sync"] * 5 + ["-"]))
     walk = Walk(seen, mode, draw(st.sampled_from(ACCEPTS)), draw(st.booleans()))
@@ -161,7 +161,7 @@ def walks(draw: st.DrawFn, seen: Seen) -> Walk:
 
 
 def test_walks(tell: TellEach) -> None:
-    seen = Seen()
+    seen = Tally()
 
     @examples(2000)
     @given(walk=walks(seen))
@@ -174,10 +174,10 @@ def test_walks(tell: TellEach) -> None:
 
 
 @st.composite
-def alone(draw: st.DrawFn, seen: SeenAlone) -> Alone:
+def alone(draw: st.DrawFn, seen: LoneTally) -> LoneBroker:
     """A broker alone, and at most 120 events, half of which are likely to apply."""
     modes = st.sampled_from(["async"] * 3 + ["sync", "-"])
-    broker = Alone(seen, (draw(modes), draw(modes)), draw(st.booleans()))
+    broker = LoneBroker(seen, (draw(modes), draw(modes)), draw(st.booleans()))
     many = draw(st.integers(1, 120))
     for pick in draw(st.binary(min_size=many, max_size=many)):
         events = broker.likely()
@@ -188,11 +188,11 @@ def alone(draw: st.DrawFn, seen: SeenAlone) -> Alone:
 
 
 def test_broker_alone() -> None:
-    seen = SeenAlone()
+    seen = LoneTally()
 
     @examples(1000)
     @given(broker=alone(seen))
-    def walked(broker: Alone) -> None:
+    def walked(broker: LoneBroker) -> None:
         compare_at_once([broker.in_a_line()])
 
     walked()

@@ -48,7 +48,7 @@ def harms(instance: Instance, line: str) -> Iterator[str]:
 
 
 @dataclass
-class Seen:
+class Tally:
     """How often each came about in some walks."""
 
     orders: Counter[str] = field(default_factory=Counter)
@@ -79,7 +79,7 @@ class Seen:
 class Walk:
     """An order, and what happened to the instance since."""
 
-    def __init__(self, seen: Seen, mode: str, accepts: bool, first_poll: bool) -> None:
+    def __init__(self, seen: Tally, mode: str, accepts: bool, first_poll: bool) -> None:
         self.seen, self.instance = seen, Instance(mode, accepts, first_poll)
         order = f"{mode} {'accepts' if accepts else 'refuses'} {'first-poll' if first_poll else '-'}"
         seen.orders[order] += 1

@@ -5,7 +5,7 @@ from __future__ import annotations
 from collections.abc import Iterator
 from dataclasses import dataclass, field
 
-from binding.model import Binding, Life, Order, Rules, Tied, new_binding
+from binding.model import Binding, BoundInstance, Life, Order, Rules, new_binding
 from network.model import Answer
 from network_replay.language import Event, LineFault, read
 
@@ -63,7 +63,7 @@ def columns_of(life: Life | None) -> list[str]:
 class Service:
     """An instance and its bindings, the bindings by their ids."""
 
-    tied: Tied
+    tied: BoundInstance
     places: dict[str, int] = field(default_factory=dict)
 
     def life(self, binding: str) -> Life | None:
@@ -112,7 +112,7 @@ class World:
         if event.verb == "instance":
             if service is None:
                 *order, rules = event.arguments[2:]
-                self.services[event.instance] = Service(Tied(RULES[rules], order_of(*order)))
+                self.services[event.instance] = Service(BoundInstance(RULES[rules], order_of(*order)))
             return service is None
         if service is None:
             return False

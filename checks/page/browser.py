@@ -29,7 +29,7 @@ _FLAGS = (
 )
 
 
-class Broken(Exception):
+class BrowserError(Exception):
     """The browser has ended, says nothing more, or can't do what was asked."""
 
 
@@ -66,7 +66,7 @@ class Browser:
         """Opens a page, and waits until all of it is there and was painted."""
         said = self._told("Page.navigate", url=url)
         if "errorText" in said:
-            raise Broken(f"{url}: {said['errorText']}")
+            raise BrowserError(f"{url}: {said['errorText']}")
         self._until("Page.loadEventFired")
         self.value("new Promise(done => requestAnimationFrame(() => requestAnimationFrame(() => done(1))))")
 
@@ -74,7 +74,7 @@ class Browser:
         """What the script gives, once a promise that it gives is kept."""
         said = self._told("Runtime.evaluate", expression=script, returnByValue=True, awaitPromise=True)
         if "exceptionDetails" in said:
-            raise Broken(f"{script[:60]}: {said['exceptionDetails']}")
+            raise BrowserError(f"{script[:60]}: {said['exceptionDetails']}")
         return said["result"].get("value")
 
     def press(self, key: str, code: int) -> None:
@@ -104,7 +104,7 @@ class Browser:
             heard = self._heard()
             if heard.get("id") == self._number:
                 if "error" in heard:
-                    raise Broken(f"{method}: {heard['error']}")
+                    raise BrowserError(f"{method}: {heard['error']}")
                 result: dict[str, Any] = heard["result"]
                 return result
 
@@ -118,7 +118,7 @@ class Browser:
             ready, _, _ = select.select([self._back], [], [], max(0.0, until - time.monotonic()))
             piece = os.read(self._back, 1 << 20) if ready else b""
             if not piece:
-                raise Broken("the browser says nothing more")
+                raise BrowserError("the browser says nothing more")
             self._rest += piece
         text, _, self._rest = self._rest.partition(b"\0")
         heard: dict[str, Any] = json.loads(text)

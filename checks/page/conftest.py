@@ -10,7 +10,7 @@ from page import program
 from page.browser import Browser, browser, found
 
 
-class Shown(NamedTuple):
+class ShownStore(NamedTuple):
     """A store that a page shows."""
 
     url: str
@@ -18,17 +18,17 @@ class Shown(NamedTuple):
 
 
 @contextlib.contextmanager
-def shown(store: Path) -> Iterator[Shown]:
+def shown(store: Path) -> Iterator[ShownStore]:
     """The page of a store, until the end of the block."""
     with program.serving(store) as url:
-        yield Shown(url, store)
+        yield ShownStore(url, store)
 
 
-def fixture_of(kind: str) -> Callable[..., Iterator[Shown]]:
+def fixture_of(kind: str) -> Callable[..., Iterator[ShownStore]]:
     """A store of this kind, and its page."""
 
     @pytest.fixture(scope="module")
-    def made(tmp_path_factory: pytest.TempPathFactory, library: Path, platform: Path) -> Iterator[Shown]:
+    def made(tmp_path_factory: pytest.TempPathFactory, library: Path, platform: Path) -> Iterator[ShownStore]:
         from page import stores  # the fixture has found the library by now
 
         store = tmp_path_factory.mktemp(kind) / "instances.sqlite"

@@ -8,13 +8,13 @@ from pathlib import Path
 import pytest
 from page import looks, stores
 from page.browser import Browser
-from page.conftest import Shown
+from page.conftest import ShownStore
 from page.program import get
 
 pytestmark = [pytest.mark.alone, pytest.mark.slow]
 
 
-def test_counts(large: Shown) -> None:
+def test_counts(large: ShownStore) -> None:
     text = get(large.url).text
     instances, _, _ = text.partition('aria-label="Bindings by state"')
     told = re.findall(r'<strong>([0-9,]+)</strong> <span\s+class="state [a-z-]+">([a-z-]+)<', instances)
@@ -24,7 +24,7 @@ def test_counts(large: Shown) -> None:
     }
 
 
-def test_both_ends(large: Shown) -> None:
+def test_both_ends(large: ShownStore) -> None:
     """The first twenty pages and the last twenty, in both orders: each instance is on two of them."""
     ids: list[str] = []
     for target, link in (
@@ -41,11 +41,11 @@ def test_both_ends(large: Shown) -> None:
 
 
 @pytest.mark.parametrize("target", ["/", "/?page=last", "/?state=gone", "/?find=a"])
-def test_page_comes_within_a_second(large: Shown, target: str) -> None:
+def test_page_comes_within_a_second(large: ShownStore, target: str) -> None:
     assert min(_seconds(large, target) for _ in range(5)) < 1.0
 
 
-def _seconds(large: Shown, target: str) -> float:
+def _seconds(large: ShownStore, target: str) -> float:
     """How long a page takes. What else the machine does only adds to that, so the fewest of several times counts."""
     began = time.monotonic()
     assert get(large.url, target).ids()
@@ -53,10 +53,10 @@ def _seconds(large: Shown, target: str) -> float:
 
 
 @pytest.mark.browser
-def test_first_paint_within_a_second(tab: Browser, large: Shown) -> None:
+def test_first_paint_within_a_second(tab: Browser, large: ShownStore) -> None:
     assert looks.first_paint(tab, large.url) < 1000.0
 
 
 @pytest.mark.browser
-def test_look(tab: Browser, large: Shown, tmp_path: Path) -> None:
+def test_look(tab: Browser, large: ShownStore, tmp_path: Path) -> None:
     assert looks.pictures(tab, large.url, tmp_path, "large") == []

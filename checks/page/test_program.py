@@ -7,7 +7,7 @@ import time
 
 import pytest
 from page import stores
-from page.conftest import Shown
+from page.conftest import ShownStore
 from page.program import get
 
 pytestmark = [pytest.mark.slow]
@@ -15,7 +15,7 @@ pytestmark = [pytest.mark.slow]
 _SILENT = 120  # more connections than the page has at once
 
 
-def test_silent_connections(storm: Shown) -> None:
+def test_silent_connections(storm: ShownStore) -> None:
     """They keep nobody from the page for long, and are closed. They come from six addresses, since each may have a
     quarter of the page's connections.
     """
@@ -32,7 +32,7 @@ def test_silent_connections(storm: Shown) -> None:
 
 
 @pytest.mark.parametrize("name", ["evil.example", "shop.example", "127.0.0.1", ""])
-def test_foreign_host(storm: Shown, name: str) -> None:
+def test_foreign_host(storm: ShownStore, name: str) -> None:
     """A site whose name leads to the page learns nothing of the store."""
     for target in ("/", "/?state=ready", f"/instance/{stores.longest_life(storm.store, 'ready')}"):
         got = get(storm.url, target, name)
@@ -40,7 +40,7 @@ def test_foreign_host(storm: Shown, name: str) -> None:
         assert not any(it in got.text for it in ("shop", "shelf", "shut", "ready", "osb-platform", "worker-1"))
 
 
-def test_headers(storm: Shown) -> None:
+def test_headers(storm: ShownStore) -> None:
     """The policy lets no script run but the page's own, and no cache keeps the page."""
     headers = get(storm.url).headers
     assert headers["Cache-Control"] == "no-store"

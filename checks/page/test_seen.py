@@ -10,13 +10,13 @@ from pathlib import Path
 import pytest
 from page import looks, stores
 from page.browser import Browser
-from page.conftest import Shown, shown
+from page.conftest import ShownStore, shown
 
 pytestmark = [pytest.mark.browser, pytest.mark.slow]
 
 
 @pytest.mark.parametrize("target", ["", "?kind=bindings", "nowhere"])
-def test_empty_store(tab: Browser, empty: Shown, tmp_path: Path, target: str) -> None:
+def test_empty_store(tab: Browser, empty: ShownStore, tmp_path: Path, target: str) -> None:
     assert looks.pictures(tab, empty.url + target, tmp_path, "empty") == looks.rejected(target == "nowhere")
 
 
@@ -33,22 +33,22 @@ def test_empty_store(tab: Browser, empty: Shown, tmp_path: Path, target: str) ->
         "?find=none",
     ],
 )
-def test_lists(tab: Browser, storm: Shown, tmp_path: Path, target: str) -> None:
+def test_lists(tab: Browser, storm: ShownStore, tmp_path: Path, target: str) -> None:
     assert looks.pictures(tab, storm.url + target, tmp_path, "list") == []
 
 
 @pytest.mark.parametrize("state", ["polling", "cleaning", "unsettled", "ready"])
-def test_one_instance(tab: Browser, storm: Shown, tmp_path: Path, state: str) -> None:
+def test_one_instance(tab: Browser, storm: ShownStore, tmp_path: Path, state: str) -> None:
     """The one with the longest life of those in a state."""
     id = stores.longest_life(storm.store, state)
     assert looks.pictures(tab, f"{storm.url}instance/{id}", tmp_path, "one") == []
 
 
-def test_binding(tab: Browser, storm: Shown, tmp_path: Path) -> None:
+def test_binding(tab: Browser, storm: ShownStore, tmp_path: Path) -> None:
     assert looks.pictures(tab, storm.url + stores.binding(storm.store), tmp_path, "binding") == []
 
 
-def test_hostile_texts(tab: Browser, storm: Shown) -> None:
+def test_hostile_texts(tab: Browser, storm: ShownStore) -> None:
     """They are shown as they are, in a reason, an operation, a broker's answer and an id."""
     for target in ("", "?state=unsettled", f"instance/{stores.hostile(storm.store)}"):
         tab.open(storm.url + target)
@@ -57,7 +57,7 @@ def test_hostile_texts(tab: Browser, storm: Shown) -> None:
     assert tab.complaints == []
 
 
-def test_no_secrets(tab: Browser, storm: Shown) -> None:
+def test_no_secrets(tab: Browser, storm: ShownStore) -> None:
     """Neither parameters nor identities, passwords and credentials are anywhere on a page."""
     ready = stores.longest_life(storm.store, "ready")
     for target in ("", "?state=ready", "?kind=bindings", f"instance/{ready}", stores.binding(storm.store)):
@@ -66,11 +66,11 @@ def test_no_secrets(tab: Browser, storm: Shown) -> None:
         assert "osb-platform" in source and stores.SECRET not in source, target
 
 
-def test_keyboard(tab: Browser, storm: Shown) -> None:
+def test_keyboard(tab: Browser, storm: ShownStore) -> None:
     assert looks.keys(tab, storm.url) == []
 
 
-def test_refresh(tab: Browser, storm: Shown) -> None:
+def test_refresh(tab: Browser, storm: ShownStore) -> None:
     """The page refreshes by itself. The focus, typed text and the place on the page stay."""
     assert looks.refreshed(tab, storm.url, storm.store) == []
 

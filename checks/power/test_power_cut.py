@@ -25,7 +25,7 @@ pytestmark = [pytest.mark.alone, pytest.mark.slow]
 CUSTOMERS, CUTS = 6, 6
 
 
-class Serving:
+class RunningBroker:
     """A broker that serves a state folder."""
 
     def __init__(self, program: Path, state: Path) -> None:
@@ -59,8 +59,8 @@ class Serving:
 
 
 @contextlib.contextmanager
-def serving(program: Path, state: Path) -> Iterator[Serving]:
-    live = Serving(program, state)
+def serving(program: Path, state: Path) -> Iterator[RunningBroker]:
+    live = RunningBroker(program, state)
     try:
         yield live
         live.end()

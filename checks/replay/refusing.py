@@ -24,7 +24,7 @@ class Counts(NamedTuple):
     largest_read: int
 
 
-class Tried(NamedTuple):
+class Trial(NamedTuple):
     """How a run ended, what it wrote, and what was counted."""
 
     ran: Ran
@@ -48,14 +48,14 @@ class Refuser:
         self._given.write_bytes(given)
         self._environment = {**os.environ, "COUNTS": str(self._counts), "LD_PRELOAD": str(shared)}
 
-    def run(self, **asked: int | str) -> Tried:
+    def run(self, **asked: int | str) -> Trial:
         """Runs it with what is asked of refuse.c; with nothing asked, nothing fails."""
         self._counts.write_text("0 0 0 0 0 0 0")
         environment = {**self._environment, **{name: str(value) for name, value in asked.items()}}
         with open(self._given, "rb") as given:
             ran = subprocess.run(self._command, stdin=given, env=environment, capture_output=True, check=False)
         counts = Counts(*map(int, self._counts.read_text().split()))
-        return Tried(Ran(ran.returncode, ran.stdout.decode(), ran.stderr.decode()), counts)
+        return Trial(Ran(ran.returncode, ran.stdout.decode(), ran.stderr.decode()), counts)
 
 
 # ---- the library calls, as the program refusal_cases prints them

@@ -17,9 +17,9 @@ from typing import NamedTuple
 import pytest
 from crate_programs import program_of
 from replay.reference import trace
-from replay.refusing import Refuser, Tried, calls, refused_call
+from replay.refusing import Refuser, Trial, calls, refused_call
 from replay.running import EXAMPLES, TOP, Ran, fault, run
-from replay.worked import ONE, PLANS, Worked, lines, report, schedule, whole, worked
+from replay.worked import ONE, PLANS, WorkedExample, lines, report, schedule, whole, worked
 
 pytestmark = pytest.mark.slow
 
@@ -93,7 +93,7 @@ class Case(NamedTuple):
     expected: Ran
 
 
-def of_worked(it: Worked) -> Case:
+def of_worked(it: WorkedExample) -> Case:
     return Case(it.name, ["replay", *it.options], it.schedule, Ran(0, it.report, ""))
 
 
@@ -142,7 +142,7 @@ def named(cases: list[Case]) -> list[str]:
     return [case.name for case in cases]
 
 
-def begins_whole(tried: Tried, expected: Ran) -> bool:
+def begins_whole(tried: Trial, expected: Ran) -> bool:
     """Whether it wrote a beginning of what it writes where nothing fails."""
     return expected.out.startswith(tried.out)
 
@@ -155,7 +155,7 @@ def check_allocations(refuser: Refuser, first: int, last: int) -> None:
             assert tried.counts.refusals and tried.ends(5, "out of memory") and not tried.out, (number, on, tried)
 
 
-def check_reads(refuser: Refuser, clean: Tried, expected: Ran, cut: dict[str, int], writes: bool = False) -> None:
+def check_reads(refuser: Refuser, clean: Trial, expected: Ran, cut: dict[str, int], writes: bool = False) -> None:
     """Each read is failed. A trace keeps what it has written before."""
     for number in range(1, clean.counts.reads + 1):
         for how in ("error", "interrupted"):
@@ -165,7 +165,7 @@ def check_reads(refuser: Refuser, clean: Tried, expected: Ran, cut: dict[str, in
 
 
 def check_writes(
-    refuser: Refuser, clean: Tried, expected: Ran, cut: dict[str, int], failures: list[str] | None = None
+    refuser: Refuser, clean: Trial, expected: Ran, cut: dict[str, int], failures: list[str] | None = None
 ) -> None:
     """Each write is failed. What was written before stays."""
     for number in range(1, clean.counts.writes + 1):
@@ -175,7 +175,7 @@ def check_writes(
             assert begins_whole(tried, expected), (number, how, tried)
 
 
-def is_whole(tried: Tried, expected: Ran) -> bool:
+def is_whole(tried: Trial, expected: Ran) -> bool:
     """Whether it ended as where nothing fails, and wrote nothing before the input had ended."""
     return tried.ran == expected and tried.counts.early_writes == 0
 
@@ -264,7 +264,7 @@ def traced(text: str, instance: str | None = None, settle: bool = False) -> str:
 TRACES = traces()
 
 
-def check_traced_allocations(refuser: Refuser, clean: Tried, expected: Ran) -> int:
+def check_traced_allocations(refuser: Refuser, clean: Trial, expected: Ran) -> int:
     """Each allocation from the first read on is refused: no line is lost that was written before.
 
     Returns how many lines are written if the last of them is refused.

@@ -6,9 +6,9 @@ from pathlib import Path
 
 import pytest
 from replay.running import Ran, run
-from replay.worked import Worked, worked
+from replay.worked import WorkedExample, worked
 
 
 @pytest.mark.parametrize("case", worked(), ids=[case.name for case in worked()])
-def test_worked(replay: Path, case: Worked) -> None:
+def test_worked(replay: Path, case: WorkedExample) -> None:
     assert run(replay, "replay", *case.options, given=case.schedule) == Ran(0, case.report, "")

@@ -22,7 +22,7 @@ PLANS = "plan S P sync; plan S Q async; "
 ESCAPES = {"n": b"\n", "r": b"\r", "t": b"\t"}
 
 
-class Worked(NamedTuple):
+class WorkedExample(NamedTuple):
     """A schedule, the options that it is replayed with, and the report."""
 
     name: str
@@ -80,14 +80,14 @@ def report(
     return text + (saved(ends, plan_of) if is_saved else "")
 
 
-def read(line: str) -> Worked:
+def read(line: str) -> WorkedExample:
     name, options, text, instances, counts = (part.strip() for part in line.split("|"))
     applied, skipped = map(int, counts.split())
     told = report(lines(instances).splitlines(), applied, skipped, "--saved" in options)
-    return Worked(name, options.split(), schedule(text, PLANS), told)
+    return WorkedExample(name, options.split(), schedule(text, PLANS), told)
 
 
-def worked() -> list[Worked]:
+def worked() -> list[WorkedExample]:
     """The worked schedules, in their order."""
     text = (Path(__file__).parent / "worked.txt").read_text()
     return [read(line) for line in text.splitlines() if not line.startswith("#")]

@@ -282,18 +282,18 @@ def received(
 # ---- the parts of a body, with numbers as they are written
 
 
-class Written(str):
+class NumberText(str):
     """A number as it is written."""
 
 
 def value_of(body: bytes) -> Any:
     """The value of a body, or `Refused`. Arrays and objects may nest one deeper than those of `members`."""
-    return read(body, Written, -1)
+    return read(body, NumberText, -1)
 
 
 def compact(value: Any) -> str:
     """The text of a value, with no spaces: members in their order, and those that stand twice stand twice."""
-    if isinstance(value, Written):
+    if isinstance(value, NumberText):
         return str(value)
     if isinstance(value, list):
         return "[" + ",".join(compact(it) for it in value) + "]"
