@@ -625,6 +625,10 @@ func (m *memory) Positions(ctx context.Context, filter Filter) (positions []Posi
 	return positions, err
 }
 
+func (m *memory) Moment(context.Context) (Moment, error) {
+	return "", errors.New("nobody asks for this here")
+}
+
 func (m *memory) Life(_ context.Context, key Key) ([]Stay, error) {
 	m.mu.Lock()
 	defer m.mu.Unlock()

@@ -21,8 +21,8 @@ type Snapshot struct {
 	AllGone func() (bool, error)
 }
 
-// A Change is what a transaction writes. If the state differs from the one that was read, the Store writes down the
-// Stay that has ended.
+// A Change is what a transaction writes. If the state differs from the one that was read, Entry.Since is the time that
+// the Step was called with, and the Store writes down the Stay that has ended.
 type Change struct {
 	Entry Entry
 	// Next is a new order to insert, or nil. If its Key is used already, nothing is written and the error is ErrUsed.
@@ -44,10 +44,7 @@ type Ordering int
 const (
 	ByState Ordering = iota // State, Since, Key
 	ByTime                  // Since, Key
-	// ByKey is the order of Key, which never changes. If a list is read in pages, each behind the one before, a row
-	// that fits the filter all the while is on one page, whatever changes. In the other orders, a row that moves to
-	// another state between two pages may be on none, or on two.
-	ByKey
+	ByKey                   // Key, which never changes
 )
 
 // A Filter chooses rows. The zero Filter chooses all.
@@ -62,7 +59,14 @@ type Filter struct {
 	Latest   bool      // in the opposite order
 	After    *Position // only rows behind this position, in the order in which they are listed
 	Most     int       // as many at most; 0 for all
+	// AsOf is the moment whose State and Since of each row count, for States, Order and After; empty for now. Of a row
+	// that was ordered later, those count with which it was ordered. So if a list is read in pages as of one moment, each
+	// behind the one before, a row of that moment is on one page, whatever changes.
+	AsOf Moment
 }
+
+// A Moment is a text by which a Store tells what was committed by then from all later changes.
+type Moment string
 
 // Chain chooses all tries of the order of a row. The ids of bindings are those of one instance.
 func (e Entry) Chain() Filter {
@@ -141,12 +145,18 @@ type Store interface {
 	// 256 KiB.
 	ReadAll(ctx context.Context, keys []Key) ([]Entry, error)
 
-	// List returns rows as of one moment, in the order of Filter.Order, or with Filter.Latest in the opposite order.
-	// Reading locks nothing. A row that can't be read is one of them (Entry.Unreadable).
+	// List returns rows as they are at one time, in the order of Filter.Order, or with Filter.Latest in the opposite
+	// order. Reading locks nothing. A row that can't be read is one of them (Entry.Unreadable).
+	//
+	// Errors: ErrNoMoment.
 	List(ctx context.Context, filter Filter) ([]Entry, error)
 
-	// Positions returns the positions of the rows that List returns. Those of all rows take little memory.
+	// Positions returns the positions of the rows that List returns, with the State and the Since that count. Those of
+	// all rows take little memory. Errors: ErrNoMoment.
 	Positions(ctx context.Context, filter Filter) ([]Position, error)
+
+	// Moment returns the present moment, for Filter.AsOf.
+	Moment(ctx context.Context) (Moment, error)
 
 	// Life returns the stays of a row that have ended, in their order.
 	Life(ctx context.Context, key Key) ([]Stay, error)
@@ -212,6 +222,8 @@ var (
 	ErrUsed = errors.New("it is used already")
 	// ErrUnknown reports that there is no such row. Nothing was written.
 	ErrUnknown = errors.New("it is unknown")
+	// ErrNoMoment reports that a text isn't a Moment of the Store.
+	ErrNoMoment = errors.New("it is no moment of the store")
 	// ErrNoStore reports that a database or a file has no store. Nothing was created.
 	ErrNoStore = errors.New("there is no store")
 	// ErrAway reports that the database can't be reached for now. Nobody knows whether a change is written.

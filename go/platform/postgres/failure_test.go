@@ -600,6 +600,7 @@ func reads(store platform.Store, key platform.Key) map[string]func() error {
 	return map[string]func() error{
 		"Read":     func() error { _, err := store.Read(background, key); return err },
 		"List":     func() error { _, err := store.List(background, platform.Filter{}); return err },
+		"Moment":   func() error { _, err := store.Moment(background); return err },
 		"Life":     func() error { _, err := store.Life(background, key); return err },
 		"Counts":   func() error { _, err := store.Counts(background); return err },
 		"InFlight": func() error { _, err := store.InFlight(background, 10); return err },

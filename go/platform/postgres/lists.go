@@ -193,11 +193,11 @@ func (c *condition) and(text string, values ...any) {
 	c.texts = append(c.texts, strings.ReplaceAll(text, "\x00", "$"))
 }
 
-// List returns rows, as platform.Store says. It is one statement, and so of one moment.
+// List returns rows, as platform.Store says. It is one statement, and so of one time.
 func (s *Store) List(ctx context.Context, filter platform.Filter) ([]platform.Entry, error) {
-	query, parameters := listing(filter)
+	query, parameters, err := listing(filter)
 	if query == "" {
-		return []platform.Entry{}, nil
+		return []platform.Entry{}, err
 	}
 	return s.entries(ctx, "WITH p AS MATERIALIZED ("+query+") "+
 		"SELECT CASE p.binding WHEN '' THEN "+lineOf("i", false, false)+" ELSE "+lineOf("b", true, false)+" END FROM p "+
@@ -208,9 +208,9 @@ func (s *Store) List(ctx context.Context, filter platform.Filter) ([]platform.En
 
 // Positions returns the positions of the rows that List returns, as platform.Store says.
 func (s *Store) Positions(ctx context.Context, filter platform.Filter) ([]platform.Position, error) {
-	query, parameters := listing(filter)
+	query, parameters, err := listing(filter)
 	if query == "" {
-		return nil, nil
+		return nil, err
 	}
 	return within(ctx, s, func(*call) (found []platform.Position, err error) {
 		rows, err := s.db.QueryContext(ctx, query, parameters...)
@@ -250,27 +250,46 @@ func (s *Store) ReadAll(ctx context.Context, keys []platform.Key) ([]platform.En
 	return s.entries(ctx, readAll, array(instances), array(bindings))
 }
 
+// A side is one of the two tables of rows: the column of the binding, that of the number, and the key of a row t as
+// osb_lives has it.
+type side struct {
+	isBinding                    bool
+	table, binding, number, life string
+}
+
+var sides = []side{
+	{false, "osb_instances", "''", "id", "t.id"}, {true, "osb_bound", "binding", "binding", "t.id || '/' || t.binding"},
+}
+
 // listing is the query of a filter for the positions of its rows, with its parameters: the columns state, since, id and
-// binding. It is empty if the filter can choose no row.
-func listing(filter platform.Filter) (query string, parameters []any) {
-	parts := []string{}
-	limit := ""
+// binding. It is empty if the filter can choose no row. Errors: platform.ErrNoMoment.
+func listing(filter platform.Filter) (query string, parameters []any, err error) {
+	past, parts, limit, only := past{}, []string{}, "", "true"
+	if filter.AsOf != "" {
+		if past, err = pastOf(filter.AsOf); err != nil {
+			return "", nil, err
+		}
+		only = "since < " + past.earliest
+	}
 	if filter.Most > 0 {
 		limit = " LIMIT " + strconv.Itoa(filter.Most)
 	}
-	for _, isBinding := range []bool{false, true} {
-		if filter.Bindings != nil && *filter.Bindings != isBinding || filter.Instance != nil && !isBinding {
+	for _, of := range sides {
+		if filter.Bindings != nil && *filter.Bindings != of.isBinding || filter.Instance != nil && !of.isBinding {
 			continue
 		}
 		for _, states := range statesOf(filter) {
-			parts = append(parts, partOf(filter, states, isBinding, &parameters)+limit+")")
+			parts = append(parts, partOf(filter, of, of.table, only, states, &parameters)+limit+")")
+		}
+		if filter.AsOf != "" {
+			parts = append(parts, partOf(filter, of, past.recent(of), "true", filter.States, &parameters)+limit+")")
 		}
 	}
 	if len(parts) == 0 {
-		return "", nil
+		return "", nil, nil
 	}
 	return "SELECT * FROM (" + strings.Join(parts, " UNION ALL ") + ") AS t" +
-		orderBy(filter, columnsOf(filter, "", true)...) + limit, parameters
+		orderBy(filter, columnsOf(filter, "", true)...) + limit, parameters, nil
 }
 
 // everyState are all states.
@@ -298,13 +317,13 @@ func statesOf(filter platform.Filter) [][]platform.State {
 	return states
 }
 
-// partOf is the query of a filter over one table, and over these states, or all if there are none.
-func partOf(filter platform.Filter, states []platform.State, isBinding bool, parameters *[]any) string {
-	table, binding, number := "osb_instances", "''", "id"
-	if isBinding {
-		table, binding, number = "osb_bound", "binding", "binding"
-	}
-	where := condition{texts: []string{"true"}, parameters: parameters}
+// partOf is the query of a filter over these rows of a table, with a condition, and over these states, or all if there
+// are none.
+func partOf(
+	filter platform.Filter, of side, rows, only string, states []platform.State, parameters *[]any,
+) string {
+	number := of.number
+	where := condition{texts: []string{only}, parameters: parameters}
 	switch {
 	case len(states) == 1:
 		where.and("state = $", storable(string(states[0])))
@@ -325,13 +344,13 @@ func partOf(filter platform.Filter, states []platform.State, isBinding bool, par
 		first := *filter.First // the first try itself is found by its key, and the others by an index of their own
 		where.and("("+number+" = $ AND first = $ OR first = $ AND first <> "+number+")", first, first, first)
 	}
-	columns := columnsOf(filter, "", isBinding)
+	columns := columnsOf(filter, "", of.isBinding)
 	if filter.After != nil {
-		position := positionOf(filter, isBinding)
-		where.and("("+strings.Join(columns, ", ")+")"+behind(filter, isBinding)+
+		position := positionOf(filter, of.isBinding)
+		where.and("("+strings.Join(columns, ", ")+")"+behind(filter, of.isBinding)+
 			"($"+strings.Repeat(", $", len(position)-1)+")", position...)
 	}
-	return "(SELECT state, since, id, " + binding + " AS binding FROM " + table + " WHERE " +
+	return "(SELECT state, since, id, " + of.binding + " AS binding FROM " + rows + " AS t WHERE " +
 		strings.Join(where.texts, " AND ") + orderBy(filter, columns...)
 }
 

@@ -232,7 +232,11 @@ func TestQueriesUseIndexes(t *testing.T) {
 	defer conn.Close()
 	const key = "00000000-0000-4000-8000-000000000007"
 	const text = `[{"id": "` + key + `"}]`
-	byKey, _ := listing(platform.Filter{Order: platform.ByKey, Most: 10})
+	byKey, _, err := listing(platform.Filter{Order: platform.ByKey, Most: 10})
+	check(t, err)
+	ready := []platform.State{platform.Ready}
+	asOf, _, err := listing(platform.Filter{AsOf: "20580-7-1", Order: platform.ByTime, States: ready, Most: 10})
+	check(t, err)
 	queries := map[string]struct{ query, values string }{
 		"lockDue":        {lockDue, "'{one}', 16, 96"},
 		"nextDue":        {nextDue, "'{one}'"},
@@ -246,6 +250,7 @@ func TestQueriesUseIndexes(t *testing.T) {
 		"inFlight":       {inFlight, "10"},
 		"readAll":        {readAll, quote("{"+key+"}", "{"+key+"}")},
 		"byKey":          {byKey, ""},
+		"asOf":           {asOf, quote("ready", "ready", "ready", "ready")},
 		"leasedBy":       {leasedBy, quote("me")},
 	}
 	for name, row := range queries {

@@ -21,7 +21,7 @@ type connection struct {
 	due                          map[int]*sqlitefile.Statement // by the number of brokers
 	lists                        map[string]*sqlitefile.Statement
 	life, inFlight, counts       *sqlitefile.Statement
-	oldestDue                    *sqlitefile.Statement
+	oldestDue, moment            *sqlitefile.Statement
 	brokers, broker              *sqlitefile.Statement
 	insertBroker, updateBroker   *sqlitefile.Statement
 	dropBroker, brokerUsed       *sqlitefile.Statement
@@ -113,7 +113,8 @@ func (c *connection) ofReading() map[**sqlitefile.Statement]string {
 		return "(SELECT min(since) FROM " + table + " AS r WHERE r.broker = counts.broker AND r.state = counts.state)"
 	}
 	return map[**sqlitefile.Statement]string{
-		&c.life: "SELECT state, since FROM osb_lives WHERE id = ? ORDER BY number",
+		&c.life:   "SELECT state, since FROM osb_lives WHERE id = ? ORDER BY number",
+		&c.moment: "SELECT coalesce(max(rowid), 0) FROM osb_lives",
 		&c.inFlight: "SELECT leased_until, id, '' FROM osb_instances WHERE worker IS NOT NULL UNION ALL " +
 			"SELECT leased_until, instance, id FROM osb_bindings WHERE worker IS NOT NULL ORDER BY 1, 2, 3 LIMIT ?",
 		&c.counts: "SELECT broker, is_binding, state, count, CASE is_binding WHEN 0 THEN " + oldest("osb_instances") +

@@ -5,6 +5,7 @@ import (
 	"database/sql/driver"
 	"errors"
 	"sort"
+	"strconv"
 	"strings"
 
 	"pippinterm/platform"
@@ -66,22 +67,68 @@ func inSnapshot[T any](ctx context.Context, s *Store, read func(*connection) ([]
 	return found, err
 }
 
+// Moment returns the number of the last stay that has ended. One transaction at a time writes the file, and each stay has
+// a higher number than those before, whatever the clock says.
+func (s *Store) Moment(ctx context.Context) (moment platform.Moment, err error) {
+	err = s.read(ctx, func(c *connection) error {
+		last, err := c.lastStay()
+		moment = platform.Moment(strconv.FormatInt(last, 10))
+		return err
+	})
+	return moment, err
+}
+
+// lastStay is the highest number of a stay, or 0.
+func (c *connection) lastStay() (int64, error) {
+	values, err := c.moment.One()
+	if err != nil {
+		return 0, err
+	}
+	r := &row{values: values}
+	return r.number(), r.err
+}
+
 // A listing reads the positions of a list.
 type listing struct {
 	*connection
 	filter platform.Filter
+	asOf   driver.Value // the number of the filter's moment, or nil if nothing has changed since
 	found  []platform.Position
 }
 
+// positions reads a list. As of a moment, the rows that have changed their state since are read apart.
 func (c *connection) positions(ctx context.Context, filter platform.Filter) ([]platform.Position, error) {
 	l := &listing{connection: c, filter: filter}
-	err := l.list(ctx)
-	return l.found, err
+	if filter.AsOf != "" {
+		number, err := strconv.ParseInt(string(filter.AsOf), 10, 64)
+		if err != nil {
+			return nil, platform.ErrNoMoment
+		}
+		last, err := c.lastStay()
+		if err != nil {
+			return nil, err
+		}
+		if last > number {
+			l.asOf = number
+			if err := l.changed(); err != nil {
+				return nil, err
+			}
+		}
+	}
+	changed := l.found
+	l.found = nil
+	if err := l.unchanged(ctx); err != nil {
+		return nil, err
+	}
+	if l.found = append(l.found, changed...); len(changed) > 0 || filter.Order == platform.ByTime {
+		l.merge()
+	}
+	return l.found, nil
 }
 
-// list reads all. By key that is one query. Else it is one for each state, which an index has in order: by state they
-// are read until there are enough, and by time all of them, and merged.
-func (l *listing) list(ctx context.Context) error {
+// unchanged reads all rows, or those whose state hasn't changed since the moment. By key that is one query. Else it is
+// one for each state, which an index has in order: by state they are read until there are enough, and by time all.
+func (l *listing) unchanged(ctx context.Context) error {
 	if l.filter.Order == platform.ByKey {
 		return l.byKey()
 	}
@@ -99,20 +146,21 @@ func (l *listing) list(ctx context.Context) error {
 			return err
 		}
 	}
-	if l.filter.Order == platform.ByTime {
-		l.merge()
-	}
 	return nil
 }
 
-// merge sorts what was read of several states by time, and keeps as many as the filter has at most.
+// merge sorts what was read in several parts, and keeps as many as the filter has at most.
 func (l *listing) merge() {
+	order := l.filter.Order
 	sort.SliceStable(l.found, func(one, other int) bool {
 		if l.filter.Latest {
 			one, other = other, one
 		}
 		a, b := l.found[one], l.found[other]
-		if !a.Since.Equal(b.Since) {
+		switch {
+		case order == platform.ByState && a.State != b.State:
+			return a.State < b.State
+		case order != platform.ByKey && !a.Since.Equal(b.Since):
 			return a.Since.Before(b.Since)
 		}
 		return a.Key.String() < b.Key.String()
@@ -124,16 +172,15 @@ func (l *listing) merge() {
 
 // in reads at most so many rows that are in a state, or all for 0.
 func (l *listing) in(state platform.State, most int) error {
-	filter, chosen := l.filter, &selection{}
+	filter := l.filter
 	isNarrow := filter.Instance != nil || filter.First != nil || filter.Prefix != ""
-	where := func(key string) {
+	return l.read(false, "since, ", most, func(chosen *selection, of side) {
 		chosen.and(withoutIndex(isNarrow)+"state = ?", string(state))
 		chosen.of(filter, isNarrow)
-		if after := filter.After; after != nil && (after.State == state || filter.Order == platform.ByTime) {
-			chosen.after(filter, "since, "+key)
+		if filter.Order == platform.ByTime || filter.After != nil && filter.After.State == state {
+			chosen.after(filter, "since, ", of)
 		}
-	}
-	return l.read(chosen, where, "since, 1, 2", most)
+	})
 }
 
 // fewRows is how many rows a list by key sorts at most for one page.
@@ -143,22 +190,35 @@ const fewRows = 5000
 // and they are sorted. Else the rows are read in the order of their keys, and those that don't fit are passed over. So
 // all pages together read each row once.
 func (l *listing) byKey() error {
-	filter, chosen := l.filter, &selection{}
+	filter := l.filter
 	count, err := l.countOf(filter)
 	if err != nil {
 		return err
 	}
 	isUnindexed := filter.Instance != nil || filter.First != nil || filter.Prefix != "" || count > fewRows
-	where := func(key string) {
-		if len(filter.States) > 0 {
-			chosen.and(withoutIndex(isUnindexed)+"state IN "+anyState, pad(filter.States)...)
-		}
-		chosen.of(filter, isUnindexed)
-		if filter.After != nil {
-			chosen.after(filter, key)
-		}
+	return l.inAll(false, "", isUnindexed)
+}
+
+// changed reads the rows that have changed their state since the moment, as they were then.
+func (l *listing) changed() error {
+	switch l.filter.Order {
+	case platform.ByKey:
+		return l.inAll(true, "", true)
+	case platform.ByTime:
+		return l.inAll(true, "since, ", true)
 	}
-	return l.read(chosen, where, "1, 2", filter.Most)
+	return l.inAll(true, "state, since, ", true)
+}
+
+// inAll reads rows in all states of the filter.
+func (l *listing) inAll(isThen bool, columns string, isUnindexed bool) error {
+	return l.read(isThen, columns, l.filter.Most, func(chosen *selection, of side) {
+		if len(l.filter.States) > 0 {
+			chosen.and(withoutIndex(isUnindexed)+"state IN "+anyState, pad(l.filter.States)...)
+		}
+		chosen.of(l.filter, isUnindexed)
+		chosen.after(l.filter, columns, of)
+	})
 }
 
 // countOf is how many rows have the states and the broker of a filter.
@@ -179,20 +239,57 @@ func (c *connection) countOf(filter platform.Filter) (count int64, err error) {
 	return count, err
 }
 
-// read reads at most so many rows, or all for 0, in the order of these columns. where adds the conditions on the rows
-// of a table to what is chosen, by the columns of its key.
-func (l *listing) read(chosen *selection, where func(key string), order string, most int) error {
-	if wantsInstances(l.filter) {
-		chosen.from("id, NULL, state, since", "osb_instances")
-		where("id")
+// A side is one of the two tables of rows: the columns of its key, also as they are selected, and the same as osb_lives
+// has it. then are its rows that have changed their state since a moment, with the first stay that has ended since. From
+// beside min(rowid), SQLite takes the columns of the same row.
+type side struct{ table, key, selected, life, then string }
+
+const changedFirst = "FROM (SELECT id AS key, state, since, min(rowid) FROM osb_lives WHERE rowid > ? GROUP BY +id) AS s " +
+	"CROSS JOIN "
+
+var (
+	ofInstances = side{
+		"osb_instances", "id", "id, NULL", "osb_instances.id",
+		"(SELECT r.id, r.broker, r.first, s.state, s.since " + changedFirst + "osb_instances AS r ON r.id = s.key)",
 	}
-	if wantsBindings(l.filter) {
-		chosen.from("instance, id, state, since", "osb_bindings")
-		where("instance, id")
+	ofBindings = side{
+		"osb_bindings", "instance, id", "instance, id", "osb_bindings.instance || '/' || osb_bindings.id",
+		"(SELECT r.instance, r.id, r.broker, r.first, s.state, s.since " + changedFirst +
+			"osb_bindings AS r ON r.instance = substr(s.key, 1, 36) AND r.id = substr(s.key, 38))",
+	}
+)
+
+// sides are the tables with rows of a filter.
+func sides(filter platform.Filter) (found []side) {
+	if filter.Instance == nil && (filter.Bindings == nil || !*filter.Bindings) {
+		found = append(found, ofInstances)
+	}
+	if filter.Bindings == nil || *filter.Bindings {
+		found = append(found, ofBindings)
+	}
+	return found
+}
+
+// read reads at most so many rows, or all for 0, in the order of these columns and the key: those that have changed since
+// the moment as they were then, or the others. where adds the conditions on the rows of a table.
+func (l *listing) read(isThen bool, columns string, most int, where func(chosen *selection, of side)) error {
+	chosen := &selection{}
+	for _, of := range sides(l.filter) {
+		switch {
+		case isThen:
+			chosen.from(of.selected, of.then, l.asOf)
+		case l.asOf == nil:
+			chosen.from(of.selected, of.table)
+		default:
+			chosen.from(of.selected, of.table)
+			chosen.and("NOT EXISTS (SELECT 1 FROM osb_lives AS l WHERE l.id = "+of.life+" AND +l.rowid > ?)", l.asOf)
+		}
+		where(chosen, of)
 	}
 	if chosen.text.Len() == 0 {
 		return nil
 	}
+	order := columns + "1, 2"
 	if l.filter.Latest {
 		order = strings.ReplaceAll(order, ",", " DESC,") + " DESC"
 	}
@@ -282,12 +379,13 @@ type selection struct {
 	values []driver.Value
 }
 
-// from adds the rows of a table to those that are selected. The conditions on them follow.
-func (s *selection) from(columns, table string) {
+// from adds rows to those that are selected. The conditions on them follow.
+func (s *selection) from(key, rows string, values ...driver.Value) {
 	if s.text.Len() > 0 {
 		s.text.WriteString(" UNION ALL ")
 	}
-	s.text.WriteString("SELECT " + columns + " FROM " + table + " WHERE true")
+	s.text.WriteString("SELECT " + key + ", state, since FROM " + rows + " WHERE true")
+	s.values = append(s.values, values...)
 }
 
 // and adds a condition, in which each ? stands for the next of the values.
@@ -322,26 +420,32 @@ func (s *selection) of(filter platform.Filter, isUnindexed bool) {
 	}
 }
 
-// after adds that a row comes behind the position of a filter, by the columns of its order. An instance comes before
-// its bindings, and in the opposite order behind them.
-func (s *selection) after(filter platform.Filter, columns string) {
-	position, isBinding := *filter.After, strings.HasSuffix(columns, "instance, id")
+// after adds that a row comes behind the position of a filter, if it has one, by these columns and the key. An instance
+// comes before its bindings, and in the opposite order behind them.
+func (s *selection) after(filter platform.Filter, columns string, of side) {
+	if filter.After == nil {
+		return
+	}
+	position := *filter.After
 	var values []driver.Value
-	if strings.HasPrefix(columns, "since") {
+	if strings.Contains(columns, "state") {
+		values = append(values, string(position.State))
+	}
+	if strings.Contains(columns, "since") {
 		values = append(values, seconds(position.Since))
 	}
 	values = append(values, position.Key.Instance.String())
-	if isBinding {
+	if of == ofBindings {
 		values = append(values, bindingOf(position.Key))
 	}
 	is := " > "
 	switch {
-	case filter.Latest && !isBinding && position.Key.IsBinding:
+	case filter.Latest && of == ofInstances && position.Key.IsBinding:
 		is = " <= "
 	case filter.Latest:
 		is = " < "
 	}
-	s.and("("+columns+")"+is+"(?"+strings.Repeat(", ?", len(values)-1)+")", values...)
+	s.and("("+columns+of.key+")"+is+"(?"+strings.Repeat(", ?", len(values)-1)+")", values...)
 }
 
 // bindingOf is the id of a binding, or an empty text for an instance.
@@ -369,12 +473,6 @@ func pad(of []platform.State) []driver.Value {
 	}
 	return values
 }
-
-func wantsInstances(filter platform.Filter) bool {
-	return filter.Instance == nil && (filter.Bindings == nil || !*filter.Bindings)
-}
-
-func wantsBindings(filter platform.Filter) bool { return filter.Bindings == nil || *filter.Bindings }
 
 // statesOf are the states of the rows of a filter, in their order.
 func statesOf(filter platform.Filter) (of []platform.State) {

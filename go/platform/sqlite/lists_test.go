@@ -48,6 +48,7 @@ func reads(s *Store, key platform.Key) map[string]func(context.Context) error {
 	return map[string]func(context.Context) error{
 		"Read":     func(ctx context.Context) error { _, err := s.Read(ctx, key); return err },
 		"List":     func(ctx context.Context) error { _, err := s.List(ctx, platform.Filter{}); return err },
+		"Moment":   func(ctx context.Context) error { _, err := s.Moment(ctx); return err },
 		"Life":     func(ctx context.Context) error { _, err := s.Life(ctx, key); return err },
 		"Counts":   func(ctx context.Context) error { _, err := s.Counts(ctx); return err },
 		"InFlight": func(ctx context.Context) error { _, err := s.InFlight(ctx, 10); return err },

@@ -499,13 +499,16 @@ func TestQueriesUseIndexes(t *testing.T) {
 	for _, filter := range filters {
 		filter.Latest = true
 		filters = append(filters, filter)
+		filter.AsOf = "-1" // before all
+		filters = append(filters, filter)
 	}
 	for _, filter := range filters {
 		diff.Value(s.List(background, filter))(t)
 	}
 	err := s.read(background, func(c *connection) error {
 		for query := range c.lists {
-			wantIndexed(t, c, query, strings.Count(query, "?"), strings.Contains(query, "+state"))
+			isFew := strings.Contains(query, "+state") || strings.Contains(query, "GROUP BY")
+			wantIndexed(t, c, query, strings.Count(query, "?"), isFew)
 		}
 		for _, count := range []int{1, 3} {
 			wantIndexed(t, c, dueText(count), count+3, true)

@@ -311,6 +311,13 @@ var faultyCalls = []faultyCall{
 	{"Positions", func(store platform.Store, see func(any)) error {
 		return saw(see)(store.Positions(background, platform.Filter{}))
 	}, false, false},
+	{"Moment and Positions as of it", func(store platform.Store, see func(any)) error {
+		moment, err := store.Moment(background)
+		if err != nil {
+			return err
+		}
+		return saw(see)(store.Positions(background, platform.Filter{AsOf: moment}))
+	}, false, false},
 	{"ReadAll", func(store platform.Store, see func(any)) error {
 		return saw(see)(store.ReadAll(background, []platform.Key{instance(1), binding(3, 4), instance(3)}))
 	}, false, false},

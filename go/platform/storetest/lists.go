@@ -306,6 +306,116 @@ func wantOnce(
 	}
 }
 
+// A mover changes the states of rows, again and again.
+type mover struct {
+	*testing.T
+	store platform.Store
+	keys  []platform.Key
+	moves int
+}
+
+// step changes a row to another state, at a time that isn't always later than the one before.
+func (m *mover) step(now time.Time, snapshot platform.Snapshot) (*platform.Change, error) {
+	states := []platform.State{platform.Ready, platform.Gone, platform.Cleaning, platform.Ready, platform.Polling}
+	entry := snapshot.Entry
+	for entry.State == snapshot.State {
+		entry.State = states[m.moves%len(states)]
+		m.moves++
+	}
+	entry.Since = []time.Time{now, now.Truncate(time.Minute), now.Add(-time.Minute)}[m.moves%3]
+	return &platform.Change{Entry: entry}, nil
+}
+
+// begin begins the transaction of a step, and returns what ends it.
+func (m *mover) begin() (end func()) {
+	begun, goOn, done := make(chan bool, 1), make(chan bool), make(chan error)
+	key := m.keys[m.moves*7%len(m.keys)]
+	go func() {
+		done <- m.store.Change(background, key, func(now time.Time, snapshot platform.Snapshot) (*platform.Change, error) {
+			begun <- true
+			<-goOn
+			return m.step(now, snapshot)
+		})
+	}()
+	<-begun
+	return func() {
+		close(goOn)
+		check(m.T, <-done)
+	}
+}
+
+// A list is read in pages as of a moment, and then back. Meanwhile, rows change their states, and new ones are ordered.
+// Each row of the moment is listed once, where it stood then, also if the transaction that changes it began before.
+func testListsAsOfAMoment(t *testing.T, open opener) {
+	m := &mover{T: t, store: openStore(t, open)}
+	for _, row := range insertRows(t, m.store) {
+		m.keys = append(m.keys, row.Key)
+	}
+	yes, no, of, third := true, false, instance(0x20002).Instance, id(3)
+	for _, filter := range []platform.Filter{
+		{}, {States: []platform.State{platform.Ready}},
+		{States: []platform.State{platform.Gone, platform.Ready, platform.Ordered}, Broker: "two"}, {Bindings: &yes},
+		{Bindings: &no, States: []platform.State{platform.Cleaning, platform.Polling}}, {Instance: &of}, {First: &third},
+		{Prefix: "00000000-0000-4000-8000-0000000"},
+	} {
+		for _, filter.Order = range []platform.Ordering{platform.ByState, platform.ByTime, platform.ByKey} {
+			filter := filter
+			filter.Latest = m.moves%2 == 1
+			end := m.begin()
+			want := diff.Value(m.store.Positions(background, filter))(t)
+			filter.AsOf, filter.Most = diff.Value(m.store.Moment(background))(t), 4
+			m.wantPages(filter, want, end)
+			filter.Latest = !filter.Latest
+			for one, other := 0, len(want)-1; one < other; one, other = one+1, other-1 {
+				want[one], want[other] = want[other], want[one]
+			}
+			m.wantPages(filter, want, m.begin())
+		}
+	}
+}
+
+// wantPages fails unless the pages of a list have these positions, besides new rows. After the first one, a transaction is
+// ended and a row is inserted, and after each one, rows change.
+func (m *mover) wantPages(filter platform.Filter, want []platform.Position, end func()) {
+	m.Helper()
+	isOld, isNew, got, what := map[platform.Key]bool{}, map[platform.Key]bool{}, want[:0:0], fmt.Sprintf("%+v", filter)
+	for _, at := range want {
+		isOld[at.Key] = true
+	}
+	for isLast := false; !isLast; {
+		page := diff.Value(m.store.Positions(background, filter))(m.T)
+		if filter.After == nil {
+			end()
+			insert(m.T, m.store, order(instance(0x900000+m.moves)))
+		}
+		for n := 0; n < 3; n++ {
+			check(m.T, m.store.Change(background, m.keys[m.moves*7%len(m.keys)], m.step))
+		}
+		for n, at := range page {
+			if isOld[at.Key] {
+				got = append(got, at)
+			} else if isNew[at.Key] {
+				m.Errorf("%s: the new row %v: got it twice, want it once at most", what, at.Key)
+			}
+			isNew[at.Key], filter.After = true, &page[n]
+		}
+		isLast = len(page) < filter.Most
+	}
+	diff.Check(m.T, got, want, "%s", what)
+}
+
+// A text that is no moment of the store is an error.
+func testNoMoment(t *testing.T, open opener) {
+	store := openStore(t, open)
+	moment := diff.Value(store.Moment(background))(t)
+	for _, text := range []platform.Moment{"x", "-", "1-x", moment + "x", moment + "-", "99999999999999999999", "1; SELECT 1"} {
+		_, err := store.Positions(background, platform.Filter{AsOf: text})
+		diff.ErrorIs(t, err, platform.ErrNoMoment, "%q, Positions", text)
+		_, err = store.List(background, platform.Filter{AsOf: text})
+		diff.ErrorIs(t, err, platform.ErrNoMoment, "%q, List", text)
+	}
+}
+
 // Rows are read by their keys, in the order of these, without bodies and credentials. A key without a row is left out.
 func testReadAll(t *testing.T, open opener) {
 	store := openStore(t, open)

@@ -56,6 +56,8 @@ func Test(t *testing.T, open func(t *testing.T) platform.Store) {
 		{"lists", testList},
 		{"lists in pages", testPages},
 		{"lists while rows come to other states", testListsWhileRowsMove},
+		{"lists as of a moment", testListsAsOfAMoment},
+		{"a text that is no moment", testNoMoment},
 		{"rows of some keys", testReadAll},
 		{"counts", testCounts},
 		{"rows in flight", testInFlight},
