@@ -2,6 +2,7 @@ package api
 
 import (
 	"context"
+	"encoding/base64"
 	"encoding/json"
 	"fmt"
 	"net/http/httptest"
@@ -305,6 +306,17 @@ func TestBadLists(t *testing.T) {
 	} {
 		r.call("GET", "/v1/records?"+query, "").want(400, "malformed")
 	}
+	const position = `"i":"00000000-0000-4000-8000-000000000001"`
+	for _, query := range []string{
+		`order=state {"s":"ready","t":"2026-01-02T03:04:05Z",` + position + `}`, // of version 0.3
+		`order=newest {"s":"ready","t":"2026-01-02T03:04:05Z",` + position + `,"m":"x"}`,
+		`order=number&state=ready {` + position + `}`, `order=number {` + position + `,"m":"1"}`,
+	} {
+		query, text, _ := strings.Cut(query, " ")
+		query += "&after=" + base64.RawURLEncoding.EncodeToString([]byte(text))
+		got := r.call("GET", "/v1/records?"+query, "").want(400, "malformed")
+		diff.Contains(t, got.at("detail"), "begin with the first page", "%s", text)
+	}
 	for _, query := range []string{"after=a&before=a", "last=true&after=a", "last=true&before=a"} {
 		got := r.call("GET", "/v1/records?"+query, "").want(400, "malformed")
 		diff.Equal(t, got.at("detail"), "give one of after, before and last", "%s, %s", query, got.text)
@@ -313,47 +325,44 @@ func TestBadLists(t *testing.T) {
 	r.callAs(writing, "GET", "/v1/records", "").want(403, "forbidden")
 }
 
-// Between two pages, rows change to another state, behind and before the position of the page. A list by number has
-// each row on one page all the same, and so has a list of the rows in a state of those that stay in it.
+// Between two pages, rows change to another state, behind and before the position of the page. In each order, the pages
+// have each row once that fitted the query when the first one was read, as it is now.
 func TestListsWhileRowsChange(t *testing.T) {
 	r := newRig(t)
-	ids := map[string]int{}
-	for n := 0; n < 12; n++ {
-		ids[r.order()] = 0
+	states := map[string]string{} // of each instance
+	for n := 0; n < 30; n++ {
+		states[r.order()] = "ordered"
 	}
-	for _, query := range []string{"", "&state=ordered", "&state=ordered&state=withdrawn&broker=shelf"} {
-		stays := map[string]bool{}
-		for id := range ids {
-			ids[id] = 0
-			stays[id] = r.call("GET", "/v1/instances/"+id, "").want(200, "").at("state") == "ordered"
-		}
-		target, moved := "/v1/instances?limit=3"+query, 0
-		for next := ""; ; {
-			page := r.call("GET", target+next, "").want(200, "")
-			for n := range page.items() {
-				ids[page.at("items", fmt.Sprint(n), "id")]++
-			}
-			for id := range stays { // another state, for one that was listed or not
-				if stays[id] && moved < 3 {
-					r.call("DELETE", "/v1/instances/"+id, "").want(202, "")
-					stays[id], moved = false, moved+1
-					break
+	for _, order := range []string{"number", "state", "newest", "oldest", "state&latest=true"} {
+		for _, chosen := range []string{"", "&state=ordered", "&state=withdrawn&state=ordered&broker=shelf"} {
+			target, want, got, moved := "/v1/instances?limit=3&order="+order+chosen, map[string]int{}, map[string]int{}, 0
+			for id, state := range states {
+				if chosen != "&state=ordered" || state == "ordered" {
+					want[id] = 1
 				}
 			}
-			cursor, isThere := page.body["next"].(string)
-			if !isThere {
-				break
+			for next := ""; ; {
+				page := r.call("GET", target+next, "").want(200, "")
+				for n := range page.items() {
+					id := page.at("items", fmt.Sprint(n), "id")
+					diff.Equal(t, page.at("items", fmt.Sprint(n), "state"), states[id], "%s: the state of %s", target, id)
+					got[id]++
+				}
+				for id := range want { // to another state, of one that was listed or not
+					if states[id] == "ordered" && moved < 2 {
+						r.call("DELETE", "/v1/instances/"+id, "").want(202, "")
+						states[id], moved = "withdrawn", moved+1
+						break
+					}
+				}
+				cursor, isThere := page.body["next"].(string)
+				if !isThere {
+					break
+				}
+				next = "&after=" + cursor
 			}
-			next = "&after=" + cursor
-		}
-		for id, count := range ids {
-			isWanted := stays[id] || query == ""
-			if isWanted && count != 1 || count > 1 {
-				r.Errorf("%q: the instance %s: got it %d times, want 1", query, id, count)
-			}
-		}
-		if moved == 0 {
-			r.Errorf("%q: got no instance that has changed, want one", query)
+			diff.Check(t, got, want, "%s: how often each instance is on a page", target)
+			diff.Equal(t, moved, 2, "%s: how many have changed", target)
 		}
 	}
 }

@@ -32,7 +32,9 @@ type Reader interface {
 	// InFlight returns the records that have a request in flight, of so many records that a worker has leased, and so
 	// many states of the life of each. Those whose lease ends first come first.
 	InFlight(ctx context.Context, limit, life int) ([]Record, error)
-	// List returns a page of records. Errors: ErrUnknown if there is no instance Query.Of; ErrMalformed.
+	// List returns a page of records. The pages of a list have each record that fitted the query when the first of them
+	// was read, once, in the order of then. What a record shows is as it is when its page is read. Errors: ErrUnknown if
+	// there is no instance Query.Of; ErrMalformed.
 	List(ctx context.Context, query Query) (List, error)
 	// Show returns an instance, or one of its bindings, with its whole life and the store's time. Each is named by its
 	// id or its number. binding is empty for the instance. Errors: ErrUnknown.
@@ -62,9 +64,6 @@ const (
 type Order string
 
 const (
-	// ByNumber is the order of numbers, which never change. So a record that fits the query from the first page to the
-	// last is on exactly one page. In the other orders, a record that changes its state between two pages may be on
-	// none, or on two.
 	ByNumber Order = "number"
 	ByState  Order = "state" // by state, the time of that, and number
 	Newest   Order = "newest"
@@ -225,8 +224,16 @@ func (r *reader) List(ctx context.Context, query Query) (List, error) {
 	if err != nil {
 		return List{}, err
 	}
+	if s.filter.AsOf == "" && isOfAMoment(s.filter) {
+		if s.filter.AsOf, err = r.store.Moment(ctx); err != nil {
+			return List{}, err
+		}
+	}
 	s.filter.Most = s.limit + 1
 	positions, err := r.store.Positions(ctx, s.filter)
+	if errors.Is(err, platform.ErrNoMoment) {
+		return List{}, errCursor
+	}
 	if err != nil {
 		return List{}, err
 	}
@@ -283,12 +290,12 @@ func (l *List) link(s selection, positions []platform.Position, isMore bool) (er
 		hasNext, hasPrevious = hasPrevious, hasNext
 	}
 	if hasNext && len(positions) > 0 {
-		if l.Next, err = cursorOf(positions[len(positions)-1], s.filter.Order); err != nil {
+		if l.Next, err = cursorOf(positions[len(positions)-1], s.filter); err != nil {
 			return err
 		}
 	}
 	if hasPrevious && len(positions) > 0 {
-		l.Previous, err = cursorOf(positions[0], s.filter.Order)
+		l.Previous, err = cursorOf(positions[0], s.filter)
 	}
 	return err
 }
@@ -363,8 +370,8 @@ func (q Query) choosePage(s *selection) (err error) {
 		return malformedError("give one of after, before and last")
 	}
 	if cursor := q.After + q.Before; cursor != "" {
-		if s.filter.After, err = positionOf(cursor, s.filter.Order); err != nil {
-			return malformedError(err.Error())
+		if err := readCursor(cursor, &s.filter); err != nil {
+			return err
 		}
 	}
 	if s.isBack = q.Last || q.Before != ""; s.isBack {
@@ -395,20 +402,26 @@ func Prefix(text string) (prefix string, isPrefix bool) {
 	return prefix, true
 }
 
-// A written position, as it stands in a cursor. By key it is a key alone.
-type writtenPosition struct {
-	State    platform.State `json:"s,omitempty"`
-	Since    *time.Time     `json:"t,omitempty"`
-	Instance *osb.ID        `json:"i"`
-	Binding  *osb.ID        `json:"b,omitempty"`
+// isOfAMoment is whether a list may change with the states of its rows.
+func isOfAMoment(filter platform.Filter) bool {
+	return filter.Order != platform.ByKey || len(filter.States) > 0
 }
 
-var errCursor = errors.New("the cursor isn't one that this API has answered in this order")
+// A written position, as it stands in a cursor. By key it has no state and no time.
+type writtenPosition struct {
+	State    platform.State  `json:"s,omitempty"`
+	Since    *time.Time      `json:"t,omitempty"`
+	Instance *osb.ID         `json:"i"`
+	Binding  *osb.ID         `json:"b,omitempty"`
+	AsOf     platform.Moment `json:"m,omitempty"` // of the first page, if the list may change with states
+}
 
-// cursorOf is the position of a row in an order, as a text that stands in a URL as it is.
-func cursorOf(at platform.Position, order platform.Ordering) (string, error) {
-	position := writtenPosition{Instance: &at.Key.Instance}
-	if order != platform.ByKey {
+var errCursor = malformedError("the cursor isn't one that this API has answered to this query: begin with the first page")
+
+// cursorOf is the position of a row in a list, as a text that stands in a URL as it is.
+func cursorOf(at platform.Position, filter platform.Filter) (string, error) {
+	position := writtenPosition{Instance: &at.Key.Instance, AsOf: filter.AsOf}
+	if filter.Order != platform.ByKey {
 		since := at.Since.UTC()
 		position.State, position.Since = at.State, &since
 	}
@@ -419,25 +432,29 @@ func cursorOf(at platform.Position, order platform.Ordering) (string, error) {
 	return base64.RawURLEncoding.EncodeToString(text), err
 }
 
-// positionOf is the position that a cursor names in an order.
-func positionOf(cursor string, order platform.Ordering) (*platform.Position, error) {
+// readCursor reads the position that a cursor names into a filter.
+func readCursor(cursor string, filter *platform.Filter) error {
 	var written writtenPosition
 	text, err := base64.RawURLEncoding.DecodeString(cursor)
 	if err != nil || json.Unmarshal(text, &written) != nil || written.Instance == nil {
-		return nil, errCursor
+		return errCursor
 	}
 	position := &platform.Position{State: written.State, Key: platform.InstanceKey(*written.Instance)}
 	if written.Since != nil {
 		position.Since = *written.Since
 	}
 	isByKey := written.State == "" && written.Since == nil
-	if isByKey != (order == platform.ByKey) || !isByKey && (written.Since == nil || !isState(written.State)) {
-		return nil, errCursor
+	if isByKey != (filter.Order == platform.ByKey) || !isByKey && (written.Since == nil || !isState(written.State)) {
+		return errCursor
+	}
+	if isOfAMoment(*filter) != (written.AsOf != "") {
+		return errCursor
 	}
 	if written.Binding != nil {
 		position.Key = platform.BindingKey(*written.Instance, *written.Binding)
 	}
-	return position, nil
+	filter.After, filter.AsOf = position, written.AsOf
+	return nil
 }
 
 var allStates = []platform.State{

@@ -316,8 +316,9 @@ var errNoPage = errors.New("there is no such page")
 const (
 	inFlight    = "in-flight" // in place of a state: what has a request in flight
 	longestFind = 255         // bytes
-	// longestCursor is how many bytes a cursor of the API has at most. One of this program's has fewer than 300.
-	longestCursor = 1000
+	// longestCursor is how many bytes a cursor of the API has at most. One of this program's has fewer than 400, and over
+	// PostgreSQL about 5 more for each transaction that ran at its moment.
+	longestCursor = 5000
 )
 
 // states are all states, in the order in which they are shown.

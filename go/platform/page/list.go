@@ -23,16 +23,13 @@ func (l look) list(o *overview, a target, c counts, flights []api.Record) error 
 		shown, err = l.leaf(a, []string{a.state}, total)
 	default:
 		total = c.all[a.bindings]
-		if of := present(c.of[a.bindings]); len(of) > 0 { // no state stands for all
-			shown, err = l.leaf(a, of, total)
-		}
+		shown, err = l.leaf(a, nil, total)
 	}
 	if err != nil {
 		return err
 	}
 	if a.isPaged() {
 		o.Pages, o.Orders = pagesOf(a, shown), ordersOf(a)
-		o.MayMiss = a.order != api.ByNumber
 	}
 	o.Nothing = parseWords(nothing(a, c))
 	o.Caption = position(shown.skipped, len(shown.Items), total, order)
@@ -62,16 +59,6 @@ func nothing(a target, c counts) string {
 		return "There are no instances yet. To create one, run `osb-platform create`."
 	}
 	return "There are none now."
-}
-
-// present are the states in which there are rows.
-func present(of map[string]int) (found []string) {
-	for _, state := range states {
-		if of[state] > 0 {
-			found = append(found, state)
-		}
-	}
-	return found
 }
 
 // search are the rows whose numbers begin with what is sought, and before them the row that has it as its whole id.
@@ -238,7 +225,7 @@ type leaf struct {
 	hasPrevious, hasNext bool
 }
 
-// leaf reads a page of the rows in these states, of which there are so many.
+// leaf reads a page of the rows in these states, or in all for none, of which there are so many.
 func (l look) leaf(a target, of []string, total int) (leaf, error) {
 	found, err := l.page_(a, of)
 	if err != nil {

@@ -103,9 +103,6 @@ func TestPages(t *testing.T) {
 			pages, captions := walk(t, h, target, "page-next")
 			diff.Check(t, join(pages), wanted, "the rows")
 			diff.Check(t, captions, []string{"1 to 50 of 121", "51 to 100 of 121", "101 to 121 of 121"}, "the pages")
-			if isSaid := strings.Contains(pageText(t, h, target), "while you turn pages"); isSaid == (target == "/?order=number") {
-				t.Errorf("got %t, want it to say that pages may leave out rows, but in the order of the number", isSaid)
-			}
 			last := linkOf(pageText(t, h, target), "page-last")
 			pages, captions = walk(t, h, last, "page-previous")
 			diff.Check(t, join(backwards(pages[:2])), wanted[21:], "backwards the last rows")
@@ -254,6 +251,43 @@ func TestOverSQLite(t *testing.T) {
 	}
 	check(t, store.Change(background, platform.InstanceKey(idOf(5)), clean))
 	has(t, pageText(t, other, pageOn(platform.InstanceKey(idOf(5)))), "2 states", `<span class="state ready">`)
+}
+
+// While somebody turns the pages of a list, all instances in a state leave it. In each order, each instance of the first
+// page's list is on one page.
+func TestPagesWhileRowsMove(t *testing.T) {
+	store := openStore(t, filepath.Join(t.TempDir(), "instances.sqlite"))
+	check(t, store.AddBroker(background, shelf().brokers[0]))
+	for _, e := range many(2*size + 20).rows {
+		check(t, store.Insert(background, e, func(platform.Snapshot) error { return nil }))
+	}
+	h, moves := pageOf(t, store, Options{}), 0
+	for _, target := range []string{"/", "/?order=oldest", "/?order=number", "/?state=ordered&order=oldest"} {
+		filter := platform.Filter{}
+		if strings.Contains(target, "state") {
+			filter.States = []platform.State{platform.Ordered}
+		}
+		count, seen := len(diff.Value(store.Positions(background, filter))(t)), map[string]int{}
+		for target != "" {
+			text := pageText(t, h, target)
+			for _, row := range rowsIn(text) {
+				seen[row]++
+			}
+			from, to := platform.State(states[moves%3]), platform.State(states[(moves+1)%3])
+			moves++
+			for _, at := range diff.Value(store.Positions(background, platform.Filter{States: []platform.State{from}}))(t) {
+				check(t, store.Change(background, at.Key, func(now time.Time, snapshot platform.Snapshot) (*platform.Change, error) {
+					snapshot.Entry.State, snapshot.Entry.Since = to, now
+					return &platform.Change{Entry: snapshot.Entry}, nil
+				}))
+			}
+			target = linkOf(text, "page-next")
+		}
+		for id, times := range seen {
+			diff.Equal(t, times, 1, "the instance %s", id)
+		}
+		diff.Equal(t, len(seen), count, "%+v: the instances", filter)
+	}
 }
 
 // copies makes copies of the rows of a file, until there are so many. Each has another id and another time.
@@ -439,6 +473,9 @@ func (f *fake) Positions(_ context.Context, filter platform.Filter) (found []pla
 	}
 	return found, f.err
 }
+
+// Moment is any: no row of a fake changes.
+func (f *fake) Moment(context.Context) (platform.Moment, error) { return "now", f.err }
 
 func (f *fake) ReadAll(ctx context.Context, keys []platform.Key) (found []platform.Entry, err error) {
 	for _, key := range keys {

@@ -124,7 +124,6 @@ type overview struct {
 	BrokerCaption string
 
 	Orders, Pages []link
-	MayMiss       bool // whether the pages may leave out rows that change meanwhile
 	Nothing       []words
 }
 
