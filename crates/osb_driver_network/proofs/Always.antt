@@ -5,7 +5,7 @@ use Rattle.osb_instance.specs.Held.{Held}
 use Rattle.osb_instance.specs.Recorded.{Recorded}
 use Rattle.osb_network.specs.Agreement.{Agrees}
 use Rattle.osb_network.specs.Cell.{Cell, empty_cell}
-use Rattle.osb_network.specs.Steps.{cell_step, cell_steps}
+use Rattle.osb_network.specs.Steps.{cell_steps}
 use Rattle.osb_network.specs.declared.event.Event.{Event}
 use Rattle.osb_network.specs.declared.order.Order.{Order}
 use Rattle.osb_network.specs.declared.resource.Resource.{Resource}
@@ -117,7 +117,7 @@ steps_one c s (h ∷ hs) is = steps_one c (world_step s h) hs (step_one c s h is
 empty_one : (o : Order) → IsOne (empty_cell o) (empty_world o)
 empty_one o = record {
   broker = can_begin o;
-  platform = record { row = refl; possible = possible_empty o; knows = λ at x is. cc };
+  platform = record { row = refl; possible = possible_empty o; knows = λ at x is. cc; owns = λ at x is. cc };
   one = refl;
   run = ([], refl);
 }

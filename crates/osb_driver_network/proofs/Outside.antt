@@ -1,16 +1,14 @@
 -- What a side brings about is outside of the other side.
 use Rattle.std.proofs.Common.{◌≡◌, ℕ, Bool, true, false, refl, List, [], ◌∷◌, ◌++◌}
-use Rattle.std.specs.Prelude.{Option, Some, None, ⊤, ◌&&◌, ◌==◌, if◌then◌else◌, slice_get}
+use Rattle.std.specs.Prelude.{Option, Some, None, ⊤, if◌then◌else◌, slice_get}
 use Rattle.osb_instance.specs.Recorded.{Recorded}
 use Rattle.osb_network.specs.Cell.{Cell}
 use Rattle.osb_network.specs.Steps.{is_out}
 use Rattle.osb_network.specs.declared.event.Event.{Event}
-use Rattle.osb_network.specs.declared.resource.Resource.{Resource}
 use Rattle.osb_driver.specs.World as broker_side
 use Rattle.osb_driver.specs.declared.driver.Driver.{Driver}
 use Rattle.osb_driver.specs.declared.driver.Effect.{Effect}
 use Rattle.osb_driver.specs.declared.driver.Permit.{Permit}
-use Rattle.osb_driver.specs.declared.driver.Stage.{Stage as BrokerStage}
 use Rattle.osb_driver.specs.declared.driver.Transaction.{Transaction}
 use Rattle.osb_driver.specs.declared.world.Commit.{Commit as BrokerCommit}
 use Rattle.osb_driver.specs.declared.world.Happening.{Happening as BrokerHappening}
@@ -130,6 +128,7 @@ of_claimed : (c : Cell) (w : Wishes) (commit : Commit) (stage : Stage)
 of_claimed c w commit Stage.Claim = of_commit commit (platform_side.claim_events w c.recorded) (of_claim w c.recorded)
 of_claimed c w commit (Stage.Send sent) = tt
 of_claimed c w commit (Stage.Take n a) = tt
+of_claimed c w commit (Stage.Unsure n) = tt
 of_claimed c w commit Stage.Done = tt
 
 of_claimed_by : (c : Cell) (w : Wishes) (commit : Commit) (x : Option Exchange)
@@ -137,17 +136,25 @@ of_claimed_by : (c : Cell) (w : Wishes) (commit : Commit) (x : Option Exchange)
 of_claimed_by c w commit None = tt
 of_claimed_by c w commit (Some x) = of_claimed c w commit x.driver.stage
 
-of_taken : (c : Cell) (commit : Commit) (source : Source) (stage : Stage)
-    → ToBroker (platform_side.taken_events c commit source stage)
-of_taken c commit source (Stage.Take n a) =
-    of_commit commit (platform_side.take_events c.recorded n source) (of_take c.recorded n source)
-of_taken c commit source Stage.Claim = tt
-of_taken c commit source (Stage.Send sent) = tt
-of_taken c commit source Stage.Done = tt
+of_resume : (own : Bool) (r : Option Recorded) (n : ℕ) → ToBroker (platform_side.resume_events own r n)
+of_resume false r n = tt
+of_resume true r n = of_take r n Source.Nowhere
 
-of_taken_by : (c : Cell) (commit : Commit) (x : Option Exchange) → ToBroker (platform_side.taken_by c commit x)
-of_taken_by c commit None = tt
-of_taken_by c commit (Some x) = of_taken c commit x.source x.driver.stage
+of_taken : (s : platform_side.WorldState) (at : ℕ) (commit : Commit) (source : Source) (stage : Stage)
+    → ToBroker (platform_side.taken_events s at commit source stage)
+of_taken s at commit source (Stage.Take n a) =
+    of_commit commit (platform_side.take_events s.cell.recorded n source) (of_take s.cell.recorded n source)
+of_taken s at commit source (Stage.Unsure n) =
+    let own = platform_side.is_owner s.owner at in
+    of_commit commit (platform_side.resume_events own s.cell.recorded n) (of_resume own s.cell.recorded n)
+of_taken s at commit source Stage.Claim = tt
+of_taken s at commit source (Stage.Send sent) = tt
+of_taken s at commit source Stage.Done = tt
+
+of_taken_by : (s : platform_side.WorldState) (at : ℕ) (commit : Commit) (x : Option Exchange)
+    → ToBroker (platform_side.taken_by s at commit x)
+of_taken_by s at commit None = tt
+of_taken_by s at commit (Some x) = of_taken s at commit x.source x.driver.stage
 
 pub of_platform : (s : platform_side.WorldState) (h : Happening) → is_platforms_own h ≡ true
     → ToBroker (platform_side.happened s h)
@@ -155,4 +162,4 @@ of_platform s (Happening.Outside e) own = cc
 of_platform s Happening.Begin own = tt
 of_platform s (Happening.Claim at w commit) own = of_claimed_by s.cell w commit (slice_get s.exchanges at)
 of_platform s (Happening.Answer at source) own = tt
-of_platform s (Happening.Take at commit) own = of_taken_by s.cell commit (slice_get s.exchanges at)
+of_platform s (Happening.Take at commit) own = of_taken_by s at commit (slice_get s.exchanges at)

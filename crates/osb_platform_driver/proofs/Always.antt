@@ -10,7 +10,7 @@ use Rattle.osb_network.specs.declared.event.Event.{Event}
 use Rattle.osb_network.specs.declared.event.Given.{Given}
 use Rattle.osb_network.proofs.Agreements.{agrees}
 use Rattle.osb_network.proofs.Kept.{possible_empty}
-use Rattle.osb_platform_driver.specs.Driver.{take}
+use Rattle.osb_platform_driver.specs.Driver.{resume, take}
 use Rattle.osb_platform_driver.specs.declared.driver.Stage.{Stage}
 use Rattle.osb_platform_driver.specs.declared.driver.Transaction.{Transaction}
 use Rattle.osb_platform_driver.specs.declared.driver.Wishes.{Wishes}
@@ -20,7 +20,7 @@ use Rattle.osb_platform_driver.specs.declared.world.Happening.{Happening}
 use Rattle.osb_platform_driver.specs.declared.world.Source.{Source}
 use Rattle.osb_platform_driver.specs.World.{AlwaysAgrees, AreRuns, IsRun, IsSound, WorldState, answer_by, answer_from, answer_step}
 use Rattle.osb_platform_driver.specs.World.{claim_by, claim_events, claim_of, claim_step, claimed_by, claimed_events}
-use Rattle.osb_platform_driver.specs.World.{committed_events, empty_world, garbled_to, given_to, happened, is_outside, take_by}
+use Rattle.osb_platform_driver.specs.World.{committed_events, empty_world, garbled_to, given_to, happened, is_outside, is_owner, resume_events, take_by}
 use Rattle.osb_platform_driver.specs.World.{take_events, take_step, taken_by, taken_events, transacted, with_cell, world_step}
 use Rattle.osb_platform_driver.specs.World.{world_steps}
 use Rattle.osb_platform_driver.proofs.Rows.{steps_on}
@@ -46,6 +46,7 @@ claim_run s at w commit Stage.Claim =
     commit_run commit s at (claim_of s.cell.order w s.row) (claim_events w s.cell.recorded) Source.Nowhere
 claim_run s at w commit (Stage.Send n) = refl
 claim_run s at w commit (Stage.Take n a) = refl
+claim_run s at w commit (Stage.Unsure n) = refl
 claim_run s at w commit Stage.Done = refl
 
 claims_run : (s : WorldState) (at : ℕ) (w : Wishes) (commit : Commit) (x : Option Exchange)
@@ -54,15 +55,18 @@ claims_run s at w commit None = refl
 claims_run s at w commit (Some x) = claim_run s at w commit x.driver.stage
 
 take_run : (s : WorldState) (at : ℕ) (commit : Commit) (source : Source) (stage : Stage)
-    → (take_by s at commit source stage).cell ≡ cell_steps s.cell (taken_events s.cell commit source stage)
+    → (take_by s at commit source stage).cell ≡ cell_steps s.cell (taken_events s at commit source stage)
 take_run s at commit source (Stage.Take n a) =
     commit_run commit s at (take n a s.row) (take_events s.cell.recorded n source) source
+take_run s at commit source (Stage.Unsure n) =
+    let own = is_owner s.owner at in
+    commit_run commit s at (resume own n s.row) (resume_events own s.cell.recorded n) Source.Nowhere
 take_run s at commit source Stage.Claim = refl
 take_run s at commit source (Stage.Send n) = refl
 take_run s at commit source Stage.Done = refl
 
 takes_run : (s : WorldState) (at : ℕ) (commit : Commit) (x : Option Exchange)
-    → (take_step s at commit x).cell ≡ cell_steps s.cell (taken_by s.cell commit x)
+    → (take_step s at commit x).cell ≡ cell_steps s.cell (taken_by s at commit x)
 takes_run s at commit None = refl
 takes_run s at commit (Some x) = take_run s at commit x.source x.driver.stage
 
@@ -88,6 +92,7 @@ answer_run : (s : WorldState) (at : ℕ) (source : Source) (stage : Stage) → (
 answer_run s at source (Stage.Send sent) = from_run s at sent.attempt source
 answer_run s at source Stage.Claim = refl
 answer_run s at source (Stage.Take n a) = refl
+answer_run s at source (Stage.Unsure n) = refl
 answer_run s at source Stage.Done = refl
 
 answers_run : (s : WorldState) (at : ℕ) (source : Source) (x : Option Exchange) → (answer_step s at source x).cell ≡ s.cell
@@ -122,6 +127,6 @@ agrees_in s h =
 pub always_agrees : AlwaysAgrees
 always_agrees o hs =
     let s = world_steps (empty_world o) hs in
-    let sound = all_sound (empty_world o) hs (record { row = refl; possible = possible_empty o; knows = λ at x is. cc }) in
+    let sound = all_sound (empty_world o) hs (record { row = refl; possible = possible_empty o; knows = λ at x is. cc; owns = λ at x is. cc }) in
     let run : IsRun (empty_cell o) s.cell = all_run (empty_cell o) (empty_world o) hs ([], refl) in
     record { sound = sound; run = run; agrees = agrees_in s sound }

@@ -1,7 +1,7 @@
 -- What was sent and given stays so, at its place, and the order stays the same.
 use Rattle.std.proofs.Common.{◌≡◌, ◌⊎◌, ℕ, zero, suc, Bool, true, false, inl, inr, refl, sym, ap, subst, ◌∙◌}
 use Rattle.std.proofs.Common.{List, [], ◌∷◌, ◌++◌}
-use Rattle.std.specs.Prelude.{Option, Some, None, IsSomeAnd, ◌-◌, ◌==◌, ◌&&◌, if◌then◌else◌, is_none, is_some, slice_get}
+use Rattle.std.specs.Prelude.{Option, Some, None, IsSome, IsSomeAnd, ◌-◌, ◌==◌, ◌&&◌, if◌then◌else◌, is_none, is_some, slice_get}
 use Rattle.osb_message.specs.declared.messages.Answer.{Answer}
 use Rattle.osb_message.specs.declared.messages.Kind.{Kind}
 use Rattle.osb_message.specs.declared.messages.Request.{Request}
@@ -186,9 +186,19 @@ from_grows c n k None (Source.Garbled at) grow from = absurd from
 from_grows c n k None (Source.Gateway s) grow from = absurd from
 from_grows c n k (Some a) Source.Nowhere grow from = absurd from
 
+pub nothing : false ≡ true → ⊥
+nothing e = cc
+
+some_number : (b : Bool) (c n : Cell) (at : ℕ) (o : Option Sent) → Grows c n
+    → (if b then None else slice_get c.sent at) ≡ o → IsSome o → IsSome (if b then None else slice_get n.sent at)
+some_number b c n at None grow e some = absurd (nothing some)
+some_number b c n at (Some x) grow e some = subst IsSome (sym (number_grows b c n at x grow e)) refl
+
 pub knows_on : (c n : Cell) (stage : Stage) (source : Source) → Grows c n → KnowsAt c stage source → KnowsAt n stage source
-knows_on c n (Stage.Take k a) source grow is = from_grows c n k a source grow is
+knows_on c n (Stage.Take k a) source grow is =
+    (some_number (k == 0) c n (k - 1) (sent_as c.sent k) grow refl is.0, from_grows c n k a source grow is.1)
 knows_on c n (Stage.Send sent) source grow is =
     number_grows (sent.attempt == 0) c n (sent.attempt - 1) sent grow is
 knows_on c n Stage.Claim source grow is = tt
+knows_on c n (Stage.Unsure k) source grow is = tt
 knows_on c n Stage.Done source grow is = tt

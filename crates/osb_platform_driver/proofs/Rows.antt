@@ -15,13 +15,13 @@ use Rattle.osb_network.specs.Steps.{send_due, take as take_cell, take_garbled, t
 use Rattle.osb_network.specs.Steps.{with_sent, with_state as cell_in}
 use Rattle.osb_network.specs.declared.event.Event.{Event}
 use Rattle.osb_network.specs.declared.event.Given.{Given}
-use Rattle.osb_platform_driver.specs.Driver.{brought_up, claimed, cleaned, created_if, resting, sent_by, sent_if, take, taken_from}
+use Rattle.osb_platform_driver.specs.Driver.{brought_up, claimed, cleaned, created_if, resting, resume, sent_by, sent_if, take, taken_from}
 use Rattle.osb_platform_driver.specs.Driver.{taken_out, with_state}
 use Rattle.osb_platform_driver.specs.declared.driver.CleanUp.{CleanUp}
 use Rattle.osb_platform_driver.specs.declared.driver.Wishes.{Wishes}
 use Rattle.osb_platform_driver.specs.declared.world.Source.{Source}
 use Rattle.osb_platform_driver.specs.World.{IsFrom, IsGarbledOf, claim_events, claim_of, clean_up_events, create_events}
-use Rattle.osb_platform_driver.specs.World.{send_events, take_events}
+use Rattle.osb_platform_driver.specs.World.{resume_events, send_events, take_events}
 
 pub steps_on : (c : Cell) (xs ys : List Event) → cell_steps c (xs ++ ys) ≡ cell_steps (cell_steps c xs) ys
 steps_on c [] ys = refl
@@ -165,3 +165,8 @@ take_is c n None (Source.Given at) from = absurd from
 take_is c n None (Source.Garbled at) from = absurd from
 take_is c n None (Source.Gateway s) from = absurd from
 take_is c n (Some a) Source.Nowhere from = absurd from
+
+pub resume_is : (c : Cell) (o : Bool) (n : ℕ)
+    → (resume o n c.recorded).recorded ≡ (cell_steps c (resume_events o c.recorded n)).recorded
+resume_is c false n = refl
+resume_is c true n = timeout_is c n c.recorded refl

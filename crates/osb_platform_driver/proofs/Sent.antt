@@ -33,7 +33,7 @@ IsSentIn c tx = KnowsAt c tx.stage Source.Nowhere
 
 -- ---- numbers
 
-counted : (n : ℕ) (xs : List Sent) (i : ℕ) → IsNumbered n xs i → n + length xs ≡ i
+pub counted : (n : ℕ) (xs : List Sent) (i : ℕ) → IsNumbered n xs i → n + length xs ≡ i
 counted n [] i h = let e : n ≡ i = h in omega arith
 counted n (x ∷ xs) i h = let e : n + 1 + length xs ≡ i = counted (n + 1) xs i h.1 in omega arith
 
@@ -118,7 +118,7 @@ send_sent c id true r e same p =
 first_sent : (c : Cell) (xs : List Sent) (y : Sent) → xs ≡ [] → sent_as (xs ++ y ∷ []) 1 ≡ Some y
 first_sent c xs y e = subst (λ (zs : List Sent). sent_as (zs ++ y ∷ []) 1 ≡ Some y) (sym e) refl
 
-untouched : (c : Cell) (x : Option Recorded) → x ≡ None → IsPossibleWith c x → c.sent ≡ []
+pub untouched : (c : Cell) (x : Option Recorded) → x ≡ None → IsPossibleWith c x → c.sent ≡ []
 untouched c None e p = p.sent
 untouched c (Some r) e p = cc
 

@@ -1,21 +1,24 @@
 -- Whatever happens, the row is what the network's platform records, and each driver knows what it says of itself.
-use Rattle.std.proofs.Common.{◌≡◌, ◌⊎◌, ℕ, zero, suc, Bool, true, false, inl, inr, refl, sym, ap, subst, ◌∙◌}
+use Rattle.std.proofs.Common.{◌≡◌, ◌⊎◌, ℕ, zero, suc, ◌+◌, Bool, true, false, inl, inr, refl, sym, ap, subst, ◌∙◌}
 use Rattle.std.proofs.Common.{List, [], ◌∷◌, ◌++◌, arith}
-use Rattle.std.specs.Prelude.{Option, Some, None, IsSomeAnd, ◌==◌, if◌then◌else◌, slice_get, slice_set}
+use Rattle.std.specs.Prelude.{Option, Some, None, IsSome, IsSomeAnd, ◌==◌, if◌then◌else◌, slice_get, slice_set}
 use Rattle.std.proofs.lemmas.Bool.Decides.{nat_tests}
 use Rattle.osb_message.specs.declared.messages.Answer.{Answer}
 use Rattle.osb_message.specs.declared.messages.Kind.{Kind}
+use Rattle.osb_platform.specs.PlatformRow.{request_for, wanted_row}
 use Rattle.osb_platform.specs.State.{due}
 use Rattle.osb_platform.specs.Statuses.{is_within}
 use Rattle.osb_instance.specs.Recorded.{Recorded}
+use Rattle.osb_instance.specs.declared.record.Sent.{Sent}
 use Rattle.osb_network.specs.Cell.{Cell}
-use Rattle.osb_network.specs.Steps.{can_finish, cell_step, cell_steps, end_unknown, has_number, sent_as, unreadable}
+use Rattle.osb_network.specs.Steps.{can_finish, cell_step, cell_steps, end_unknown, has_number, next_recorded, sent_as, unreadable}
 use Rattle.osb_network.specs.Truth.{is_under_way}
 use Rattle.osb_network.specs.declared.event.Event.{Event}
 use Rattle.osb_network.specs.declared.event.Given.{Given}
 use Rattle.osb_network.specs.declared.order.Order.{Order}
 use Rattle.osb_network.proofs.Kept.{arrive_recorded, end_recorded, if_recorded, kept_step, kept_steps, put_off_recorded}
-use Rattle.osb_platform_driver.specs.Driver.{brought_up, cleaned, created_if, new_driver, resting, sent_by, sent_if, take}
+use Rattle.osb_platform_driver.specs.Driver.{brought_up, claimed, cleaned, created_if, given_up_if, new_driver, resting, resume}
+use Rattle.osb_platform_driver.specs.Driver.{sent_by, sent_if, take, taken_from}
 use Rattle.osb_platform_driver.specs.declared.driver.Stage.{Stage}
 use Rattle.osb_platform_driver.specs.declared.driver.Transaction.{Transaction}
 use Rattle.osb_platform_driver.specs.declared.driver.Wishes.{Wishes}
@@ -23,29 +26,40 @@ use Rattle.osb_platform_driver.specs.declared.world.Commit.{Commit}
 use Rattle.osb_platform_driver.specs.declared.world.Exchange.{Exchange}
 use Rattle.osb_platform_driver.specs.declared.world.Happening.{Happening}
 use Rattle.osb_platform_driver.specs.declared.world.Source.{Source}
-use Rattle.osb_platform_driver.specs.World.{IsFrom, IsGarbledOf, IsSound, Knows, KnowsAt, StaysSound, WorldState, answer_by}
-use Rattle.osb_platform_driver.specs.World.{answer_from, answer_step, at_stage, claim_by, claim_events, claim_of, claim_step}
-use Rattle.osb_platform_driver.specs.World.{garbled_to, given_to, is_outside, take_by, take_events, take_step, taking, transacted}
-use Rattle.osb_platform_driver.specs.World.{with_cell, with_stage, written}
-use Rattle.osb_platform_driver.proofs.Grown.{Grows, grows_steps, knows_on}
-use Rattle.osb_platform_driver.proofs.Rows.{claim_is, take_is}
+use Rattle.osb_platform_driver.specs.World.{HasInFlight, IsFrom, IsGarbledOf, IsInFlight, IsSound, Knows, KnowsAt, StaysSound}
+use Rattle.osb_platform_driver.specs.World.{WorldState, answer_by, answer_from, answer_step, at_stage, claim_by, claim_events}
+use Rattle.osb_platform_driver.specs.World.{claim_of, claim_step, garbled_to, given_to, is_outside, is_owner, resume_events}
+use Rattle.osb_platform_driver.specs.World.{take_by, take_events, take_step, taking, transacted, with_cell, with_stage}
+use Rattle.osb_platform_driver.specs.World.{written}
+use Rattle.osb_platform_driver.proofs.Grown.{Grows, grows_steps, knows_on, nothing}
+use Rattle.osb_platform_driver.proofs.Numbers.{next_unsent, none_sent, rests, resumed_less, same_attempt, taken_less}
+use Rattle.osb_platform_driver.proofs.Rows.{claim_is, resume_is, take_is}
 use Rattle.osb_platform_driver.proofs.Sent.{claim_sent}
 
 -- ---- the drivers
 
-abbrev AllKnow : Cell → List Exchange → Type 0
+abbrev pub AllKnow : Cell → List Exchange → Type 0
 AllKnow c xs = (at : ℕ) (x : Exchange) → slice_get xs at ≡ Some x → Knows c x
+
+-- the row has the number of the driver whose request is in flight
+abbrev pub AllOwn : Option Recorded → Option ℕ → List Exchange → Type 0
+AllOwn row owner xs =
+    (at : ℕ) (x : Exchange) → slice_get xs at ≡ Some x → HasInFlight row x.driver.stage → owner ≡ Some at
 
 same_exchange : (x y : Exchange) → Some x ≡ Some y → x ≡ y
 same_exchange x y e = cc
 
+further : (at k : ℕ) (P Q : Type 0) → ((k ≡ at) × P) ⊎ Q → ((suc k ≡ suc at) × P) ⊎ Q
+further at k P Q (inl e) = inl (ap suc e.0, e.1)
+further at k P Q (inr f) = inr f
+
 put_at : (xs : List Exchange) (at k : ℕ) (x : Exchange)
-    → (slice_get (slice_set xs at x) k ≡ Some x) ⊎ (slice_get (slice_set xs at x) k ≡ slice_get xs k)
+    → ((k ≡ at) × (slice_get (slice_set xs at x) k ≡ Some x)) ⊎ (slice_get (slice_set xs at x) k ≡ slice_get xs k)
 put_at [] at k x = inr refl
-put_at (y ∷ xs) zero zero x = inl refl
+put_at (y ∷ xs) zero zero x = inl (refl, refl)
 put_at (y ∷ xs) zero (suc k) x = inr refl
 put_at (y ∷ xs) (suc at) zero x = inr refl
-put_at (y ∷ xs) (suc at) (suc k) x = put_at xs at k x
+put_at (y ∷ xs) (suc at) (suc k) x = further at k _ _ (put_at xs at k x)
 
 pushed : (xs : List Exchange) (k : ℕ) (x : Exchange)
     → (slice_get (xs ++ x ∷ []) k ≡ Some x) ⊎ (slice_get (xs ++ x ∷ []) k ≡ slice_get xs k)
@@ -54,59 +68,130 @@ pushed [] (suc k) x = inr refl
 pushed (y ∷ xs) zero x = inr refl
 pushed (y ∷ xs) (suc k) x = pushed xs k x
 
-either_knows : (c : Cell) (o p : Option Exchange) (x y : Exchange) → (o ≡ Some x) ⊎ (o ≡ p) → Knows c x
-    → (p ≡ Some y → Knows c y) → o ≡ Some y → Knows c y
-either_knows c o p x y (inl e) new old is = subst (Knows c) (same_exchange x y (sym e ∙ is)) new
-either_knows c o p x y (inr e) new old is = old (sym e ∙ is)
+-- what holds of a driver that was put there, and of all others, holds of all
+either_put : (P : ℕ → Exchange → Type 0) (at k : ℕ) (o p : Option Exchange) (x y : Exchange)
+    → ((k ≡ at) × (o ≡ Some x)) ⊎ (o ≡ p) → P at x → (p ≡ Some y → P k y) → o ≡ Some y → P k y
+either_put P at k o p x y (inl e) new old is =
+    subst (λ (j : ℕ). P j y) (sym e.0) (subst (P at) (same_exchange x y (sym e.1 ∙ is)) new)
+either_put P at k o p x y (inr e) new old is = old (sym e ∙ is)
 
-all_put : (c : Cell) (xs : List Exchange) (at : ℕ) (x : Exchange) → Knows c x → AllKnow c xs → AllKnow c (slice_set xs at x)
-all_put c xs at x new old k y is =
-    either_knows c (slice_get (slice_set xs at x) k) (slice_get xs k) x y (put_at xs at k x) new (old k y) is
+all_put : (P : ℕ → Exchange → Type 0) (xs : List Exchange) (at : ℕ) (x : Exchange) → P at x
+    → ((k : ℕ) (y : Exchange) → slice_get xs k ≡ Some y → P k y) → (k : ℕ) (y : Exchange)
+    → slice_get (slice_set xs at x) k ≡ Some y → P k y
+all_put P xs at x new old k y is =
+    either_put P at k (slice_get (slice_set xs at x) k) (slice_get xs k) x y (put_at xs at k x) new (old k y) is
 
-all_pushed : (c : Cell) (xs : List Exchange) (x : Exchange) → Knows c x → AllKnow c xs → AllKnow c (xs ++ x ∷ [])
-all_pushed c xs x new old k y is =
-    either_knows c (slice_get (xs ++ x ∷ []) k) (slice_get xs k) x y (pushed xs k x) new (old k y) is
+either_pushed : (P : Exchange → Type 0) (o p : Option Exchange) (x y : Exchange) → (o ≡ Some x) ⊎ (o ≡ p) → P x
+    → (p ≡ Some y → P y) → o ≡ Some y → P y
+either_pushed P o p x y (inl e) new old is = subst P (same_exchange x y (sym e ∙ is)) new
+either_pushed P o p x y (inr e) new old is = old (sym e ∙ is)
+
+know_pushed : (c : Cell) (xs : List Exchange) (x : Exchange) → Knows c x → AllKnow c xs → AllKnow c (xs ++ x ∷ [])
+know_pushed c xs x new old k y is =
+    either_pushed (Knows c) (slice_get (xs ++ x ∷ []) k) (slice_get xs k) x y (pushed xs k x) new (old k y) is
+
+-- a driver that begins has no request
+own_pushed : (row : Option Recorded) (owner : Option ℕ) (xs : List Exchange) → AllOwn row owner xs
+    → AllOwn row owner (xs ++ record { driver = new_driver; source = Source.Nowhere } ∷ [])
+own_pushed row owner xs old k y is =
+    let x : Exchange = record { driver = new_driver; source = Source.Nowhere } in
+    either_pushed (λ (z : Exchange). HasInFlight row z.driver.stage → owner ≡ Some k) (slice_get (xs ++ x ∷ []) k)
+    (slice_get xs k) x y (pushed xs k x) (λ out. absurd out) (old k y) is
 
 all_on : (c n : Cell) (xs : List Exchange) → Grows c n → AllKnow c xs → AllKnow n xs
 all_on c n xs grow old k y is = knows_on c n y.driver.stage y.source grow (old k y is)
 
+abbrev own_at : Option Recorded → Option ℕ → ℕ → Exchange → Type 0
+own_at row owner at x = HasInFlight row x.driver.stage → owner ≡ Some at
+
 -- ---- transactions
 
-stage_sound : (s : WorldState) (at : ℕ) (stage : Stage) (source : Source) → KnowsAt s.cell stage source → IsSound s
-    → IsSound (with_stage s at stage source)
-stage_sound s at stage source new h = record {
+stage_sound : (s : WorldState) (at : ℕ) (stage : Stage) (source : Source) → KnowsAt s.cell stage source
+    → (HasInFlight s.row stage → s.owner ≡ Some at) → IsSound s → IsSound (with_stage s at stage source)
+stage_sound s at stage source new own h = record {
   row = h.row;
   possible = h.possible;
-  knows = all_put s.cell s.exchanges at (at_stage stage source) new h.knows;
+  knows = all_put (λ (k : ℕ) (y : Exchange). Knows s.cell y) s.exchanges at (at_stage stage source) new h.knows;
+  owns = all_put (own_at s.row s.owner) s.exchanges at (at_stage stage source) own h.owns;
 }
 
+abbrev owner_after : WorldState → ℕ → Transaction → Option ℕ
+owner_after s at tx = if tx.takes_over then Some at else s.owner
+
+-- what a driver knows and has at the stage after its transaction: once it is committed, and otherwise; and what the other
+-- drivers have then
+record GoesOn (s : WorldState) (n : Cell) (at : ℕ) (tx : Transaction) (source : Source) : Type 0 where
+  row : tx.recorded ≡ n.recorded
+  stage : KnowsAt n tx.stage source
+  unsure : KnowsAt s.cell tx.unsure source
+  failed : KnowsAt s.cell tx.failed source
+  others : AllOwn tx.recorded (owner_after s at tx) s.exchanges
+  stage_owns : HasInFlight tx.recorded tx.stage → owner_after s at tx ≡ Some at
+  unsure_owns : HasInFlight tx.recorded tx.unsure → owner_after s at tx ≡ Some at
+  unsure_own : HasInFlight s.row tx.unsure → s.owner ≡ Some at
+  failed_own : HasInFlight s.row tx.failed → s.owner ≡ Some at
+
 written_sound : (s : WorldState) (at : ℕ) (tx : Transaction) (es : List Event) (source : Source) (stage : Stage)
-    → tx.recorded ≡ (cell_steps s.cell es).recorded → KnowsAt (cell_steps s.cell es) stage source → IsSound s
-    → IsSound (written s at tx es source stage)
-written_sound s at tx es source stage row new h =
+    → tx.recorded ≡ (cell_steps s.cell es).recorded → KnowsAt (cell_steps s.cell es) stage source
+    → (HasInFlight tx.recorded stage → owner_after s at tx ≡ Some at)
+    → AllOwn tx.recorded (owner_after s at tx) s.exchanges → IsSound s → IsSound (written s at tx es source stage)
+written_sound s at tx es source stage row new own others h =
     let n = cell_steps s.cell es in
     record {
       row = row;
       possible = kept_steps s.cell es h.possible;
-      knows = all_put n s.exchanges at (at_stage stage source) new
+      knows = all_put (λ (k : ℕ) (y : Exchange). Knows n y) s.exchanges at (at_stage stage source) new
           (all_on s.cell n s.exchanges (grows_steps s.cell es) h.knows);
+      owns = all_put (own_at tx.recorded (owner_after s at tx)) s.exchanges at (at_stage stage source) own others;
     }
 
--- what a driver knows after its transaction: once it is committed, and otherwise
-record KnowAfter (c n : Cell) (tx : Transaction) (source : Source) : Type 0 where
-  stage : KnowsAt n tx.stage source
-  unsure : KnowsAt c tx.unsure source
-  failed : KnowsAt c tx.failed source
-
 transacted_sound : (commit : Commit) (s : WorldState) (at : ℕ) (tx : Transaction) (es : List Event) (source : Source)
-    → tx.recorded ≡ (cell_steps s.cell es).recorded → KnowAfter s.cell (cell_steps s.cell es) tx source → IsSound s
-    → IsSound (transacted commit s at tx es source)
-transacted_sound Commit.Returned s at tx es source row new h = written_sound s at tx es source tx.stage row new.stage h
-transacted_sound Commit.Failed s at tx es source row new h = stage_sound s at tx.failed source new.failed h
-transacted_sound (Commit.Unsure true) s at tx es source row new h =
-    written_sound s at tx es source tx.unsure row
-    (knows_on s.cell (cell_steps s.cell es) tx.unsure source (grows_steps s.cell es) new.unsure) h
-transacted_sound (Commit.Unsure false) s at tx es source row new h = stage_sound s at tx.unsure source new.unsure h
+    → GoesOn s (cell_steps s.cell es) at tx source → IsSound s → IsSound (transacted commit s at tx es source)
+transacted_sound Commit.Returned s at tx es source g h =
+    written_sound s at tx es source tx.stage g.row g.stage g.stage_owns g.others h
+transacted_sound Commit.Failed s at tx es source g h = stage_sound s at tx.failed source g.failed g.failed_own h
+transacted_sound (Commit.Unsure true) s at tx es source g h =
+    written_sound s at tx es source tx.unsure g.row
+    (knows_on s.cell (cell_steps s.cell es) tx.unsure source (grows_steps s.cell es) g.unsure) g.unsure_owns g.others h
+transacted_sound (Commit.Unsure false) s at tx es source g h = stage_sound s at tx.unsure source g.unsure g.unsure_own h
+
+-- ---- who has a request in flight
+
+none_out : (stage : Stage) → HasInFlight None stage → ⊥
+none_out Stage.Claim out = out
+none_out (Stage.Send sent) out = out
+none_out (Stage.Take n a) out = out
+none_out (Stage.Unsure n) out = out
+none_out Stage.Done out = out
+
+-- nothing is in flight of a record with nothing out
+at_rest : (r : Recorded) (stage : Stage) → r.row.out ≡ None → HasInFlight (Some r) stage → ⊥
+at_rest r Stage.Claim e out = out
+at_rest r (Stage.Send sent) e out = nothing (subst IsSome e out.0)
+at_rest r (Stage.Take n a) e out = nothing (subst IsSome e out.0)
+at_rest r (Stage.Unsure n) e out = out
+at_rest r Stage.Done e out = out
+
+-- a driver that has a request in flight has sent it
+record WasSent (c : Cell) (row : Option Recorded) : Type 0 where
+  attempt : ℕ
+  sent : IsSome (sent_as c.sent attempt)
+  out : IsInFlight row attempt
+
+was_sent : (c : Cell) (row : Option Recorded) (stage : Stage) (source : Source) → KnowsAt c stage source
+    → HasInFlight row stage → WasSent c row
+was_sent c row Stage.Claim source k out = absurd out
+was_sent c row (Stage.Send sent) source k out =
+    record { attempt = sent.attempt; sent = subst IsSome (sym k) refl; out = out }
+was_sent c row (Stage.Take n a) source k out = record { attempt = n; sent = k.0; out = out }
+was_sent c row (Stage.Unsure n) source k out = absurd out
+was_sent c row Stage.Done source k out = absurd out
+
+-- the row changes so that no more is in flight than before
+others_keep : (s : WorldState) (after : Option Recorded)
+    → ((stage : Stage) → HasInFlight after stage → HasInFlight s.row stage) → IsSound s
+    → AllOwn after s.owner s.exchanges
+others_keep s after less h k y is out = h.owns k y is (less y.driver.stage out)
 
 -- ---- the first transaction
 
@@ -115,53 +200,111 @@ claim_row : (s : WorldState) (w : Wishes) → IsSound s
 claim_row s w h =
     ap (λ (x : Option Recorded). (claim_of s.cell.order w x).recorded) h.row ∙ claim_is s.cell w s.cell.recorded refl
 
--- without a commit nothing is to be sent
-record IsQuiet (c : Cell) (tx : Transaction) : Type 0 where
-  unsure : KnowsAt c tx.unsure Source.Nowhere
-  failed : KnowsAt c tx.failed Source.Nowhere
+-- what a first transaction leaves in flight is its own driver's
+record IsOwn (s : WorldState) (at : ℕ) (tx : Transaction) : Type 0 where
+  unsure : KnowsAt s.cell tx.unsure Source.Nowhere
+  failed : KnowsAt s.cell tx.failed Source.Nowhere
+  others : AllOwn tx.recorded (owner_after s at tx) s.exchanges
+  stage_owns : HasInFlight tx.recorded tx.stage → owner_after s at tx ≡ Some at
+  unsure_owns : HasInFlight tx.recorded tx.unsure → owner_after s at tx ≡ Some at
+  unsure_own : HasInFlight s.row tx.unsure → s.owner ≡ Some at
+  failed_own : HasInFlight s.row tx.failed → s.owner ≡ Some at
 
-quiet_if : (b : Bool) (c : Cell) (t u : Transaction) → IsQuiet c t → IsQuiet c u → IsQuiet c (if b then t else u)
-quiet_if true c t u p q = p
-quiet_if false c t u p q = q
+own_rest : (s : WorldState) (at : ℕ) (after : Option Recorded) → ((stage : Stage) → HasInFlight after stage → ⊥)
+    → IsOwn s at (resting after)
+own_rest s at after quiet = record {
+  unsure = tt;
+  failed = tt;
+  others = λ k y is out. absurd (quiet y.driver.stage out);
+  stage_owns = λ out. absurd out;
+  unsure_owns = λ out. absurd out;
+  unsure_own = λ out. absurd out;
+  failed_own = λ out. absurd out;
+}
 
-quiet_sent : (c : Cell) (id : ℕ) (r : Recorded) (out next : Option Kind) → IsQuiet c (sent_by id r out next)
-quiet_sent c id r None None = record { unsure = tt; failed = tt }
-quiet_sent c id r None (Some kind) =
-    quiet_if (has_number r) c _ (resting (Some r)) (record { unsure = tt; failed = tt }) (record { unsure = tt; failed = tt })
-quiet_sent c id r (Some k) None = record { unsure = tt; failed = tt }
-quiet_sent c id r (Some k) (Some kind) = record { unsure = tt; failed = tt }
+own_sent : (s : WorldState) (at : ℕ) (r : Recorded) (sent : Sent)
+    → ((k : ℕ) (y : Exchange) → slice_get s.exchanges k ≡ Some y → HasInFlight (Some r) y.driver.stage → ⊥)
+    → IsOwn s at (claimed r sent)
+own_sent s at r sent new = record {
+  unsure = tt;
+  failed = tt;
+  others = λ k y is out. absurd (new k y is out);
+  stage_owns = λ out. refl;
+  unsure_owns = λ out. absurd out;
+  unsure_own = λ out. absurd out;
+  failed_own = λ out. absurd out;
+}
 
-quiet_sent_if : (c : Cell) (b : Bool) (id : ℕ) (r : Recorded) → IsQuiet c (sent_if b id r)
-quiet_sent_if c false id r = record { unsure = tt; failed = tt }
-quiet_sent_if c true id r = quiet_sent c id r r.row.out (due r.row.state)
+-- a number that nobody has sent before
+is_new : (s : WorldState) (r : Recorded) → IsSound s → ((n : ℕ) → IsSome (sent_as s.cell.sent n) → r.attempt ≡ n → ⊥)
+    → (k : ℕ) (y : Exchange) → slice_get s.exchanges k ≡ Some y → HasInFlight (Some r) y.driver.stage → ⊥
+is_new s r h unsent k y is out =
+    let was = was_sent s.cell (Some r) y.driver.stage y.source (h.knows k y is) out in
+    unsent was.attempt was.sent was.out.1
 
-quiet_created : (c : Cell) (b : Bool) (o : Order) → IsQuiet c (created_if b o.id o.service o.plan o.accepts)
-quiet_created c false o = record { unsure = tt; failed = tt }
-quiet_created c true o = record { unsure = tt; failed = tt }
+own_number : (b : Bool) (s : WorldState) (at id : ℕ) (r : Recorded) (kind : Kind) → r.row.out ≡ None
+    → ((n : ℕ) → IsSome (sent_as s.cell.sent n) → r.attempt + 1 ≡ n → ⊥) → IsSound s
+    → IsOwn s at (if b
+    then claimed (next_recorded r kind) (record { request = request_for id r.row kind; attempt = r.attempt + 1 })
+    else resting (Some r))
+own_number true s at id r kind e unsent h = own_sent s at (next_recorded r kind) _ (is_new s (next_recorded r kind) h unsent)
+own_number false s at id r kind e unsent h = own_rest s at (Some r) (λ stage. at_rest r stage e)
 
-quiet_claim : (c : Cell) (o : Order) (w : Wishes) (x : Option Recorded) → IsQuiet c (claim_of o w x)
-quiet_claim c o w None = quiet_created c w.create o
-quiet_claim c o w (Some r) = quiet_sent_if c w.send o.id (cleaned w.clean_up (brought_up r))
+own_by : (s : WorldState) (at id : ℕ) (r : Recorded) (out next : Option Kind) → r.row.out ≡ None
+    → ((n : ℕ) → IsSome (sent_as s.cell.sent n) → r.attempt + 1 ≡ n → ⊥) → IsSound s
+    → IsOwn s at (sent_by id r out next)
+own_by s at id r None None e unsent h = own_rest s at (Some r) (λ stage. at_rest r stage e)
+own_by s at id r None (Some kind) e unsent h = own_number (has_number r) s at id r kind e unsent h
+own_by s at id r (Some k) None e unsent h = own_rest s at (Some r) (λ stage. at_rest r stage e)
+own_by s at id r (Some k) (Some kind) e unsent h = own_rest s at (Some r) (λ stage. at_rest r stage e)
 
-claim_knows : (s : WorldState) (w : Wishes) → IsSound s
-    → KnowAfter s.cell (cell_steps s.cell (claim_events w s.cell.recorded)) (claim_of s.cell.order w s.row) Source.Nowhere
-claim_knows s w h =
-    let quiet = quiet_claim s.cell s.cell.order w s.row in
+own_if : (s : WorldState) (at id : ℕ) (b : Bool) (r : Recorded) → r.row.out ≡ None
+    → ((n : ℕ) → IsSome (sent_as s.cell.sent n) → r.attempt + 1 ≡ n → ⊥) → IsSound s → IsOwn s at (sent_if b id r)
+own_if s at id false r e unsent h = own_rest s at (Some r) (λ stage. at_rest r stage e)
+own_if s at id true r e unsent h = own_by s at id r r.row.out (due r.row.state) e unsent h
+
+own_created : (s : WorldState) (at : ℕ) (b : Bool) (o : Order) → s.cell.recorded ≡ None → IsSound s
+    → IsOwn s at (created_if b o.id o.service o.plan o.accepts)
+own_created s at false o e h = own_rest s at None none_out
+own_created s at true o e h =
+    own_sent s at (record { row = wanted_row o.service o.plan; attempt = 1 }) _
+    (is_new s (record { row = wanted_row o.service o.plan; attempt = 1 }) h (λ n some same. none_sent s.cell e h.possible n some))
+
+own_claim : (s : WorldState) (at : ℕ) (w : Wishes) (x : Option Recorded) → s.cell.recorded ≡ x → IsSound s
+    → IsOwn s at (claim_of s.cell.order w x)
+own_claim s at w None e h = own_created s at w.create s.cell.order e h
+own_claim s at w (Some r) e h =
+    let rest = cleaned w.clean_up (brought_up r) in
+    own_if s at s.cell.order.id w.send rest (rests w.clean_up r)
+    (λ n some same. next_unsent s.cell r rest.attempt n e h.possible (same_attempt w.clean_up r) some same) h
+
+claim_goes : (s : WorldState) (at : ℕ) (w : Wishes) → IsSound s
+    → GoesOn s (cell_steps s.cell (claim_events w s.cell.recorded)) at (claim_of s.cell.order w s.row) Source.Nowhere
+claim_goes s at w h =
+    let own = subst (λ (x : Option Recorded). IsOwn s at (claim_of s.cell.order w x)) (sym h.row)
+    (own_claim s at w s.cell.recorded refl h) in
     let n = cell_steps s.cell (claim_events w s.cell.recorded) in
     record {
+      row = claim_row s w h;
       stage = subst (λ (x : Option Recorded). KnowsAt n (claim_of s.cell.order w x).stage Source.Nowhere) (sym h.row)
           (claim_sent s.cell w s.cell.recorded refl h.possible);
-      unsure = quiet.unsure;
-      failed = quiet.failed;
+      unsure = own.unsure;
+      failed = own.failed;
+      others = own.others;
+      stage_owns = own.stage_owns;
+      unsure_owns = own.unsure_owns;
+      unsure_own = own.unsure_own;
+      failed_own = own.failed_own;
     }
 
 claim_sound : (s : WorldState) (at : ℕ) (w : Wishes) (commit : Commit) (stage : Stage) → IsSound s
     → IsSound (claim_by s at w commit stage)
 claim_sound s at w commit Stage.Claim h =
     transacted_sound commit s at (claim_of s.cell.order w s.row) (claim_events w s.cell.recorded) Source.Nowhere
-    (claim_row s w h) (claim_knows s w h) h
+    (claim_goes s at w h) h
 claim_sound s at w commit (Stage.Send sent) h = h
 claim_sound s at w commit (Stage.Take n a) h = h
+claim_sound s at w commit (Stage.Unsure n) h = h
 claim_sound s at w commit Stage.Done h = h
 
 claims_sound : (s : WorldState) (at : ℕ) (w : Wishes) (commit : Commit) (x : Option Exchange) → IsSound s
@@ -176,19 +319,49 @@ take_row : (s : WorldState) (n : ℕ) (a : Option Answer) (source : Source) → 
 take_row s n a source from h =
     ap (λ (x : Option Recorded). (take n a x).recorded) h.row ∙ take_is s.cell n a source from
 
+resume_row : (s : WorldState) (o : Bool) (n : ℕ) → IsSound s
+    → (resume o n s.row).recorded ≡ (cell_steps s.cell (resume_events o s.cell.recorded n)).recorded
+resume_row s o n h = ap (λ (x : Option Recorded). (resume o n x).recorded) h.row ∙ resume_is s.cell o n
+
 take_sound : (s : WorldState) (at : ℕ) (commit : Commit) (source : Source) (stage : Stage) → KnowsAt s.cell stage source
-    → IsSound s → IsSound (take_by s at commit source stage)
-take_sound s at commit source (Stage.Take n a) from h =
+    → (HasInFlight s.row stage → s.owner ≡ Some at) → IsSound s → IsSound (take_by s at commit source stage)
+take_sound s at commit source (Stage.Take n a) from own h =
+    let less = (λ (stage : Stage). taken_less n a s.row stage) in
     transacted_sound commit s at (take n a s.row) (take_events s.cell.recorded n source) source
-    (take_row s n a source from h) (record { stage = tt; unsure = from; failed = from }) h
-take_sound s at commit source Stage.Claim from h = h
-take_sound s at commit source (Stage.Send sent) from h = h
-take_sound s at commit source Stage.Done from h = h
+    (record {
+      row = take_row s n a source from.1 h;
+      stage = tt;
+      unsure = from;
+      failed = from;
+      others = others_keep s (taken_from n a s.row) less h;
+      stage_owns = λ out. absurd out;
+      unsure_owns = λ out. own (less (Stage.Take n a) out);
+      unsure_own = own;
+      failed_own = own;
+    }) h
+take_sound s at commit source (Stage.Unsure n) from own h =
+    let o = is_owner s.owner at in
+    transacted_sound commit s at (resume o n s.row) (resume_events o s.cell.recorded n) Source.Nowhere
+    (record {
+      row = resume_row s o n h;
+      stage = tt;
+      unsure = tt;
+      failed = tt;
+      others = others_keep s (given_up_if o n s.row) (λ stage. resumed_less o n s.row stage) h;
+      stage_owns = λ out. absurd out;
+      unsure_owns = λ out. absurd out;
+      unsure_own = λ out. absurd out;
+      failed_own = λ out. absurd out;
+    }) h
+take_sound s at commit source Stage.Claim from own h = h
+take_sound s at commit source (Stage.Send sent) from own h = h
+take_sound s at commit source Stage.Done from own h = h
 
 takes_sound : (s : WorldState) (at : ℕ) (commit : Commit) (x : Option Exchange) → slice_get s.exchanges at ≡ x
     → IsSound s → IsSound (take_step s at commit x)
 takes_sound s at commit None is h = h
-takes_sound s at commit (Some x) is h = take_sound s at commit x.source x.driver.stage (h.knows at x is) h
+takes_sound s at commit (Some x) is h =
+    take_sound s at commit x.source x.driver.stage (h.knows at x is) (h.owns at x is) h
 
 -- ---- answers
 
@@ -199,45 +372,58 @@ sound_if : (b : Bool) (s t : WorldState) → (b ≡ true → IsSound t) → IsSo
 sound_if true s t on h = on refl
 sound_if false s t on h = h
 
-given_sound : (s : WorldState) (at n place : ℕ) (g : Option Given) → slice_get s.cell.given place ≡ g → IsSound s
-    → IsSound (given_to s at n place g)
-given_sound s at n place None is h = h
-given_sound s at n place (Some g) is h =
+-- of a driver whose request was sent
+record IsWaiting (s : WorldState) (at n : ℕ) : Type 0 where
+  sent : IsSome (sent_as s.cell.sent n)
+  own : IsInFlight s.row n → s.owner ≡ Some at
+
+taking_sound : (s : WorldState) (at n : ℕ) (a : Option Answer) (source : Source) → IsFrom s.cell.given n a source
+    → IsWaiting s at n → IsSound s → IsSound (with_stage s at (Stage.Take n a) source)
+taking_sound s at n a source from wait h = stage_sound s at (Stage.Take n a) source (wait.sent, from) wait.own h
+
+given_sound : (s : WorldState) (at n place : ℕ) (g : Option Given) → slice_get s.cell.given place ≡ g
+    → IsWaiting s at n → IsSound s → IsSound (given_to s at n place g)
+given_sound s at n place None is wait h = h
+given_sound s at n place (Some g) is wait h =
     sound_if (g.attempt == n) s (taking s at n g.answer (Source.Given place))
-    (λ e. stage_sound s at (Stage.Take n (Some g.answer)) (Source.Given place)
-    (is ∙ ap (λ (k : ℕ). Some record { attempt = k; answer = g.answer }) (same_number g.attempt n e)) h) h
+    (λ e. taking_sound s at n (Some g.answer) (Source.Given place)
+    (is ∙ ap (λ (k : ℕ). Some record { attempt = k; answer = g.answer }) (same_number g.attempt n e)) wait h) h
 
 abbrev IsGarbledBy : Option Given → ℕ → Answer → Type 0
 IsGarbledBy o n a = IsSomeAnd o (IsGarbledOf n a)
 
-garbled_sound : (s : WorldState) (at n place : ℕ) (g : Option Given) → slice_get s.cell.given place ≡ g → IsSound s
-    → IsSound (garbled_to s at n place g)
-garbled_sound s at n place None is h = h
-garbled_sound s at n place (Some g) is h =
+garbled_sound : (s : WorldState) (at n place : ℕ) (g : Option Given) → slice_get s.cell.given place ≡ g
+    → IsWaiting s at n → IsSound s → IsSound (garbled_to s at n place g)
+garbled_sound s at n place None is wait h = h
+garbled_sound s at n place (Some g) is wait h =
     sound_if (g.attempt == n) s (taking s at n (unreadable g.answer.status) (Source.Garbled place))
-    (λ e. stage_sound s at (Stage.Take n (Some (unreadable g.answer.status))) (Source.Garbled place)
-    (subst (λ (o : Option Given). IsGarbledBy o n (unreadable g.answer.status)) (sym is) (same_number g.attempt n e, refl)) h)
-    h
+    (λ e. taking_sound s at n (Some (unreadable g.answer.status)) (Source.Garbled place)
+    (subst (λ (o : Option Given). IsGarbledBy o n (unreadable g.answer.status)) (sym is) (same_number g.attempt n e, refl))
+    wait h) h
 
-from_sound : (s : WorldState) (at n : ℕ) (source : Source) → IsSound s → IsSound (answer_from s at n source)
-from_sound s at n Source.Nowhere h = stage_sound s at (Stage.Take n None) Source.Nowhere tt h
-from_sound s at n (Source.Given place) h = given_sound s at n place (slice_get s.cell.given place) refl h
-from_sound s at n (Source.Garbled place) h = garbled_sound s at n place (slice_get s.cell.given place) refl h
-from_sound s at n (Source.Gateway status) h =
+from_sound : (s : WorldState) (at n : ℕ) (source : Source) → IsWaiting s at n → IsSound s
+    → IsSound (answer_from s at n source)
+from_sound s at n Source.Nowhere wait h = taking_sound s at n None Source.Nowhere tt wait h
+from_sound s at n (Source.Given place) wait h = given_sound s at n place (slice_get s.cell.given place) refl wait h
+from_sound s at n (Source.Garbled place) wait h = garbled_sound s at n place (slice_get s.cell.given place) refl wait h
+from_sound s at n (Source.Gateway status) wait h =
     sound_if (is_within 500 599 status) s (taking s at n (unreadable status) (Source.Gateway status))
-    (λ e. stage_sound s at (Stage.Take n (Some (unreadable status))) (Source.Gateway status) (e, refl) h) h
+    (λ e. taking_sound s at n (Some (unreadable status)) (Source.Gateway status) (e, refl) wait h) h
 
-answer_sound : (s : WorldState) (at : ℕ) (source : Source) (stage : Stage) → IsSound s
-    → IsSound (answer_by s at source stage)
-answer_sound s at source (Stage.Send sent) h = from_sound s at sent.attempt source h
-answer_sound s at source Stage.Claim h = h
-answer_sound s at source (Stage.Take n a) h = h
-answer_sound s at source Stage.Done h = h
+answer_sound : (s : WorldState) (at : ℕ) (source : Source) (stage : Stage) (before : Source) → KnowsAt s.cell stage before
+    → (HasInFlight s.row stage → s.owner ≡ Some at) → IsSound s → IsSound (answer_by s at source stage)
+answer_sound s at source (Stage.Send sent) before know own h =
+    from_sound s at sent.attempt source (record { sent = subst IsSome (sym know) refl; own = own }) h
+answer_sound s at source Stage.Claim before know own h = h
+answer_sound s at source (Stage.Take n a) before know own h = h
+answer_sound s at source (Stage.Unsure n) before know own h = h
+answer_sound s at source Stage.Done before know own h = h
 
-answers_sound : (s : WorldState) (at : ℕ) (source : Source) (x : Option Exchange) → IsSound s
-    → IsSound (answer_step s at source x)
-answers_sound s at source None h = h
-answers_sound s at source (Some x) h = answer_sound s at source x.driver.stage h
+answers_sound : (s : WorldState) (at : ℕ) (source : Source) (x : Option Exchange) → slice_get s.exchanges at ≡ x
+    → IsSound s → IsSound (answer_step s at source x)
+answers_sound s at source None is h = h
+answers_sound s at source (Some x) is h =
+    answer_sound s at source x.driver.stage x.source (h.knows at x is) (h.owns at x is) h
 
 -- ---- whatever happens
 
@@ -271,6 +457,7 @@ outside_sound s e out h = record {
   row = h.row ∙ sym (unrecorded s.cell e out);
   possible = kept_step s.cell e h.possible;
   knows = all_on s.cell (cell_step s.cell e) s.exchanges (grows_steps s.cell (e ∷ [])) h.knows;
+  owns = h.owns;
 }
 
 pub stays_sound : StaysSound
@@ -279,8 +466,9 @@ stays_sound s (Happening.Outside e) h =
 stays_sound s Happening.Begin h = record {
   row = h.row;
   possible = h.possible;
-  knows = all_pushed s.cell s.exchanges (record { driver = new_driver; source = Source.Nowhere }) tt h.knows;
+  knows = know_pushed s.cell s.exchanges (record { driver = new_driver; source = Source.Nowhere }) tt h.knows;
+  owns = own_pushed s.row s.owner s.exchanges h.owns;
 }
 stays_sound s (Happening.Claim at w commit) h = claims_sound s at w commit (slice_get s.exchanges at) h
-stays_sound s (Happening.Answer at source) h = answers_sound s at source (slice_get s.exchanges at) h
+stays_sound s (Happening.Answer at source) h = answers_sound s at source (slice_get s.exchanges at) refl h
 stays_sound s (Happening.Take at commit) h = takes_sound s at commit (slice_get s.exchanges at) refl h

@@ -38,13 +38,14 @@ cleaned (Some wish) r = if is_none r.row.out && states_of wish r.row.state then 
 
 abbrev pub resting : Option Recorded → Transaction
 resting recorded =
-    record { recorded = recorded; stage = Stage.Done; unsure = Stage.Done; failed = Stage.Done }
+    record { recorded = recorded; takes_over = false; stage = Stage.Done; unsure = Stage.Done; failed = Stage.Done }
 
 abbrev pub claimed : Recorded → Sent → Transaction
 claimed r sent = record {
   recorded = Some r;
+  takes_over = true;
   stage = Stage.Send sent;
-  unsure = Stage.Done;
+  unsure = Stage.Unsure sent.attempt;
   failed = Stage.Done;
 }
 
@@ -95,7 +96,22 @@ taken_from attempt answer (Some r) = Some (taken attempt answer r)
 abbrev pub take : ℕ → Option Answer → Option Recorded → Transaction
 take attempt answer recorded = record {
   recorded = taken_from attempt answer recorded;
+  takes_over = false;
   stage = Stage.Done;
   unsure = Stage.Take attempt answer;
   failed = Stage.Take attempt answer;
+}
+
+abbrev pub given_up_if : Bool → ℕ → Option Recorded → Option Recorded
+given_up_if false attempt recorded = recorded
+given_up_if true attempt recorded = taken_from attempt None recorded
+
+-- the last transaction of a driver that doesn't know whether its first one was committed
+abbrev pub resume : Bool → ℕ → Option Recorded → Transaction
+resume is_owner attempt recorded = record {
+  recorded = given_up_if is_owner attempt recorded;
+  takes_over = false;
+  stage = Stage.Done;
+  unsure = Stage.Unsure attempt;
+  failed = Stage.Unsure attempt;
 }

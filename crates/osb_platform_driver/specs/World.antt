@@ -1,7 +1,7 @@
 -- Any number of drivers of a platform at one instance, and what each step of them makes of it. The cell is the network's
 -- instance.
 use Rattle.std.specs.Prelude.{◌≡◌, ⊤, ℕ, Bool, true, false, ◌==◌, if◌then◌else◌, slice_get, slice_set}
-use Rattle.std.specs.Prelude.{Option, Some, None, IsSomeAnd, List, [], ◌∷◌, ◌++◌}
+use Rattle.std.specs.Prelude.{Option, Some, None, IsSome, IsSomeAnd, List, [], ◌∷◌, ◌++◌, ◌⊎◌}
 use Rattle.osb_message.specs.declared.messages.Answer.{Answer}
 use Rattle.osb_platform.specs.Statuses.{is_within}
 use Rattle.osb_instance.specs.Recorded.{Recorded}
@@ -11,7 +11,7 @@ use Rattle.osb_network.specs.Steps.{cell_step, cell_steps, is_out, sent_as, unre
 use Rattle.osb_network.specs.declared.event.Event.{Event}
 use Rattle.osb_network.specs.declared.event.Given.{Given}
 use Rattle.osb_network.specs.declared.order.Order.{Order}
-use Rattle.osb_platform_driver.specs.Driver.{claim, new_driver, take}
+use Rattle.osb_platform_driver.specs.Driver.{claim, new_driver, resume, take}
 use Rattle.osb_platform_driver.specs.declared.driver.CleanUp.{CleanUp}
 use Rattle.osb_platform_driver.specs.declared.driver.Stage.{Stage}
 use Rattle.osb_platform_driver.specs.declared.driver.Transaction.{Transaction}
@@ -24,14 +24,15 @@ use Rattle.osb_platform_driver.specs.declared.world.Source.{Source}
 pub record WorldState : Type 0 where
   -- the network's instance
   pub cell : Cell
-  -- what is committed in the platform's database
+  -- what is committed in the platform's database, and which driver's number the row has
   pub row : Option Recorded
+  pub owner : Option ℕ
   -- all drivers that there ever were, of all processes
   pub exchanges : List Exchange
 
 -- of an instance that nothing has happened to
 abbrev pub empty_world : Order → WorldState
-empty_world order = record { cell = empty_cell order; row = None; exchanges = [] }
+empty_world order = record { cell = empty_cell order; row = None; owner = None; exchanges = [] }
 
 -- ---- what is true of the drivers
 
@@ -50,11 +51,23 @@ IsFrom given attempt answer source = ⊥
 -- the request to send is the network's of that number, and so was recorded; an answer came to the driver's own request
 abbrev pub KnowsAt : Cell → Stage → Source → Type 0
 KnowsAt cell (Stage.Send sent) source = sent_as cell.sent sent.attempt ≡ Some sent
-KnowsAt cell (Stage.Take attempt answer) source = IsFrom cell.given attempt answer source
+KnowsAt cell (Stage.Take attempt answer) source =
+    IsSome (sent_as cell.sent attempt) × IsFrom cell.given attempt answer source
 KnowsAt cell stage source = ⊤
 
 abbrev pub Knows : Cell → Exchange → Type 0
 Knows cell exchange = KnowsAt cell exchange.driver.stage exchange.source
+
+-- the request of the attempt is in flight
+abbrev pub IsInFlight : Option Recorded → ℕ → Type 0
+IsInFlight None attempt = ⊥
+IsInFlight (Some r) attempt = IsSome r.row.out × (r.attempt ≡ attempt)
+
+-- the driver's request is in flight
+abbrev pub HasInFlight : Option Recorded → Stage → Type 0
+HasInFlight recorded (Stage.Send sent) = IsInFlight recorded sent.attempt
+HasInFlight recorded (Stage.Take attempt answer) = IsInFlight recorded attempt
+HasInFlight recorded stage = ⊥
 
 -- the world is the network's instance
 pub record IsSound (world : WorldState) : Type 0 where
@@ -62,6 +75,9 @@ pub record IsSound (world : WorldState) : Type 0 where
   -- the instance can come about
   pub possible : IsPossible world.cell
   pub knows : (at : ℕ) (exchange : Exchange) → slice_get world.exchanges at ≡ Some exchange → Knows world.cell exchange
+  -- the row has the number of the driver whose request is in flight
+  pub owns : (at : ℕ) (exchange : Exchange) → slice_get world.exchanges at ≡ Some exchange
+      → HasInFlight world.row exchange.driver.stage → world.owner ≡ Some at
 
 -- ---- steps
 
@@ -104,6 +120,7 @@ abbrev pub written : WorldState → ℕ → Transaction → List Event → Sourc
 written world at tx events source stage = record {
   cell = cell_steps world.cell events;
   row = tx.recorded;
+  owner = if tx.takes_over then Some at else world.owner;
   exchanges = slice_set world.exchanges at (at_stage stage source);
 }
 
@@ -126,9 +143,22 @@ abbrev pub claim_step : WorldState → ℕ → Wishes → Commit → Option Exch
 claim_step world at wishes commit None = world
 claim_step world at wishes commit (Some exchange) = claim_by world at wishes commit exchange.driver.stage
 
+-- whether the row has the driver's number
+abbrev pub is_owner : Option ℕ → ℕ → Bool
+is_owner None at = false
+is_owner (Some owner) at = owner == at
+
+-- the events of a last transaction of a driver that doesn't know whether its first one was committed
+abbrev pub resume_events : Bool → Option Recorded → ℕ → List Event
+resume_events false recorded attempt = []
+resume_events true recorded attempt = take_events recorded attempt Source.Nowhere
+
 abbrev pub take_by : WorldState → ℕ → Commit → Source → Stage → WorldState
 take_by world at commit source (Stage.Take attempt answer) =
     transacted commit world at (take attempt answer world.row) (take_events world.cell.recorded attempt source) source
+take_by world at commit source (Stage.Unsure attempt) =
+    let own = is_owner world.owner at in
+    transacted commit world at (resume own attempt world.row) (resume_events own world.cell.recorded attempt) Source.Nowhere
 take_by world at commit source stage = world
 
 abbrev pub take_step : WorldState → ℕ → Commit → Option Exchange → WorldState
@@ -209,14 +239,16 @@ abbrev pub claimed_by : Cell → Wishes → Commit → Option Exchange → List 
 claimed_by cell wishes commit None = []
 claimed_by cell wishes commit (Some exchange) = claimed_events cell wishes commit exchange.driver.stage
 
-abbrev pub taken_events : Cell → Commit → Source → Stage → List Event
-taken_events cell commit source (Stage.Take attempt answer) =
-    committed_events commit (take_events cell.recorded attempt source)
-taken_events cell commit source stage = []
+abbrev pub taken_events : WorldState → ℕ → Commit → Source → Stage → List Event
+taken_events world at commit source (Stage.Take attempt answer) =
+    committed_events commit (take_events world.cell.recorded attempt source)
+taken_events world at commit source (Stage.Unsure attempt) =
+    committed_events commit (resume_events (is_owner world.owner at) world.cell.recorded attempt)
+taken_events world at commit source stage = []
 
-abbrev pub taken_by : Cell → Commit → Option Exchange → List Event
-taken_by cell commit None = []
-taken_by cell commit (Some exchange) = taken_events cell commit exchange.source exchange.driver.stage
+abbrev pub taken_by : WorldState → ℕ → Commit → Option Exchange → List Event
+taken_by world at commit None = []
+taken_by world at commit (Some exchange) = taken_events world at commit exchange.source exchange.driver.stage
 
 -- what a happening is in the network
 abbrev pub happened : WorldState → Happening → List Event
@@ -225,7 +257,7 @@ happened world Happening.Begin = []
 happened world (Happening.Claim at wishes commit) =
     claimed_by world.cell wishes commit (slice_get world.exchanges at)
 happened world (Happening.Answer at source) = []
-happened world (Happening.Take at commit) = taken_by world.cell commit (slice_get world.exchanges at)
+happened world (Happening.Take at commit) = taken_by world at commit (slice_get world.exchanges at)
 
 abbrev pub world_steps : WorldState → List Happening → WorldState
 world_steps world [] = world
@@ -242,6 +274,12 @@ abbrev pub AreRuns : Type 0
 AreRuns =
     (world : WorldState) (happening : Happening)
     → (world_step world happening).cell ≡ cell_steps world.cell (happened world happening)
+
+-- the last transaction of a driver changes the row only if the row has the driver's number
+abbrev pub AreOwn : Type 0
+AreOwn =
+    (world : WorldState) (at : ℕ) (commit : Commit) → IsSound world
+    → ((world_step world (Happening.Take at commit)).row ≡ world.row) ⊎ (world.owner ≡ Some at)
 
 abbrev pub IsRun : Cell → Cell → Type 0
 IsRun before after = (events : List Event) × (after ≡ cell_steps before events)

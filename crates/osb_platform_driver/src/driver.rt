@@ -44,6 +44,11 @@ pub enum Stage {
         /// The answer; none if none came, or none that is surely the broker's.
         answer: Option<Answer>,
     },
+    /// Run the last transaction, since nobody knows whether the first one was committed: [`Driver::resume`].
+    Unsure {
+        /// The attempt.
+        attempt: u64,
+    },
     /// Nothing is left to do.
     Done,
 }
@@ -53,6 +58,8 @@ pub enum Stage {
 pub struct Transaction {
     /// The record to write.
     pub recorded: Option<Record>,
+    /// Whether the number of the driver becomes that of the row.
+    pub takes_over: bool,
     /// The stage once the commit has returned.
     pub stage: Stage,
     /// The stage if nobody knows whether it was committed.
@@ -105,20 +112,24 @@ fn resting(recorded: Option<Record>) -> Transaction
 {
     Transaction {
         recorded,
+        takes_over: false,
         stage: Stage::Done,
         unsure: Stage::Done,
         failed: Stage::Done,
     }
 }
 
-// A request is in flight. If nobody knows whether that was written, nothing is sent. The next claim gives the request up:
-// this driver can't, since another driver's request may have the same attempt.
+// A request is in flight, and the row has the driver's number. If nobody knows whether that was written, nothing is sent.
 fn claimed(row: Record, sent: Sent) -> Transaction
     ensures tx { result ≡ spec.claimed row sent }
 {
+    let number = sent.attempt;
     Transaction {
+        recorded: Some(row),
+        takes_over: true,
         stage: Stage::Send { sent },
-        ..resting(Some(row))
+        unsure: Stage::Unsure { attempt: number },
+        failed: Stage::Done,
     }
 }
 
@@ -199,9 +210,33 @@ impl Driver {
         };
         Transaction {
             recorded,
+            takes_over: false,
             stage: Stage::Done,
             unsure: Stage::Take { attempt, answer },
             failed: Stage::Take { attempt, answer },
+        }
+    }
+
+    /// Returns the last transaction of a driver that doesn't know whether its first one was committed, by the record that
+    /// it reads. If the row has the driver's number (`is_owner`), the request of the attempt is given up: it wasn't sent.
+    /// Otherwise nothing is written: a request of this attempt is another driver's. If the transaction fails, or nobody
+    /// knows whether it was committed, it is tried again.
+    pub fn resume(row: Option<Record>, is_owner: bool, attempt: u64) -> Transaction
+        ensures tx { result ≡ spec.resume is_owner attempt row }
+    {
+        let recorded = match row {
+            Some(row) if is_owner => match row.timeout(attempt) {
+                Ok(after) => Some(after),
+                Err(_) => Some(row),
+            },
+            row => row,
+        };
+        Transaction {
+            recorded,
+            takes_over: false,
+            stage: Stage::Done,
+            unsure: Stage::Unsure { attempt },
+            failed: Stage::Unsure { attempt },
         }
     }
 }

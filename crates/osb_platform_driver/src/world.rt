@@ -73,7 +73,8 @@ pub enum Happening {
         /// Where the answer is from.
         source: Source,
     },
-    /// A driver runs its last transaction.
+    /// A driver runs its last transaction: it takes the answer, or, if it doesn't know whether its first transaction was
+    /// committed, gives the request up.
     Take {
         /// The place of the driver.
         at: usize,
