@@ -257,7 +257,10 @@ var states = map[osb.State]State{
 
 // Names are the ids as they are sent: texts of 1 to 255 bytes of UTF-8. Binding is empty for an instance.
 type Names struct {
-	Instance, Binding, Service, Plan string
+	Instance string `json:"instance"`
+	Binding  string `json:"binding,omitempty"`
+	Service  string `json:"service"`
+	Plan     string `json:"plan"`
 }
 
 // An Order is what somebody asked for. It never changes.

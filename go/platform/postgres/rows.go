@@ -30,7 +30,7 @@ var (
 		{Name: "binding", IsOfBinding: true, Member: func(e *platform.Entry) any { return &e.Key.Binding }},
 	}
 	orderColumns = append(append(entryColumns{}, platform.OrderColumns...),
-		entryColumn{Name: "names", Member: func(e *platform.Entry) any { return (*namesText)(&e.Names) }},
+		entryColumn{Name: "names", Member: func(e *platform.Entry) any { return namesText{&e.Names} }},
 		entryColumn{Name: "first", Member: func(e *platform.Entry) any { return &e.First }},
 	)
 	stateColumns   = platform.StateColumns
@@ -39,19 +39,11 @@ var (
 )
 
 // A namesText is platform.Names as an object.
-type namesText platform.Names
+type namesText struct{ of *platform.Names }
 
-// names are platform.Names with the members of that object.
-type names struct {
-	Instance string `json:"instance"`
-	Binding  string `json:"binding,omitempty"`
-	Service  string `json:"service"`
-	Plan     string `json:"plan"`
-}
+func (n namesText) MarshalText() ([]byte, error) { return json.Marshal(n.of) }
 
-func (n *namesText) MarshalText() ([]byte, error) { return json.Marshal(names(*n)) }
-
-func (n *namesText) UnmarshalText(text []byte) error { return json.Unmarshal(text, (*names)(n)) }
+func (n namesText) UnmarshalText(text []byte) error { return json.Unmarshal(text, n.of) }
 
 // objectOf is an object with columns of an entry or a broker, as json_populate_recordset reads it. So a statement has
 // one parameter for any number of rows.
