@@ -2,6 +2,9 @@
 
 A world has the row of the platform, its drivers, and all of the broker's side. Each transaction is some events of the
 network. A step is wrong if the network doesn't have the events, or if the events leave another row.
+
+A driver gets an answer when the answer is given, or not at all. That leaves out nothing: a driver may run its last
+transaction at any later time, and nobody sees before whether it has the answer.
 """
 
 from __future__ import annotations
@@ -279,10 +282,11 @@ def disagreement(world: World) -> str | None:
 def unsound(world: World) -> str | None:
     """What doesn't hold of the row and of the drivers."""
     row = world.row
-    if row is not None and row.out != ("provision" if row.state == "wanted" else model.DUE.get(row.state)) and row.out:
-        return f"a {row.out} is in flight, and the row is {row.state}"
-    if row is not None and (row.state == "wanted" and row.out is None or row.attempt != len(world.sent)):
-        return "the row isn't that of the latest request"
+    if row is not None:
+        if row.out not in (None, "provision" if row.state == "wanted" else model.DUE.get(row.state)):
+            return f"a {row.out} is in flight, and the row is {row.state}"
+        if row.state == "wanted" and row.out is None or row.attempt != len(world.sent):
+            return "the row isn't that of the latest request"
     waiting = [it.stage.attempt for it in world.drivers if it.stage.name == "Send"]
     if len(waiting) != len(set(waiting)):
         return "two drivers wait for the answer to one request"

@@ -68,6 +68,7 @@ STAGES = {
 
 
 @pytest.mark.slow
+@pytest.mark.long(10)
 @pytest.mark.parametrize("bounds", BOUNDS, ids=names)
 def test_design(bounds: Bounds) -> None:
     plan, attempts, drivers, count = bounds

@@ -21,8 +21,12 @@ if ANEW or int(os.environ.get("OSB_EXAMPLES", "0")):
     PLANS += [(SYNC, ASYNC, 45_572), (ASYNC, SYNC, 53_229), (ASYNC, ASYNC, 67_315)]
 
 
+def words(plan: object) -> str | None:
+    return f"{plan.mode}{', first poll' if plan.first_poll else ''}" if isinstance(plan, Plan) else None
+
+
 @pytest.mark.slow
-@pytest.mark.parametrize(("instance", "binding", "count"), PLANS)
+@pytest.mark.parametrize(("instance", "binding", "count"), PLANS, ids=words)
 def test_design(instance: Plan, binding: Plan, count: int) -> None:
     design = Design(instance, binding)
     explored = explore(design.start, design.steps, broken)
