@@ -5,7 +5,7 @@ after a power cut. Without an obligation, it isn't.
 from __future__ import annotations
 
 import pytest
-from driver.states import Explored, below, explore
+from driver.states import Exploration, below, explore
 from driver.worker import Design, World
 from driver.worker_left_out import NoFirstLook, NoLookAfterSync
 from driver.worker_ways import CREATION, DELETION, Way
@@ -23,7 +23,7 @@ BELOW: set[type[Design]] = below(Design)
 LEFT_OUT = sorted(BELOW, key=name)
 
 
-def step(design: Design) -> Explored[World]:
+def step(design: Design) -> Exploration[World]:
     return explore(design.start, design.steps, lambda world: design.untrue(world) or design.stuck(world))
 
 
