@@ -25,8 +25,9 @@ type claimResult struct {
 	err      error
 }
 
-// claim is the first transaction of a step, over all rows that are due as far as there are free slots. The time of
-// their exchanges begins before it, so that a worker that is paused in or after it sends nothing that is late.
+// claim is the first transaction of a step. It takes the leases of all rows that are due, as far as there are free
+// slots. The time of their exchanges begins before the claim, so that a worker that is paused in or after the claim sends
+// nothing that is late.
 func (e *Engine) claim(
 	ctx context.Context, registry *registry, names []string, most int, spare *spareSlots,
 ) (found claimResult) {
