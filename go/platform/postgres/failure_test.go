@@ -378,12 +378,14 @@ func TestRowsThatCannotBeRead(t *testing.T) {
 		instance(4):                       {Instance: id(4).String()},
 		platform.BindingKey(id(1), id(3)): {Instance: id(1).String(), Binding: id(3).String()},
 	} {
-		spoil(t, key, "names")
-		spoil(t, key, "last")
-		got, err := store.Read(background, key)
-		if err != nil || !strings.Contains(got.Unreadable, "the column names of ") || got.Names != want || !got.IsSent {
-			t.Errorf("got %+v, %v, want an unreadable row that was sent, with its numbers for ids", got, err)
-		}
+		t.Run(key.String(), func(t *testing.T) {
+			spoil(t, key, "names")
+			spoil(t, key, "last")
+			got, err := store.Read(background, key)
+			if err != nil || !strings.Contains(got.Unreadable, "the column names of ") || got.Names != want || !got.IsSent {
+				t.Errorf("got %+v, %v, want an unreadable row that was sent, with its numbers for ids", got, err)
+			}
+		})
 	}
 }
 
