@@ -159,11 +159,11 @@ class OneAttempt(Design):
         return driver.stage.name == "Send"
 
 
-class UncomparedLease(Design):
-    """A driver whose claim is unsure gives up the request in flight without a comparison of the lease."""
+class UncomparedNumber(Design):
+    """A driver whose claim is unsure gives up the request in flight without a comparison of the number."""
 
     def taking(self, world: World, driver: Driver) -> Transaction:
-        return take(world.row, driver.stage, has_lease=True)
+        return take(world.row, driver.stage, owns=True)
 
 
 class SentAgain(Design):
@@ -187,7 +187,7 @@ class UncomparedAttempt(Design):
             if driver.stage.answer is None or world.row is None
             else driver.stage._replace(attempt=world.row.attempt)
         )
-        return take(world.row, stage, driver.has_lease)
+        return take(world.row, stage, driver.owns)
 
 
 class TakenAfterGivenUp(Design):
@@ -197,7 +197,7 @@ class TakenAfterGivenUp(Design):
         row = world.row
         if row is not None and row.out is None and row.attempt == driver.stage.attempt and driver.stage.answer:
             row = row._replace(out=dict(world.sent)[row.attempt])
-        return take(row, driver.stage, driver.has_lease)
+        return take(row, driver.stage, driver.owns)
 
 
 class TakenByTheClaimedRow(Design):
@@ -209,7 +209,7 @@ class TakenByTheClaimedRow(Design):
         return after.put(at, driver._replace(held_back=tx)) if driver.stage.name == "Send" else after
 
     def taking(self, world: World, driver: Driver) -> Transaction:
-        return take(driver.held_back.row if driver.held_back else world.row, driver.stage, driver.has_lease)
+        return take(driver.held_back.row if driver.held_back else world.row, driver.stage, driver.owns)
 
 
 class TakenAgain(Design):

@@ -1,7 +1,7 @@
 """A model of the drivers of a platform: what a driver does with the row that it reads.
 
 A driver is one request's way through a platform. Its first transaction claims the row, and records the request as in
-flight. Its last one takes the answer. No code of the crates is used.
+flight, with the driver's number. Its last one takes the answer. No code of the crates is used.
 """
 
 from __future__ import annotations
@@ -45,8 +45,6 @@ class Stage(NamedTuple):
     kind: str | None = None
     # At Take: the answer, or None if none came.
     answer: Answer | None = None
-    # At Take: whether the commit of the claim is unsure.
-    in_doubt: bool = False
 
 
 DONE = Stage("Done")
@@ -71,7 +69,7 @@ def given_up(row: Recorded) -> Recorded:
 def claimed(row: Recorded, events: tuple[str, ...]) -> Transaction:
     """A request is in flight. If the commit is unsure, the request isn't sent, and is given up."""
     return Transaction(
-        row, events, Stage("Send", row.attempt, row.out), unsure=Stage("Take", row.attempt, in_doubt=True), failed=DONE
+        row, events, Stage("Send", row.attempt, row.out), unsure=Stage("Unsure", row.attempt), failed=DONE
     )
 
 
@@ -89,11 +87,11 @@ def claim(row: Recorded | None, wishes: Wishes, attempts: int) -> Transaction:
     return Transaction(row, events)
 
 
-def take(row: Recorded | None, stage: Stage, has_lease: bool) -> Transaction:
+def take(row: Recorded | None, stage: Stage, owns: bool) -> Transaction:
     """The last transaction. The answer is taken if its request is in flight. If the commit of the claim is unsure, the
-    row also needs to have the lease of the claim.
+    request is given up if the row has the driver's number.
     """
-    if row is None or row.out is None or row.attempt != stage.attempt or stage.in_doubt and not has_lease:
+    if row is None or row.out is None or row.attempt != stage.attempt or stage.name == "Unsure" and not owns:
         return Transaction(row, (), DONE, unsure=stage, failed=stage)
     if stage.answer is None:
         return Transaction(given_up(row), ("timeout",), DONE, unsure=stage, failed=stage)

@@ -110,9 +110,9 @@ HARMLESS: dict[type[Design], Way] = {
     left_out.UncommittedRead: way(
         "2 reads what driver 1 hasn't committed, and claims: timeout", "the network has no 'timeout'"
     ),
-    left_out.UncomparedLease: way(
+    left_out.UncomparedNumber: way(
         f"{UNSURE} wasn't written | 2 claims: create provision 1 | 1 gives attempt 1 up",
-        "it gives up the request of another claim",
+        "it gives up the request of another driver",
     ),
 }
 """To the first step that isn't the network's, or isn't the driver's own. It does no harm."""

@@ -37,8 +37,8 @@ class Driver(NamedTuple):
     # At Take: the event of the network by which the answer is taken, and the answer as it was given.
     event: str = ""
     given: Given | None = None
-    # If the commit of the claim is unsure: whether the row has the lease of the claim.
-    has_lease: bool = False
+    # At Unsure: whether the row has the driver's number.
+    owns: bool = False
     # A transaction that it has decided on and not written yet, and one whose commit is unsure and that can still be
     # written. No driver of the design has them.
     held_back: Transaction | None = None
@@ -107,7 +107,7 @@ def row_words(row: Recorded | None) -> str:
 
 def transaction_words(driver: Driver, tx: Transaction) -> str:
     stage = driver.stage
-    if stage.name != "Take":
+    if stage.name not in ("Take", "Unsure"):
         sent = f" {tx.row.out} {tx.row.attempt}" if tx.row and tx.returned.name == "Send" else ""
         return f"claims: {', '.join(tx.events) or 'again,'}{sent}"
     if tx.events:
@@ -154,7 +154,7 @@ class Design:
                 yield from self.hear(world, at, "timeout", None)
                 for answer in self.of_gateways():
                     yield from self.hear(world, at, f"gateway {answer.status}", Given(driver.stage.attempt, answer))
-            elif driver.stage.name == "Take":
+            elif driver.stage.name in ("Take", "Unsure"):
                 yield from self.take(world, at)
             if driver.stage != DONE:
                 # Its process was killed, or the time of its exchange is over.
@@ -221,7 +221,7 @@ class Design:
 
     def taking(self, world: World, driver: Driver) -> Transaction:
         """What the last transaction writes."""
-        return take(world.row, driver.stage, driver.has_lease)
+        return take(world.row, driver.stage, driver.owns)
 
     def commit(self, world: World, at: int, tx: Transaction) -> Steps:
         """The transaction, by what can become of its commit."""
@@ -234,10 +234,10 @@ class Design:
         stage = {RETURNED: tx.returned, FAILED: tx.failed}.get(commit, tx.unsure)
         if commit in (FAILED, NOT_WRITTEN):
             return self.go_on(world, at, stage)
-        return self.go_on(self.write(world, at, tx), at, stage, has_lease=commit == WRITTEN)
+        return self.go_on(self.write(world, at, tx), at, stage, owns=commit == WRITTEN)
 
     def write(self, world: World, at: int, tx: Transaction) -> World:
-        """What the transaction leaves. A claim leaves its own lease in the row."""
+        """What the transaction leaves."""
         if not tx.events:
             return world
         driver = world.drivers[at]
@@ -248,9 +248,9 @@ class Design:
             wrong = f"the network has no '{', '.join(tx.events)}'"
         elif after.row != tx.row:
             wrong = f"the row has {row_words(tx.row)}, and the network has {row_words(after.row)}"
-        elif driver.stage.in_doubt and not driver.has_lease:
-            wrong = "it gives up the request of another claim"
-        drivers = tuple(it._replace(has_lease=False) for it in world.drivers)
+        elif driver.stage.name == "Unsure" and not driver.owns:
+            wrong = "it gives up the request of another driver"
+        drivers = tuple(it._replace(owns=False) for it in world.drivers)
         world = self.and_sent(world._replace(drivers=drivers, row=tx.row), after and after.sent)
         return self.is_wrong(world, wrong)
 
@@ -260,7 +260,7 @@ class Design:
     def is_wrong(self, world: World, wrong: str | None) -> World:
         return world if wrong is None or world.wrong or self.goes_on else world._replace(wrong=wrong)
 
-    def go_on(self, world: World, at: int, stage: Stage, has_lease: bool = False) -> World:
+    def go_on(self, world: World, at: int, stage: Stage, owns: bool = False) -> World:
         """The driver comes to the stage. It may send only what the network has sent."""
         driver = world.drivers[at]
         if stage.name == "Send" and stage.kind is not None:
@@ -269,7 +269,7 @@ class Design:
             world = self.and_sent(self.is_wrong(world, wrong), sent)
         if stage == driver.stage:
             return world
-        return world.put(at, driver._replace(stage=stage, has_lease=has_lease and stage.in_doubt))
+        return world.put(at, driver._replace(stage=stage, owns=owns and stage.name == "Unsure"))
 
 
 # ---- what is so in each world

@@ -55,15 +55,14 @@ def step(design: Design, is_strict: bool = True) -> Exploration[World]:
 def stages(worlds: list[World]) -> set[str]:
     found = set()
     for driver in {it for world in worlds for it in world.drivers}:
-        words = driver.stage.name if driver.stage.name != "Take" else f"Take by {driver.event or 'timeout'}"
-        words += ", in doubt" if driver.stage.in_doubt else ""
-        found.add(words + (", has the lease" if driver.has_lease else ""))
+        words = driver.stage.name + (f" by {driver.event}" if driver.stage.name == "Take" else "")
+        found.add(("owner: " if driver.owns else "") + words)
     return found
 
 
 STAGES = {
     *("Done", "Send", "Take by take 0", "Take by garbled 0", "Take by gateway 500", "Take by timeout"),
-    *("Take by timeout, in doubt", "Take by timeout, in doubt, has the lease"),
+    *("Unsure", "owner: Unsure"),
 }
 
 
