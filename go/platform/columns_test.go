@@ -3,6 +3,7 @@ package platform
 import (
 	"encoding/json"
 	"errors"
+	"fmt"
 	"reflect"
 	"testing"
 	"time"
@@ -98,18 +99,20 @@ func TestLastText(t *testing.T) {
 		{}, {Last: reason}, {DueSince: at(3)}, {Last: reason, DueSince: at(3)}, {Lease: lease},
 		{Last: reason, DueSince: at(3), Lease: lease},
 	} {
-		text, err := (*lastText)(&want).MarshalText()
-		check(t, err)
-		got := Entry{Lease: Lease{Worker: want.Lease.Worker}}
-		if text != nil {
-			check(t, (*lastText)(&got).UnmarshalText(text))
-		}
-		isNone := want.Last == Reason{} && want.DueSince.IsZero() && want.Lease == Lease{}
-		if (text == nil) != isNone || got.Lease != want.Lease || got.Last.Kind != want.Last.Kind ||
-			!got.Last.At.Equal(want.Last.At) || got.Last.Description != want.Last.Description ||
-			!got.DueSince.Equal(want.DueSince) {
-			t.Errorf("%s: got %+v, %v, want what was written", text, got.Last, got.DueSince)
-		}
+		t.Run(fmt.Sprintf("%d %v %s", want.Last.Status, want.DueSince, want.Lease.Claim), func(t *testing.T) {
+			text, err := (*lastText)(&want).MarshalText()
+			check(t, err)
+			got := Entry{Lease: Lease{Worker: want.Lease.Worker}}
+			if text != nil {
+				check(t, (*lastText)(&got).UnmarshalText(text))
+			}
+			isNone := want.Last == Reason{} && want.DueSince.IsZero() && want.Lease == Lease{}
+			if (text == nil) != isNone || got.Lease != want.Lease || got.Last.Kind != want.Last.Kind ||
+				!got.Last.At.Equal(want.Last.At) || got.Last.Description != want.Last.Description ||
+				!got.DueSince.Equal(want.DueSince) {
+				t.Errorf("%s: got %+v, %v, want what was written", text, got.Last, got.DueSince)
+			}
+		})
 	}
 	var got Entry
 	check(t, (*lastText)(&got).UnmarshalText([]byte(`{"at": "2026-01-02T03:04:05Z", "kind": "poll"}`)))

@@ -33,8 +33,8 @@ type Reader interface {
 	// many states of the life of each. Those whose lease ends first come first.
 	InFlight(ctx context.Context, limit, life int) ([]Record, error)
 	// List returns a page of records. The pages of a list have each record that fitted the query when the first of them
-	// was read, once, in the order of then. What a record shows is as it is when its page is read. Errors: ErrUnknown if
-	// there is no instance Query.Of; ErrMalformed.
+	// was read, once, in the order of then. What a record shows is as it is when its page is read. Errors: ErrUnknown
+	// if there is no instance Query.Of; ErrMalformed.
 	List(ctx context.Context, query Query) (List, error)
 	// Show returns an instance, or one of its bindings, with its whole life and the store's time. Each is named by its
 	// id or its number. binding is empty for the instance. Errors: ErrUnknown.
@@ -402,7 +402,7 @@ func Prefix(text string) (prefix string, isPrefix bool) {
 	return prefix, true
 }
 
-// isOfAMoment is whether a list may change with the states of its rows.
+// isOfAMoment reports whether a list may change with the states of its rows.
 func isOfAMoment(filter platform.Filter) bool {
 	return filter.Order != platform.ByKey || len(filter.States) > 0
 }

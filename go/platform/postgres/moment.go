@@ -9,9 +9,9 @@ import (
 	"pippinterm/platform"
 )
 
-// A row of osb_lives is written by the transaction that ends its stay, and has the number of that transaction in the system
-// column xmin. So a stay has ended after a moment if the snapshot of the moment doesn't show that transaction, whatever
-// the clock says. The time is needed only to find the rows to look at by an index.
+// A row of osb_lives is written by the transaction that ends its stay, and has the number of that transaction in the
+// system column xmin. So a stay has ended after a moment if the snapshot of the moment doesn't show that transaction,
+// whatever the clock says. The time is needed only to find the rows to look at by an index.
 
 // Moment returns which transactions the server shows, and its time.
 func (s *Store) Moment(ctx context.Context) (platform.Moment, error) {
@@ -26,8 +26,8 @@ func (s *Store) Moment(ctx context.Context) (platform.Moment, error) {
 	})
 }
 
-// momentOf is the moment of a snapshot, which PostgreSQL writes as xmin:xmax:xip,.., and a time: whole seconds, xmax, and
-// by how much each xip is lower, with hyphens between them.
+// momentOf is the moment of a snapshot, which PostgreSQL writes as xmin:xmax:xip,.., and a time: whole seconds, xmax,
+// and by how much each xip is lower, with hyphens between them.
 func momentOf(snapshot string, now float64) (platform.Moment, error) {
 	text, next := strconv.FormatInt(int64(now), 10), uint64(0)
 	for at, number := range strings.FieldsFunc(snapshot, func(r rune) bool { return r == ':' || r == ',' }) {
@@ -50,11 +50,11 @@ var anyState = "'" + strings.Join(strings.Fields(strings.Trim(fmt.Sprint(everySt
 
 // A past has the conditions of queries for rows as they were at a moment.
 type past struct {
-	// isLater is whether a row l of osb_lives was written after the moment. xmin has the lower 32 bits of a transaction's
-	// number.
+	// isLater says that a row l of osb_lives was written after the moment. xmin has the lower 32 bits of a
+	// transaction's number.
 	isLater string
-	// earliest is a time before the end of each stay that has ended since the moment. Rows that have been in their state
-	// for longer stand where they stood.
+	// earliest is a time before the end of each stay that has ended since the moment. Rows that have been in their
+	// state for longer stand where they stood.
 	earliest string
 }
 
@@ -82,8 +82,9 @@ func pastOf(moment platform.Moment) (past, error) {
 	return past{isLater + ")", fmt.Sprintf("least(%d, %s) - %d", numbers[0], start, slack)}, nil
 }
 
-// recent are the rows of a table that may have changed their state since the moment, as they were then: by the first stay
-// that has ended since. The lower 32 bits say nothing of stays that have ended long before, so the time leaves them out.
+// recent are the rows of a table that may have changed their state since the moment, as they were then: by the first
+// stay that has ended since. The lower 32 bits say nothing of stays that have ended long before, so the time leaves
+// them out.
 func (p past) recent(of side) string {
 	key := "t.id"
 	if of.isBinding {
