@@ -9,8 +9,8 @@ import (
 	"pippinterm/osb"
 )
 
-// A Column is a member of an Entry or a Broker as every Store keeps it. If the tables of a Store lack the column, the Store adds it
-// when it is opened. Each row that is there has NULL then, which leaves the member its zero value.
+// A Column is a member of an Entry or a Broker as every Store keeps it. If the tables of a Store lack the column, the
+// Store adds it when it is opened. Each row that is there has NULL then, which leaves the member its zero value.
 type Column[T any] struct {
 	Name string
 	// NotNull says that an empty text is written as it is, and not as NULL.
@@ -206,7 +206,7 @@ func (l *lastText) MarshalText() ([]byte, error) {
 	return json.Marshal(kept)
 }
 
-// UnmarshalText reads what MarshalText has written, also in version 0.2, which had no Claim and no DueSince.
+// UnmarshalText reads what MarshalText has written, also in version 0.2, which wrote no Claim and no DueSince.
 // Lease.Worker is read before: a lease that Free has ended leaves its Claim in the text.
 func (l *lastText) UnmarshalText(text []byte) error {
 	var kept keptLast

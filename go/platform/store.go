@@ -60,12 +60,12 @@ type Filter struct {
 	After    *Position // only rows behind this position, in the order in which they are listed
 	Most     int       // as many at most; 0 for all
 	// AsOf is the moment whose State and Since of each row count, for States, Order and After; empty for now. Of a row
-	// that was ordered later, those count with which it was ordered. So if a list is read in pages as of one moment, each
-	// behind the one before, a row of that moment is on one page, whatever changes.
+	// that was ordered later, those count with which it was ordered. So if a list is read in pages as of one moment,
+	// each behind the one before, a row of that moment is on one page, whatever changes.
 	AsOf Moment
 }
 
-// A Moment is a text by which a Store tells what was committed by then from all later changes.
+// A Moment is a text by which a Store separates what was committed by then from all later changes.
 type Moment string
 
 // Chain chooses all tries of the order of a row. The ids of bindings are those of one instance.
@@ -342,8 +342,8 @@ type Entry struct {
 	Unreadable string
 }
 
-// OrderColumns are the columns of an Order, which never change, and StateColumns those of what has become of it. A Store
-// has columns of its own for Key, Names and First.
+// OrderColumns are the columns of an Order, which never change, and StateColumns those of what has become of it. A
+// Store has columns of its own for Key, Names and First.
 var (
 	OrderColumns = Columns[Entry]{
 		column("broker", func(e *Entry) *string { return &e.Broker }).notNull(),

@@ -41,7 +41,7 @@ func (c *Client) LastOperation(ctx context.Context, of platform.Broker, entry pl
 	if err != nil {
 		return Answer{}, err
 	}
-	told, err := tell(got)
+	told, err := answerOf(got)
 	if err != nil {
 		return Answer{}, err
 	}
@@ -58,7 +58,7 @@ func (c *Client) Fetch(ctx context.Context, of platform.Broker, entry platform.E
 	if err != nil {
 		return Answer{}, err
 	}
-	told, err := tell(got)
+	told, err := answerOf(got)
 	var object map[string]json.RawMessage
 	told.IsUnsure = err == nil && (json.Unmarshal(got.body, &object) != nil || object == nil)
 	return told, err
@@ -100,8 +100,8 @@ func questionTarget(prefix string, entry platform.Entry, isFetch bool) (string, 
 	return strings.TrimSuffix(path, "/last_operation") + "?" + query, nil
 }
 
-// tell reads what an answer says of itself.
-func tell(got wholeAnswer) (Answer, error) {
+// answerOf reads what an answer says of itself.
+func answerOf(got wholeAnswer) (Answer, error) {
 	details, err := osb.ReadDetails(got.body)
 	if err != nil {
 		return Answer{}, fmt.Errorf("status %d: %w", got.status, err)

@@ -13,7 +13,7 @@ import (
 	"pippinterm/platform"
 )
 
-// A moment tells the transactions that the server showed from those that it didn't, also where their lower 32 bits begin
+// A moment separates the transactions that the server showed from all others, also where their lower 32 bits begin
 // again.
 func TestMomentOfASnapshot(t *testing.T) {
 	db := pgtest.DB(t, pgtest.URL(t))
