@@ -118,6 +118,25 @@ func TestUnreadableRows(t *testing.T) {
 	}
 }
 
+// If the time of a stay can't be read, its row has no position as of a moment at which the stay went on.
+func TestUnreadableStay(t *testing.T) {
+	path := filepath.Join(t.TempDir(), "store")
+	s := withBroker(t, open(t, path))
+	check(t, s.Insert(background, order(1), nil))
+	moment := diff.Value(s.Moment(background))(t)
+	check(t, s.Change(background, keyOf(1), func(now time.Time, snapshot platform.Snapshot) (*platform.Change, error) {
+		snapshot.Entry.State, snapshot.Entry.Since = platform.Withdrawn, now
+		return &platform.Change{Entry: snapshot.Entry}, nil
+	}))
+	executeIn(t, path, "UPDATE osb_lives SET since = 'x'")
+	if positions, err := s.Positions(background, platform.Filter{AsOf: moment}); err == nil {
+		t.Errorf("got %v, want an error", positions)
+	}
+	if _, err := s.Positions(background, platform.Filter{}); err != nil {
+		t.Errorf("as of now: got %v, want no error", err)
+	}
+}
+
 // No step decides by a row of which a column can't be read.
 func TestUnreadableColumns(t *testing.T) {
 	path := filepath.Join(t.TempDir(), "store")
