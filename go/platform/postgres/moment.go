@@ -75,11 +75,13 @@ func pastOf(moment platform.Moment) (past, error) {
 	if len(numbers) < 2 {
 		return past{}, platform.ErrNoMoment
 	}
-	isLater := fmt.Sprintf("((l.xmin::text::bigint - %d) & 4294967295 < 2147483648", uint32(numbers[1]))
+	running := []string{}
 	for _, lower := range numbers[2:] {
-		isLater += fmt.Sprintf(" OR l.xmin = '%d'", uint32(numbers[1]-lower))
+		running = append(running, strconv.FormatUint(uint64(uint32(numbers[1]-lower)), 10))
 	}
-	return past{isLater + ")", fmt.Sprintf("least(%d, %s) - %d", numbers[0], start, slack)}, nil
+	isLater := fmt.Sprintf("((l.xmin::text::bigint - %d) & 4294967295 < 2147483648 OR l.xmin = ANY ('{%s}'))",
+		uint32(numbers[1]), strings.Join(running, ","))
+	return past{isLater, fmt.Sprintf("least(%d, %s) - %d", numbers[0], start, slack)}, nil
 }
 
 // recent are the rows of a table that may have changed their state since the moment, as they were then: by the first

@@ -4,6 +4,7 @@ import (
 	"context"
 	"errors"
 	"fmt"
+	"strings"
 	"testing"
 	"time"
 
@@ -29,6 +30,8 @@ func TestMomentOfASnapshot(t *testing.T) {
 		diff.NoError(t, db.QueryRow(query).Scan(&wrong), "%s", query)
 		diff.Equal(t, wrong, 0, "%s: the transactions that are taken for others", test.snapshot)
 	}
+	many := diff.Value(pastOf(platform.Moment("1700000000-745" + strings.Repeat("-1", 10000))))(t)
+	diff.Equal(t, strings.Count(many.isLater, "l.xmin"), 2, "the comparisons with many transactions")
 	_, err := momentOf("740:x:", 1.7e9)
 	diff.Equal(t, err != nil, true, "an error of a snapshot that can't be read")
 }
