@@ -506,3 +506,34 @@ func BenchmarkReading(b *testing.B) {
 		}
 	}
 }
+
+// The statement of the guide that shortens histories deletes nothing that a list which is being read needs, and leaves the
+// number of the last stay.
+func TestShortenedHistories(t *testing.T) {
+	path := filepath.Join(t.TempDir(), "store")
+	s := open(t, path)
+	check(t, s.AddBroker(background, platform.Broker{Name: "one", URL: "http://one"}))
+	month := time.Now().AddDate(0, -1, 0).Truncate(time.Second).UTC()
+	change := func(n int, state platform.State, since time.Time) {
+		check(t, s.Change(background, keyOf(n), func(_ time.Time, snapshot platform.Snapshot) (*platform.Change, error) {
+			snapshot.Entry.State, snapshot.Entry.Since = state, since
+			return &platform.Change{Entry: snapshot.Entry}, nil
+		}))
+	}
+	for n := 0; n < 4; n++ {
+		ordered := platform.Entry{State: platform.Ordered, Since: month.Add(-time.Hour)}
+		ordered.Order = platform.Order{Key: keyOf(n), Broker: "one", First: keyOf(n).ID(), Body: json.RawMessage("{}")}
+		check(t, s.Insert(background, ordered, func(platform.Snapshot) error { return nil }))
+		change(n, platform.Wanted, month)
+		change(n, platform.Ready, month.Add(time.Duration(n)*time.Minute))
+	}
+	filter := platform.Filter{Order: platform.ByTime, AsOf: diff.Value(s.Moment(background))(t)}
+	want := diff.Value(s.Positions(background, filter))(t)
+	change(1, platform.Cleaning, time.Now())
+	change(1, platform.Gone, time.Now())
+	executeIn(t, path, fmt.Sprintf("DELETE FROM osb_lives AS l WHERE EXISTS (SELECT 1 FROM osb_lives AS n "+
+		"WHERE n.id = l.id AND n.number > l.number AND n.since < %d)", time.Now().AddDate(0, 0, -1).Unix()))
+	diff.Check(t, query(t, path, "SELECT count(*) FROM osb_lives"), []string{"5"}, "the rows that are left")
+	change(2, platform.Gone, time.Now())
+	diff.Check(t, diff.Value(s.Positions(background, filter))(t), want, "as of the moment")
+}
