@@ -67,7 +67,7 @@ func (a *request) readOrder(query *Query) (err error) {
 	case hasOrder && values[0] == "":
 		return errOrder
 	case hasOrder:
-		query.Order = Order(values[0])
+		query.Order = Ordering(values[0])
 	case hasLatest:
 		query.Order = ByState
 	}

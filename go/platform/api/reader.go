@@ -60,14 +60,14 @@ const (
 	Records   Kind = "records" // instances and bindings
 )
 
-// An Order is the order of a list.
-type Order string
+// An Ordering is the order of a list.
+type Ordering string
 
 const (
-	ByNumber Order = "number"
-	ByState  Order = "state" // by state, the time of that, and number
-	Newest   Order = "newest"
-	Oldest   Order = "oldest"
+	ByNumber Ordering = "number"
+	ByState  Ordering = "state" // by state, the time of that, and number
+	Newest   Ordering = "newest"
+	Oldest   Ordering = "oldest"
 )
 
 // A Query chooses the records of a List. Its zero value chooses the first page of all records.
@@ -81,10 +81,10 @@ type Query struct {
 	// Unreadable asks only for records that can't be read. A page may have fewer then, or none: go on
 	// while it has a Next.
 	Unreadable bool
-	Order      Order // or empty for ByNumber
-	Latest     bool  // whether the order ByState is turned round
-	Life       int   // the number of states of the life of each record, or 0 for none
-	Limit      int   // the number of records of a page, or 0 for 100
+	Order      Ordering // or empty for ByNumber
+	Latest     bool     // whether the order ByState is turned round
+	Life       int      // the number of states of the life of each record, or 0 for none
+	Limit      int      // the number of records of a page, or 0 for 100
 
 	// After, Before and Last choose the page: the one after a List.Next, the one before a List.Previous, or the last.
 	// One of them is given at most.

@@ -328,24 +328,24 @@ var states = []string{
 }
 
 // orders say how a list is ordered. usualOrder stands for api.Newest: no target names it.
-const usualOrder api.Order = ""
+const usualOrder api.Ordering = ""
 
-var orders = map[api.Order]string{
+var orders = map[api.Ordering]string{
 	usualOrder: "newest in their state first", api.Oldest: "longest in their state first",
 	api.ByNumber: "by number",
 }
 
 // What the target of a list asks for.
 type target struct {
-	state    string    // one of states, or inFlight, or empty for all
-	find     string    // what numbers begin with, or a whole id; if it isn't empty, no state counts
-	bindings bool      // bindings, and not instances
-	order    api.Order // of orders; Newest is empty here
-	after    string    // the page that begins behind this cursor of the API
-	before   string    // the page that ends before this cursor
-	isLast   bool      // the last page
-	skipped  int       // how many rows come before the cursor, as the page with the link says
-	isStill  bool      // whether the page stays as it is, and isn't refreshed of itself
+	state    string       // one of states, or inFlight, or empty for all
+	find     string       // what numbers begin with, or a whole id; if it isn't empty, no state counts
+	bindings bool         // bindings, and not instances
+	order    api.Ordering // of orders; Newest is empty here
+	after    string       // the page that begins behind this cursor of the API
+	before   string       // the page that ends before this cursor
+	isLast   bool         // the last page
+	skipped  int          // how many rows come before the cursor, as the page with the link says
+	isStill  bool         // whether the page stays as it is, and isn't refreshed of itself
 }
 
 // isFirst reports whether the first page is asked for, with what waits and what is in flight.
@@ -402,7 +402,7 @@ func (a *target) take(name, value string) (err error) {
 			return errNoPage
 		}
 	case "order":
-		a.order = api.Order(value)
+		a.order = api.Ordering(value)
 		if orders[a.order] == "" || a.order == usualOrder {
 			return errNoPage
 		}

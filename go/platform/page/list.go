@@ -293,7 +293,7 @@ func pagesOf(a target, shown leaf) []link {
 // ordersOf are the links to the same list in each order.
 func ordersOf(a target) (links []link) {
 	for _, test := range []struct {
-		order        api.Order
+		order        api.Ordering
 		word, anchor string
 	}{
 		{usualOrder, "Newest first", "order-newest"}, {api.Oldest, "Oldest first", "order-oldest"},
