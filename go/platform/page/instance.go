@@ -112,34 +112,34 @@ func (l look) whyBefore(r api.Record, tries []api.Record) *api.Reason {
 }
 
 // chain shows the tries of an order that was tried again, and is nil for any other order.
-func (l look) chain(tries []api.Record) *rows {
+func (l look) chain(tries []api.Record) *table {
 	if len(tries) < 2 {
 		return nil
 	}
-	shown := &rows{
-		Caption: thousands(len(tries)) + " tries of one order, each under another id", Rows: l.rowsOf(tries, "try"),
+	shown := &table{
+		Caption: thousands(len(tries)) + " tries of one order, each under another id", Lines: l.linesOf(tries, "try"),
 	}
 	for at, try := range tries {
-		shown.Rows[at].Of = "" // that of this page
-		shown.Rows[at].Notes = append([]string{"try " + strconv.Itoa(try.Try)}, shown.Rows[at].Notes...)
+		shown.Lines[at].Of = "" // that of this page
+		shown.Lines[at].Notes = append([]string{"try " + strconv.Itoa(try.Try)}, shown.Lines[at].Notes...)
 	}
 	return shown
 }
 
 // bindings are those of an instance.
-func (l look) bindings(r api.Record) (*rows, error) {
+func (l look) bindings(r api.Record) (*table, error) {
 	found, err := l.reader.List(l.ctx, api.Query{
 		Kind: api.Bindings, Of: r.Number, Order: api.ByState, Life: spans + 1, Limit: mostBound,
 	})
 	if err != nil {
 		return nil, err
 	}
-	shown := &rows{Caption: count(len(found.Items), "binding") + ", by state", Rows: l.rowsOf(found.Items, "b")}
+	shown := &table{Caption: count(len(found.Items), "binding") + ", by state", Lines: l.linesOf(found.Items, "b")}
 	if found.Next != "" {
 		shown.Caption = "The first " + thousands(len(found.Items)) + ", by state"
 	}
-	for at := range shown.Rows {
-		shown.Rows[at].Of = "" // the instance of this page
+	for at := range shown.Lines {
+		shown.Lines[at].Of = "" // the instance of this page
 	}
 	return shown, nil
 }

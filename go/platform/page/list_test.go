@@ -38,7 +38,7 @@ func TestFind(t *testing.T) {
 	} {
 		t.Run(find, func(t *testing.T) {
 			text := pageText(t, h, "/?find="+find)
-			diff.Equal(t, len(rowsIn(text)), want, "")
+			diff.Equal(t, len(linesIn(text)), want, "")
 		})
 	}
 	has(t, pageText(t, h, "/?find=00000051"), "of "+idOf(5).String())
@@ -60,7 +60,7 @@ func walk(t *testing.T, h http.Handler, target, by string) (rows [][]string, cap
 	t.Helper()
 	for len(rows) <= 100 && target != "" {
 		text := pageText(t, h, target)
-		rows = append(rows, rowsIn(text))
+		rows = append(rows, linesIn(text))
 		_, caption, _ := strings.Cut(part(t, text, "instances"), "<caption>")
 		caption, _, _ = strings.Cut(caption, ",")
 		captions, target = append(captions, caption), linkOf(text, by)
@@ -145,7 +145,7 @@ func TestFewRows(t *testing.T) {
 	store := many(50)
 	h := pageOf(t, store, Options{})
 	for _, target := range []string{"/", "/?page=last", "/?find=0"} {
-		if text := pageText(t, h, target); strings.Contains(text, `class="pages"`) || len(rowsIn(text)) != 50 {
+		if text := pageText(t, h, target); strings.Contains(text, `class="pages"`) || len(linesIn(text)) != 50 {
 			t.Errorf("%s: got %s, want 50 rows and no links to pages", target, mainOf(text))
 		}
 	}
@@ -154,7 +154,7 @@ func TestFewRows(t *testing.T) {
 	behind := linkOf(pageText(t, h, "/"), "page-next")
 	store.rows = store.rows[:50]
 	text := pageText(t, h, behind)
-	if rows := rowsIn(pageText(t, h, linkOf(text, "page-first"))); len(rowsIn(text)) != 0 || len(rows) != 50 {
+	if rows := linesIn(pageText(t, h, linkOf(text, "page-first"))); len(linesIn(text)) != 0 || len(rows) != 50 {
 		t.Errorf("the first page: got %v, want 50 rows", rows)
 	}
 }
@@ -235,7 +235,7 @@ func TestOverSQLite(t *testing.T) {
 	for _, target := range []string{
 		"/", "/?state=ready", "/?kind=bindings", "/?find=0000000", "/?state=in-flight", "/?state=gone",
 	} {
-		a, b := rowsIn(pageText(t, one, target)), rowsIn(pageText(t, other, target))
+		a, b := linesIn(pageText(t, one, target)), linesIn(pageText(t, other, target))
 		diff.Equal(t, strings.Join(a, " "), strings.Join(b, " "), "%s", target)
 	}
 	text := pageText(t, other, "/")
@@ -270,7 +270,7 @@ func TestPagesWhileRowsMove(t *testing.T) {
 		count, seen := len(diff.Value(store.Positions(background, filter))(t)), map[string]int{}
 		for target != "" {
 			text := pageText(t, h, target)
-			for _, row := range rowsIn(text) {
+			for _, row := range linesIn(text) {
 				seen[row]++
 			}
 			from, to := platform.State(states[moves%3]), platform.State(states[(moves+1)%3])
@@ -343,7 +343,7 @@ func TestLargeStore(t *testing.T) {
 	has(t, deep, "1,001 to 1,050 of 10,000")
 	for _, target := range []string{
 		"/", "/?state=gone", linkOf(deep, "page-next"), linkOf(text, "page-next"), "/?find=a", "/?find=00000005",
-		linkOf(text, "i-"+rowsIn(text)[0]), "/?state=in-flight", "/?kind=bindings", "/?page=last", "/?order=oldest",
+		linkOf(text, "i-"+linesIn(text)[0]), "/?state=in-flight", "/?kind=bindings", "/?page=last", "/?order=oldest",
 		"/?state=gone&order=oldest&page=last",
 	} {
 		var times []time.Duration
@@ -372,7 +372,7 @@ func checkEveryPage(t *testing.T, h http.Handler) {
 	} {
 		for n := 0; n < 10; n++ {
 			text := pageText(t, h, target)
-			for _, row := range rowsIn(text) {
+			for _, row := range linesIn(text) {
 				seen[row]++
 			}
 			target = linkOf(text, by)

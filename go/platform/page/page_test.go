@@ -48,7 +48,7 @@ func TestFirstPage(t *testing.T) {
 		"worker-1, lease ran out 1 min ago")
 	has(t, part(t, text, "brokers"), "https://shelf.example", "2026-01-02 03:04:05", "none yet",
 		"catalogue, status 401, who are you")
-	diff.Equal(t, len(rowsIn(text)), 10, "the list")
+	diff.Equal(t, len(linesIn(text)), 10, "the list")
 }
 
 func TestLifeInALine(t *testing.T) {
@@ -76,7 +76,7 @@ func TestUnreadableRow(t *testing.T) {
 		text := html.UnescapeString(pageText(t, h, target))
 		diff.Equal(t, strings.Count(text, why), 1, "%s, %s, %q", target, mainOf(text), why)
 	}
-	diff.Equal(t, len(rowsIn(pageText(t, h, "/"))), len(states), "the list")
+	diff.Equal(t, len(linesIn(pageText(t, h, "/"))), len(states), "the list")
 }
 
 // A row that can't be read needs attention if something is to be done for it.
@@ -129,7 +129,7 @@ func TestMuchWaits(t *testing.T) {
 	has(t, part(t, text, "flights"), "The first 5 of 8, by the end of their lease")
 	diff.Equal(t, linkOf(text, "more-unsettled"), "/?order=oldest&state=unsettled", "the link")
 	flights := pageText(t, pageOf(t, store, Options{}), linkOf(text, "more-in-flight"))
-	diff.Equal(t, len(rowsIn(flights)), 8, "the list")
+	diff.Equal(t, len(linesIn(flights)), 8, "the list")
 }
 
 func TestInstancePage(t *testing.T) {
@@ -461,8 +461,8 @@ func linkOf(text, id string) string {
 	return ""
 }
 
-// rowsIn are the ids of the links to the rows of the list.
-func rowsIn(text string) (found []string) {
+// linesIn are the ids of the links to the rows of the list.
+func linesIn(text string) (found []string) {
 	for _, match := range links.FindAllStringSubmatch(text, -1) {
 		if strings.HasPrefix(match[2], "i-") {
 			found = append(found, match[2][2:])
@@ -650,7 +650,7 @@ func recordedPage(t *testing.T) (http.Handler, *recorder) {
 	text := diff.Value(os.ReadFile("testdata/recorded.json"))(t)
 	r := &recorder{T: t}
 	check(t, json.Unmarshal(text, &r.answers))
-	h := diff.Value(NewHandler(r, Options{Failed: func(err error) { t.Error(err) }}))(t)
+	h := diff.Value(NewHandler(r, Options{Failed: func(err error) { t.Errorf("got the error %v, want none", err) }}))(t)
 	return h, r
 }
 
@@ -673,7 +673,7 @@ func TestOverRecordedAnswers(t *testing.T) {
 	has(t, one, "<h1>Instance <code>web-db</code></h1>", "2 requests", "https://folder.example/web-db", web,
 		`{&#34;labels&#34;: {&#34;team&#34;: &#34;web&#34;, &#34;tier&#34;: 1}}`,
 		"3 states", "4 min 4 s", "23 h 59 min until now", `id="b-`+web+"/"+app+`"`, "1 binding")
-	if found := rowsIn(pageText(t, h, "/?find=web-db")); len(found) != 1 || found[0] != web {
+	if found := linesIn(pageText(t, h, "/?find=web-db")); len(found) != 1 || found[0] != web {
 		t.Errorf("the search: got %v, want %s", found, web)
 	}
 	for target := range answering.answers {

@@ -46,8 +46,8 @@ type message struct {
 	Text string
 }
 
-// A row is an instance or a binding in a table.
-type row struct {
+// A line is an instance or a binding in a table.
+type line struct {
 	ID     string
 	Of     string // the id of a binding's instance, or empty
 	Href   string
@@ -89,7 +89,7 @@ type waiting struct {
 	Heading string
 	Todo    []words
 	Caption string
-	Rows    []row
+	Lines   []line
 	More    []link
 }
 
@@ -101,23 +101,23 @@ type seller struct {
 	ReasonAt    *moment
 }
 
-// rows are a table.
-type rows struct {
+// A table has lines.
+type table struct {
 	Caption string
-	Rows    []row
+	Lines   []line
 }
 
 // An overview is the page of a list, and on the first page of what waits and what is in flight.
 type overview struct {
 	frame
-	rows
+	table
 	States  []nav
 	Heading string
 	IsFirst bool
 
 	Waiting       []waiting
 	Rejected      []seller
-	Flights       []row
+	Flights       []line
 	FlightCaption string
 	MoreFlights   string
 	Brokers       []seller
@@ -137,8 +137,8 @@ type one struct {
 	Known       []fact
 	LifeCaption string
 	Life        []span
-	Tries       *rows
-	Bindings    *rows
+	Tries       *table
+	Bindings    *table
 }
 
 // A fact is something that is known of a row: a text, or a time.
