@@ -397,7 +397,7 @@ func waitingFor(ctx context.Context, store platform.Store, e platform.Entry) str
 	if err != nil {
 		return ""
 	}
-	return rowWithBroker{Entry: e, before: before}.waits()
+	return entryWithBroker{Entry: e, before: before}.waits()
 }
 
 // hint is what may be wrong with an order that isn't sent though it has been due for so long.

@@ -129,7 +129,7 @@ func TestManyRows(t *testing.T) {
 	})
 	seen := map[string]bool{}
 	for _, text := range strings.Split(strings.TrimSpace(call(t, "--store", store, "list", "--json").out), "\n") {
-		var read row
+		var read entryJSON
 		err := json.Unmarshal([]byte(text), &read)
 		if err != nil || read.State != platform.Ordered || read.Plan != "p-1" {
 			t.Fatalf("%s: got %v, want an ordered row of the plan p-1", text, err)

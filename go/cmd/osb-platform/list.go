@@ -155,7 +155,7 @@ func (l *listing) print(
 	ctx context.Context, store platform.Store, row platform.Entry, shown []column, to io.Writer, isHeaded bool,
 ) (err error) {
 	l.count(row)
-	it := rowWithBroker{Entry: row, broker: l.brokers[row.Broker]}
+	it := entryWithBroker{Entry: row, broker: l.brokers[row.Broker]}
 	if l.reasons || l.inJSON {
 		if it.before, err = tryBefore(ctx, store, row); err != nil {
 			return err
@@ -215,19 +215,19 @@ func (l *listing) attention() string {
 type column struct {
 	name  string
 	least int // its least width on a terminal
-	cell  func(rowWithBroker) string
+	cell  func(entryWithBroker) string
 }
 
 // columns are those of `list`, in their order. The last one is left out without --reasons. The guide has a table of
 // them (docs/platform-guide.md).
 var columns = []column{
-	{"id", 36, func(p rowWithBroker) string { return printable(idOf(p.Entry)) }},
-	{"state", 16, func(p rowWithBroker) string { return string(p.State) }},
-	{"since", 20, func(p rowWithBroker) string { return moment(p.Since) }},
-	{"service", 36, func(p rowWithBroker) string { return printable(p.Names.Service) }},
-	{"plan", 36, func(p rowWithBroker) string { return printable(p.Names.Plan) }},
-	{"broker", 12, func(p rowWithBroker) string { return printable(p.Broker) }},
-	{"reason", 0, rowWithBroker.reason},
+	{"id", 36, func(p entryWithBroker) string { return printable(idOf(p.Entry)) }},
+	{"state", 16, func(p entryWithBroker) string { return string(p.State) }},
+	{"since", 20, func(p entryWithBroker) string { return moment(p.Since) }},
+	{"service", 36, func(p entryWithBroker) string { return printable(p.Names.Service) }},
+	{"plan", 36, func(p entryWithBroker) string { return printable(p.Names.Plan) }},
+	{"broker", 12, func(p entryWithBroker) string { return printable(p.Broker) }},
+	{"reason", 0, entryWithBroker.reason},
 }
 
 // shownColumns are the columns with or without the reason.
@@ -253,7 +253,7 @@ func printHead(to io.Writer, of []column) error {
 }
 
 // printRow prints a row: for a terminal below a head, and otherwise with tabs between the columns.
-func printRow(to io.Writer, of []column, p rowWithBroker, isAligned bool) error {
+func printRow(to io.Writer, of []column, p entryWithBroker, isAligned bool) error {
 	return printLine(to, of, isAligned, func(it column) string { return it.cell(p) })
 }
 

@@ -167,7 +167,7 @@ func TestEmptyFile(t *testing.T) {
 
 // The head, the rows and the help of `list` have the same columns.
 func TestColumns(t *testing.T) {
-	e := rowWithBroker{Entry: platform.Entry{
+	e := entryWithBroker{Entry: platform.Entry{
 		Order:   platform.Order{Names: platform.Names{Instance: "one", Service: "s", Plan: "p"}, Broker: "shop"},
 		State:   platform.Ready,
 		Because: "why",
@@ -281,13 +281,13 @@ func TestReasonOfBroker(t *testing.T) {
 	polled, ready := due, platform.Entry{State: platform.Ready}
 	polled.Last = platform.Reason{Kind: "poll", Status: 200}
 	for _, test := range []struct {
-		of          rowWithBroker
+		of          entryWithBroker
 		want, facts string
 	}{
-		{rowWithBroker{Entry: due, broker: away}, `broker: "connection \x1b refused"`, `"connection \x1b refused"`},
-		{rowWithBroker{Entry: polled, broker: away}, "poll 200", `"connection \x1b refused"`},
-		{rowWithBroker{Entry: due}, "", ""},
-		{rowWithBroker{Entry: ready, broker: away}, "", ""},
+		{entryWithBroker{Entry: due, broker: away}, `broker: "connection \x1b refused"`, `"connection \x1b refused"`},
+		{entryWithBroker{Entry: polled, broker: away}, "poll 200", `"connection \x1b refused"`},
+		{entryWithBroker{Entry: due}, "", ""},
+		{entryWithBroker{Entry: ready, broker: away}, "", ""},
 	} {
 		t.Run(string(test.of.State)+" "+test.want, func(t *testing.T) {
 			if got, facts := test.of.reason(), textOf(test.of.brokerReason()); got != test.want || facts != test.facts {

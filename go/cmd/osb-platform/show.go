@@ -45,13 +45,11 @@ credentials aren't shown.`,
 	return made
 }
 
-// A whole is a row with its life and the tries of its order.
+// A whole is an entry with its life and the tries of its order.
 type whole struct {
-	entry  platform.Entry
-	broker platform.Broker // the zero Broker if it is unknown
-	life   []platform.Stay
-	tries  []platform.Entry
-	before platform.Entry // the try before, if it is a further try that waits
+	entryWithBroker
+	life  []platform.Stay
+	tries []platform.Entry
 }
 
 func readWhole(ctx context.Context, store platform.Store, id string) (whole, error) {
@@ -72,9 +70,8 @@ func readWhole(ctx context.Context, store platform.Store, id string) (whole, err
 		return whole{}, err
 	}
 	before, err := tryBefore(ctx, store, entry)
-	return whole{
-		entry: entry, broker: brokers[entry.Broker], life: entry.Before(life), tries: tries, before: before,
-	}, err
+	shown := entryWithBroker{Entry: entry, broker: brokers[entry.Broker], before: before}
+	return whole{shown, entry.Before(life), tries}, err
 }
 
 // asked are the texts of what an operator has asked for.
@@ -82,14 +79,9 @@ var asked = map[platform.Removal]string{
 	platform.Removed: "removal is asked for", platform.RemovedWhole: "removal is asked for, with all bindings",
 }
 
-// row is the row alone.
-func (w whole) row() rowWithBroker {
-	return rowWithBroker{Entry: w.entry, broker: w.broker, before: w.before}
-}
-
 // facts are what is known, each with its name before it.
 func (w whole) facts() [][2]string {
-	e, facts := w.entry, [][2]string{}
+	e, facts := w.Entry, [][2]string{}
 	add := func(name, text string) {
 		if text != "" {
 			facts = append(facts, [2]string{name, text})
@@ -105,7 +97,7 @@ func (w whole) facts() [][2]string {
 	add("space", printable(e.Space))
 	add("asked", asked[e.Removal])
 	add("due", momentOf(e.Due))
-	add("waits", strings.TrimPrefix(w.row().waits(), "waits "))
+	add("waits", strings.TrimPrefix(w.waits(), "waits "))
 	if e.State == platform.Polling || e.State == platform.CleaningPolling {
 		add("polled since", momentOf(e.PolledSince))
 	}
@@ -123,7 +115,7 @@ func (w whole) facts() [][2]string {
 	add("dashboard", printable(e.Dashboard))
 	add("metadata", printable(string(e.Metadata)))
 	add("last reason", at(e.Last))
-	add("broker's reason", at(w.row().brokerReason()))
+	add("broker's reason", at(w.brokerReason()))
 	add("failure", at(e.Failure))
 	add("abandoned because", printable(e.Because))
 	if len(w.tries) > 1 {
@@ -152,8 +144,8 @@ func at(r platform.Reason) string {
 	return moment(r.At) + " " + textOf(r)
 }
 
-// A row is what --json prints of an instance or a binding. Its members stay as they are.
-type row struct {
+// An entryJSON is what --json prints of an instance or a binding. Its members stay as they are.
+type entryJSON struct {
 	ID           string           `json:"id"`
 	Instance     string           `json:"instance"`
 	Binding      string           `json:"binding,omitempty"`
@@ -182,8 +174,8 @@ type row struct {
 	Tries        int              `json:"tries"`
 }
 
-func jsonOf(e rowWithBroker) row {
-	return row{
+func jsonOf(e entryWithBroker) entryJSON {
+	return entryJSON{
 		ID: idOf(e.Entry), Instance: e.Names.Instance, Binding: e.Names.Binding, State: e.State, Since: e.Since.UTC(),
 		Broker: e.Broker, Service: e.Names.Service, Plan: e.Names.Plan, Organization: e.Organization, Space: e.Space,
 		Asked: asked[e.Removal], Due: timeOf(e.Due), PolledSince: timeOf(e.PolledSince), Operation: e.Operation,
@@ -208,9 +200,9 @@ func reason(r platform.Reason) *platform.Reason {
 	return &r
 }
 
-// A wholeRow is what show --json prints.
-type wholeRow struct {
-	row
+// A wholeJSON is what show --json prints.
+type wholeJSON struct {
+	entryJSON
 	Life  []stay `json:"life"`
 	Chain []try  `json:"chain"`
 }
@@ -225,8 +217,8 @@ type try struct {
 	State platform.State `json:"state"`
 }
 
-func (w whole) json() wholeRow {
-	made := wholeRow{row: jsonOf(w.row()), Life: []stay{}, Chain: []try{}}
+func (w whole) json() wholeJSON {
+	made := wholeJSON{entryJSON: jsonOf(w.entryWithBroker), Life: []stay{}, Chain: []try{}}
 	for _, one := range w.life {
 		made.Life = append(made.Life, stay{State: one.State, Since: one.Since.UTC()})
 	}
@@ -249,16 +241,16 @@ func reasonOf(e platform.Entry) string {
 	return textOf(e.Last)
 }
 
-// A rowWithBroker is a row with its broker, and with the try before it if it is a further try that waits.
-type rowWithBroker struct {
+// An entryWithBroker is an entry with its broker, and with the try before it if it is a further try that waits.
+type entryWithBroker struct {
 	platform.Entry
-	broker platform.Broker
-	before platform.Entry // or the zero Entry
+	broker platform.Broker // the zero Broker if it is unknown
+	before platform.Entry  // or the zero Entry
 }
 
 // reason is why a row is as it is, in one line, or empty. If the row says nothing, it is why it waits, or the reason of
 // its broker, marked as such.
-func (p rowWithBroker) reason() string {
+func (p entryWithBroker) reason() string {
 	text := reasonOf(p.Entry)
 	if waits := p.waits(); text == "" && waits != "" {
 		return waits
@@ -270,7 +262,7 @@ func (p rowWithBroker) reason() string {
 }
 
 // brokerReason is why the broker hasn't answered its catalogue, if something is to be sent for the row.
-func (p rowWithBroker) brokerReason() platform.Reason {
+func (p entryWithBroker) brokerReason() platform.Reason {
 	if p.Rests() {
 		return platform.Reason{}
 	}
@@ -278,7 +270,7 @@ func (p rowWithBroker) brokerReason() platform.Reason {
 }
 
 // waits is until when a further try waits, and why, in one line that begins with "waits", or empty.
-func (p rowWithBroker) waits() string {
+func (p entryWithBroker) waits() string {
 	if p.before.Failure == (platform.Reason{}) {
 		return ""
 	}
