@@ -125,18 +125,18 @@ func remove(e *Entry) { e.Removal = Removed }
 
 func chosenID(e *Entry) { e.IsOwnID = false }
 
-// The result of a decision: the state, what is sent, and when the row is due if nothing is sent; zero if it rests.
-type outcome struct {
+// An expectation is what a decision comes to: the state, what is sent, and when the row is due if nothing is sent; zero if it rests.
+type expectation struct {
 	state State
 	sends string
 	due   time.Time
 }
 
-func rests(state State) outcome { return outcome{state: state} }
+func rests(state State) expectation { return expectation{state: state} }
 
-func sends(state State, kind string) outcome { return outcome{state: state, sends: kind} }
+func sends(state State, kind string) expectation { return expectation{state: state, sends: kind} }
 
-func dueAt(state State, seconds int) outcome { return outcome{state: state, due: at(seconds)} }
+func dueAt(state State, seconds int) expectation { return expectation{state: state, due: at(seconds)} }
 
 type decideRow struct {
 	name    string
@@ -144,7 +144,7 @@ type decideRow struct {
 	row     Entry
 	allGone bool
 	terms   terms
-	want    outcome
+	want    expectation
 }
 
 // Each row of the table is by docs/platform-guide.md, docs/platform.md and docs/binding.md. What is sent is leased for
@@ -218,12 +218,12 @@ func TestDecide(t *testing.T) {
 				instance := rowIn(anInstance, Ready)
 				read.Instance = &instance
 			}
-			checkOutcome(t, decide(at(row.now), read, row.allGone, row.terms), row.want, at(row.now))
+			checkExpected(t, decide(at(row.now), read, row.allGone, row.terms), row.want, at(row.now))
 		})
 	}
 }
 
-func checkOutcome(t *testing.T, got decision, want outcome, now time.Time) {
+func checkExpected(t *testing.T, got decision, want expectation, now time.Time) {
 	t.Helper()
 	if got.err != nil {
 		t.Fatalf("got the error %v, want none", got.err)
@@ -248,7 +248,7 @@ func checkOutcome(t *testing.T, got decision, want outcome, now time.Time) {
 // ready, the order is withdrawn.
 func TestDecideBind(t *testing.T) {
 	waits, withdrawn := dueAt(Ordered, 4), rests(Withdrawn)
-	for state, want := range map[State]outcome{
+	for state, want := range map[State]expectation{
 		Ordered: waits, Wanted: waits, Polling: waits, Ready: sends(Wanted, "bind"), Withdrawn: withdrawn,
 		Cleaning: withdrawn, CleaningPolling: withdrawn, Gone: withdrawn, Unsettled: withdrawn, Abandoned: withdrawn,
 	} {
@@ -260,7 +260,7 @@ func TestDecideBind(t *testing.T) {
 					want = withdrawn
 				}
 				got := decide(start, Snapshot{Entry: rowIn(aBinding, Ordered), Instance: &instance}, false, plain())
-				checkOutcome(t, got, want, start)
+				checkExpected(t, got, want, start)
 				if got.change().WakeInstance != (want == withdrawn) {
 					t.Errorf("the instance is woken: got %v, want %v", got.change().WakeInstance, want == withdrawn)
 				}

@@ -242,8 +242,8 @@ func within[T any](ctx context.Context, s *Store, work func(*call) (T, error)) (
 	return value, asAway(err)
 }
 
-// An outcome is what work returns.
-type outcome[T any] struct {
+// A result is what work returns.
+type result[T any] struct {
 	value T
 	err   error
 }
@@ -254,22 +254,22 @@ func runWithin[T any](ctx context.Context, work func() (T, error)) (value T, isL
 		value, err = work()
 		return value, false, err
 	}
-	done := make(chan outcome[T], 1)
+	done := make(chan result[T], 1)
 	go func() {
-		it := outcome[T]{err: errors.New("a function that was passed has ended its goroutine")}
-		defer func() { done <- it }()
-		it.value, it.err = work()
+		made := result[T]{err: errors.New("a function that was passed has ended its goroutine")}
+		defer func() { done <- made }()
+		made.value, made.err = work()
 	}()
 	select {
-	case it := <-done:
-		return it.value, false, it.err
+	case made := <-done:
+		return made.value, false, made.err
 	case <-ctx.Done():
 	}
 	timer := time.NewTimer(grace)
 	defer timer.Stop()
 	select {
-	case it := <-done:
-		return it.value, false, it.err
+	case made := <-done:
+		return made.value, false, made.err
 	case <-timer.C:
 		return value, true, away{ctx.Err()}
 	}

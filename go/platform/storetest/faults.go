@@ -74,8 +74,8 @@ type faultyCall struct {
 	isNew bool
 }
 
-// An outcome is the result of a call: its error, what it has passed to see, and the rows that are left.
-type outcome struct {
+// An effect is the result of a call: its error, what it has passed to see, and the rows that are left.
+type effect struct {
 	err  error
 	seen []string
 	left []string
@@ -85,7 +85,7 @@ type outcome struct {
 func (f *faulty) each() {
 	const most = 200 // no call has so many statements
 	f.prepare()
-	before := outcome{left: f.rows()}
+	before := effect{left: f.rows()}
 	want := f.call(f.beside)
 	if want.err != nil {
 		f.t.Fatalf("without a fault: got %v, want nil", want.err)
@@ -109,7 +109,7 @@ func (f *faulty) each() {
 }
 
 // again has the call succeed, over rows as they were before.
-func (f *faulty) again(failed string, want outcome) {
+func (f *faulty) again(failed string, want effect) {
 	f.t.Helper()
 	f.prepare()
 	got := f.call(f.store)
@@ -119,14 +119,14 @@ func (f *faulty) again(failed string, want outcome) {
 }
 
 // call makes the call.
-func (f *faulty) call(store platform.Store) (came outcome) {
+func (f *faulty) call(store platform.Store) (came effect) {
 	came.err = f.of.call(store, func(it any) { came.seen = append(came.seen, f.text(it)) })
 	came.left = f.rows()
 	return came
 }
 
 // judge compares the result of a call with what was there before, and with what is wanted of it.
-func (f *faulty) judge(failed string, got, before, want outcome) {
+func (f *faulty) judge(failed string, got, before, want effect) {
 	f.t.Helper()
 	for _, text := range got.seen {
 		if !isAmong(text, want.seen) {
@@ -157,7 +157,7 @@ func isFault(err error) bool {
 }
 
 // eachRow compares each row that is left.
-func (f *faulty) eachRow(failed string, got, before, want outcome) {
+func (f *faulty) eachRow(failed string, got, before, want effect) {
 	f.t.Helper()
 	for _, text := range got.left {
 		if !isAmong(text, before.left) && !isAmong(text, want.left) {

@@ -357,8 +357,8 @@ func (v *Vault) marks(written string) (mark, target string, err error) {
 // keyOf is the key with a fingerprint, of this version or of version 0.3, or nil.
 func (v *Vault) keyOf(fingerprint string) *key {
 	for at := range v.keys {
-		if it := &v.keys[at]; it.fingerprint == fingerprint || it.former == fingerprint {
-			return it
+		if key := &v.keys[at]; key.fingerprint == fingerprint || key.former == fingerprint {
+			return key
 		}
 	}
 	return nil
@@ -406,11 +406,11 @@ func (v *Vault) renewPasswords(ctx context.Context, store platform.Store, all *R
 	}
 	all.Unopened = nil
 	for _, broker := range brokers {
-		var outcome *[]platform.Broker
+		var list *[]platform.Broker
 		err := store.ChangeBroker(ctx, broker.Name, func(current platform.Broker) (*platform.Broker, error) {
 			var sealed []byte
 			var err error
-			sealed, outcome, err = v.renewPassword(current, all)
+			sealed, list, err = v.renewPassword(current, all)
 			if err != nil || sealed == nil {
 				return nil, err
 			}
@@ -423,16 +423,16 @@ func (v *Vault) renewPasswords(ctx context.Context, store platform.Store, all *R
 		if err != nil {
 			return err
 		}
-		if outcome != nil {
-			*outcome = append(*outcome, broker)
+		if list != nil {
+			*list = append(*list, broker)
 		}
 	}
 	return nil
 }
 
 // renewPassword is the password of a broker sealed again, by the key that has sealed it, or nil if it stays. The broker
-// is one of outcome, or of none if there is nothing to do.
-func (v *Vault) renewPassword(broker platform.Broker, all *Renewal) (sealed []byte, outcome *[]platform.Broker, err error) {
+// is one of list, or of none if there is nothing to do.
+func (v *Vault) renewPassword(broker platform.Broker, all *Renewal) (sealed []byte, list *[]platform.Broker, err error) {
 	if broker.Password == nil {
 		return nil, nil, nil
 	}
