@@ -19,7 +19,7 @@ import (
 
 	"pippinterm/internal/cli"
 	"pippinterm/internal/crash"
-	pgsession "pippinterm/internal/pg"
+	"pippinterm/internal/pg"
 	"pippinterm/internal/sqlitefile"
 	"pippinterm/osb"
 	"pippinterm/platform"
@@ -120,7 +120,7 @@ func (a *app) withStatus(err error) error {
 		return cli.Unusable(err)
 	case errors.As(err, &fault):
 		a.status = statusRejected
-	case pgsession.IsCode(err, pgsession.QueryCanceled, pgsession.LockNotAvailable):
+	case pg.IsCode(err, pg.QueryCanceled, pg.LockNotAvailable):
 		return cli.Unavailable(fmt.Errorf("the store hasn't answered in time: %w. Another session may have locked a "+
 			"table, for example by VACUUM FULL: see pg_stat_activity, and try again", err))
 	case errors.Is(err, platform.ErrAway), sqlitefile.MayPass(err):

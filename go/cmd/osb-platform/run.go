@@ -16,7 +16,7 @@ import (
 	"pippinterm/internal/cli/notify"
 	"pippinterm/internal/httpserver"
 	"pippinterm/internal/logs"
-	pgsession "pippinterm/internal/pg"
+	"pippinterm/internal/pg"
 	"pippinterm/internal/sqlitefile"
 	"pippinterm/platform"
 	"pippinterm/platform/client"
@@ -72,12 +72,12 @@ func runWorker(ctx context.Context, s *runSettings, p places, stdout, stderr io.
 	if !showsCounts {
 		r.observer = append(r.observer, changes{to: told, names: r.names})
 	}
-	work, endWork := context.WithCancel(ctx) // of what goes on after stop
+	ctx, endWork := context.WithCancel(ctx) // of what goes on after stop
 	defer endWork()
 	done := make(chan error, 1)
-	go func() { done <- r.serve(work, stop) }()
+	go func() { done <- r.serve(ctx, stop) }()
 	if showsCounts && !isTerminal(stderr) {
-		defer r.showCounts(work, stdout)()
+		defer r.showCounts(ctx, stdout)()
 	}
 	return r.await(stop, endWork, done)
 }
@@ -113,7 +113,7 @@ func (r *worker) await(stop context.Context, endWork context.CancelFunc, done <-
 
 // warnOfFolder logs a warning if other accounts can write to the folder of the store: they can replace the store.
 func (r *worker) warnOfFolder() {
-	if pgsession.IsAddress(r.places.store) {
+	if pg.IsAddress(r.places.store) {
 		return
 	}
 	folder := filepath.Dir(r.places.store)
@@ -132,7 +132,7 @@ func (r *worker) end(stop context.Context, err error, hasEnded bool) error {
 }
 
 // serve opens everything, and works until stop is done.
-func (r *worker) serve(work, stop context.Context) (err error) {
+func (r *worker) serve(ctx, stop context.Context) (err error) {
 	store, err := openStore(stop, r.places.store, r.settings.sessions())
 	if err != nil {
 		return err
@@ -152,17 +152,17 @@ func (r *worker) serve(work, stop context.Context) (err error) {
 	if r.client != nil {
 		defer r.client.Close()
 	}
-	endServing, err := r.serveSites(work, stop)
+	endServing, err := r.serveSites(ctx, stop)
 	if err != nil {
 		return err
 	}
 	defer endServing()
-	defer r.reloads(work)()
+	defer r.reloads(ctx)()
 	if r.settings.servesOnly {
 		r.logStart()
 		return r.serveOnly(stop)
 	}
-	return r.work(work, stop)
+	return r.work(ctx, stop)
 }
 
 // logStart logs that it runs, and where it listens.
@@ -265,8 +265,8 @@ func (r *worker) openEngine(ctx context.Context, own string) (err error) {
 }
 
 // showCounts shows how many rows are in each state, until the function that it returns is called.
-func (r *worker) showCounts(work context.Context, to io.Writer) (end func()) {
-	ctx, cancel := context.WithCancel(work)
+func (r *worker) showCounts(ctx context.Context, to io.Writer) (end func()) {
+	ctx, cancel := context.WithCancel(ctx)
 	done := make(chan struct{})
 	go func() {
 		defer close(done)
@@ -287,7 +287,7 @@ type right struct {
 
 // work steps what is due until stop is done. If the right to the name of the worker is lost, as after an outage of
 // PostgreSQL, it takes it again.
-func (r *worker) work(work, stop context.Context) error {
+func (r *worker) work(ctx, stop context.Context) error {
 	end, lost, err := r.store.Only(stop, r.settings.worker)
 	if err != nil {
 		return err
@@ -298,7 +298,7 @@ func (r *worker) work(work, stop context.Context) error {
 	}
 	r.logStart()
 	for name := (&right{end, lost}); name != nil; {
-		name, err = r.workAs(work, stop, name)
+		name, err = r.workAs(ctx, stop, name)
 	}
 	return err
 }
@@ -306,7 +306,7 @@ func (r *worker) work(work, stop context.Context) error {
 // workAs works under the name of the worker until stop is done. If the name is lost, no further requests are begun, and
 // workAs returns the name, taken again, once those in flight are answered and written. Otherwise it returns nil and the
 // error.
-func (r *worker) workAs(work, stop context.Context, name *right) (again *right, err error) {
+func (r *worker) workAs(ctx, stop context.Context, name *right) (again *right, err error) {
 	held, cancel := context.WithCancel(stop)
 	taken := make(chan *right, 1)
 	go func() {
@@ -320,7 +320,7 @@ func (r *worker) workAs(work, stop context.Context, name *right) (again *right, 
 			taken <- nil
 		}
 	}()
-	err = r.engineRuns(work, held)
+	err = r.engineRuns(ctx, held)
 	cancel()
 	if again = <-taken; again == nil {
 		name.end()
@@ -345,22 +345,22 @@ func (r *worker) nameAgain(stop context.Context) *right {
 	}
 }
 
-// engineRuns has the engine run until stop is done, and what was in flight is answered and written, or until work is
+// engineRuns has the engine run until stop is done, and what was in flight is answered and written, or until ctx is
 // done.
-func (r *worker) engineRuns(work, stop context.Context) error {
+func (r *worker) engineRuns(ctx, stop context.Context) error {
 	for _, begin := range []func(context.Context) error{r.checkKeys, r.free} {
-		err := begin(work)
+		err := begin(ctx)
 		for errors.Is(err, platform.ErrAway) && sleep(stop, time.Second) == nil {
-			err = begin(work)
+			err = begin(ctx)
 		}
 		if err != nil {
 			return err
 		}
 	}
 	if !r.settings.once {
-		return r.engine.Run(work, stop.Done())
+		return r.engine.Run(ctx, stop.Done())
 	}
-	err := r.engine.RunOnceUntil(work, stop.Done())
+	err := r.engine.RunOnceUntil(ctx, stop.Done())
 	if errors.Is(err, platform.ErrUnreached) || errors.Is(err, platform.ErrLocked) {
 		return &endError{status: statusRejected, text: err.Error()}
 	}

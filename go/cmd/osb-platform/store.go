@@ -14,7 +14,7 @@ import (
 	"github.com/spf13/pflag"
 
 	"pippinterm/internal/cli"
-	pgsession "pippinterm/internal/pg"
+	"pippinterm/internal/pg"
 	"pippinterm/internal/sqlitefile"
 	"pippinterm/platform"
 	"pippinterm/platform/postgres"
@@ -79,7 +79,7 @@ func existingStore(ctx context.Context, place string, most int) (platform.Store,
 	if err := checkPlace(place); err != nil {
 		return nil, err
 	}
-	if !pgsession.IsAddress(place) {
+	if !pg.IsAddress(place) {
 		store, err := sqlite.OpenExisting(ctx, place)
 		if err != nil {
 			return nil, missing(place, err, ofFile)
@@ -109,7 +109,7 @@ func openStore(ctx context.Context, place string, most int) (platform.Store, err
 	if err := checkPlace(place); err != nil {
 		return nil, err
 	}
-	if !pgsession.IsAddress(place) {
+	if !pg.IsAddress(place) {
 		return openFile(ctx, place)
 	}
 	store, err := postgres.Open(ctx, place, most)
@@ -124,10 +124,10 @@ func checkPlace(place string) error {
 	if err := cli.CheckPlace(place); err != nil {
 		return cli.Unusable(fmt.Errorf("the store: %w", err))
 	}
-	if !pgsession.IsAddress(place) {
+	if !pg.IsAddress(place) {
 		return nil
 	}
-	has, err := pgsession.HasPassword(place)
+	has, err := pg.HasPassword(place)
 	switch {
 	case err != nil:
 		return cli.Unusable(fmt.Errorf("the URL of PostgreSQL can't be read: %w", err))
@@ -161,7 +161,7 @@ func ofFile(err error) error {
 
 // away is the error of PostgreSQL: it may be back later, unless an operator has to change something.
 func away(err error) error {
-	remedy, isLasting := pgsession.Remedy(err)
+	remedy, isLasting := pg.Remedy(err)
 	err = fmt.Errorf("the store can't be used: %w", err)
 	var network *net.OpError
 	switch {
