@@ -192,16 +192,16 @@ func (s *CatalogueService) Plan(named string) *CataloguePlan {
 // plan returns the service and the plan of these numbers, or nil for what there isn't.
 func (c *Catalogue) plan(service, plan osb.ID) (*CatalogueService, *CataloguePlan) {
 	for at := range c.Services {
-		it := &c.Services[at]
-		if it.Number != service {
+		sold := &c.Services[at]
+		if sold.Number != service {
 			continue
 		}
-		for n := range it.Plans {
-			if it.Plans[n].Number == plan {
-				return it, &it.Plans[n]
+		for n := range sold.Plans {
+			if sold.Plans[n].Number == plan {
+				return sold, &sold.Plans[n]
 			}
 		}
-		return it, nil
+		return sold, nil
 	}
 	return nil, nil
 }

@@ -392,12 +392,11 @@ func TestForeignBounds(t *testing.T) {
 			poll(200, succeeded).naming(strings.Repeat("ä", 10_000)),
 		}},
 	} {
-		it := choice
-		t.Run(it.name, func(t *testing.T) {
+		t.Run(choice.name, func(t *testing.T) {
 			s := newScene(t, small("", ""), platform.Settings{}, platform.Options{})
 			s.order(platform.NewInstance{})
-			it.script = append(it.script, operator(s.checkRow))
-			s.play(it.script)
+			choice.script = append(choice.script, operator(s.checkRow))
+			s.play(choice.script)
 			s.checkReported(t)
 		})
 	}
@@ -454,13 +453,13 @@ func (s *scene) checkReported(t *testing.T) {
 // playAll plays behaviours, and compares what is recorded in the end with what is right.
 func playAll(t *testing.T, all []behaviour) {
 	for _, behaviour := range all {
-		it := behaviour
-		t.Run(it.name, func(t *testing.T) {
+		behaviour := behaviour
+		t.Run(behaviour.name, func(t *testing.T) {
 			t.Parallel()
-			s := newScene(t, small(it.members, it.plan), it.settings, it.options)
-			s.order(platform.NewInstance{ID: it.id})
-			s.play(it.script)
-			s.checkEnding(t, it.want)
+			s := newScene(t, small(behaviour.members, behaviour.plan), behaviour.settings, behaviour.options)
+			s.order(platform.NewInstance{ID: behaviour.id})
+			s.play(behaviour.script)
+			s.checkEnding(t, behaviour.want)
 		})
 	}
 }

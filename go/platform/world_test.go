@@ -263,15 +263,15 @@ func (b *bench) restart() {
 }
 
 // reach is called at each crash point.
-func (w *world) reach(place string) {
+func (w *world) reach(point string) {
 	if len(w.running) == 0 || w.calm {
 		return
 	}
 	it := w.running[len(w.running)-1]
-	if it == nil && w.roll(10) > 0 || it != nil && it.dies != place {
+	if it == nil && w.roll(10) > 0 || it != nil && it.dies != point {
 		return
 	}
-	w.counts["killed "+place]++
+	w.counts["killed "+point]++
 	if it != nil {
 		it.dies = ""
 	}

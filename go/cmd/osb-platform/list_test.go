@@ -375,9 +375,6 @@ func spoil(t *testing.T, store, statement string) {
 	t.Helper()
 	made := diff.Value((&sqlite3.SQLiteDriver{}).Open("file:" + store))(t)
 	defer made.Close()
-	if done, err := made.(*sqlite3.SQLiteConn).Exec(statement, nil); err != nil {
-		t.Fatal(err)
-	} else if count, err := done.RowsAffected(); err != nil || count != 1 {
-		t.Fatalf("got %d rows spoilt (%v), want 1", count, err)
-	}
+	done := diff.Value(made.(*sqlite3.SQLiteConn).Exec(statement, nil))(t)
+	diff.Equal(t, diff.Value(done.RowsAffected())(t), 1, "rows spoilt")
 }

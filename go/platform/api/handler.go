@@ -412,16 +412,16 @@ var routes = []route{
 // HEAD is asked for as GET is.
 func routeOf(method, path string) (found *route, values map[string]string, allowed []string) {
 	for at := range routes {
-		it := &routes[at]
-		matched, isIt := match(it.pattern, path)
-		if !isIt {
+		route := &routes[at]
+		matched, isMatched := match(route.pattern, path)
+		if !isMatched {
 			continue
 		}
-		if it.method == method || it.method == http.MethodGet && method == http.MethodHead {
-			return it, matched, nil
+		if route.method == method || route.method == http.MethodGet && method == http.MethodHead {
+			return route, matched, nil
 		}
-		allowed = append(allowed, it.method)
-		if it.method == http.MethodGet {
+		allowed = append(allowed, route.method)
+		if route.method == http.MethodGet {
 			allowed = append(allowed, http.MethodHead)
 		}
 	}

@@ -315,21 +315,21 @@ func TestTokens(t *testing.T) {
 	r := newRig(t)
 	id := r.order()
 	for at := range routes {
-		it := routes[at]
-		target := strings.NewReplacer("{id}", id, "{bid}", "b", "{name}", "shelf").Replace(it.pattern)
+		route := routes[at]
+		target := strings.NewReplacer("{id}", id, "{bid}", "b", "{name}", "shelf").Replace(route.pattern)
 		for _, token := range []string{"", "wrong", strings.Repeat("x", ShortestToken), reading[1:], reading + "r"} {
-			got := r.callAs(token, it.method, target, "")
-			if it.needs == 0 {
+			got := r.callAs(token, route.method, target, "")
+			if route.needs == 0 {
 				got.want(200, "")
 				continue
 			}
 			if got.want(401, "unauthorized").header.Get("WWW-Authenticate") == "" {
-				t.Error("WWW-Authenticate: got none, want it")
+				t.Error("WWW-Authenticate: got none, want route")
 			}
 		}
 		for text, has := range map[string]Permission{reading: Read, writing: Write, opening: Credentials} {
-			if it.needs != 0 && has != it.needs {
-				r.callAs(text, it.method, target, "").want(403, "forbidden")
+			if route.needs != 0 && has != route.needs {
+				r.callAs(text, route.method, target, "").want(403, "forbidden")
 			}
 		}
 	}

@@ -37,10 +37,10 @@ func TestSealedPassword(t *testing.T) {
 		},
 	} {
 		t.Run(what, func(t *testing.T) {
-			it := broker
-			change(&it)
-			got, err := passwords.Of(it)
-			if err == nil || got != "" || !strings.Contains(err.Error(), "broker set "+it.Name+" --store-password") {
+			changed := broker
+			change(&changed)
+			got, err := passwords.Of(changed)
+			if err == nil || got != "" || !strings.Contains(err.Error(), "broker set "+changed.Name+" --store-password") {
 				t.Errorf("got %q, %v, want an error that says what to do", got, err)
 			}
 		})

@@ -240,7 +240,7 @@ func TestBrokenConnections(t *testing.T) {
 		t.Run(what, func(t *testing.T) {
 			listener, err := net.Listen("tcp", "127.0.0.1:0")
 			check(t, err)
-			it := test
+			test := test
 			go func() {
 				for {
 					conn, err := listener.Accept()
@@ -248,14 +248,14 @@ func TestBrokenConnections(t *testing.T) {
 						return
 					}
 					_, _ = conn.Read(make([]byte, 4096))
-					it.does(conn)
+					test.does(conn)
 					_ = conn.Close()
 				}
 			}()
-			url := it.scheme + "://" + listener.Addr().String()
+			url := test.scheme + "://" + listener.Addr().String()
 			_, _, err = newClient(t, Options{}).Catalogue(context.Background(), at(url))
-			if err == nil || !strings.Contains(err.Error(), it.says) || strings.Contains(err.Error(), secret) {
-				t.Errorf("got %v, want %s", err, it.says)
+			if err == nil || !strings.Contains(err.Error(), test.says) || strings.Contains(err.Error(), secret) {
+				t.Errorf("got %v, want %s", err, test.says)
 			}
 			_ = listener.Close()
 		})

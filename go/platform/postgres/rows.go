@@ -162,7 +162,7 @@ func keyOf(id, binding string) (key platform.Key, err error) {
 }
 
 // shownOf is entryOf for whoever only shows the row: if it can't be read, the entry says so. An error is left only if
-// the row has no key, without which it has no place among others.
+// the row has no key, without which it has no position among others.
 func shownOf(line []byte) (platform.Entry, error) {
 	entry, unreadable, err := entryOf(line)
 	if unreadable != nil {

@@ -481,12 +481,12 @@ func statesOf(filter platform.Filter) (of []platform.State) {
 		chosen[state] = true
 	}
 	for at := range states {
-		it := states[at]
+		state := states[at]
 		if filter.Latest {
-			it = states[len(states)-1-at]
+			state = states[len(states)-1-at]
 		}
-		if isBehind(filter, it) && (len(chosen) == 0 || chosen[it]) {
-			of = append(of, it)
+		if isBehind(filter, state) && (len(chosen) == 0 || chosen[state]) {
+			of = append(of, state)
 		}
 	}
 	return of

@@ -299,7 +299,7 @@ func (r *row) readText(column string, member platform.Text) {
 	}
 }
 
-// sinceColumn is the place of since in lineOf.
+// sinceColumn is the index of since in lineOf.
 var sinceColumn = 2 + len(orderColumns) + 1
 
 // shownOf is entryOf for whoever only shows the row: if it can't be read, the entry says so. An error is left only if

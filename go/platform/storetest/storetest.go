@@ -79,8 +79,8 @@ func Test(t *testing.T, open func(t *testing.T) platform.Store) {
 		{"ready", testReady},
 		{"closing", testClose},
 	} {
-		it := test
-		t.Run(it.name, func(t *testing.T) { it.run(t, open) })
+		test := test
+		t.Run(test.name, func(t *testing.T) { test.run(t, open) })
 	}
 }
 
