@@ -48,8 +48,7 @@ func (it trial) take(t *testing.T, result exchangeResult) *Change {
 		instance := rowIn(anInstance, Ready)
 		snapshot.Instance = &instance
 	}
-	change, err := takeAnswer(at(11), snapshot, it.sent, result)
-	check(t, err)
+	change := diff.Value(takeAnswer(at(11), snapshot, it.sent, result))(t)
 	return change
 }
 
@@ -147,12 +146,8 @@ func TestTaken(t *testing.T) {
 			if e.Last.Status != row.status || !e.Last.At.Equal(at(11)) {
 				t.Errorf("the reason: got %+v, want the status %d", e.Last, row.status)
 			}
-			if isReady := e.Key.IsBinding && e.State == Ready; isReady != (e.Credentials != nil) {
-				t.Errorf("the credentials: got %q, want some exactly with a binding that is ready", e.Credentials)
-			}
-			if change.WakeInstance != (e.Key.IsBinding && e.State == Gone) {
-				t.Errorf("the instance is woken: got %v, want %v", change.WakeInstance, e.Key.IsBinding && e.State == Gone)
-			}
+			diff.Equal(t, e.Credentials != nil, e.Key.IsBinding && e.State == Ready, "whether there are credentials")
+			diff.Equal(t, change.WakeInstance, e.Key.IsBinding && e.State == Gone, "the instance is woken")
 		})
 	}
 }
@@ -320,15 +315,11 @@ func TestTakenCredentials(t *testing.T) {
 	try = newTrial(t, rowIn(aBinding, Ordered), plain())
 	created := try.answer(201, `{"credentials": {}}`)
 	created.sealed = nil
-	if e := try.take(t, created).Entry; e.State != Cleaning {
-		t.Errorf("a 201 whose credentials can't be encrypted: got %s, want %s", e.State, Cleaning)
-	}
+	diff.Equal(t, try.take(t, created).Entry.State, Cleaning, "a 201 whose credentials can't be encrypted")
 	unfetchable := plain()
 	unfetchable.isRetrievable = false
 	try = newTrial(t, rowIn(aBinding, Ordered), unfetchable)
-	if e := try.take(t, try.answer(202, `{}`)).Entry; e.State != Cleaning {
-		t.Errorf("a 202 whose credentials can't be fetched: got %s, want %s", e.State, Cleaning)
-	}
+	diff.Equal(t, try.take(t, try.answer(202, `{}`)).Entry.State, Cleaning, "a 202 whose credentials can't be fetched")
 }
 
 // What a broker says of a pace, an operation, a dashboard and metadata is kept.
@@ -527,10 +518,8 @@ func TestNextTryOfBinding(t *testing.T) {
 			instance := with(rowIn(anInstance, state), func(e *Entry) { e.Removal = removal })
 			change, err := takeAnswer(at(11), Snapshot{Entry: try.row, Instance: &instance}, try.sent, try.answer(200, `{}`))
 			check(t, err)
-			if isWanted := state == Ready && removal == NotRemoved; isWanted != (change.Next != nil) {
-				t.Errorf("the instance in %s, removal %d: got the next %+v, want one exactly if it is ready", state, removal,
-					change.Next)
-			}
+			diff.Equal(t, change.Next != nil, state == Ready && removal == NotRemoved,
+				"a next try with the instance in %s, removal %d", state, removal)
 			if change.Entry.State != Gone || !change.WakeInstance {
 				t.Errorf("the instance in %s: got the binding in %s, want it gone and the instance woken", state,
 					change.Entry.State)
@@ -632,14 +621,10 @@ func TestAnswerInDoubt(t *testing.T) {
 func TestBackOff(t *testing.T) {
 	rest := backOff{first: 300 * time.Millisecond}
 	for n, want := range []time.Duration{300, 600, 1000, 1000} {
-		if got := rest.next(); got != want*time.Millisecond {
-			t.Errorf("the rest %d: got %v, want %v", n+1, got, want*time.Millisecond)
-		}
+		diff.Equal(t, rest.next(), want*time.Millisecond, "the rest %d", n+1)
 	}
 	rest.end()
-	if got := rest.next(); got != rest.first {
-		t.Errorf("after a success: got %v, want %v", got, rest.first)
-	}
+	diff.Equal(t, rest.next(), rest.first, "after a success")
 }
 
 // While nothing can be written, the worker rests longer and longer, and one line says why. Nothing is sent, and nothing

@@ -15,8 +15,7 @@ import (
 )
 
 func TestReadCatalogue(t *testing.T) {
-	read, err := ReadCatalogue([]byte(sold))
-	check(t, err)
+	read := diff.Value(ReadCatalogue([]byte(sold)))(t)
 	if !read.HasTombstones || len(read.Services) != 1 || len(read.Services[0].Plans) != 4 ||
 		!read.Services[0].IsRetrievable {
 		t.Fatalf("got %+v, want the four plans of one service with tombstones", read)
@@ -142,16 +141,13 @@ func TestCheckURL(t *testing.T) {
 				strings.Contains(fault.Text, "hunter2") {
 				t.Errorf("got %v, want a fault with %q and without the password", err, said)
 			}
-			if err := CheckURL(url, true); (err == nil) != (said == "reads the password") {
-				t.Errorf("%q, with http:// allowed: got %v, want what the page says: %s", url, err, said)
-			}
+			diff.Equal(t, CheckURL(url, true) == nil, said == "reads the password", "%q, with http:// allowed", url)
 		})
 	}
 }
 
 func (p *plant) hasCatalogue() bool {
-	brokers, err := p.store.Brokers(background)
-	check(p.t, err)
+	brokers := diff.Value(p.store.Brokers(background))(p.t)
 	return brokers[0].Catalogue != nil
 }
 
@@ -210,9 +206,7 @@ func TestRunUnreachable(t *testing.T) {
 	time.Sleep(30 * time.Millisecond)
 	diff.Equal(t, sent.Load(), 1, "requests sent")
 	isAway.Store(false)
-	if e := p.untilState(later, Ready); e.Try != 1 {
-		t.Errorf("what was ordered in the outage: got it ready at try %d, want 1", e.Try)
-	}
+	diff.Equal(t, p.untilState(later, Ready).Try, 1, "what was ordered in the outage")
 	p.untilState(first, Gone)
 	p.until("the next try", func() bool { return p.countIn(Ready) == 2 })
 }
@@ -243,9 +237,7 @@ func TestRunAtAnotherStore(t *testing.T) {
 			isOther.Store(true)
 			first := p.create(NewInstance{})
 			p.untilState(first, Cleaning)
-			if isLost := p.hasFailed("other_store") > 0; isLost != (status < 500) {
-				t.Errorf("got it reported %t, want %t", isLost, status < 500)
-			}
+			diff.Equal(t, p.hasFailed("other_store") > 0, status < 500, "whether it is reported")
 			if status >= 500 {
 				p.until("a further request", func() bool { return sent.Load() > 1 })
 				return
@@ -256,9 +248,7 @@ func TestRunAtAnotherStore(t *testing.T) {
 				t.Fatalf("got %d requests sent, want 1", sent.Load())
 			}
 			isOther.Store(false)
-			if e := p.untilState(later, Ready); e.Try != 1 {
-				t.Errorf("what was ordered meanwhile: got it ready at try %d, want 1", e.Try)
-			}
+			diff.Equal(t, p.untilState(later, Ready).Try, 1, "what was ordered meanwhile")
 		})
 	}
 }
@@ -284,8 +274,7 @@ func (p *plant) refuses(status int) (isRefusing *atomic.Bool, sent *atomic.Int32
 }
 
 func (p *plant) countIn(state State) (count int) {
-	rows, err := p.store.List(background, Filter{})
-	check(p.t, err)
+	rows := diff.Value(p.store.List(background, Filter{}))(p.t)
 	for _, row := range rows {
 		if row.State == state {
 			count++
@@ -309,17 +298,13 @@ func TestRunUnreached(t *testing.T) {
 	}
 	p.start(background)
 	p.until("a reason", func() bool {
-		brokers, err := p.store.Brokers(background)
-		check(t, err)
+		brokers := diff.Value(p.store.Brokers(background))(t)
 		return brokers[0].Reason.Status == 503 && brokers[0].Reason.Lost == "it is down"
 	})
-	if e, err := p.store.Read(background, key); err != nil || e.State != Ordered {
-		t.Errorf("got %s (%v), want %s", e.State, err, Ordered)
-	}
+	diff.Equal(t, diff.Value(p.store.Read(background, key))(t).State, Ordered, "")
 	isDown.Store(false)
 	p.untilState(key, Ready)
-	brokers, err := p.store.Brokers(background)
-	check(t, err)
+	brokers := diff.Value(p.store.Brokers(background))(t)
 	if told := p.hasFailed("broker_unreached"); told != 1 || brokers[0].Reason != (Reason{}) {
 		t.Errorf("got %d reports and the reason %+v, want 1 and none", told, brokers[0].Reason)
 	}
@@ -393,9 +378,7 @@ func TestCatalogueThatIsOfferedAgain(t *testing.T) {
 	for n, document := range []string{other, other, sold} {
 		check(t, registry.keep(background, asked, json.RawMessage(document), Reason{}))
 		got := p.brokerNamed("shelf")
-		if string(got.Catalogue) != document {
-			t.Errorf("answer %d: got the catalogue %s, want %s", n, got.Catalogue, document)
-		}
+		diff.Equal(t, string(got.Catalogue), document, "answer %d", n)
 		if string(before.Catalogue) == document && !got.CatalogueAt.Equal(before.CatalogueAt) {
 			t.Errorf("answer %d: got the same catalogue written again, want it as it was", n)
 		}
@@ -405,8 +388,7 @@ func TestCatalogueThatIsOfferedAgain(t *testing.T) {
 
 func (p *plant) brokerNamed(name string) Broker {
 	p.t.Helper()
-	brokers, err := p.store.Brokers(background)
-	check(p.t, err)
+	brokers := diff.Value(p.store.Brokers(background))(p.t)
 	for _, broker := range brokers {
 		if broker.Name == name {
 			return broker
@@ -422,9 +404,7 @@ func TestRunBrokers(t *testing.T) {
 	var asked sync.Map
 	usual := p.line.exchange
 	p.line.exchange = func(ctx context.Context, out Outgoing) Incoming {
-		if out.Broker.Name != out.Entry.Broker {
-			t.Errorf("a request for %s: got %s, want its own broker", out.Entry.Broker, out.Broker.Name)
-		}
+		diff.Equal(t, out.Broker.Name, out.Entry.Broker, "a request for %s", out.Entry.Broker)
 		asked.Store(out.Broker.URL, true)
 		return usual(ctx, out)
 	}
@@ -443,14 +423,11 @@ func TestRunBrokers(t *testing.T) {
 	})
 	p.addBroker("unused")
 	p.until("three brokers", func() bool {
-		brokers, err := p.store.Brokers(background)
-		check(t, err)
+		brokers := diff.Value(p.store.Brokers(background))(t)
 		return len(brokers) == 3 && brokers[2].Catalogue != nil
 	})
 	check(t, p.orders.DropBroker(background, "unused"))
-	if err := p.orders.DropBroker(background, "drawer"); err == nil {
-		t.Error("a broker with orders: got no error, want one")
-	}
+	diff.Error(t, p.orders.DropBroker(background, "drawer"), "a broker with orders")
 }
 
 // The terms of a row are those of its broker's settings, then those of the catalogue, then those of the options.
@@ -657,9 +634,7 @@ func TestBrokers(t *testing.T) {
 	withoutKey := NewOrders(d.store, nil)
 	toSame := func(b *Broker) error { b.URL += "/"; return nil } // needs no key, as the URL stays
 	check(t, withoutKey.SetBroker(background, "shelf", toSame, nil))
-	if got := d.store.brokers["shelf"].URL; got != changed.URL {
-		t.Errorf("with a slash: got the URL %q, want %q", got, changed.URL)
-	}
+	diff.Equal(t, d.store.brokers["shelf"].URL, changed.URL, "with a slash")
 	moved := changed
 	moved.URL = "https://evil" // by somebody who can write the store
 	d.store.brokers["shelf"] = moved

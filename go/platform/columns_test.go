@@ -100,8 +100,7 @@ func TestLastText(t *testing.T) {
 		{Last: reason, DueSince: at(3), Lease: lease},
 	} {
 		t.Run(fmt.Sprintf("%d %v %s", want.Last.Status, want.DueSince, want.Lease.Claim), func(t *testing.T) {
-			text, err := (*lastText)(&want).MarshalText()
-			check(t, err)
+			text := diff.Value((*lastText)(&want).MarshalText())(t)
 			got := Entry{Lease: Lease{Worker: want.Lease.Worker}}
 			if text != nil {
 				check(t, (*lastText)(&got).UnmarshalText(text))
@@ -119,7 +118,5 @@ func TestLastText(t *testing.T) {
 	if got.Last.Kind != "poll" || !got.DueSince.IsZero() {
 		t.Errorf("got %+v, due since %v, want poll, and no time", got.Last, got.DueSince)
 	}
-	if err := (*lastText)(&got).UnmarshalText([]byte(`{"due_since": "x"}`)); err == nil {
-		t.Error("a text that isn't one: got no error, want one")
-	}
+	diff.Error(t, (*lastText)(&got).UnmarshalText([]byte(`{"due_since": "x"}`)), "a text that isn't one")
 }

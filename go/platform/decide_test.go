@@ -5,6 +5,7 @@ import (
 	"testing"
 	"time"
 
+	"pippinterm/internal/diff"
 	"pippinterm/osb"
 )
 
@@ -261,15 +262,12 @@ func TestDecideBind(t *testing.T) {
 				}
 				got := decide(start, Snapshot{Entry: rowIn(aBinding, Ordered), Instance: &instance}, false, plain())
 				checkExpected(t, got, want, start)
-				if got.change().WakeInstance != (want == withdrawn) {
-					t.Errorf("the instance is woken: got %v, want %v", got.change().WakeInstance, want == withdrawn)
-				}
+				diff.Equal(t, got.change().WakeInstance, want == withdrawn, "the instance is woken")
 			})
 		}
 	}
-	if got := decide(start, Snapshot{Entry: rowIn(aBinding, Ordered)}, false, plain()); got.entry.State != Withdrawn {
-		t.Errorf("without an instance: got %s, want %s", got.entry.State, Withdrawn)
-	}
+	diff.Equal(t, decide(start, Snapshot{Entry: rowIn(aBinding, Ordered)}, false, plain()).entry.State, Withdrawn,
+		"without an instance")
 }
 
 // The bits of a binding that can't be fetched: no asynchronous operation is accepted.

@@ -164,9 +164,7 @@ func (p *plant) untilState(key Key, want State) Entry {
 	p.t.Helper()
 	var e Entry
 	p.until(string(want), func() bool {
-		var err error
-		e, err = p.store.Read(background, key)
-		check(p.t, err)
+		e = diff.Value(p.store.Read(background, key))(p.t)
 		return e.State == want
 	})
 	return e
@@ -180,16 +178,13 @@ func TestRun(t *testing.T) {
 		p.untilState(instance, Ready)
 		var bindings []Key
 		for n := 0; n < 3; n++ {
-			e, err := p.orders.Bind(background, NewBinding{Instance: instance.String()})
-			check(t, err)
+			e := diff.Value(p.orders.Bind(background, NewBinding{Instance: instance.String()}))(t)
 			bindings = append(bindings, e.Key)
 		}
 		for _, binding := range bindings {
 			p.untilState(binding, Ready)
-			object, err := p.orders.Credentials(background, binding)
-			if err != nil || string(object) != p.seller.object(binding) {
-				t.Errorf("the credentials: got %s (%v), want %s", object, err, p.seller.object(binding))
-			}
+			object := diff.Value(p.orders.Credentials(background, binding))(t)
+			diff.Equal(t, string(object), p.seller.object(binding), "the credentials")
 		}
 		if _, err := p.orders.Remove(background, instance, false); err == nil {
 			t.Error("an instance with bindings: got no error, want one")
@@ -481,9 +476,7 @@ func TestPumpWithoutSlots(t *testing.T) {
 	r := newRun(background, p.engine)
 	for _, running := range []int{0, 2 * p.engine.AtOnce} {
 		r.running, r.inFlight = running, running
-		if wait := r.pump(); wait != p.engine.Look {
-			t.Errorf("with %d that run: got a wait of %v, want %v", running, wait, p.engine.Look)
-		}
+		diff.Equal(t, r.pump(), p.engine.Look, "with %d that run", running)
 	}
 }
 
@@ -521,9 +514,7 @@ func TestCheckPoints(t *testing.T) {
 		diff.NoError(t, crash.Check(Points), "%q", point)
 	}
 	t.Setenv("OSB_CRASH_AT", "claim-nxt")
-	if err := crash.Check(Points); (err != nil) != crash.IsOn {
-		t.Errorf("got %v, want an error exactly with crash points", err)
-	}
+	diff.Equal(t, crash.Check(Points) != nil, crash.IsOn, "whether there are no crash points")
 }
 
 // What is in flight at the stop is answered and written before Run returns, and nothing else is begun.
@@ -553,10 +544,8 @@ func TestRunStops(t *testing.T) {
 	}
 	close(answer)
 	check(t, <-ended)
-	one, err := p.store.Read(background, first)
-	check(t, err)
-	other, err := p.store.Read(background, second)
-	check(t, err)
+	one := diff.Value(p.store.Read(background, first))(t)
+	other := diff.Value(p.store.Read(background, second))(t)
 	if one.State != Ready && other.State != Ready || len(arrived) > 0 {
 		t.Errorf("got %s and %s, and %d further requests, want one ready and none", one.State, other.State, len(arrived))
 	}

@@ -52,9 +52,7 @@ func TestClaimNotWritten(t *testing.T) {
 		t.Errorf("got broken %v, and the failures %v, want one of the store", isBroken.Load(), p.failures)
 	}
 	p.set(func() {
-		if got := len(p.sent); got != 1 {
-			t.Errorf("got %d requests, want 1: the one whose claim wasn't written isn't sent", got)
-		}
+		diff.Equal(t, len(p.sent), 1, "requests: the one whose claim wasn't written isn't sent")
 	})
 }
 
@@ -142,8 +140,7 @@ func TestLastDeletion(t *testing.T) {
 	p.start(background)
 	key := p.create(NewInstance{Tries: 1})
 	p.until("the end", func() bool {
-		e, err := p.store.Read(background, key)
-		check(t, err)
+		e := diff.Value(p.store.Read(background, key))(t)
 		var reported int
 		p.set(func() { reported = len(p.reported) })
 		return e.State == Gone && e.Rests() && reported == 5
@@ -174,8 +171,7 @@ func TestFetchWithoutABinding(t *testing.T) {
 	check(t, err)
 	want := Reason{Kind: "fetch", Status: 404, Lost: "status 404: " + osb.ErrNoBinding.Error()}
 	p.until("a Fetch", func() bool {
-		e, err := p.store.Read(background, bound.Key)
-		check(t, err)
+		e := diff.Value(p.store.Read(background, bound.Key))(t)
 		got := e.Last
 		got.At = time.Time{}
 		return got == want && e.State == Polling
@@ -191,8 +187,7 @@ func TestWithoutVault(t *testing.T) {
 	p.start(background)
 	instance := p.create(NewInstance{})
 	p.untilState(instance, Ready)
-	e, err := p.orders.Bind(background, NewBinding{Instance: instance.String()})
-	check(t, err)
+	e := diff.Value(p.orders.Bind(background, NewBinding{Instance: instance.String()}))(t)
 	p.untilState(e.Key, Gone)
 	if p.hasFailed("credentials_lost") == 0 {
 		t.Error("the reports: got none, want credentials_lost")
@@ -226,7 +221,5 @@ func TestObserverBriefly(t *testing.T) {
 			t.Errorf("%s: got %d bytes, want at most %d", failure.Event, len(failure.Err.Error()), longestText)
 		}
 	}
-	if kept := p.brokerNamed("shelf").Reason.Lost; len(kept) != longestText {
-		t.Errorf("got %d bytes kept, want %d", len(kept), longestText)
-	}
+	diff.Equal(t, len(p.brokerNamed("shelf").Reason.Lost), longestText, "bytes kept")
 }

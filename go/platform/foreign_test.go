@@ -653,8 +653,7 @@ func TestForeignRefusals(t *testing.T) {
 			if _, err := s.orders.Create(background, platform.NewInstance{}); !errors.As(err, &fault) {
 				t.Errorf("%d: an order: got %v, want a fault", test.status, err)
 			}
-			brokers, err := s.store.Brokers(background)
-			check(t, err)
+			brokers := diff.Value(s.store.Brokers(background))(t)
 			if got := brokers[0].Reason; got.Status != test.status || !strings.Contains(got.Lost, test.said) {
 				t.Errorf("%d: got the reason %+v, want %q", test.status, got, test.said)
 			}

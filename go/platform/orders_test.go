@@ -60,13 +60,11 @@ func TestCreate(t *testing.T) {
 		Parameters: json.RawMessage(`{"size": 1, "a": "<&>"}`), Context: json.RawMessage(`{"a": []}`),
 	})
 	check(t, err)
-	read, err := d.store.Read(background, e.Key)
-	check(t, err)
+	read := diff.Value(d.store.Read(background, e.Key))(t)
 	if e.State != Ordered || e.IsSent || !e.Due.Equal(d.dial.time()) || !e.Since.Equal(e.Due) || e.Key != read.Key {
 		t.Errorf("got %+v, and %+v stored, want it ordered and due now", e, read)
 	}
-	number, err := osb.IDOfText(e.Names.Instance)
-	check(t, err)
+	number := diff.Value(osb.IDOfText(e.Names.Instance))(t)
 	want := Order{
 		Key: InstanceKey(number), Broker: "shelf", Service: id("a0"), Plan: id("c2"), IsOwnID: true,
 		Names:        Names{Instance: e.Names.Instance, Service: id("a0").String(), Plan: id("c2").String()},
@@ -86,8 +84,7 @@ func TestCreate(t *testing.T) {
 func TestSinceOfAnOrder(t *testing.T) {
 	d := newDesk(t)
 	d.dial.forward(987654321 * time.Nanosecond)
-	e, err := d.orders.Create(background, NewInstance{Service: "shelf", Plan: "later"})
-	check(t, err)
+	e := diff.Value(d.orders.Create(background, NewInstance{Service: "shelf", Plan: "later"}))(t)
 	if want := d.dial.time().Truncate(time.Millisecond); !e.Since.Equal(want) || !e.Due.Equal(want) {
 		t.Errorf("got it ordered at %v and due at %v, want both at %v", e.Since, e.Due, want)
 	}
@@ -189,9 +186,7 @@ func TestBind(t *testing.T) {
 				continue
 			}
 			wantFault(t, err, Conflict, "instance")
-			if len(d.store.rows) != 1 {
-				t.Errorf("%s: got an order written, want none", state)
-			}
+			diff.Equal(t, len(d.store.rows), 1, "%s", state)
 		}
 	}
 }
@@ -209,10 +204,9 @@ func TestBindNamed(t *testing.T) {
 	} {
 		t.Run(fmt.Sprintf("%+v", test.wanted), func(t *testing.T) {
 			test.wanted.Instance = instance
-			e, err := d.orders.Bind(background, test.wanted)
-			if err != nil || e.Tries != test.tries || e.IsOwnID != (test.wanted.ID == "") {
-				t.Errorf("%+v: got %d tries, own %v, %v, want %d", test.wanted, e.Tries, e.IsOwnID, err, test.tries)
-			}
+			e := diff.Value(d.orders.Bind(background, test.wanted))(t)
+			diff.Equal(t, e.Tries, test.tries, "%+v", test.wanted)
+			diff.Equal(t, e.IsOwnID, test.wanted.ID == "", "%+v", test.wanted)
 		})
 	}
 }
@@ -299,9 +293,7 @@ func TestRemoveWithBindings(t *testing.T) {
 	d.put(rowIn(other, Gone))
 	_, err := d.orders.Remove(background, anInstance, false)
 	wantFault(t, err, Conflict, "has bindings")
-	if d.store.rows[anInstance].Removal != NotRemoved {
-		t.Error("got the removal written, want none")
-	}
+	diff.Equal(t, d.store.rows[anInstance].Removal, NotRemoved, "the removal")
 	after, err := d.orders.Remove(background, anInstance, true)
 	check(t, err)
 	bound, ended := d.store.rows[aBinding], d.store.rows[other]
@@ -329,8 +321,7 @@ func TestRemoveWhileBindingWaits(t *testing.T) {
 			d.put(with(rowIn(aBinding, Ordered), func(e *Entry) { e.Try, e.Due = 2, d.dial.time().Add(time.Hour) }))
 			_, err := end(d.orders)
 			check(t, err)
-			e, err := d.store.Read(background, aBinding)
-			check(t, err)
+			e := diff.Value(d.store.Read(background, aBinding))(t)
 			if e.State != Ordered || e.Removal != Removed || !e.Due.Equal(d.dial.time()) {
 				t.Errorf("got %s, removal %d, due %v, want it ordered, removed and due now", e.State, e.Removal, e.Due)
 			}
@@ -521,9 +512,8 @@ func TestCredentials(t *testing.T) {
 	sealed, err := seal{}.Seal([]byte(`{"credentials": 1}`), aBinding.String())
 	check(t, err)
 	d.put(with(rowIn(aBinding, Ready), func(e *Entry) { e.Credentials = sealed }))
-	if object, err := d.orders.Credentials(background, aBinding); err != nil || string(object) != `{"credentials": 1}` {
-		t.Errorf("got %s, %v, want the credentials", object, err)
-	}
+	diff.Equal(t, string(diff.Value(d.orders.Credentials(background, aBinding))(t)), `{"credentials": 1}`,
+		"the credentials")
 	_, err = NewOrders(d.store, nil).Credentials(background, aBinding)
 	wantFault(t, err, Conflict, "no key")
 	_, err = d.orders.Credentials(background, anInstance)
@@ -623,8 +613,7 @@ func (b *busy) answer(_ context.Context, out Outgoing) Incoming {
 
 // tries are the rows of the bindings of an instance, by their tries.
 func (b *busy) tries(instance Key) map[int]Entry {
-	rows, err := b.store.List(background, Filter{})
-	check(b.t, err)
+	rows := diff.Value(b.store.List(background, Filter{}))(b.t)
 	found := map[int]Entry{}
 	for _, e := range rows {
 		if e.Key.IsBinding && e.Key.Instance == instance.Instance {
@@ -647,8 +636,7 @@ func TestBindAgain(t *testing.T) {
 	} {
 		t.Run(fmt.Sprint(test.status), func(t *testing.T) {
 			b, instance := newBusy(t, test.status, test.body)
-			first, err := b.orders.Bind(background, NewBinding{Instance: instance.String()})
-			check(t, err)
+			first := diff.Value(b.orders.Bind(background, NewBinding{Instance: instance.String()}))(t)
 			b.untilState(first.Key, Gone)
 			second, isOrdered := b.tries(instance)[2]
 			if !isOrdered {
@@ -692,8 +680,7 @@ func TestBindNotAgain(t *testing.T) {
 		t.Run(name, func(t *testing.T) {
 			b, instance := newBusy(t, test.status, test.body)
 			test.wanted.Instance = instance.String()
-			first, err := b.orders.Bind(background, test.wanted)
-			check(t, err)
+			first := diff.Value(b.orders.Bind(background, test.wanted))(t)
 			b.untilState(first.Key, Gone)
 			if tries := b.tries(instance); len(tries) != 1 || b.binds != 1 {
 				t.Errorf("got %d tries after %d Binds, want 1: %+v", len(tries), b.binds, tries)
@@ -724,9 +711,7 @@ func TestBindAgainWhileRemoved(t *testing.T) {
 					check(t, remove(b, instance, first.Key))
 				}
 			})
-			var err error
-			first, err = b.orders.Bind(background, NewBinding{Instance: instance.String()})
-			check(t, err)
+			first = diff.Value(b.orders.Bind(background, NewBinding{Instance: instance.String()}))(t)
 			close(ordered)
 			b.untilState(first.Key, Gone)
 			if name == "the instance" {
@@ -751,9 +736,7 @@ func TestDueSince(t *testing.T) {
 		}
 		for tries := 0; tries < 3; tries++ {
 			try := newTrial(t, row, terms)
-			if try.row.DueSince != row.DueSince {
-				t.Errorf("%s in flight: got it due since %v, want %v", row.State, try.row.DueSince, row.DueSince)
-			}
+			diff.Equal(t, try.row.DueSince, row.DueSince, "%s in flight", row.State)
 			unheard := lost
 			if tries > 0 {
 				unheard = try.answer([]int{401, 503}[tries-1], object)

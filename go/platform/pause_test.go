@@ -86,8 +86,7 @@ func newStage(t *testing.T, hold time.Duration) *stage {
 	broker = s.store.brokers["shelf"]
 	broker.Catalogue = json.RawMessage(sold)
 	s.store.brokers["shelf"] = broker
-	catalogue, err := ReadCatalogue([]byte(sold))
-	check(t, err)
+	catalogue := diff.Value(ReadCatalogue([]byte(sold)))(t)
 	for at, name := range []string{"one", "two"} {
 		options := Options{Worker: name, Share: func() float64 { return 0 }}
 		b := &bench{name: name, engine: NewEngine(s.store, s.wire, seal{}, options, s.wire)}
@@ -251,8 +250,7 @@ func (s *stage) takeOver(t *testing.T, resume func()) {
 	now := s.dial.time()
 	resume()
 	for _, entry := range before {
-		after, err := s.store.Read(background, entry.Key)
-		check(t, err)
+		after := diff.Value(s.store.Read(background, entry.Key))(t)
 		isLeased := entry.Lease.Worker == second.name && now.Before(entry.Lease.Until)
 		if isLeased {
 			diff.Check(t, after, entry, "what the first worker has written over the second one's row")
@@ -458,8 +456,7 @@ func (s *stage) order(t *testing.T, plan string) Key {
 
 func (s *stage) orderedOften(t *testing.T, plan string, tries int) Key {
 	t.Helper()
-	e, err := s.orders.Create(background, NewInstance{Service: "shelf", Plan: plan, Tries: tries})
-	check(t, err)
+	e := diff.Value(s.orders.Create(background, NewInstance{Service: "shelf", Plan: plan, Tries: tries}))(t)
 	return e.Key
 }
 
@@ -473,8 +470,7 @@ func (s *stage) create(t *testing.T, plan string) Key {
 
 func (s *stage) bind(t *testing.T, instance Key) Key {
 	t.Helper()
-	e, err := s.orders.Bind(background, NewBinding{Instance: instance.String()})
-	check(t, err)
+	e := diff.Value(s.orders.Bind(background, NewBinding{Instance: instance.String()}))(t)
 	return e.Key
 }
 

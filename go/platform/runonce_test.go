@@ -17,9 +17,7 @@ func TestRunOnce(t *testing.T) {
 	check(t, p.engine.RunOnce(background)) // it has the catalogue
 	key := p.create(NewInstance{})
 	check(t, p.engine.RunOnce(background))
-	if e, err := p.store.Read(background, key); err != nil || e.State != Ready {
-		t.Errorf("got %s (%v), want %s", e.State, err, Ready)
-	}
+	diff.Equal(t, diff.Value(p.store.Read(background, key))(t).State, Ready, "")
 	p.engine.Exchange = 50 * time.Millisecond
 	p.set(func() {
 		p.line.catalogue = func(Broker) (string, int, error) { return "", 0, errors.New("it is down") }
@@ -91,9 +89,7 @@ func TestPoisonedRows(t *testing.T) {
 		}
 		p.untilState(key, Ready)
 		for broker := range bad {
-			if e, err := p.store.Read(background, broker); err != nil || e.State != Ordered {
-				t.Errorf("%v: got %s (%v), want %s", broker, e.State, err, Ordered)
-			}
+			diff.Equal(t, diff.Value(p.store.Read(background, broker))(t).State, Ordered, "%v", broker)
 		}
 	}
 }
@@ -133,9 +129,8 @@ func TestRunOnceRefusedAtFirst(t *testing.T) {
 		if waited := time.Since(begun); waited > 30*time.Second {
 			t.Errorf("%d: got a wait of %v, want at most 30 s", status, waited)
 		}
-		if e, err := p.store.Read(background, key); err != nil || e.State != Ready {
-			t.Errorf("%d: the order of the other broker: got %s (%v), want %s", status, e.State, err, Ready)
-		}
+		diff.Equal(t, diff.Value(p.store.Read(background, key))(t).State, Ready,
+			"%d: the order of the other broker", status)
 	}
 }
 
@@ -192,8 +187,7 @@ func TestRunOnceStops(t *testing.T) {
 	check(t, <-ended)
 	states := map[State]int{}
 	for _, key := range keys {
-		e, err := p.store.Read(background, key)
-		check(t, err)
+		e := diff.Value(p.store.Read(background, key))(t)
 		states[e.State]++
 	}
 	if states[Ready] != 1 || states[Ordered] != 1 || len(arrived) > 0 {
@@ -227,9 +221,7 @@ func TestRunOnceBesideATransaction(t *testing.T) {
 	<-isLocked
 	check(t, p.engine.RunOnce(background))
 	check(t, <-changed)
-	if e, err := p.store.Read(background, key); err != nil || e.State != Ready {
-		t.Errorf("got %s (%v), want %s", e.State, err, Ready)
-	}
+	diff.Equal(t, diff.Value(p.store.Read(background, key))(t).State, Ready, "")
 }
 
 // A shy store passes over all rows in so many claims.
@@ -282,9 +274,7 @@ func TestRunOnceOverAShyStore(t *testing.T) {
 			if took := time.Since(begun); took > test.atMost {
 				t.Errorf("got an end after %v, want one within %v", took, test.atMost)
 			}
-			if e, err := p.store.Read(background, key); err != nil || e.State != test.state {
-				t.Errorf("got %s (%v), want %s", e.State, err, test.state)
-			}
+			diff.Equal(t, diff.Value(p.store.Read(background, key))(t).State, test.state, "")
 		})
 	}
 }
@@ -323,9 +313,7 @@ func TestRunOnceBesideLocksOneAfterTheOther(t *testing.T) {
 	p.engine.store = &locking{memory: p.store, rest: 1100 * time.Millisecond}
 	check(t, p.engine.RunOnce(background))
 	for _, key := range keys {
-		if e, err := p.store.Read(background, key); err != nil || e.State != Ready {
-			t.Errorf("%v: got %s (%v), want %s", key, e.State, err, Ready)
-		}
+		diff.Equal(t, diff.Value(p.store.Read(background, key))(t).State, Ready, "%v", key)
 	}
 }
 

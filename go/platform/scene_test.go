@@ -101,8 +101,7 @@ func newScene(t *testing.T, catalogue string, settings platform.Settings, option
 	t.Cleanup(server.Close)
 	sealed, err := vault.New(make([]byte, vault.ShortestKey))
 	check(t, err)
-	s.Client, err = client.New(client.Options{Password: client.NewPasswords(sealed, nil).Of})
-	check(t, err)
+	s.Client = diff.Value(client.New(client.Options{Password: client.NewPasswords(sealed, nil).Of}))(t)
 	t.Cleanup(s.Client.Close)
 	s.store = platform.NewMemory(s.time)
 	s.orders = platform.NewOrders(s.store, sealed)
@@ -181,9 +180,7 @@ func (s *scene) answer(r *http.Request, body []byte) step {
 	if name, secret, _ := r.BasicAuth(); name != user || secret != password {
 		s.t.Errorf("%s %s: got the login %s:%s, want %s:%s", r.Method, r.URL, name, secret, user, password)
 	}
-	if version := r.Header.Get("X-Broker-API-Version"); version != "2.17" {
-		s.t.Errorf("%s %s: got the version %q, want \"2.17\"", r.Method, r.URL, version)
-	}
+	diff.Equal(s.t, r.Header.Get("X-Broker-API-Version"), "2.17", "%s %s", r.Method, r.URL)
 	isCatalogue := r.URL.Path == "/v2/catalog"
 	if s.refusing {
 		if !isCatalogue {
@@ -234,9 +231,7 @@ func (s *scene) checkRequest(next step, r *http.Request, body []byte) {
 	if try == 0 {
 		try = len(s.tries)
 	}
-	if parts[0] != s.tries[try-1] {
-		s.t.Errorf("%s %s: got another id, want that of try %d of %v", r.Method, r.URL, try, s.tries)
-	}
+	diff.Equal(s.t, parts[0], s.tries[try-1], "%s %s", r.Method, r.URL)
 	// in a Poll, this parameter says nothing: the standard doesn't have it there
 	want := url.Values{"service_id": {service}, "plan_id": {plan}, "accepts_incomplete": {"true"}}
 	if next.operation != "" {
@@ -302,16 +297,14 @@ func (s *scene) act() func(*testing.T, *scene) {
 func (s *scene) order(wanted platform.NewInstance) {
 	s.t.Helper()
 	s.run()
-	entry, err := s.orders.Create(background, wanted)
-	check(s.t, err)
+	entry := diff.Value(s.orders.Create(background, wanted))(s.t)
 	s.key = entry.Key
 }
 
 // rows are the tries of the order.
 func (s *scene) rows() []platform.Entry {
 	s.t.Helper()
-	found, err := s.store.List(background, platform.Filter{})
-	check(s.t, err)
+	found := diff.Value(s.store.List(background, platform.Filter{}))(s.t)
 	sort.Slice(found, func(one, other int) bool { return found[one].Try < found[other].Try })
 	return found
 }

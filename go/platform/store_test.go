@@ -193,9 +193,7 @@ func TestNotReadyAfterAClaimOfNothing(t *testing.T) {
 	if found := p.engine.claim(background, registry, []string{"shelf"}, 1, nil); found.err != nil || found.claimed > 0 {
 		t.Errorf("got %d rows claimed, and %v, want none", found.claimed, found.err)
 	}
-	if err := p.engine.Ready(); !errors.Is(err, full) {
-		t.Errorf("got %v, want %v", err, full)
-	}
+	diff.ErrorIs(t, p.engine.Ready(), full, "")
 }
 
 // However often an answer is written again, it counts as one, and as none once it is written.
@@ -350,9 +348,8 @@ func TestWalk(t *testing.T) {
 				}
 				return nil
 			}))
-			if got != test.want || calls != 2 {
-				t.Errorf("%+v: got %d rows in %d calls, want %d in 2", test, got, calls, test.want)
-			}
+			diff.Equal(t, got, test.want, "%+v", test)
+			diff.Equal(t, calls, 2, "%+v", test)
 		})
 	}
 	for _, fails := range []func(*failingStore, *error){
@@ -374,9 +371,7 @@ func TestParseKey(t *testing.T) {
 		one.String() + "/" + other.String(): BindingKey(one, other),
 	} {
 		t.Run(text, func(t *testing.T) {
-			if got, err := ParseKey(text); err != nil || got != want {
-				t.Errorf("got %v, %v, want %v", got, err, want)
-			}
+			diff.Equal(t, diff.Value(ParseKey(text))(t), want, "")
 			if got := want.String(); got != text { // with another text, nobody could open the credentials in the store
 				t.Errorf("the text: got %s, want %s", got, text)
 			}
@@ -404,8 +399,6 @@ func TestBefore(t *testing.T) {
 	at := time.Date(2026, 1, 2, 3, 4, 5, 0, time.UTC)
 	ended := []Stay{{Ordered, at}, {Wanted, at.Add(time.Second)}, {Ready, at.Add(time.Minute)}}
 	for n, want := range append(ended, Stay{Wanted, at.Add(time.Hour)}) {
-		if got := (Entry{State: want.State, Since: want.Since}).Before(ended); len(got) != n {
-			t.Errorf("%v: got %v, want the first %d of %v", want, got, n, ended)
-		}
+		diff.Equal(t, len((Entry{State: want.State, Since: want.Since}).Before(ended)), n, "%v", want)
 	}
 }

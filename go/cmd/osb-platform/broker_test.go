@@ -186,9 +186,8 @@ func TestShowsTombstones(t *testing.T) {
 			}
 			var shown strings.Builder
 			check(t, showBroker(&shown, broker))
-			if !strings.Contains(shown.String(), wanted) || strings.Contains(shown.String(), "tombstones") != (wanted != "") {
-				t.Errorf("%q: got %s, want %q", catalogue, shown.String(), wanted)
-			}
+			diff.Contains(t, shown.String(), wanted, "%q", catalogue)
+			diff.Equal(t, strings.Contains(shown.String(), "tombstones"), wanted != "", "%q", catalogue)
 		})
 	}
 }

@@ -11,6 +11,7 @@ import (
 	"testing"
 	"time"
 
+	"pippinterm/internal/diff"
 	"pippinterm/platform"
 )
 
@@ -30,9 +31,7 @@ func TestKilledCommand(t *testing.T) {
 			store := newStore(t)
 			create := []string{"--store", store, "create", "--plan", "small", "--id", "one"}
 			wantKilled(t, point, osbPlatform([]string{"OSB_CRASH_AT=" + point}, create...))
-			if got := call(t, create...); got.status != status {
-				t.Errorf("got %+v, want the status %d", got, status)
-			}
+			diff.Equal(t, call(t, create...).status, status, "the status")
 		})
 	}
 }
@@ -89,9 +88,7 @@ func TestJournalAtCrashPoints(t *testing.T) {
 			folder := t.TempDir()
 			wantKilled(t, point, osbPlatform(append([]string{"OSB_CRASH_AT=" + point}, ownPassword...), "run", "--store", store,
 				"--broker", s.url, "--worker", "one", "--journal", folder))
-			if got := eventsIn(t, folder); strings.Join(got, "; ") != "started"+want {
-				t.Errorf("got %q, want %q", got, want)
-			}
+			diff.Equal(t, strings.Join(eventsIn(t, folder), "; "), "started"+want, "")
 		})
 	}
 }

@@ -109,8 +109,7 @@ func isSame(t *testing.T, one, other string) bool {
 	if json.Unmarshal([]byte(one), &first) != nil || json.Unmarshal([]byte(other), &second) != nil {
 		return false
 	}
-	again, err := json.Marshal(first)
-	check(t, err)
+	again := diff.Value(json.Marshal(first))(t)
 	wanted, err := json.Marshal(second)
 	return err == nil && string(again) == string(wanted)
 }
@@ -266,8 +265,7 @@ func TestInterruptedWait(t *testing.T) {
 	for _, signal := range []syscall.Signal{syscall.SIGINT, syscall.SIGTERM} {
 		store := newStore(t)
 		command := osbPlatform(nil, "--store", store, "create", "--plan", "small", "--id", "one", "--wait")
-		failed, err := command.StderrPipe()
-		check(t, err)
+		failed := diff.Value(command.StderrPipe())(t)
 		var out strings.Builder
 		command.Stdout = &out
 		check(t, command.Start())

@@ -72,8 +72,7 @@ func (c caller) call(status int, method, path, body string) jsonObject {
 
 func (c caller) try(method, path, body string) (status int, text []byte) {
 	c.t.Helper()
-	request, err := http.NewRequest(method, c.url+path, strings.NewReader(body))
-	check(c.t, err)
+	request := diff.Value(http.NewRequest(method, c.url+path, strings.NewReader(body)))(c.t)
 	if body != "" {
 		request.Header.Set("Content-Type", "application/json")
 	}
@@ -81,8 +80,7 @@ func (c caller) try(method, path, body string) (status int, text []byte) {
 	given, err := c.client.Do(request)
 	check(c.t, err)
 	defer given.Body.Close()
-	text, err = io.ReadAll(given.Body)
-	check(c.t, err)
+	text = diff.Value(io.ReadAll(given.Body))(c.t)
 	return given.StatusCode, text
 }
 
@@ -101,9 +99,7 @@ func TestWholeWayOverAPI(t *testing.T) {
 	c := caller{t: t, client: http.DefaultClient, url: p.api, token: token}
 	c.call(201, "PUT", "/v1/brokers/local", fmt.Sprintf(
 		`{"url": %q, "user": "platform", "password": "secret", "settings": {"first_pace_seconds": 0.01}}`, s.url))
-	if reached := p.Event("broker_reached"); reached["broker"] != "local" {
-		t.Errorf("got %v, want the broker local", reached)
-	}
+	diff.Check(t, p.Event("broker_reached")["broker"], "local", "the broker")
 	c.call(201, "POST", "/v1/instances", `{"plan": "by-worker", "id": "one"}`)
 	c.await("/v1/instances/one", "ready")
 	c.call(201, "POST", "/v1/instances/one/bindings", `{"id": "two"}`)
@@ -150,18 +146,14 @@ func pageShows(t *testing.T, p *process) {
 	t.Helper()
 	for host, want := range map[string]int{"": 200, "platform.example": 200, "elsewhere.example": 421} {
 		t.Run(host, func(t *testing.T) {
-			request, err := http.NewRequest("GET", p.page+"/instance/one", nil)
-			check(t, err)
+			request := diff.Value(http.NewRequest("GET", p.page+"/instance/one", nil))(t)
 			request.Host = host
-			given, err := http.DefaultClient.Do(request)
-			check(t, err)
+			given := diff.Value(http.DefaultClient.Do(request))(t)
 			text, err := io.ReadAll(given.Body)
 			_ = given.Body.Close()
 			diff.NoError(t, err, "%q, %s", host, text)
 			diff.Equal(t, given.StatusCode, want, "%q, %s", host, text)
-			if isShown := strings.Contains(string(text), "Instance <code>one</code>"); isShown != (want == 200) {
-				t.Errorf("%q: got %s, want the instance: %t", host, text, want == 200)
-			}
+			diff.Equal(t, strings.Contains(string(text), "Instance <code>one</code>"), want == 200, "%q", host)
 		})
 	}
 }
@@ -232,8 +224,7 @@ func answerFrom(t *testing.T, from, url, before string) string {
 	t.Helper()
 	dialer := net.Dialer{Timeout: deadline, LocalAddr: &net.TCPAddr{IP: net.ParseIP(from)}}
 	host := strings.TrimPrefix(url, "http://")
-	connection, err := dialer.Dial("tcp", host)
-	check(t, err)
+	connection := diff.Value(dialer.Dial("tcp", host))(t)
 	t.Cleanup(func() { _ = connection.Close() })
 	check(t, connection.SetDeadline(time.Now().Add(deadline)))
 	request := before + "GET / HTTP/1.1\r\nHost: " + host + "\r\nAuthorization: Bearer " + token + "\r\n\r\n"
@@ -566,8 +557,7 @@ func execute(t *testing.T, store, statement string) {
 func TestSilentConnectionToPage(t *testing.T) {
 	p := launch(t, "serving", osbPlatform(nil, "serve", "--store", newPath(t),
 		"--page", "127.0.0.1:0"))
-	silent, err := net.Dial("tcp", strings.TrimPrefix(p.page, "http://"))
-	check(t, err)
+	silent := diff.Value(net.Dial("tcp", strings.TrimPrefix(p.page, "http://")))(t)
 	defer silent.Close()
 	begun := time.Now()
 	check(t, silent.SetReadDeadline(begun.Add(deadline)))

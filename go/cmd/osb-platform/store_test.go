@@ -98,9 +98,8 @@ func TestOpenFolder(t *testing.T) {
 			store := newStore(t)
 			check(t, os.Chmod(filepath.Dir(store), mode))
 			got := call(t, "run", "--once", "--store", store)
-			if strings.Contains(got.failed, `"event":"folder_open"`) != isOpen {
-				t.Errorf("a folder of mode %o: want it reported: %v; got %s", mode, isOpen, got.failed)
-			}
+			diff.Equal(t, strings.Contains(got.failed, `"event":"folder_open"`), isOpen,
+				"a folder of mode %o: want it reported: %v; ", mode, isOpen)
 		})
 	}
 }
@@ -211,9 +210,7 @@ func TestSessionsThatAreEndedInFlight(t *testing.T) {
 			endSessions(t, schema)
 			p.Event("worker_name_lost")
 			release()
-			if changed := p.Event("state_changed"); changed["after"] != "ready" {
-				t.Errorf("the order: got %v, want it ready", changed)
-			}
+			diff.Check(t, p.Event("state_changed")["after"], "ready", "the order")
 			want := 1
 			if len(options) > 0 {
 				p.End()

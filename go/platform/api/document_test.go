@@ -91,16 +91,11 @@ func checkOperation(t *testing.T, it route, found *openapi3.Operation) {
 			t.Errorf("%s: got the parameters %v, want those of the path", at, path)
 		}
 	}
-	if it.hasBody != (found.RequestBody != nil && found.RequestBody.Value.Required) {
-		t.Errorf("%s: got the body %v, want one exactly if the route has it", at, found.RequestBody)
-	}
-	if (it.needs == 0) != (found.Security != nil && len(*found.Security) == 0) {
-		t.Errorf("%s: got the security %v, want none exactly if the route needs none", at, found.Security)
-	}
+	diff.Equal(t, found.RequestBody != nil && found.RequestBody.Value.Required, it.hasBody, "%s has a body", at)
+	diff.Equal(t, found.Security != nil && len(*found.Security) == 0, it.needs == 0, "%s is for everybody", at)
 	for name, permission := range permissions {
-		if (it.needs == permission) != strings.HasSuffix(found.Description, "the permission "+name+".") {
-			t.Errorf("%s: got the description %q, want the permission that the route needs", at, found.Description)
-		}
+		diff.Equal(t, strings.HasSuffix(found.Description, "the permission "+name+"."), it.needs == permission,
+			"%s needs the permission %s", at, name)
 	}
 }
 

@@ -430,9 +430,7 @@ func TestStoreThatFails(t *testing.T) {
 				if last := r.exchanges[len(r.exchanges)-1]; !errors.Is(last.Err, failed) || last.Code != want.code {
 					t.Errorf("the observer: got %+v, want the error and its code", last)
 				}
-				if isAway := want.status == 503; isAway != (got.header.Get("Retry-After") != "") {
-					t.Errorf("Retry-After: got %q, want one exactly with 503", got.header.Get("Retry-After"))
-				}
+				diff.Equal(t, got.header.Get("Retry-After") != "", want.status == 503, "Retry-After")
 			}
 			r.call("POST", "/v1/instances", `{"service": "shelf", "plan": "small"}`).want(want.status, want.code)
 			r.call("PUT", "/v1/brokers/shelf", `{"url": "https://shelf.example", "user": "u"}`).want(want.status, want.code)

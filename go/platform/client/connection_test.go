@@ -13,6 +13,7 @@ import (
 	"testing"
 	"time"
 
+	"pippinterm/internal/diff"
 	"pippinterm/osb"
 	"pippinterm/platform"
 )
@@ -70,9 +71,8 @@ func TestPausedBeforeWriting(t *testing.T) {
 			return conn, err
 		}
 		in := exchange(t, c, scheme+server.url, osb.KindProvision)
-		if !errors.Is(in.Lost, ErrNotSent) || !errors.Is(in.Lost, ErrTimeOver) {
-			t.Errorf("%s: got %v, want ErrNotSent and ErrTimeOver", scheme, in.Lost)
-		}
+		diff.ErrorIs(t, in.Lost, ErrNotSent, "%s", scheme)
+		diff.ErrorIs(t, in.Lost, ErrTimeOver, "%s", scheme)
 		if came := server.wait(t); len(came) > 0 {
 			t.Errorf("%s: got %d bytes, want none", scheme, len(came))
 		}
@@ -127,18 +127,12 @@ func TestAnswersThatAreParsedAtOnce(t *testing.T) {
 	}
 	out := outgoingOf(c, server.url, osb.KindProvision, ofInstance)
 	out.Until = c.Clock().Add(patience / 100)
-	if in := c.Exchange(context.Background(), out); !errors.Is(in.Lost, ErrTimeOver) {
-		t.Errorf("while others are parsed: got %v, want %v", in.Lost, ErrTimeOver)
-	}
+	diff.ErrorIs(t, c.Exchange(context.Background(), out).Lost, ErrTimeOver, "while others are parsed")
 	out = outgoingOf(c, server.url, osb.KindProvision, ofInstance)
 	out.Broker.Name = "another"
-	if in := c.Exchange(context.Background(), out); in.Lost != nil {
-		t.Errorf("another broker: got %v, want an answer", in.Lost)
-	}
+	diff.NoError(t, c.Exchange(context.Background(), out).Lost, "another broker")
 	c.parsed.Give("postgres", taken)
-	if in := exchange(t, c, server.url, osb.KindProvision); in.Lost != nil {
-		t.Errorf("afterwards: got %v, want an answer", in.Lost)
-	}
+	diff.NoError(t, exchange(t, c, server.url, osb.KindProvision).Lost, "afterwards")
 }
 
 // The whole exchange has one limit on its time, however its parts are shared out.
@@ -349,9 +343,7 @@ func TestKept(t *testing.T) {
 			})
 			c := patient(t)
 			for range [6]int{} {
-				if in := exchange(t, c, server.url, osb.KindDeprovision); in.Lost != nil {
-					t.Errorf("got %v, want an answer", in.Lost)
-				}
+				diff.NoError(t, exchange(t, c, server.url, osb.KindDeprovision).Lost, "")
 			}
 			requests, connections := server.arrivals()
 			if len(requests) != 6 || connections != row.connections {
@@ -460,9 +452,7 @@ func TestClosedWhileIdle(t *testing.T) {
 	})
 	c := patient(t)
 	for n := 1; n <= 5; n++ {
-		if in := exchange(t, c, server.url, osb.KindProvision); in.Lost != nil {
-			t.Errorf("request %d: got %v, want an answer", n, in.Lost)
-		}
+		diff.NoError(t, exchange(t, c, server.url, osb.KindProvision).Lost, "request %d", n)
 		next(t, closed)
 		until(t, "the end of the connection", func() bool { return !hasQuiet(c) })
 	}
@@ -488,9 +478,7 @@ func TestIdle(t *testing.T) {
 			}
 			end(c)
 			until(t, what, func() bool { return atomic.LoadInt32(&open) == 0 })
-			if in := exchange(t, c, "http://"+listener.Addr().String(), osb.KindDeprovision); in.Lost != nil {
-				t.Errorf("got %v, want an answer", in.Lost)
-			}
+			diff.NoError(t, exchange(t, c, "http://"+listener.Addr().String(), osb.KindDeprovision).Lost, "")
 			end(c)
 			until(t, what, func() bool { return atomic.LoadInt32(&open) == 0 })
 		})
@@ -537,26 +525,20 @@ func TestConnections(t *testing.T) {
 		group.Add(1)
 		go func() {
 			defer group.Done()
-			if in := exchange(t, c, server.url, osb.KindDeprovision); in.Lost != nil {
-				t.Errorf("got %v, want an answer", in.Lost)
-			}
+			diff.NoError(t, exchange(t, c, server.url, osb.KindDeprovision).Lost, "")
 		}()
 	}
 	next(t, arrived)
 	next(t, arrived)
 	out := outgoingOf(c, server.url, osb.KindDeprovision, ofInstance)
 	out.Until = c.Clock().Add(100 * time.Millisecond)
-	if in := c.Exchange(context.Background(), out); !errors.Is(in.Lost, ErrNotSent) {
-		t.Errorf("got %+v, want ErrNotSent", in)
-	}
+	diff.ErrorIs(t, c.Exchange(context.Background(), out).Lost, ErrNotSent, "")
 	other := outgoingOf(c, server.url, osb.KindDeprovision, ofInstance)
 	other.Broker.Name = "another"
 	group.Add(1)
 	go func() {
 		defer group.Done()
-		if in := c.Exchange(context.Background(), other); in.Lost != nil {
-			t.Errorf("got %v, want an answer", in.Lost)
-		}
+		diff.NoError(t, c.Exchange(context.Background(), other).Lost, "")
 	}()
 	next(t, arrived)
 	close(goOn)
@@ -681,10 +663,9 @@ func TestAddressOf(t *testing.T) {
 		"https://broker.example/a.b/..c/...": {false, "broker.example:443", "/a.b/..c/..."},
 	} {
 		t.Run(url, func(t *testing.T) {
-			got, err := addressOf(url, row.allowHTTP)
-			if err != nil || got.dialed != row.dialed || got.prefix != row.prefix {
-				t.Errorf("got %+v, %v, want %s with the prefix %q", got, err, row.dialed, row.prefix)
-			}
+			got := diff.Value(addressOf(url, row.allowHTTP))(t)
+			diff.Equal(t, got.dialed, row.dialed, "dialed")
+			diff.Equal(t, got.prefix, row.prefix, "prefix")
 		})
 	}
 	for _, url := range []string{"", "broker.example", "http://broker.example", "https://broker.example/../a"} {

@@ -393,9 +393,7 @@ func TestSent(t *testing.T) {
 			}
 			for _, line := range lines[1:] {
 				name, value, _ := strings.Cut(line, ": ")
-				if wanted[name] != value {
-					t.Errorf("got the header %q, want %q", line, wanted[name])
-				}
+				diff.Equal(t, value, wanted[name], "the header %s", name)
 				delete(wanted, name)
 			}
 			if len(wanted) > 0 {
@@ -424,12 +422,10 @@ func TestOddNames(t *testing.T) {
 		line, _, _ := strings.Cut(requests[0], " HTTP/1.1\r\n")
 		path, query, _ := strings.Cut(strings.TrimPrefix(line, "DELETE "), "?")
 		for _, part := range strings.Split(path, "/") {
-			plain, err := url.PathUnescape(part)
-			check(t, err)
+			plain := diff.Value(url.PathUnescape(part))(t)
 			got = append(got, plain)
 		}
-		values, err := url.ParseQuery(query)
-		check(t, err)
+		values := diff.Value(url.ParseQuery(query))(t)
 		if len(got) != 6 || got[3] != name || got[5] != name+"2" || values.Get("service_id") != name+"3" ||
 			values.Get("plan_id") != name+"4" {
 			t.Errorf("%q: got %q sent, want the names escaped", name, line)
@@ -495,9 +491,7 @@ func TestPasswordOfEachRequest(t *testing.T) {
 			t.Fatalf("got %v, want an answer", in.Lost)
 		}
 	}
-	if strings.Join(given, " ") != "old new" {
-		t.Errorf("got %q, want old and new", given)
-	}
+	diff.Equal(t, strings.Join(given, " "), "old new", "the passwords")
 }
 
 // The time of a journal is sent if there is one, and that of an answer is read, also of one that isn't taken.
@@ -590,8 +584,7 @@ func serve(t *testing.T, answer answering) *raw {
 // listen listens on this machine until the test ends.
 func listen(t *testing.T) net.Listener {
 	t.Helper()
-	listener, err := net.Listen("tcp", "127.0.0.1:0")
-	check(t, err)
+	listener := diff.Value(net.Listen("tcp", "127.0.0.1:0"))(t)
 	t.Cleanup(func() { listener.Close() })
 	return listener
 }
@@ -661,8 +654,7 @@ func newClient(t *testing.T, options Options) *Client {
 	if options.Password == nil {
 		options.Password = func(platform.Broker) (string, error) { return secret, nil }
 	}
-	made, err := New(options)
-	check(t, err)
+	made := diff.Value(New(options))(t)
 	t.Cleanup(made.Close)
 	return made
 }
@@ -763,8 +755,7 @@ func BenchmarkExchange(b *testing.B) {
 }
 
 func benchmark(b *testing.B, server *httptest.Server) {
-	c, err := New(Options{Password: func(platform.Broker) (string, error) { return secret, nil }})
-	check(b, err)
+	c := diff.Value(New(Options{Password: func(platform.Broker) (string, error) { return secret, nil }}))(b)
 	defer c.Close()
 	if server.TLS != nil {
 		config := server.Client().Transport.(*http.Transport).TLSClientConfig.Clone()
@@ -777,9 +768,7 @@ func benchmark(b *testing.B, server *httptest.Server) {
 	b.RunParallel(func(pb *testing.PB) {
 		for pb.Next() {
 			in := c.Exchange(context.Background(), outgoingOf(c, server.URL, osb.KindPoll, ofInstance))
-			if in.Lost != nil {
-				b.Errorf("got %v, want an answer", in.Lost)
-			}
+			diff.NoError(b, in.Lost, "")
 		}
 	})
 }

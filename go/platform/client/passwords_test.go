@@ -8,6 +8,7 @@ import (
 	"testing"
 	"time"
 
+	"pippinterm/internal/diff"
 	"pippinterm/platform"
 	"pippinterm/platform/sqlite"
 	"pippinterm/platform/vault"
@@ -18,8 +19,7 @@ func TestSealedPassword(t *testing.T) {
 	safe, err := vault.New([]byte(strings.Repeat("k", vault.ShortestKey)))
 	check(t, err)
 	broker := platform.Broker{Name: "postgres", URL: "https://one.example", User: "platform", PasswordFile: "nowhere"}
-	broker.Password, err = safe.Seal([]byte(secret), platform.PasswordContext(broker))
-	check(t, err)
+	broker.Password = diff.Value(safe.Seal([]byte(secret), platform.PasswordContext(broker)))(t)
 	passwords := NewPasswords(safe, nil)
 	if got, err := passwords.Of(broker); got != secret || err != nil {
 		t.Errorf("got %q, %v, want %q", got, err, secret)
@@ -32,8 +32,7 @@ func TestSealedPassword(t *testing.T) {
 			b.URL, b.User = b.URL+" 8:platform", ""
 		},
 		"as version 0.3 did": func(b *platform.Broker) {
-			b.Password, err = safe.Seal([]byte(secret), "broker postgres")
-			check(t, err)
+			b.Password = diff.Value(safe.Seal([]byte(secret), "broker postgres"))(t)
 		},
 	} {
 		t.Run(what, func(t *testing.T) {
@@ -55,8 +54,7 @@ func TestSealedPassword(t *testing.T) {
 
 // What platform.Orders seals is opened here.
 func TestPasswordOfOrders(t *testing.T) {
-	safe, err := vault.New([]byte(strings.Repeat("k", vault.ShortestKey)))
-	check(t, err)
+	safe := diff.Value(vault.New([]byte(strings.Repeat("k", vault.ShortestKey))))(t)
 	ctx := context.Background()
 	store, err := sqlite.Open(ctx, filepath.Join(t.TempDir(), "store"))
 	check(t, err)
@@ -119,14 +117,11 @@ func TestPasswordFile(t *testing.T) {
 		if got, err := passwords.Of(broker); got != step.wanted || err != nil {
 			t.Errorf("%s: got %q, %v, want %q", step.what, got, err, step.wanted)
 		}
-		if len(warnings) != step.warnings {
-			t.Errorf("%s: got the warnings %q, want %d", step.what, warnings, step.warnings)
-		}
+		diff.Equal(t, len(warnings), step.warnings, "%s", step.what)
 	}
 	for _, warning := range warnings {
-		if strings.Contains(warning, "four") || strings.Contains(warning, "three") {
-			t.Errorf("the warning: got %s, want no password in it", warning)
-		}
+		diff.Lacks(t, warning, "four", "the warning")
+		diff.Lacks(t, warning, "three", "the warning")
 	}
 }
 

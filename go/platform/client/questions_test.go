@@ -67,10 +67,8 @@ func TestQuestions(t *testing.T) {
 			if row.isFetch {
 				ask = c.Fetch
 			}
-			got, err := ask(context.Background(), at(server.url), entry)
-			if err != nil || got != row.want {
-				t.Errorf("%s: got %+v, %v, want %+v", row.target, got, err, row.want)
-			}
+			got := diff.Value(ask(context.Background(), at(server.url), entry))(t)
+			diff.Equal(t, got, row.want, "%s", row.target)
 			requests, _ := server.arrivals()
 			if len(requests) != 1 || !strings.HasPrefix(requests[0], "GET "+row.target) {
 				t.Fatalf("got %q, want %s", requests, row.target)
@@ -82,9 +80,7 @@ func TestQuestions(t *testing.T) {
 				}
 			}
 			for _, text := range []string{"Authorization: Basic ", "X-Broker-Api-Version: 2.17\r\n"} {
-				if !strings.Contains(head, text) {
-					t.Errorf("got %q, want %s in it", head, text)
-				}
+				diff.Contains(t, head, text, "")
 			}
 			if !strings.HasSuffix(head, "\r\n\r\n") {
 				t.Errorf("got %q, want no body", head)
@@ -122,9 +118,8 @@ func TestUnansweredQuestion(t *testing.T) {
 				t.Errorf("got the error %v, want one without the secret", err)
 			}
 		}
-		if last != (Answer{}) || fetched != (Answer{}) {
-			t.Errorf("got %+v and %+v, want no answers", last, fetched)
-		}
+		diff.Equal(t, last, Answer{}, "last")
+		diff.Equal(t, fetched, Answer{}, "fetched")
 	}
 }
 
@@ -144,9 +139,7 @@ func TestCatalogue(t *testing.T) {
 		"GET /postgres/v2/catalog HTTP/1.1\r\n", "X-Broker-Api-Version: 2.17\r\n", "X-Broker-Api-Request-Identity: ",
 		"Authorization: Basic ",
 	} {
-		if !strings.Contains(requests[0], wanted) {
-			t.Errorf("got %q, want %q in it", requests[0], wanted)
-		}
+		diff.Contains(t, requests[0], wanted, "")
 	}
 }
 
@@ -350,9 +343,7 @@ func TestRequestsNameTheStore(t *testing.T) {
 			if strings.HasSuffix(r.URL.Path, "/v2/catalog") {
 				want = ""
 			}
-			if got := strings.Join(r.Header.Values(platform.StoreHeader), "|"); got != want {
-				t.Errorf("%s %s: got the store %q, want %q", r.Method, r.URL.Path, got, want)
-			}
+			diff.Equal(t, strings.Join(r.Header.Values(platform.StoreHeader), "|"), want, "%s %s", r.Method, r.URL.Path)
 			asked.Add(1)
 		}))
 		of := at(server.URL)

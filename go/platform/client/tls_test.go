@@ -52,8 +52,7 @@ func (a *authority) sign(
 	t *testing.T, name string, change func(*x509.Certificate),
 ) (*x509.Certificate, *ecdsa.PrivateKey) {
 	t.Helper()
-	key, err := ecdsa.GenerateKey(elliptic.P256(), rand.Reader)
-	check(t, err)
+	key := diff.Value(ecdsa.GenerateKey(elliptic.P256(), rand.Reader))(t)
 	wanted := &x509.Certificate{
 		SerialNumber: big.NewInt(time.Now().UnixNano()), Subject: pkix.Name{CommonName: name},
 		NotBefore: time.Now().Add(-time.Hour), NotAfter: time.Now().Add(time.Hour),
@@ -64,12 +63,9 @@ func (a *authority) sign(
 	if parent == nil {
 		parent, signer = wanted, key
 	}
-	text, err := x509.CreateCertificate(rand.Reader, wanted, parent, &key.PublicKey, signer)
-	check(t, err)
-	made, err := x509.ParseCertificate(text)
-	check(t, err)
-	private, err := x509.MarshalPKCS8PrivateKey(key)
-	check(t, err)
+	text := diff.Value(x509.CreateCertificate(rand.Reader, wanted, parent, &key.PublicKey, signer))(t)
+	made := diff.Value(x509.ParseCertificate(text))(t)
+	private := diff.Value(x509.MarshalPKCS8PrivateKey(key))(t)
 	writeFile(t, a.file(name+".crt"), string(pem.EncodeToMemory(&pem.Block{Type: "CERTIFICATE", Bytes: text})))
 	writeFile(t, a.file(name+".key"), string(pem.EncodeToMemory(&pem.Block{Type: "PRIVATE KEY", Bytes: private})))
 	return made, key
@@ -87,8 +83,7 @@ func here(c *x509.Certificate) { c.IPAddresses = []net.IP{net.IPv4(127, 0, 0, 1)
 // secure serves over TLS, with a certificate of the authority, and returns identities. It would rather speak HTTP/2.
 func (a *authority) secure(t *testing.T, name string, change func(*tls.Config)) *httptest.Server {
 	t.Helper()
-	pair, err := tls.LoadX509KeyPair(a.file(name+".crt"), a.file(name+".key"))
-	check(t, err)
+	pair := diff.Value(tls.LoadX509KeyPair(a.file(name+".crt"), a.file(name+".key")))(t)
 	server := httptest.NewUnstartedServer(http.HandlerFunc(func(w http.ResponseWriter, r *http.Request) {
 		w.Header().Set(osb.RequestIdentityHeader, r.Header.Get(osb.RequestIdentityHeader))
 		_, _ = io.WriteString(w, `{"description":"`+r.Proto+`"}`)
@@ -168,28 +163,19 @@ func TestOwnCertificate(t *testing.T) {
 		}
 	})
 	trusting := Files{Authorities: ours.file("authority.crt")}
-	if in := exchange(t, newClient(t, Options{TLS: trusting}), server.URL, osb.KindDeprovision); in.Lost == nil {
-		t.Error("a platform without a certificate: got no error, want one")
-	}
+	diff.Error(t, exchange(t, newClient(t, Options{TLS: trusting}), server.URL, osb.KindDeprovision).Lost,
+		"a platform without a certificate")
 	trusting.Certificate, trusting.Key = ours.file("platform.crt"), ours.file("platform.key")
 	c := newClient(t, Options{TLS: trusting})
-	if in := exchange(t, c, server.URL, osb.KindDeprovision); in.Lost != nil {
-		t.Errorf("got %v, want an answer", in.Lost)
-	}
+	diff.NoError(t, exchange(t, c, server.URL, osb.KindDeprovision).Lost, "")
 	before := shown.Load()
 	writeFile(t, trusting.Certificate, "half a file")
-	if err := c.Reload(); err == nil {
-		t.Error("half a file: got no error, want one")
-	}
-	if in := exchange(t, c, server.URL, osb.KindDeprovision); in.Lost != nil {
-		t.Errorf("got %v, want an answer", in.Lost)
-	}
+	diff.Error(t, c.Reload(), "half a file")
+	diff.NoError(t, exchange(t, c, server.URL, osb.KindDeprovision).Lost, "")
 	next, _ := ours.sign(t, "platform", func(*x509.Certificate) {})
 	diff.NoError(t, c.Reload(), "")
 	c.Close() // the connections that were kept have shown the old one
-	if in := exchange(t, c, server.URL, osb.KindDeprovision); in.Lost != nil {
-		t.Errorf("got %v, want an answer", in.Lost)
-	}
+	diff.NoError(t, exchange(t, c, server.URL, osb.KindDeprovision).Lost, "")
 	if after := shown.Load(); before.Cmp(after) == 0 || after.Cmp(next.SerialNumber) != 0 {
 		t.Errorf("the certificate: got %v and then %v, want the next one", before, after)
 	}
@@ -289,20 +275,16 @@ func TestProxy(t *testing.T) {
 	plain := serve(t, returning("200 OK", "{}"))
 	asked := make(chan string, 9)
 	proxy := tunnelling(t, asked)
-	at, err := url.Parse(proxy.URL)
-	check(t, err)
+	at := diff.Value(url.Parse(proxy.URL))(t)
 	at.User = url.UserPassword("us", "them")
 	c := newClient(t, Options{
 		TLS:   Files{Authorities: ours.file("authority.crt")},
 		Proxy: func(*http.Request) (*url.URL, error) { return at, nil },
 	})
 	for range [2]int{} {
-		if in := exchange(t, c, server.URL, osb.KindDeprovision); in.Lost != nil {
-			t.Errorf("got %v, want an answer", in.Lost)
-		}
-		if got := next(t, asked); got != "CONNECT "+server.Listener.Addr().String()+" Basic dXM6dGhlbQ==" {
-			t.Errorf("got %q, want a CONNECT to the server with the login at the proxy", got)
-		}
+		diff.NoError(t, exchange(t, c, server.URL, osb.KindDeprovision).Lost, "")
+		diff.Equal(t, next(t, asked), "CONNECT "+server.Listener.Addr().String()+" Basic dXM6dGhlbQ==",
+			"a CONNECT to the server with the login at the proxy")
 	}
 	if in := exchange(t, c, "https://127.0.0.1:1", osb.KindDeprovision); !errors.Is(in.Lost, ErrNotSent) ||
 		!strings.Contains(in.Lost.Error(), "403") || strings.Contains(in.Lost.Error(), secret) {
@@ -317,27 +299,19 @@ func TestProxy(t *testing.T) {
 		TLS:   Files{Authorities: ours.file("authority.crt")},
 		Proxy: func(*http.Request) (*url.URL, error) { return nobody, nil },
 	})
-	if in := exchange(t, other, server.URL, osb.KindDeprovision); in.Lost != nil {
-		t.Errorf("got %v, want an answer", in.Lost)
-	}
-	if got := next(t, asked); got != "CONNECT "+server.Listener.Addr().String()+" " {
-		t.Errorf("got %q, want no login", got)
-	}
-	closing, err := url.Parse(serve(t, always("")).url)
-	check(t, err)
+	diff.NoError(t, exchange(t, other, server.URL, osb.KindDeprovision).Lost, "")
+	diff.Equal(t, next(t, asked), "CONNECT "+server.Listener.Addr().String()+" ", "without a login")
+	closing := diff.Value(url.Parse(serve(t, always("")).url))(t)
 	tunnelless := newClient(t, Options{Proxy: func(*http.Request) (*url.URL, error) { return closing, nil }})
-	if in := exchange(t, tunnelless, "https://127.0.0.1:1", osb.KindDeprovision); !errors.Is(in.Lost, ErrNotSent) {
-		t.Errorf("a proxy that closes the connection: got %v, want %v", in.Lost, ErrNotSent)
-	}
+	diff.ErrorIs(t, exchange(t, tunnelless, "https://127.0.0.1:1", osb.KindDeprovision).Lost, ErrNotSent,
+		"a proxy that closes the connection")
 	closing.Host = ":80"
 	if in := exchange(t, tunnelless, "https://127.0.0.1:1", osb.KindDeprovision); !errors.Is(in.Lost, ErrNotSent) ||
 		!strings.Contains(in.Lost.Error(), "must be named by") {
 		t.Errorf("a proxy without a host: got %v, want %v and how to name it", in.Lost, ErrNotSent)
 	}
 	at.Scheme = "socks5"
-	if in := exchange(t, c, "https://127.0.0.1:1", osb.KindDeprovision); !errors.Is(in.Lost, ErrNotSent) {
-		t.Errorf("got %v, want %v", in.Lost, ErrNotSent)
-	}
+	diff.ErrorIs(t, exchange(t, c, "https://127.0.0.1:1", osb.KindDeprovision).Lost, ErrNotSent, "")
 }
 
 // proxied is set in a process that TestNoProxy starts.
@@ -348,9 +322,7 @@ func TestNoProxy(t *testing.T) {
 	if os.Getenv(proxied) != "" {
 		c := newClient(t, Options{AllowHTTP: true})
 		for _, url := range []string{"http://0.0.0.0:1", "https://0.0.0.0:1"} { // for these net/http would use a proxy
-			if in := exchange(t, c, url, osb.KindProvision); in.Lost == nil {
-				t.Errorf("got %+v, want an error", in)
-			}
+			diff.Error(t, exchange(t, c, url, osb.KindProvision).Lost, "")
 		}
 		return
 	}
@@ -376,9 +348,7 @@ func TestInClear(t *testing.T) {
 		t.Error("got a connection, want none")
 		return nil, io.EOF
 	}
-	if in := exchange(t, c, "http://broker.example", osb.KindProvision); !errors.Is(in.Lost, ErrNotSent) {
-		t.Errorf("got %v, want %v", in.Lost, ErrNotSent)
-	}
+	diff.ErrorIs(t, exchange(t, c, "http://broker.example", osb.KindProvision).Lost, ErrNotSent, "")
 	far := platform.Broker{Name: "x", URL: "http://broker.example"}
 	if _, _, err := c.Catalogue(context.Background(), far); err == nil {
 		t.Error("the catalogue: got no error, want one")

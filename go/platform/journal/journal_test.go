@@ -98,25 +98,20 @@ func TestBinding(t *testing.T) {
 	s.create("one")
 	s.run()
 	from := len(s.lines())
-	bound, err := s.orders.Bind(background, platform.NewBinding{Instance: "one"})
-	check(t, err)
+	bound := diff.Value(s.orders.Bind(background, platform.NewBinding{Instance: "one"}))(t)
 	s.run()
 	digest := journalfile.Digest([]byte(`{"credentials":{"password":"` + credential + `"}}`))
 	found := ""
 	for _, line := range s.lines()[from:] {
-		if line.Binding != bound.Key.Binding.String() {
-			t.Errorf("got %+v, want a line of the binding %s", line, bound.Key.Binding)
-		}
+		diff.Equal(t, line.Binding, bound.Key.Binding.String(), "a line of the binding")
 		if line.Credentials != "" {
 			found += line.Event + " "
 			want(t, line.Event, line.Credentials, digest)
 		}
 	}
 	want(t, "with a digest", found, "answered changed ")
-	entry, err := s.store.Read(background, bound.Key)
-	check(t, err)
-	text, err := entry.Record.BindingText()
-	check(t, err)
+	entry := diff.Value(s.store.Read(background, bound.Key))(t)
+	text := diff.Value(entry.Record.BindingText())(t)
 	want(t, "the last record", s.last().After, string(text))
 }
 
@@ -169,9 +164,8 @@ func TestOrder(t *testing.T) {
 	}
 	s.create("one")
 	s.run()
-	if commits != 2 || requests != 1 {
-		t.Errorf("got %d commits and %d requests, want 2 and 1", commits, requests)
-	}
+	diff.Equal(t, commits, 2, "commits")
+	diff.Equal(t, requests, 1, "requests")
 }
 
 // A change of a step that isn't committed is undone, and one of which nobody knows is so doubtfully.
@@ -214,9 +208,7 @@ func TestUndoneRow(t *testing.T) {
 			}
 		}
 	}
-	if undone != 1 {
-		t.Errorf("got %d undone, want 1: %s", undone, s.events(from))
-	}
+	diff.Equal(t, undone, 1, "%s", s.events(from))
 }
 
 // A claim that fails as a whole.
@@ -254,9 +246,7 @@ func TestUndoneClaim(t *testing.T) {
 				})
 			diff.ErrorIs(t, err, fails, "")
 			s.path += ".own"
-			if got := s.events(1); got != "claim withdrawn; claim withdrawn; "+want {
-				t.Errorf("%v: got %s, want two claims and then %s", fails, got, want)
-			}
+			diff.Equal(t, s.events(1), "claim withdrawn; claim withdrawn; "+want, "when %v fails", fails)
 		})
 	}
 }
@@ -413,16 +403,11 @@ func TestNoSecrets(t *testing.T) {
 	_, err = s.orders.Remove(background, bound.Key, false)
 	check(t, err)
 	s.run()
-	text, err := os.ReadFile(s.path)
-	check(t, err)
+	text := diff.Value(os.ReadFile(s.path))(t)
 	for _, secret := range []string{password, parameter, credential} {
-		if strings.Contains(string(text), secret) {
-			t.Errorf("the journal: got %s in it, want no secret", secret)
-		}
+		diff.Lacks(t, string(text), secret, "the journal")
 	}
-	if !strings.Contains(string(text), bound.Key.Binding.String()) {
-		t.Errorf("got %s, want lines of the binding %s", text, bound.Key.Binding)
-	}
+	diff.Contains(t, string(text), bound.Key.Binding.String(), "")
 }
 
 func keyOf(text string) platform.Key {
@@ -586,8 +571,7 @@ func newTestPlatform(t *testing.T) *testPlatform {
 	t.Helper()
 	folder := t.TempDir()
 	s := &testPlatform{t: t, path: filepath.Join(folder, "journal"), seller: &seller{answers: sells}}
-	store, err := sqlite.Open(background, filepath.Join(folder, "store"))
-	check(t, err)
+	store := diff.Value(sqlite.Open(background, filepath.Join(folder, "store")))(t)
 	t.Cleanup(func() { check(t, store.Close()) })
 	s.store = &faulty{Store: store}
 	writer, err := Open(Options{

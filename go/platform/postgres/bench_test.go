@@ -35,8 +35,7 @@ func BenchmarkSteps(b *testing.B) {
 	for _, rows := range []int{stepped, 100 * stepped} {
 		url, stores := fill(b, rows), []platform.Store{}
 		for n := 0; n < workers; n++ {
-			store, err := postgres.Open(background, url, slots+1)
-			check(b, err)
+			store := diff.Value(postgres.Open(background, url, slots+1))(b)
 			defer store.Close()
 			stores = append(stores, store)
 		}
@@ -60,8 +59,7 @@ func benchmark(b *testing.B, rows int, isChanged bool) {
 	b.ResetTimer()
 	var all sync.WaitGroup
 	for n := 0; n < workers; n++ {
-		store, err := postgres.Open(background, url, slots+1)
-		check(b, err)
+		store := diff.Value(postgres.Open(background, url, slots+1))(b)
 		defer store.Close()
 		all.Add(1)
 		go func(worker string) {
@@ -86,8 +84,7 @@ func fill(b *testing.B, rows int) string {
 		Most: 1, Lock: deadline, Statement: 10 * deadline, Idle: deadline,
 		Settings: map[string]string{"search_path": schema},
 	}
-	db, err := pg.Open(address, options)
-	check(b, err)
+	db := diff.Value(pg.Open(address, options))(b)
 	b.Cleanup(func() {
 		_, _ = db.Exec("DROP SCHEMA " + schema + " CASCADE")
 		_ = db.Close()
@@ -119,8 +116,7 @@ func fill(b *testing.B, rows int) string {
 func pollingRecord(b *testing.B) osb.Record {
 	b.Helper()
 	wanted, sent := osb.Create(id(0), osb.MustParseID(theService), osb.MustParseID(thePlan), true)
-	record, err := wanted.Answer(sent.Attempt, osb.Answer{Status: 202, Body: osb.BodyEmpty})
-	check(b, err)
+	record := diff.Value(wanted.Answer(sent.Attempt, osb.Answer{Status: 202, Body: osb.BodyEmpty}))(b)
 	return record
 }
 
@@ -236,9 +232,7 @@ func TestAStepOfAnEngine(t *testing.T) {
 		took[rows] = proxy.Tally()
 	}
 	for n := 0; n < next; n++ {
-		if entry, err := store.Read(background, instance(n)); err != nil || entry.State != platform.Ready {
-			t.Errorf("%v: got %s, %v, want ready", instance(n), entry.State, err)
-		}
+		diff.Equal(t, diff.Value(store.Read(background, instance(n)))(t).State, platform.Ready, "%v", instance(n))
 	}
 	const steps = many - few
 	statements, transactions := took[many].Statements-took[few].Statements, took[many].Transactions-took[few].Transactions

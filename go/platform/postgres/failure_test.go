@@ -123,9 +123,7 @@ func TestConflicts(t *testing.T) {
 					calls != test.calls || errors.Is(err, platform.ErrAway) {
 					t.Errorf("after %d calls: got %v, want %s after %d", calls, err, test.code, test.calls)
 				}
-				if got := countStays(t, store, instance(1)); (got == 1) != test.isWritten {
-					t.Errorf("got %d written, want it %t", got, test.isWritten)
-				}
+				diff.Equal(t, countStays(t, store, instance(1)) == 1, test.isWritten, "whether it is written")
 			})
 		}
 	}
@@ -244,9 +242,8 @@ func TestAContextThatEnds(t *testing.T) {
 		snapshot.Entry.Unchanged++
 		return &platform.Change{Entry: snapshot.Entry}, nil
 	})
-	if !errors.Is(err, context.Canceled) || countStays(t, store, instance(1)) != 0 {
-		t.Errorf("in the step: got %v, want %v and nothing written", err, context.Canceled)
-	}
+	diff.ErrorIs(t, err, context.Canceled, "in the step")
+	diff.Equal(t, countStays(t, store, instance(1)), 0, "in the step")
 	tx := begin(t, url)
 	run(t, tx, "SELECT FROM osb_instances FOR UPDATE")
 	ctx, cancel = context.WithCancel(background)
@@ -403,9 +400,7 @@ func TestAChangeThatCannotBeWritten(t *testing.T) {
 	if err != nil || len(claimed) != 2 || claimed[0].Err != nil || claimed[1].Err == nil {
 		t.Errorf("got %v claimed, %v, want the first, and an error of the second", claimed, err)
 	}
-	if err := store.Change(background, instance(2), step); err == nil {
-		t.Error("the change: got no error, want one")
-	}
+	diff.Error(t, store.Change(background, instance(2), step), "the change")
 	if first, second := countStays(t, store, instance(1)), countStays(t, store, instance(2)); first != 1 || second != 0 {
 		t.Errorf("got counts of %d and %d, want 1 and 0", first, second)
 	}
@@ -527,14 +522,11 @@ func TestAServerThatHangsInAStep(t *testing.T) {
 		proxy.Hang(true)
 		time.AfterFunc(50*time.Millisecond, cancel)
 		is, err := snapshot.AllGone()
-		if err == nil {
-			t.Errorf("AllGone: got %t, want an error", is)
-		}
+		diff.Error(t, err, "AllGone, %t", is)
 		return nil, err
 	})
-	if !errors.Is(err, platform.ErrAway) || !errors.Is(err, context.Canceled) {
-		t.Errorf("got the error %v, want %v and %v", err, platform.ErrAway, context.Canceled)
-	}
+	diff.ErrorIs(t, err, platform.ErrAway, "")
+	diff.ErrorIs(t, err, context.Canceled, "")
 	diff.NoError(t, store.Close(), "")
 	wantQuick(t, begun)
 }

@@ -123,10 +123,8 @@ func start(t *testing.T, url string) *process {
 	command := exec.Command(os.Args[0])
 	command.Env = append(os.Environ(), urlVariable+"="+url)
 	command.Stderr = os.Stderr
-	in, err := command.StdinPipe()
-	check(t, err)
-	out, err := command.StdoutPipe()
-	check(t, err)
+	in := diff.Value(command.StdinPipe())(t)
+	out := diff.Value(command.StdoutPipe())(t)
 	check(t, command.Start())
 	t.Cleanup(func() { _ = command.Process.Kill() })
 	return &process{command: command, in: in, lines: bufio.NewScanner(out)}
@@ -335,10 +333,8 @@ func TestABindingWhoseInstanceIsChangedAndLocked(t *testing.T) {
 	insert(t, store, instance(1), binding(1, 1), instance(2), binding(2, 2))
 	run(t, tx, "UPDATE osb_instances SET tries = 7 WHERE id = $1", id(1))
 	run(t, tx, "SELECT FROM osb_instances WHERE id = $1 FOR UPDATE", id(1))
-	claimed, err := store.Claim(background, []string{"one"}, 10, count(new(int)))
-	if err != nil || len(claimed) != 2 {
-		t.Errorf("got %v claimed, %v, want 2", claimed, err)
-	}
+	claimed := diff.Value(store.Claim(background, []string{"one"}, 10, count(new(int))))(t)
+	diff.Equal(t, len(claimed), 2, "claimed")
 }
 
 // A binding is sent, and then its instance is stepped in the same claim: the binding may exist, though the database
@@ -361,10 +357,8 @@ func TestAnInstanceBehindItsBinding(t *testing.T) {
 				snapshot.Entry.State, snapshot.Entry.IsSent, snapshot.Entry.Record = platform.Wanted, true, wantedBinding(t)
 				return &platform.Change{Entry: snapshot.Entry}, nil
 			case instance(1), instance(2):
-				is, err := snapshot.AllGone()
-				if err != nil || is != (snapshot.Key == instance(2)) {
-					t.Errorf("the bindings of %v: got all gone %t, %v, want it of the second", snapshot.Key, is, err)
-				}
+				is := diff.Value(snapshot.AllGone())(t)
+				diff.Equal(t, is, snapshot.Key == instance(2), "the bindings of %v", snapshot.Key)
 			}
 			return nil, nil
 		})
@@ -376,8 +370,7 @@ func TestAnInstanceBehindItsBinding(t *testing.T) {
 func wantedBinding(t *testing.T) osb.Record {
 	t.Helper()
 	wanted, sent := osb.Create(id(1), osb.MustParseID(theService), osb.MustParseID(thePlan), true)
-	ready, err := wanted.Answer(sent.Attempt, osb.Answer{Status: 201, Body: osb.BodyEmpty})
-	check(t, err)
+	ready := diff.Value(wanted.Answer(sent.Attempt, osb.Answer{Status: 201, Body: osb.BodyEmpty}))(t)
 	record, _, err := ready.CreateBinding(id(1), true)
 	check(t, err)
 	return record

@@ -59,8 +59,7 @@ func TestARightLives(t *testing.T) {
 	store, err := Open(context.Background(), pgtest.Schema(t, pgtest.URL(t), "osb_platform_right_lives"), 1)
 	check(t, err)
 	defer store.Close()
-	it, err := store.right(context.Background(), "osb_platform_right_lives")
-	check(t, err)
+	it := diff.Value(store.right(context.Background(), "osb_platform_right_lives"))(t)
 	for range [2]int{} {
 		if !it.lives() {
 			t.Error("got a session that is dead, want it alive")
@@ -77,8 +76,7 @@ func TestTimes(t *testing.T) {
 	random := rand.New(rand.NewSource(1))
 	for n := 0; n < 10000; n++ {
 		at := time.UnixMicro(random.Int63n(4e15)).UTC() // until 2096
-		text, err := json.Marshal(seconds(at.Add(time.Duration(random.Intn(1000)))))
-		check(t, err)
+		text := diff.Value(json.Marshal(seconds(at.Add(time.Duration(random.Intn(1000))))))(t)
 		var read seconds
 		if err := json.Unmarshal(text, &read); err != nil || !time.Time(read).Equal(at) {
 			t.Fatalf("%[1]v, written as %[2]s: got %[3]v, %[4]v, want %[1]v", at, text, time.Time(read), err)
@@ -98,9 +96,7 @@ func TestTimes(t *testing.T) {
 			}
 		})
 	}
-	if text, err := json.Marshal(seconds{}); err != nil || string(text) != "null" {
-		t.Errorf("the zero time: got %s, %v, want null", text, err)
-	}
+	diff.Equal(t, string(diff.Value(json.Marshal(seconds{}))(t)), "null", "the zero time")
 }
 
 // What has to be looked at stays due if it was, and is due now otherwise.
@@ -129,9 +125,7 @@ func TestSealed(t *testing.T) {
 			}
 		})
 	}
-	if err := json.Unmarshal([]byte(`"\\xzz"`), new(bytea)); err == nil {
-		t.Error("what isn't hexadecimal: got no error, want one")
-	}
+	diff.Error(t, json.Unmarshal([]byte(`"\\xzz"`), new(bytea)), "what isn't hexadecimal")
 }
 
 func TestPadded(t *testing.T) {
@@ -163,9 +157,8 @@ func TestACallThatIsLeft(t *testing.T) {
 		left <- err
 		return err
 	})
-	if !errors.Is(err, platform.ErrAway) || !errors.Is(err, context.Canceled) {
-		t.Errorf("the call: got %v, want %v", err, context.Canceled)
-	}
+	diff.ErrorIs(t, err, platform.ErrAway, "the call")
+	diff.ErrorIs(t, err, context.Canceled, "the call")
 	close(release)
 	if err := <-left; !errors.Is(err, errOver) || isCalled {
 		t.Errorf("after the call: got %v and a call %t, want %v and none", err, isCalled, errOver)
@@ -182,9 +175,8 @@ func TestACallThatEndsItself(t *testing.T) {
 		time.Sleep(10 * time.Millisecond)
 		return 7, this.do(func() error { return wrong })
 	})
-	if value != 7 || !errors.Is(err, wrong) {
-		t.Errorf("got %d, %v, want 7, %v", value, err, wrong)
-	}
+	diff.Equal(t, value, 7, "value")
+	diff.ErrorIs(t, err, wrong, "")
 }
 
 // A function that panics, or that ends its goroutine, is an error.
@@ -195,9 +187,7 @@ func TestAFunctionThatDoesNotReturn(t *testing.T) {
 		"panics": func() error { panic("a bug") }, "ends": func() error { runtime.Goexit(); return nil },
 	} {
 		t.Run(name, func(t *testing.T) {
-			if err := (&Store{}).run(ctx, func(this *call) error { return this.do(passed) }); err == nil {
-				t.Errorf("one that %s: got no error, want one", name)
-			}
+			diff.Error(t, (&Store{}).run(ctx, func(this *call) error { return this.do(passed) }), "one that %s", name)
 		})
 	}
 }
@@ -222,13 +212,11 @@ INSERT INTO osb_lives SELECT id, 1, state, since FROM osb_instances;
 // long with many rows as with few.
 func TestQueriesUseIndexes(t *testing.T) {
 	url := pgtest.Schema(t, pgtest.URL(t), "osb_platform_plans")
-	store, err := Open(context.Background(), url, 1)
-	check(t, err)
+	store := diff.Value(Open(context.Background(), url, 1))(t)
 	defer store.Close()
 	db := pgtest.DB(t, url)
 	pgtest.Exec(t, db, manyRows, "ANALYZE osb_instances, osb_bound, osb_lives")
-	conn, err := db.Conn(context.Background())
-	check(t, err)
+	conn := diff.Value(db.Conn(context.Background()))(t)
 	defer conn.Close()
 	const key = "00000000-0000-4000-8000-000000000007"
 	const text = `[{"id": "` + key + `"}]`

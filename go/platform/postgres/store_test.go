@@ -54,8 +54,7 @@ func TestPausedWorker(t *testing.T) {
 
 func open(t testing.TB, url string) *postgres.Store {
 	t.Helper()
-	store, err := postgres.Open(background, url, 4)
-	check(t, err)
+	store := diff.Value(postgres.Open(background, url, 4))(t)
 	return store
 }
 
@@ -83,8 +82,7 @@ func count(calls *int) platform.Step {
 // countStays is how often a row was counted.
 func countStays(t *testing.T, store platform.Store, key platform.Key) int {
 	t.Helper()
-	entry, err := store.Read(background, key)
-	check(t, err)
+	entry := diff.Value(store.Read(background, key))(t)
 	return entry.Unchanged
 }
 
@@ -124,8 +122,7 @@ func schemaNamed(t *testing.T, name string) string {
 // begin begins a transaction, which is rolled back at the end of the test.
 func begin(t *testing.T, url string) *sql.Tx {
 	t.Helper()
-	tx, err := pgtest.DB(t, pgtest.With(t, url, "application_name", "of the test")).Begin()
-	check(t, err)
+	tx := diff.Value(pgtest.DB(t, pgtest.With(t, url, "application_name", "of the test")).Begin())(t)
 	t.Cleanup(func() { _ = tx.Rollback() })
 	return tx
 }
@@ -264,9 +261,7 @@ func TestRoundTrips(t *testing.T) {
 	}{
 		{"a claim of 30 rows", 4, func() error {
 			claimed, err := store.Claim(background, []string{"one", "two"}, 30, lease(platform.Wanted))
-			if len(claimed) != 30 {
-				t.Errorf("got %v claimed, want 30", claimed)
-			}
+			diff.Equal(t, len(claimed), 30, "claimed")
 			return err
 		}},
 		{"a change of an instance", 4, func() error {

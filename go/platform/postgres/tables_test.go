@@ -158,9 +158,7 @@ func want02(t *testing.T, got platform.Entry, n int, it row02) {
 	}
 	have := []any{got.State, got.Since, got.SentUntil, got.PolledSince, got.Removal, got.HasLast, got.Due,
 		got.Unchanged, got.Lease, got.IsSent, operation}
-	if fmt.Sprint(have...) != fmt.Sprint(want...) {
-		t.Errorf("row %d: got %v, want %v", n, have, want)
-	}
+	diff.Equal(t, fmt.Sprint(have...), fmt.Sprint(want...), "row %d", n)
 	if got.IsSent && (platform.StateOf(got.Record) != it.state || got.Record.Attempt() != uint64(it.attempt(n))) {
 		t.Errorf("row %d: got the record %v, want its state and attempt", n, got.Record)
 	}
@@ -179,8 +177,7 @@ func TestTablesOf02(t *testing.T) {
 	for n := 0; n < 2; n++ { // the second time nothing is left to do
 		store := open(t, url)
 		for n, old := range rows02 {
-			entry, err := store.Read(background, instance(n))
-			check(t, err)
+			entry := diff.Value(store.Read(background, instance(n)))(t)
 			want02(t, entry, n, old)
 		}
 		life, err := store.Life(background, instance(7))
@@ -218,9 +215,7 @@ func goOn02(t *testing.T, store *postgres.Store) {
 			t.Errorf("got %v claimed (%v), want one that is due", row.Key, row.Err)
 		}
 		delete(due, row.Key)
-		if life, err := store.Life(background, row.Key); err != nil || len(life) != 1 {
-			t.Errorf("the life of %v: got %v, %v, want 1", row.Key, life, err)
-		}
+		diff.Equal(t, len(diff.Value(store.Life(background, row.Key))(t)), 1, "the life of %v", row.Key)
 	}
 	for key, isDue := range due {
 		if isDue {
@@ -251,9 +246,7 @@ func TestTablesOf02WithoutABroker(t *testing.T) {
 	pgtest.Exec(t, pgtest.DB(t, url), of02[:len(of02)-1]...)
 	store := open(t, url)
 	defer store.Close()
-	if brokers, err := store.Brokers(background); err != nil || len(brokers) != 0 {
-		t.Errorf("the brokers: got %+v, %v, want none", brokers, err)
-	}
+	diff.Equal(t, len(diff.Value(store.Brokers(background))(t)), 0, "the brokers")
 }
 
 // The tables aren't extended while a worker of version 0.2 may run over them.
@@ -323,9 +316,7 @@ func TestOpenExisting(t *testing.T) {
 		if err != nil {
 			t.Fatalf("%s: got %v, want no error", tables, err)
 		}
-		if brokers, err := store.Brokers(background); err != nil || len(brokers) != 1 {
-			t.Errorf("%s: got %+v, %v, want one broker", tables, brokers, err)
-		}
+		diff.Equal(t, len(diff.Value(store.Brokers(background))(t)), 1, "%s", tables)
 		diff.NoError(t, store.Close(), "")
 	}
 }
@@ -359,8 +350,7 @@ func TestMissingColumns(t *testing.T) {
 		bound.Names.Binding, bound.Credentials = "binding", []byte{0, 1}
 		for _, want := range []platform.Entry{entry, bound} {
 			check(t, store.Insert(background, want, func(platform.Snapshot) error { return nil }))
-			got, err = store.Read(background, want.Key)
-			check(t, err)
+			got = diff.Value(store.Read(background, want.Key))(t)
 			diff.Check(t, got, want, "without %q", lost)
 		}
 		diff.NoError(t, store.Close(), "")
@@ -387,8 +377,7 @@ func TestARoleThatMayNotAlter(t *testing.T) {
 	owner := open(t, url)
 	addBroker(t, owner)
 	_ = owner.Close()
-	store, err := postgres.Open(background, as, 2)
-	check(t, err)
+	store := diff.Value(postgres.Open(background, as, 2))(t)
 	defer store.Close()
 	for name, call := range calls(store, instance(7), binding(1, 7)) {
 		diff.NoError(t, call(), "%s", name)
@@ -402,8 +391,7 @@ func TestReadingLocksNothing(t *testing.T) {
 	store := open(t, url)
 	defer store.Close()
 	insert(t, store, instance(1), binding(1, 1))
-	tx, err := pgtest.DB(t, url).Begin()
-	check(t, err)
+	tx := diff.Value(pgtest.DB(t, url).Begin())(t)
 	defer func() { _ = tx.Rollback() }()
 	const lock = "LOCK TABLE osb_instances, osb_bound, osb_lives, osb_brokers, osb_broker_asked, osb_platform " +
 		"IN EXCLUSIVE MODE"
@@ -453,10 +441,8 @@ func TestPrefixInAnOddOrder(t *testing.T) {
 	store := open(t, pgtest.In(t, url, "osb_platform_numeric"))
 	defer store.Close()
 	insert(t, store, instance(0x2002), instance(0x20bb), instance(0x2f00), instance(0x3000))
-	rows, err := store.List(background, platform.Filter{Prefix: id(0x2000).String()[:33]})
-	if err != nil || len(rows) != 3 {
-		t.Errorf("got %d rows, %v, want 3", len(rows), err)
-	}
+	rows := diff.Value(store.List(background, platform.Filter{Prefix: id(0x2000).String()[:33]}))(t)
+	diff.Equal(t, len(rows), 3, "rows")
 }
 
 // A broker and a platform use one database.

@@ -36,9 +36,7 @@ func TestLongestDue(t *testing.T) {
 		{3, due(1, 4, 2, 3), due(1, 2, 3)}, {4, due(4, 3, 2, 1), due(1, 2, 3, 4)}, {5, due(2, 1), due(1, 2)}, {1, due(), due()},
 	} {
 		t.Run(fmt.Sprint(test.most, " of ", len(test.found)), func(t *testing.T) {
-			if got := longestDue(test.found, test.most); fmt.Sprint(got) != fmt.Sprint(test.want) {
-				t.Errorf("at most %d: got %v, want %v", test.most, got, test.want)
-			}
+			diff.Equal(t, fmt.Sprint(longestDue(test.found, test.most)), fmt.Sprint(test.want), "at most %d", test.most)
 		})
 	}
 }
@@ -67,8 +65,7 @@ func reads(s *Store, key platform.Key) map[string]func(context.Context) error {
 func TestReadingLocksNothing(t *testing.T) {
 	path := filepath.Join(t.TempDir(), "store")
 	check(t, withBroker(t, open(t, path)).Insert(background, order(1), nil))
-	made, err := (&sqlite3.SQLiteDriver{}).Open("file:" + path)
-	check(t, err)
+	made := diff.Value((&sqlite3.SQLiteDriver{}).Open("file:" + path))(t)
 	defer made.Close()
 	writer := made.(*sqlite3.SQLiteConn)
 	for _, text := range []string{"BEGIN IMMEDIATE", "UPDATE osb_instances SET tries = 7"} {
@@ -82,9 +79,7 @@ func TestReadingLocksNothing(t *testing.T) {
 	if took := time.Since(begun); took > 15*time.Second { // a lock that another has is waited for 30 seconds
 		t.Errorf("got an end after %v, want one within 15 s", took)
 	}
-	if entry, err := second.Read(background, keyOf(1)); err != nil || entry.Unchanged != 0 {
-		t.Errorf("what isn't committed: got %d, %v, want it unread", entry.Unchanged, err)
-	}
+	diff.Equal(t, diff.Value(second.Read(background, keyOf(1)))(t).Unchanged, 0, "what isn't committed")
 	if _, err := writer.Exec("COMMIT", nil); err != nil {
 		t.Errorf("the writer: got %v, want no error", err)
 	}
@@ -332,9 +327,7 @@ func TestAStepOfAnEngine(t *testing.T) {
 		took[rows] = [2]int64{m.statements(t) - statements, m.transactions.Load() - transactions}
 	}
 	for n := 0; n < next; n++ {
-		if entry, err := s.Read(background, keyOf(n)); err != nil || entry.State != platform.Ready {
-			t.Errorf("%v: got %s, %v, want ready", keyOf(n), entry.State, err)
-		}
+		diff.Equal(t, diff.Value(s.Read(background, keyOf(n)))(t).State, platform.Ready, "%v", keyOf(n))
 	}
 	for rows, duration := range took {
 		// No two claims are in one transaction, because each follows the answer to the one before. The end of a step

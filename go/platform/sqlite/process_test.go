@@ -78,8 +78,7 @@ func startChild(t *testing.T, path string) *child {
 	t.Helper()
 	it := &child{Cmd: exec.Command(os.Args[0])}
 	it.Env, it.Stderr = append(os.Environ(), pathVariable+"="+path), os.Stderr
-	input, err := it.StdinPipe()
-	check(t, err)
+	input := diff.Value(it.StdinPipe())(t)
 	output, err := it.StdoutPipe()
 	if err == nil {
 		err = it.Start()
@@ -117,9 +116,7 @@ func TestProcesses(t *testing.T) {
 	}
 	diff.NoError(t, count(s), "")
 	other.wait(t, "counted")
-	if got, err := s.Read(background, keyOf(1)); err != nil || got.Unchanged != 2*each {
-		t.Errorf("got a count of %d, want %d: %v", got.Unchanged, 2*each, err)
-	}
+	diff.Equal(t, diff.Value(s.Read(background, keyOf(1)))(t).Unchanged, 2*each, "the count")
 	other.kill()
 	end, _, err := s.Only(background, "child")
 	if err != nil || end == nil {

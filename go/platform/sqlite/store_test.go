@@ -37,8 +37,7 @@ func keyOf(n int) platform.Key {
 
 func open(t testing.TB, path string) *Store {
 	t.Helper()
-	s, err := Open(background, path)
-	check(t, err)
+	s := diff.Value(Open(background, path))(t)
 	t.Cleanup(func() {
 		diff.NoError(t, s.Close(), "")
 	})
@@ -61,11 +60,9 @@ func executeIn(t *testing.T, path string, statements ...string) {
 // query is the first column of a query's rows.
 func query(t *testing.T, path, query string) (found []string) {
 	t.Helper()
-	made, err := (&sqlite3.SQLiteDriver{}).Open("file:" + path + "?mode=ro")
-	check(t, err)
+	made := diff.Value((&sqlite3.SQLiteDriver{}).Open("file:" + path + "?mode=ro"))(t)
 	defer made.Close()
-	rows, err := made.(*sqlite3.SQLiteConn).Query(query, nil)
-	check(t, err)
+	rows := diff.Value(made.(*sqlite3.SQLiteConn).Query(query, nil))(t)
 	defer rows.Close()
 	row := make([]driver.Value, len(rows.Columns()))
 	for rows.Next(row) == nil {
@@ -77,8 +74,7 @@ func query(t *testing.T, path, query string) (found []string) {
 // old is the path of a store that version 0.2 has written: testdata has a dump of it, with a row in each state.
 func old(t *testing.T) string {
 	t.Helper()
-	dump, err := os.ReadFile("testdata/store-0.2.sql")
-	check(t, err)
+	dump := diff.Value(os.ReadFile("testdata/store-0.2.sql"))(t)
 	path := filepath.Join(t.TempDir(), "instances.sqlite")
 	executeIn(t, path, "PRAGMA journal_mode = WAL", string(dump))
 	return path
@@ -141,21 +137,15 @@ func TestOpenExisting(t *testing.T) {
 	if _, err := os.Stat(missing); !os.IsNotExist(err) {
 		t.Errorf("the missing file: got %v, want none", err)
 	}
-	if about, err := os.Stat(empty); err != nil || about.Size() != 0 {
-		t.Errorf("the empty file: got %v, %v, want it empty", about, err)
-	}
-	if found := query(t, bare, "SELECT name FROM sqlite_master"); len(found) != 0 {
-		t.Errorf("the file without tables: got %v, want none", found)
-	}
+	diff.Equal(t, diff.Value(os.Stat(empty))(t).Size(), 0, "the empty file")
+	diff.Equal(t, len(query(t, bare, "SELECT name FROM sqlite_master")), 0, "the file without tables")
 	path := old(t)
 	for _, tables := range []string{"those of version 0.2", "those of this version"} {
 		store, err := OpenExisting(background, path)
 		if err != nil {
 			t.Fatalf("%s: got %v, want no error", tables, err)
 		}
-		if brokers, err := store.Brokers(background); err != nil || len(brokers) != 1 {
-			t.Errorf("%s: got %+v, %v, want one broker", tables, brokers, err)
-		}
+		diff.Equal(t, len(diff.Value(store.Brokers(background))(t)), 1, "%s", tables)
 		diff.NoError(t, store.Close(), "")
 	}
 }
@@ -165,8 +155,7 @@ func TestMigration(t *testing.T) {
 	s := open(t, old(t))
 	inFlight := map[int]osb.Kind{4: osb.KindProvision, 9: osb.KindPoll}
 	for n, want := range oldRows() {
-		got, err := s.Read(background, want.Key)
-		check(t, err)
+		got := diff.Value(s.Read(background, want.Key))(t)
 		kind, isInFlight := inFlight[n+1]
 		if !isInFlight {
 			kind = osb.KindNone
@@ -207,9 +196,8 @@ func TestMigratedRowsAreUsed(t *testing.T) {
 		}
 		position = &platform.Position{State: rows[0].State, Since: rows[0].Since, Key: rows[0].Key}
 	}
-	if rows, err := s.List(background, platform.Filter{After: position, Most: 1}); err != nil || len(rows) != 0 {
-		t.Errorf("behind the last: got %v, %v, want none", rows, err)
-	}
+	diff.Equal(t, len(diff.Value(s.List(background, platform.Filter{After: position, Most: 1}))(t)), 0,
+		"behind the last")
 	executeIn(t, path, "UPDATE osb_instances SET due = due - 1e9, leased_until = leased_until - 1e9")
 	steps := 0
 	_, err := s.Claim(background, []string{"default"}, 100,
@@ -231,9 +219,7 @@ func TestMigratedRowsAreUsed(t *testing.T) {
 			t.Errorf("got the count %+v, want 2 of the one that is there twice", count)
 		}
 	}
-	if err := s.DropBroker(background, "default"); !errors.Is(err, platform.ErrUsed) {
-		t.Errorf("got %v, want ErrUsed", err)
-	}
+	diff.ErrorIs(t, s.DropBroker(background, "default"), platform.ErrUsed, "")
 }
 
 // Version 0.2 compares this URL with its own, and refuses to run.
@@ -259,8 +245,7 @@ func closeAndRead(t *testing.T, path string) []byte {
 	if _, err := os.Stat(path + "-wal"); !errors.Is(err, os.ErrNotExist) {
 		t.Fatalf("a log after Close: got %v, want none", err)
 	}
-	content, err := os.ReadFile(path)
-	check(t, err)
+	content := diff.Value(os.ReadFile(path))(t)
 	return content
 }
 
@@ -280,8 +265,7 @@ func TestOpeningWritesNothing(t *testing.T) {
 // Here they are some of today's.
 func TestMissingColumns(t *testing.T) {
 	path := filepath.Join(t.TempDir(), "store")
-	first, err := Open(background, path)
-	check(t, err)
+	first := diff.Value(Open(background, path))(t)
 	entry := order(1)
 	entry.Dashboard, entry.Because = "https://one.example", "nobody wants it"
 	entry.Tries, entry.Passing, entry.After = 3, true, time.Minute
@@ -307,8 +291,7 @@ func TestMissingColumns(t *testing.T) {
 	entry.Key = platform.BindingKey(entry.Key.Instance, keyOf(2).Instance)
 	entry.Names.Binding, entry.First, entry.Credentials = "binding", entry.Key.Binding, []byte{0, 1}
 	check(t, again.Insert(background, entry, accept))
-	got, err = again.Read(background, entry.Key)
-	check(t, err)
+	got = diff.Value(again.Read(background, entry.Key))(t)
 	diff.Check(t, got, entry, "a further row")
 }
 
@@ -335,9 +318,7 @@ func TestMigrationsAtOnce(t *testing.T) {
 				t.Errorf("got the error %v, want none", err)
 				return
 			}
-			if rows, err := s.List(background, platform.Filter{}); err != nil || len(rows) != 12 {
-				t.Errorf("got %d rows, %v, want 12", len(rows), err)
-			}
+			diff.Equal(t, len(diff.Value(s.List(background, platform.Filter{}))(t)), 12, "rows")
 			diff.NoError(t, s.Close(), "")
 		}()
 	}
@@ -354,12 +335,8 @@ func TestMigrationFails(t *testing.T) {
 	if _, err := Open(background, path); err == nil || !strings.Contains(err.Error(), path) {
 		t.Errorf("got %v, want an error that names the file", err)
 	}
-	if after := query(t, path, schema); fmt.Sprint(after) != fmt.Sprint(before) {
-		t.Errorf("the tables: got %s, want %s", after, before)
-	}
-	if after := query(t, path, "SELECT since FROM osb_instances"); fmt.Sprint(after) != fmt.Sprint(rows) {
-		t.Errorf("the rows: got %s, want %s", after, rows)
-	}
+	diff.Equal(t, fmt.Sprint(query(t, path, schema)), fmt.Sprint(before), "the tables")
+	diff.Equal(t, fmt.Sprint(query(t, path, "SELECT since FROM osb_instances")), fmt.Sprint(rows), "the rows")
 }
 
 // A store of a later version, a file of another program and what is no database are rejected, and stay as they are.
@@ -395,9 +372,7 @@ func TestFileIsForItsOwner(t *testing.T) {
 	path := filepath.Join(t.TempDir(), "store")
 	open(t, path)
 	for _, name := range []string{path, path + "-wal"} {
-		if info, err := os.Stat(name); err != nil || info.Mode().Perm() != 0o600 {
-			t.Errorf("%s: got %v, %v, want the mode 600", name, info, err)
-		}
+		diff.Equal(t, diff.Value(os.Stat(name))(t).Mode().Perm(), 0o600, "%s", name)
 	}
 }
 
@@ -469,8 +444,7 @@ func TestOldWorkerRuns(t *testing.T) {
 	path := old(t)
 	lock, err := lock(path+".worker-1.lock", os.O_CREATE) // that of 0.2
 	check(t, err)
-	before, err := os.ReadFile(path)
-	check(t, err)
+	before := diff.Value(os.ReadFile(path))(t)
 	if _, err := Open(background, path); err == nil || !strings.Contains(err.Error(), "worker-1 ") {
 		t.Errorf("got %v, want an error that names the worker", err)
 	}
@@ -605,13 +579,11 @@ func TestFaults(t *testing.T) {
 	storetest.TestFaults(t, storetest.Faulty{
 		Open: func(t *testing.T) (platform.Store, *storefaults.Countdown) {
 			by := &storefaults.Driver{}
-			store, err := openAt(background, path(t), by, migrate)
-			check(t, err)
+			store := diff.Value(openAt(background, path(t), by, migrate))(t)
 			return store, &by.Countdown
 		},
 		Beside: func(t *testing.T) platform.Store {
-			store, err := Open(background, path(t))
-			check(t, err)
+			store := diff.Value(Open(background, path(t)))(t)
 			return store
 		},
 		Empty: func(t *testing.T) {

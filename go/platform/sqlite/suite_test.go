@@ -18,8 +18,7 @@ func TestStore(t *testing.T) {
 	check(t, err)
 	t.Cleanup(func() { _ = os.RemoveAll(folder) })
 	storetest.Test(t, func(t *testing.T) platform.Store {
-		store, err := sqlite.Open(context.Background(), filepath.Join(folder, storetest.NameOf(t)))
-		check(t, err)
+		store := diff.Value(sqlite.Open(context.Background(), filepath.Join(folder, storetest.NameOf(t))))(t)
 		return store
 	})
 }
@@ -28,8 +27,7 @@ func TestStore(t *testing.T) {
 func TestPausedWorker(t *testing.T) {
 	folder := t.TempDir()
 	storetest.TestPausedWorker(t, func(t *testing.T) platform.Store {
-		store, err := sqlite.Open(context.Background(), filepath.Join(folder, storetest.NameOf(t)))
-		check(t, err)
+		store := diff.Value(sqlite.Open(context.Background(), filepath.Join(folder, storetest.NameOf(t))))(t)
 		return store
 	})
 }

@@ -73,8 +73,7 @@ func textOf(t *testing.T, broker platform.Broker) string {
 	broker.CatalogueAt, broker.Reason.At = milliseconds(broker.CatalogueAt), milliseconds(broker.Reason.At)
 	catalogue := string(broker.Catalogue)
 	broker.Catalogue = nil
-	text, err := json.Marshal(broker)
-	check(t, err)
+	text := diff.Value(json.Marshal(broker))(t)
 	return string(text) + catalogue
 }
 
@@ -91,14 +90,10 @@ func testBrokerWithOrders(t *testing.T, open opener) {
 		}
 	}
 	for _, name := range []string{"one", "two"} {
-		if err := store.DropBroker(background, name); !errors.Is(err, platform.ErrUsed) {
-			t.Errorf("%s: got %v, want ErrUsed", name, err)
-		}
+		diff.ErrorIs(t, store.DropBroker(background, name), platform.ErrUsed, "%s", name)
 	}
 	diff.NoError(t, store.DropBroker(background, "three"), "three")
-	if all, err := store.Brokers(background); err != nil || len(all) != 2 {
-		t.Errorf("Brokers: got %v, %v, want 2", all, err)
-	}
+	diff.Equal(t, len(diff.Value(store.Brokers(background))(t)), 2, "Brokers")
 }
 
 // An order isn't inserted without its broker, whether that was dropped or never was.
@@ -158,14 +153,12 @@ func insertBesideDrop(t *testing.T, first, second platform.Store, entry platform
 // wantNoOrphans fails if there is an order without its broker.
 func wantNoOrphans(t *testing.T, store platform.Store) {
 	t.Helper()
-	all, err := store.Brokers(background)
-	check(t, err)
+	all := diff.Value(store.Brokers(background))(t)
 	known := map[string]bool{}
 	for _, broker := range all {
 		known[broker.Name] = true
 	}
-	rows, err := store.List(background, platform.Filter{})
-	check(t, err)
+	rows := diff.Value(store.List(background, platform.Filter{}))(t)
 	for _, row := range rows {
 		if !known[row.Broker] {
 			t.Errorf("%v: got it without its broker %s, want it with one", row.Key, row.Broker)
@@ -231,8 +224,7 @@ func testBrokerCounter(t *testing.T, open opener) {
 		}(stores[n%2], n%3 == 0)
 	}
 	all.Wait()
-	got, err := stores[1].Brokers(background)
-	check(t, err)
+	got := diff.Value(stores[1].Brokers(background))(t)
 	if users, statuses := len(got[0].User), got[0].Reason.Status; users != 2*each || statuses != 4*each {
 		t.Errorf("got %d users and %d statuses, want %d and %d", users, statuses, 2*each, 4*each)
 	}

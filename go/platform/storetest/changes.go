@@ -65,13 +65,9 @@ func wantUntouched(t *testing.T, store platform.Store, want ...platform.Entry) {
 	t.Helper()
 	for _, entry := range want {
 		wantEntry(t, entry.Key.String(), read(t, store, entry.Key), entry)
-		if life, err := store.Life(background, entry.Key); err != nil || len(life) != 0 {
-			t.Errorf("the life of %v: got %v, %v, want none", entry.Key, life, err)
-		}
+		diff.Equal(t, len(diff.Value(store.Life(background, entry.Key))(t)), 0, "the life of %v", entry.Key)
 	}
-	if rows, err := store.List(background, platform.Filter{}); err != nil || len(rows) != len(want) {
-		t.Errorf("got %d rows, want %d: %v", len(rows), len(want), err)
-	}
+	diff.Equal(t, len(diff.Value(store.List(background, platform.Filter{}))(t)), len(want), "rows")
 }
 
 // A further order is written in the transaction, and if its key is used nothing is.
@@ -83,9 +79,7 @@ func testNext(t *testing.T, open opener) {
 			next := full(t, of)
 			change(t, first, key, func(it *platform.Change) { it.Entry.Unchanged, it.Next = 7, &next })
 			wantRead(t, second, next)
-			if got := read(t, second, key); got.Unchanged != 7 {
-				t.Errorf("%v: got %+v, want 7 in Unchanged", key, got)
-			}
+			diff.Equal(t, read(t, second, key).Unchanged, 7, "%v", key)
 		}
 	}
 	before := []platform.Entry{
@@ -121,9 +115,7 @@ func testCounter(t *testing.T, open opener) {
 			}(stores[n%2], key)
 		}
 		all.Wait()
-		if got := read(t, stores[0], key).Unchanged; got != goroutines*each {
-			t.Errorf("%v: got a count of %d, want %d", key, got, goroutines*each)
-		}
+		diff.Equal(t, read(t, stores[0], key).Unchanged, goroutines*each, "%v", key)
 	}
 }
 
@@ -285,9 +277,7 @@ func testAllGoneOfAClaim(t *testing.T, open opener) {
 func wantAllGone(t *testing.T, store platform.Store, want bool, what string) {
 	t.Helper()
 	err := store.Change(background, instance(1), func(_ time.Time, snapshot platform.Snapshot) (*platform.Change, error) {
-		if got, err := snapshot.AllGone(); err != nil || got != want {
-			t.Errorf("%s: got %t, %v, want %t", what, got, err, want)
-		}
+		diff.Equal(t, diff.Value(snapshot.AllGone())(t), want, "%s", what)
 		return nil, nil
 	})
 	diff.NoError(t, err, "%s", what)
@@ -374,9 +364,7 @@ func testLife(t *testing.T, open opener) {
 			diff.Check(t, got, want, "the life of %v", key)
 		}
 	}
-	if life, err := second.Life(background, instance(1)); err != nil || len(life) != 0 {
-		t.Errorf("the life of another row: got %v, %v, want none", life, err)
-	}
+	diff.Equal(t, len(diff.Value(second.Life(background, instance(1)))(t)), 0, "the life of another row")
 }
 
 // A step gets the time of the store, which goes on. What it writes is read to the millisecond.
@@ -569,10 +557,7 @@ func (d *dock) check(store platform.Store, n int) {
 	states := map[int]platform.State{}
 	for _, row := range rows {
 		states[row.Try] = row.State
-		if d.exists[row.Key] != (row.State == platform.Ready) {
-			d.t.Errorf("the binding %v in %s: got it to exist %t, want it exactly if it is ready", row.Key, row.State,
-				d.exists[row.Key])
-		}
+		diff.Equal(d.t, d.exists[row.Key], row.State == platform.Ready, "the binding %v in %s", row.Key, row.State)
 		if row.State == platform.Ready {
 			object, err := d.orders.Credentials(background, row.Key)
 			if err != nil || string(object) != `{"credentials": "`+row.Key.Binding.String()+`"}` {

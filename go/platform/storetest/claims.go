@@ -163,9 +163,7 @@ func wantAfterFailing(t *testing.T, store platform.Store, before []platform.Entr
 			want.Due = got.Due
 		}
 		wantEntry(t, entry.Key.String(), got, want)
-		if life, err := store.Life(background, entry.Key); err != nil || len(life) != stays {
-			t.Errorf("the life of %v: got %v, %v, want %d", entry.Key, life, err, stays)
-		}
+		diff.Equal(t, len(diff.Value(store.Life(background, entry.Key))(t)), stays, "the life of %v", entry.Key)
 	}
 }
 
@@ -193,9 +191,7 @@ func testPoisoned(t *testing.T, open opener) {
 		if isStepped {
 			return
 		}
-		if len(claimed) != most {
-			t.Errorf("got %v claimed, want %d", claimed, most)
-		}
+		diff.Equal(t, len(claimed), most, "claimed")
 	}
 	t.Error("the row whose step doesn't fail: got no claim, want one")
 }
@@ -268,8 +264,7 @@ func testClaimsAtOnce(t *testing.T, open opener) {
 	}
 	all.Wait()
 	// Two claims that have each locked a row of the other return nothing. So some rows may be left.
-	claimed, err := stores[0].Claim(background, brokers, 2*rows, leaseFor("the last"))
-	check(t, err)
+	claimed := diff.Value(stores[0].Claim(background, brokers, 2*rows, leaseFor("the last")))(t)
 	take(claimed)
 	diff.Equal(t, len(taken), 2*rows, "rows claimed")
 	for key, count := range taken {

@@ -203,12 +203,10 @@ func (f *faulty) rows() (texts []string) {
 	entries, err := f.beside.List(background, platform.Filter{})
 	check(f.t, err)
 	for _, entry := range entries {
-		life, err := f.beside.Life(background, entry.Key)
-		check(f.t, err)
+		life := diff.Value(f.beside.Life(background, entry.Key))(f.t)
 		texts = append(texts, f.text(entry)+describe(life))
 	}
-	all, err := f.beside.Brokers(background)
-	check(f.t, err)
+	all := diff.Value(f.beside.Brokers(background))(f.t)
 	for _, broker := range all {
 		texts = append(texts, textOf(f.t, broker))
 	}
@@ -216,8 +214,7 @@ func (f *faulty) rows() (texts []string) {
 	if f.of.isNew { // to read a fingerprint would write one
 		return texts
 	}
-	fingerprint, err := f.beside.Fingerprint(background, "of another one")
-	check(f.t, err)
+	fingerprint := diff.Value(f.beside.Fingerprint(background, "of another one"))(f.t)
 	return append(texts, fingerprint)
 }
 
@@ -287,9 +284,7 @@ func (by Faulty) unreadable(t *testing.T) {
 		t.Errorf("the change: got a call with %+v, want none", it)
 		return nil, nil
 	})
-	if err == nil {
-		t.Error("ChangeBroker: got nil, want an error")
-	}
+	diff.Error(t, err, "ChangeBroker")
 }
 
 // faultyCalls are the calls of a store.

@@ -210,8 +210,7 @@ func testPages(t *testing.T, open opener) {
 			if want > 0 && keys[want-1] == position.Key {
 				before--
 			}
-			rows, err = store.List(background, platform.Filter{After: &position, Latest: true})
-			check(t, err)
+			rows = diff.Value(store.List(background, platform.Filter{After: &position, Latest: true}))(t)
 			wantKeys(t, fmt.Sprintf("before %+v", position), rows, backwards(keys[:before])...)
 		})
 	}
@@ -274,12 +273,10 @@ func testListsWhileRowsMove(t *testing.T, open opener) {
 		}))
 		wantOnce(t, fmt.Sprintf("a walk, %+v", filter), seen, before, moved, len(filter.States) != 1)
 		moved = map[platform.Key]bool{}
-		before, err = other.List(background, platform.Filter{States: filter.States})
-		check(t, err)
+		before = diff.Value(other.List(background, platform.Filter{States: filter.States}))(t)
 		filter.Order, filter.Most, seen = platform.ByKey, 3, map[platform.Key]int{}
 		for rows := make([]platform.Entry, 3); len(rows) == 3; {
-			rows, err = store.List(background, filter)
-			check(t, err)
+			rows = diff.Value(store.List(background, filter))(t)
 			for _, row := range rows {
 				seen[row.Key]++
 				filter.After = &platform.Position{Key: row.Key}
@@ -430,8 +427,7 @@ func testReadAll(t *testing.T, open opener) {
 		want.Body, want.Credentials = nil, nil
 		wantEntry(t, row.Key.String(), row, want)
 	}
-	rows, err = store.ReadAll(background, nil)
-	check(t, err)
+	rows = diff.Value(store.ReadAll(background, nil))(t)
 	wantKeys(t, "none", rows)
 }
 
@@ -470,8 +466,7 @@ func wantCounts(t *testing.T, store platform.Store, rows []platform.Entry) {
 		count.Count++
 		want[key] = count
 	}
-	counts, err := store.Counts(background)
-	check(t, err)
+	counts := diff.Value(store.Counts(background))(t)
 	for _, count := range counts {
 		key := kind{count.Broker, count.IsBinding, count.State}
 		if count.Count != want[key].Count || count.Count > 0 && milliseconds(count.Oldest) != milliseconds(want[key].Oldest) {
@@ -479,9 +474,7 @@ func wantCounts(t *testing.T, store platform.Store, rows []platform.Entry) {
 		}
 		delete(want, key)
 	}
-	if len(want) != 0 {
-		t.Errorf("the counts: got none of %v, want them", want)
-	}
+	diff.Equal(t, len(want), 0, "the counts")
 }
 
 func testInFlight(t *testing.T, open opener) {
@@ -493,8 +486,7 @@ func testInFlight(t *testing.T, open opener) {
 		withLease(in(t, instance(4), platform.Polling), "one", future(4)))
 	want := []platform.Key{instance(3), binding(1, 1), binding(3, 1), instance(2), instance(4)}
 	for _, most := range []int{0, 1, 3, 5, 100} {
-		rows, err := store.InFlight(background, most)
-		check(t, err)
+		rows := diff.Value(store.InFlight(background, most))(t)
 		if most > 0 { // what 0 stands for isn't said
 			expected := want
 			if most < len(want) {
@@ -503,8 +495,7 @@ func testInFlight(t *testing.T, open opener) {
 			wantKeys(t, fmt.Sprint("in flight, at most ", most), rows, expected...)
 		}
 	}
-	rows, err := store.InFlight(background, 1)
-	check(t, err)
+	rows := diff.Value(store.InFlight(background, 1))(t)
 	wantEntry(t, "the first", rows[0], withLease(order(instance(3)), "two", past(2)))
 }
 
@@ -606,9 +597,7 @@ func testFree(t *testing.T, open opener) {
 		wantEntry(t, entry.Key.String(), read(t, other, entry.Key), entry)
 	}
 	check(t, store.Free(background, "nobody"))
-	if got := claim(t, other, brokers, 10, until); len(got) != 4 {
-		t.Errorf("got %v claimed, want 4", got)
-	}
+	diff.Equal(t, len(claim(t, other, brokers, 10, until)), 4, "claimed")
 }
 
 // One at a time is the worker of a name, among all stores of the database.
@@ -665,17 +654,13 @@ func TestUnreadable(t *testing.T, store platform.Store, spoil func(t *testing.T,
 			t.Errorf("%v: got a step, want none", key)
 			return nil, nil
 		})
-		if err == nil {
-			t.Errorf("%v: got no error, want one", key)
-		}
+		diff.Error(t, err, "%v", key)
 	}
 	err := store.Insert(background, order(binding(9, 2)), func(platform.Snapshot) error {
 		t.Error("an order of a binding: got a check against an instance that can't be read, want none")
 		return nil
 	})
-	if err == nil {
-		t.Error("a binding of an instance that can't be read: got no error, want one")
-	}
+	diff.Error(t, err, "a binding of an instance that can't be read")
 }
 
 // wantShown checks that all rows are read and listed, those that can't be read with the reason.
@@ -685,18 +670,14 @@ func wantShown(t *testing.T, store platform.Store, rows []platform.Entry, spoile
 	for _, row := range rows {
 		keys = append(keys, row.Key)
 	}
-	all, err := store.List(background, platform.Filter{})
-	check(t, err)
+	all := diff.Value(store.List(background, platform.Filter{}))(t)
 	wantKeys(t, "beside rows that can't be read", all, keys...)
 	inPages(t, store, platform.Filter{}, keys)
-	flying, err := store.InFlight(background, 10)
-	check(t, err)
+	flying := diff.Value(store.InFlight(background, 10))(t)
 	wantKeys(t, "in flight", flying, instance(3))
 	for n, want := range rows {
 		for _, got := range []platform.Entry{all[n], read(t, store, want.Key)} {
-			if (got.Unreadable != "") != spoiled[want.Key] {
-				t.Errorf("%v: got the reason %q why it can't be read, want one exactly if it is spoilt", want.Key, got.Unreadable)
-			}
+			diff.Equal(t, got.Unreadable != "", spoiled[want.Key], "%v", want.Key)
 			if spoiled[want.Key] { // all else is as it was written
 				want.Record, want.IsSent, want.Unreadable = got.Record, false, got.Unreadable
 			}

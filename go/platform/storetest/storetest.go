@@ -251,8 +251,7 @@ func answer(t *testing.T, key platform.Key, record osb.Record, status uint16) os
 			return record.AnswerBinding(attempt, answer, true)
 		}
 	}
-	next, err := take(record.Attempt(), answer)
-	check(t, err)
+	next := diff.Value(take(record.Attempt(), answer))(t)
 	return next
 }
 
@@ -374,22 +373,12 @@ func testEmpty(t *testing.T, open opener) {
 			return nil, nil
 		})
 		diff.ErrorIs(t, err, platform.ErrUnknown, "Change of %v", key)
-		if life, err := store.Life(background, key); err != nil || len(life) != 0 {
-			t.Errorf("the life of %v: got %v, %v, want none", key, life, err)
-		}
+		diff.Equal(t, len(diff.Value(store.Life(background, key))(t)), 0, "the life of %v", key)
 	}
-	if rows, err := store.List(background, platform.Filter{}); err != nil || len(rows) != 0 {
-		t.Errorf("List: got %v, %v, want none", rows, err)
-	}
-	if counts, err := store.Counts(background); err != nil || len(counts) != 0 {
-		t.Errorf("Counts: got %v, %v, want none", counts, err)
-	}
-	if rows, err := store.InFlight(background, 10); err != nil || len(rows) != 0 {
-		t.Errorf("InFlight: got %v, %v, want none", rows, err)
-	}
-	if all, err := store.Brokers(background); err != nil || len(all) != 0 {
-		t.Errorf("Brokers: got %v, %v, want none", all, err)
-	}
+	diff.Equal(t, len(diff.Value(store.List(background, platform.Filter{}))(t)), 0, "List")
+	diff.Equal(t, len(diff.Value(store.Counts(background))(t)), 0, "Counts")
+	diff.Equal(t, len(diff.Value(store.InFlight(background, 10))(t)), 0, "InFlight")
+	diff.Equal(t, len(diff.Value(store.Brokers(background))(t)), 0, "Brokers")
 	claimed, err := store.Claim(background, brokers, 10, func(time.Time, platform.Snapshot) (*platform.Change, error) {
 		t.Error("an empty store: got a step, want none")
 		return nil, nil
@@ -620,9 +609,7 @@ func testReady(t *testing.T, open opener) {
 	for n := 0; n < 2; n++ {
 		diff.NoError(t, store.Ready(background), "Ready")
 	}
-	if rows, err := store.List(background, platform.Filter{}); err != nil || len(rows) != 0 {
-		t.Errorf("List: got %v, %v, want none", rows, err)
-	}
+	diff.Equal(t, len(diff.Value(store.List(background, platform.Filter{}))(t)), 0, "List")
 }
 
 // Close waits for a Change that has begun, and no other begins afterwards.
@@ -653,9 +640,7 @@ func testClose(t *testing.T, open opener) {
 	err := store.Change(background, instance(2), func(time.Time, platform.Snapshot) (*platform.Change, error) {
 		return &platform.Change{Entry: written}, nil
 	})
-	if err == nil {
-		t.Error("a Change after Close: got no error, want one")
-	}
+	diff.Error(t, err, "a Change after Close")
 	if _, err := store.Read(background, instance(1)); err == nil {
 		t.Error("a Read after Close: got no error, want one")
 	}
@@ -670,9 +655,7 @@ func testFingerprint(t *testing.T, open opener) {
 		{first, "a print", "a print"}, {second, "another", "a print"},
 		{first, "another", "a print"}, {second, "a print", "a print"},
 	} {
-		if got, err := test.store.Fingerprint(background, test.given); err != nil || got != test.want {
-			t.Errorf("%q: got %q, %v, want %q", test.given, got, err, test.want)
-		}
+		diff.Equal(t, diff.Value(test.store.Fingerprint(background, test.given))(t), test.want, "%q", test.given)
 	}
 }
 
@@ -683,15 +666,11 @@ func testReplaceFingerprint(t *testing.T, open opener) {
 		diff.ErrorIs(t, first.ReplaceFingerprint(background, before, "another"), platform.ErrUnknown,
 			"%q before there was any", before)
 	}
-	if got, err := first.Fingerprint(background, "a print"); err != nil || got != "a print" {
-		t.Errorf("got %q, %v, want a print", got, err)
-	}
+	diff.Equal(t, diff.Value(first.Fingerprint(background, "a print"))(t), "a print", "the fingerprint")
 	check(t, second.ReplaceFingerprint(background, "a print", "another"))
 	diff.ErrorIs(t, first.ReplaceFingerprint(background, "a print", "a third"), platform.ErrUnknown,
 		"a fingerprint that isn't written")
-	if got, err := first.Fingerprint(background, "a print"); err != nil || got != "another" {
-		t.Errorf("got %q, %v, want another", got, err)
-	}
+	diff.Equal(t, diff.Value(first.Fingerprint(background, "a print"))(t), "another", "the fingerprint")
 }
 
 // Whether there are workers is known to every process.

@@ -220,8 +220,7 @@ func (y *yard) leave(out platform.Outgoing) {
 // check checks that what is recorded is true.
 func (y *yard) check(store platform.Store) {
 	y.t.Helper()
-	rows, err := store.List(background, platform.Filter{})
-	check(y.t, err)
+	rows := diff.Value(store.List(background, platform.Filter{}))(y.t)
 	ready, isRemoved := 0, false
 	for _, row := range rows {
 		isRemoved = isRemoved || row.Removal != platform.NotRemoved
@@ -243,8 +242,7 @@ func (y *yard) check(store platform.Store) {
 // readyIn is the try of the order that is ready: the first one, unless the machine was too slow for it.
 func readyIn(t *testing.T, store platform.Store) platform.Key {
 	t.Helper()
-	rows, err := store.List(background, platform.Filter{States: []platform.State{platform.Ready}})
-	check(t, err)
+	rows := diff.Value(store.List(background, platform.Filter{States: []platform.State{platform.Ready}}))(t)
 	if len(rows) != 1 {
 		t.Fatalf("got %d rows that are ready, want 1", len(rows))
 	}

@@ -50,8 +50,7 @@ func newRig(t *testing.T, by *Vault, bindings int) *rig {
 	r.insert(t, platform.InstanceKey(instance), nil)
 	for number := 1; number <= bindings; number++ {
 		key := bindingKey(number)
-		sealed, err := by.Seal([]byte(secretOf(key)), key.String())
-		check(t, err)
+		sealed := diff.Value(by.Seal([]byte(secretOf(key)), key.String()))(t)
 		r.insert(t, key, sealed)
 	}
 	return r
@@ -85,8 +84,7 @@ func (r *rig) opens(t *testing.T, v *Vault) (opened int) {
 	t.Helper()
 	for number := 1; number <= r.bindings; number++ {
 		key := bindingKey(number)
-		e, err := r.Read(background, key)
-		check(t, err)
+		e := diff.Value(r.Read(background, key))(t)
 		if plain, err := v.Open(e.Credentials, key.String()); err == nil && string(plain) == secretOf(key) {
 			opened++
 		}
@@ -104,8 +102,7 @@ func (r *rig) opens(t *testing.T, v *Vault) (opened int) {
 
 func (r *rig) fingerprint(t *testing.T) string {
 	t.Helper()
-	written, err := r.Fingerprint(background, "never written")
-	check(t, err)
+	written := diff.Value(r.Fingerprint(background, "never written"))(t)
 	return written
 }
 
@@ -144,9 +141,7 @@ func (d dropping) Brokers(ctx context.Context) ([]platform.Broker, error) {
 // A broker that is dropped meanwhile keeps neither a rotation nor a renewal from its end.
 func TestBrokerThatIsDropped(t *testing.T) {
 	r := newRig(t, newVault(t, one), 1)
-	if done, err := newVault(t, other, one).Rotate(background, dropping{r}); err != nil || done != (Rotation{1, 1}) {
-		t.Errorf("Rotate: got %+v, %v, want one of each", done, err)
-	}
+	diff.Equal(t, diff.Value(newVault(t, other, one).Rotate(background, dropping{r}))(t), Rotation{1, 1}, "Rotate")
 	store, _ := storeOf03(t)
 	if _, err := newVault(t, one).Renew(background, dropping{store}); err != nil || writtenIn(t, store) != now {
 		t.Errorf("Renew: got %v and the fingerprint %q, want %q", err, writtenIn(t, store), now)
@@ -305,9 +300,7 @@ func TestRotateInTheMiddle(t *testing.T) {
 	if done, err := both.Rotate(background, r); err != nil || done.Credentials != 30 || r.opens(t, after) != 51 {
 		t.Errorf("got %+v, %v, want 30 credentials, and 51 secrets that the new key opens", done, err)
 	}
-	if written := r.fingerprint(t); written != after.Fingerprint() {
-		t.Errorf("got the fingerprint %s, want that of the new key", written)
-	}
+	diff.Equal(t, r.fingerprint(t), after.Fingerprint(), "the fingerprint")
 }
 
 // From the middle of a rotation, one to a third key can begin.
@@ -315,9 +308,7 @@ func TestRotateFurther(t *testing.T) {
 	r := newRig(t, newVault(t, one), 9)
 	_, err := newVault(t, other, one).Rotate(background, failing{r, nil})
 	diff.ErrorIs(t, err, errFailing, "the rotation")
-	if done, err := newVault(t, third, other, one).Rotate(background, r); err != nil || done != (Rotation{9, 1}) {
-		t.Errorf("got %+v, %v, want %+v", done, err, Rotation{9, 1})
-	}
+	diff.Equal(t, diff.Value(newVault(t, third, other, one).Rotate(background, r))(t), Rotation{9, 1}, "")
 	if last := newVault(t, third); r.opens(t, last) != 10 || r.fingerprint(t) != last.Fingerprint() {
 		t.Errorf("got %d secrets that the last key opens and the fingerprint %s, want 10 and its own",
 			r.opens(t, last), r.fingerprint(t))
@@ -380,8 +371,7 @@ func TestRotateUnopened(t *testing.T) {
 	before, both, after := newVault(t, one), newVault(t, other, one), newVault(t, other)
 	r := newRig(t, before, 4)
 	lost := bindingKey(2)
-	foreign, err := newVault(t, third).Seal([]byte(secretOf(lost)), lost.String())
-	check(t, err)
+	foreign := diff.Value(newVault(t, third).Seal([]byte(secretOf(lost)), lost.String()))(t)
 	check(t, r.Change(background, lost, func(_ time.Time, snapshot platform.Snapshot) (*platform.Change, error) {
 		snapshot.Entry.Credentials = foreign
 		return &platform.Change{Entry: snapshot.Entry}, nil
@@ -394,9 +384,7 @@ func TestRotateUnopened(t *testing.T) {
 	if written := r.fingerprint(t); after.Fits(written) == nil || both.Fits(written) != nil || r.opens(t, after) != 4 {
 		t.Errorf("got the fingerprint %s, want one that fits both keys but not the new one, which opens 4 secrets", written)
 	}
-	if done, err := newVault(t, other, third, one).Rotate(background, r); err != nil || done != (Rotation{1, 0}) {
-		t.Errorf("got %+v, %v, want %+v", done, err, Rotation{1, 0})
-	}
+	diff.Equal(t, diff.Value(newVault(t, other, third, one).Rotate(background, r))(t), Rotation{1, 0}, "")
 	if r.opens(t, after) != 5 || r.fingerprint(t) != after.Fingerprint() {
 		t.Errorf("got %d secrets that the new key opens and the fingerprint %s, want 5 and its own",
 			r.opens(t, after), r.fingerprint(t))
@@ -405,27 +393,20 @@ func TestRotateUnopened(t *testing.T) {
 
 // A store that was never used with a key gets the new one.
 func TestRotateUnused(t *testing.T) {
-	store, err := sqlite.Open(background, filepath.Join(t.TempDir(), "store"))
-	check(t, err)
+	store := diff.Value(sqlite.Open(background, filepath.Join(t.TempDir(), "store")))(t)
 	defer store.Close()
-	if done, err := newVault(t, other, one).Rotate(background, store); err != nil || done != (Rotation{}) {
-		t.Errorf("got %+v, %v, want nothing", done, err)
-	}
+	diff.Equal(t, diff.Value(newVault(t, other, one).Rotate(background, store))(t), Rotation{}, "")
 	want := newVault(t, other).Fingerprint()
-	if written, err := store.Fingerprint(background, "x"); err != nil || written != want {
-		t.Errorf("got %s, %v, want %s", written, err, want)
-	}
+	diff.Equal(t, diff.Value(store.Fingerprint(background, "x"))(t), want, "")
 }
 
 // storeOf03 is a store that version 0.3 has written, and its path.
 func storeOf03(t *testing.T) (platform.Store, string) {
 	t.Helper()
-	dump, err := os.ReadFile("testdata/store-0.3.sql")
-	check(t, err)
+	dump := diff.Value(os.ReadFile("testdata/store-0.3.sql"))(t)
 	path := filepath.Join(t.TempDir(), "store")
 	execute(t, path, string(dump))
-	store, err := sqlite.Open(background, path)
-	check(t, err)
+	store := diff.Value(sqlite.Open(background, path))(t)
 	t.Cleanup(func() { check(t, store.Close()) })
 	return store, path
 }
@@ -455,8 +436,7 @@ func passwords(t *testing.T, store platform.Store, v *Vault) map[string]string {
 
 func writtenIn(t *testing.T, store platform.Store) string {
 	t.Helper()
-	found, err := store.Fingerprint(background, "never written")
-	check(t, err)
+	found := diff.Value(store.Fingerprint(background, "never written"))(t)
 	return found
 }
 
@@ -503,10 +483,8 @@ func TestRenewOnce(t *testing.T) {
 			b.Password, b.URL = brokers[2].Password, url
 			return &b, nil
 		}))
-		done, err := v.Renew(background, store)
-		if err != nil || len(done.Brokers) != 0 {
-			t.Errorf("%s: got %+v, %v, want nothing encrypted again", url, done, err)
-		}
+		done := diff.Value(v.Renew(background, store))(t)
+		diff.Equal(t, len(done.Brokers), 0, "%s", url)
 		if got := passwords(t, store, v); got["shop"] != "" || got["other"] != "other" {
 			t.Errorf("%s: the passwords: got %v, want that of other alone", url, got)
 		}
@@ -538,16 +516,12 @@ func TestRenewWrittenBack(t *testing.T) {
 	if !errors.Is(err, ErrWrittenBack) || len(done.Brokers) != 0 || writtenIn(t, store) != former {
 		t.Errorf("got %+v, %v, want %v", done, err, ErrWrittenBack)
 	}
-	if got := passwords(t, store, v); got["shop"] != "" {
-		t.Errorf("the passwords: got %v, want none of shop", got)
-	}
+	diff.Equal(t, passwords(t, store, v)["shop"], "", "the passwords")
 	execute(t, path, "UPDATE osb_store SET fingerprint = NULL")
 	if _, err := v.Renew(background, store); err != nil || writtenIn(t, store) != now {
 		t.Errorf("without a fingerprint: got %v and %q, want no error and %q", err, writtenIn(t, store), now)
 	}
-	if got := passwords(t, store, v); got["shop"] != "" {
-		t.Errorf("without a fingerprint: got the passwords %v, want none of shop", got)
-	}
+	diff.Equal(t, passwords(t, store, v)["shop"], "", "without a fingerprint")
 }
 
 // A password that doesn't open stays as it is, and the others are sealed again. A URL that was changed before is the
@@ -579,9 +553,7 @@ func TestRenewRejected(t *testing.T) {
 		t.Errorf("with a worker: got %v and %q, want %v and %q", err, writtenIn(t, store), ErrWorkers, former)
 	}
 	end()
-	if got := passwords(t, store, v); len(got) != 0 {
-		t.Errorf("got %v encrypted again, want none", got)
-	}
+	diff.Equal(t, len(passwords(t, store, v)), 0, "encrypted again")
 }
 
 // A breaking is a store whose calls of one kind fail after so many.
@@ -715,10 +687,6 @@ func TestRenewDuringRotation(t *testing.T) {
 	if _, err := both.Renew(background, store); err != nil || !errors.Is(newVault(t, one).Fits(writtenIn(t, store)), ErrRotating) {
 		t.Errorf("got %v and the fingerprints %q, want both of them", err, writtenIn(t, store))
 	}
-	if done, err := both.Rotate(background, store); err != nil || done.Passwords != 2 {
-		t.Errorf("got %+v, %v, want 2 passwords", done, err)
-	}
-	if got := passwords(t, store, newVault(t, other)); len(got) != 2 {
-		t.Errorf("the new key: got %v, want 2", got)
-	}
+	diff.Equal(t, diff.Value(both.Rotate(background, store))(t).Passwords, 2, "the passwords")
+	diff.Equal(t, len(passwords(t, store, newVault(t, other))), 2, "the new key")
 }

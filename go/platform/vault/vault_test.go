@@ -21,15 +21,13 @@ const here, there = "an instance/a binding", "an instance/another"
 
 func newVault(t *testing.T, keys ...[]byte) *Vault {
 	t.Helper()
-	v, err := New(keys...)
-	check(t, err)
+	v := diff.Value(New(keys...))(t)
 	return v
 }
 
 func sealedBy(t *testing.T, v *Vault, plain string) []byte {
 	t.Helper()
-	sealed, err := v.Seal([]byte(plain), here)
-	check(t, err)
+	sealed := diff.Value(v.Seal([]byte(plain), here))(t)
 	return sealed
 }
 
@@ -38,10 +36,8 @@ func TestSealed(t *testing.T) {
 	v := newVault(t, one)
 	for _, plain := range []string{"", "x", `{"credentials":{"password":"hunter2"}}`, strings.Repeat("long", 1<<18)} {
 		sealed := sealedBy(t, v, plain)
-		opened, err := v.Open(sealed, here)
-		if err != nil || string(opened) != plain {
-			t.Errorf("%.20q: got %.20q, %v, want the same", plain, opened, err)
-		}
+		opened := diff.Value(v.Open(sealed, here))(t)
+		diff.Equal(t, string(opened), plain, "%.20q", plain)
 		if len(sealed) != leastSize+len(plain) || len(plain) > 9 && bytes.Contains(sealed, []byte(plain[:9])) {
 			t.Errorf("%.20q: got %d bytes, want them encrypted", plain, len(sealed))
 		}
@@ -122,9 +118,7 @@ func TestUnchanged(t *testing.T) {
 	check(t, err)
 	before := append([]byte(nil), sealed...)
 	for range [2]int{} {
-		if opened, err := v.Open(sealed, here); err != nil || string(opened) != "a secret" {
-			t.Errorf("got %q, %v, want a secret", opened, err)
-		}
+		diff.Equal(t, string(diff.Value(v.Open(sealed, here))(t)), "a secret", "")
 	}
 	if !bytes.Equal(before, sealed) || string(plain) != "a secret" {
 		t.Errorf("got %[2]x, want %[1]x", before, sealed)
@@ -148,19 +142,13 @@ func TestKeys(t *testing.T) {
 func TestRotated(t *testing.T) {
 	before, during, after := newVault(t, one), newVault(t, other, one), newVault(t, other)
 	old := sealedBy(t, before, "a secret")
-	if plain, err := during.Open(old, here); err != nil || string(plain) != "a secret" {
-		t.Errorf("got %q, %v, want a secret", plain, err)
-	}
-	if plain, err := after.Open(sealedBy(t, during, "a secret"), here); err != nil || string(plain) != "a secret" {
-		t.Errorf("got %q, %v, want a secret", plain, err)
-	}
+	diff.Equal(t, string(diff.Value(during.Open(old, here))(t)), "a secret", "")
+	diff.Equal(t, string(diff.Value(after.Open(sealedBy(t, during, "a secret"), here))(t)), "a secret", "")
 	again, isChanged, err := during.Rekey(old, here)
 	if err != nil || !isChanged {
 		t.Fatalf("got a change: %t, and the error %v, want a change", isChanged, err)
 	}
-	if plain, err := after.Open(again, here); err != nil || string(plain) != "a secret" {
-		t.Errorf("got %q, %v, want a secret", plain, err)
-	}
+	diff.Equal(t, string(diff.Value(after.Open(again, here))(t)), "a secret", "")
 	same, isChanged, err := during.Rekey(again, here)
 	if err != nil || isChanged || !bytes.Equal(same, again) {
 		t.Errorf("got %x, changed: %v, %v, want no change", same, isChanged, err)
@@ -202,12 +190,9 @@ const (
 
 // The layout and the derivation stay, so that what was sealed before can be opened.
 func TestStaysReadable(t *testing.T) {
-	sealed, err := hex.DecodeString(written)
-	check(t, err)
+	sealed := diff.Value(hex.DecodeString(written))(t)
 	v := newVault(t, one)
-	if plain, err := v.Open(sealed, here); err != nil || string(plain) != "a secret" {
-		t.Errorf("got %q, %v, want a secret", plain, err)
-	}
+	diff.Equal(t, string(diff.Value(v.Open(sealed, here))(t)), "a secret", "")
 	diff.Equal(t, v.Fingerprint(), now, "the fingerprint")
 }
 
@@ -243,12 +228,8 @@ func TestFromFiles(t *testing.T) {
 		t.Fatalf("got the warnings %q and the error %v, want one warning", warnings, err)
 	}
 	sealed := sealedBy(t, newVault(t, one), "a secret")
-	if plain, err := v.Open(sealed, here); err != nil || string(plain) != "a secret" {
-		t.Errorf("got %q, %v, want a secret", plain, err)
-	}
-	if v.Fingerprint() != newVault(t, other).Fingerprint() {
-		t.Error("got another key that encrypts, want the first file's")
-	}
+	diff.Equal(t, string(diff.Value(v.Open(sealed, here))(t)), "a secret", "")
+	diff.Equal(t, v.Fingerprint(), newVault(t, other).Fingerprint(), "the fingerprint")
 	for what, files := range map[string][]string{
 		"none": {}, "no name": {""}, "no file": {"nowhere"}, "short": {write("short", 0o600)},
 		"empty":     {write("", 0o600)},
