@@ -84,7 +84,7 @@ func passwordOf(file string, warnings io.Writer) (string, error) {
 }
 
 // list reads the list of faults. It is nil if there is no file, and isn't if the file has no fault.
-func (s *stormSettings) list() ([]fault.Entry, error) {
+func (s *stormSettings) list() ([]fault.Injection, error) {
 	if s.faultsFile == "" {
 		return nil, nil
 	}
@@ -97,7 +97,7 @@ func (s *stormSettings) list() ([]fault.Entry, error) {
 	if err != nil {
 		return nil, fmt.Errorf("%s: %w", s.faultsFile, err)
 	}
-	return append([]fault.Entry{}, list...), nil
+	return append([]fault.Injection{}, list...), nil
 }
 
 // A storm is one that was opened, of any kind.

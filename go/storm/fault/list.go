@@ -13,21 +13,21 @@ import (
 	"sync"
 )
 
-// An Entry is a fault of a list: which kind befalls which request.
-type Entry struct {
+// An Injection is a fault of a list: which kind befalls which request.
+type Injection struct {
 	Number Number
 	Kind   Kind
 }
 
 // String returns the fault as a line of a list.
-func (n Entry) String() string { return fmt.Sprintf("%s %s", n.Number, n.Kind) }
+func (i Injection) String() string { return fmt.Sprintf("%s %s", i.Number, i.Kind) }
 
 // ReadList reads a list of faults: a line for each, with a number and a kind. Empty lines and lines that begin with #
 // are left out.
 //
 // Errors: a line isn't a fault; a number stands twice.
-func ReadList(from io.Reader) ([]Entry, error) {
-	var list []Entry
+func ReadList(from io.Reader) ([]Injection, error) {
+	var list []Injection
 	known, lines := map[Number]bool{}, bufio.NewScanner(from)
 	for at := 1; lines.Scan(); at++ {
 		words := strings.Fields(lines.Text())
@@ -48,23 +48,23 @@ func ReadList(from io.Reader) ([]Entry, error) {
 			return nil, fmt.Errorf("line %d: the request %s has a fault already", at, number)
 		default:
 			known[number] = true
-			list = append(list, Entry{number, kind})
+			list = append(list, Injection{number, kind})
 		}
 	}
 	return list, lines.Err()
 }
 
 // WriteList writes a list that ReadList reads.
-func WriteList(to io.Writer, list []Entry) error {
-	for _, entry := range list {
-		if _, err := fmt.Fprintln(to, entry); err != nil {
+func WriteList(to io.Writer, list []Injection) error {
+	for _, injection := range list {
+		if _, err := fmt.Fprintln(to, injection); err != nil {
 			return err
 		}
 	}
 	return nil
 }
 
-func sortList(list []Entry) {
+func sortList(list []Injection) {
 	sort.Slice(list, func(one, other int) bool { return list[one].Number.less(list[other].Number) })
 }
 
@@ -231,7 +231,7 @@ type Source struct {
 
 	mutex sync.Mutex
 	seen  map[Subject]int
-	given []Entry
+	given []Injection
 	ended bool
 }
 
@@ -241,10 +241,10 @@ func BySeed(seed int64, share float64, weights Weights) *Source {
 }
 
 // ByList returns a Source that has the faults of a list. The seed decides what else is to be chosen about them.
-func ByList(seed int64, list []Entry) *Source {
+func ByList(seed int64, list []Injection) *Source {
 	s := &Source{seed: seed, list: map[Number]Kind{}, seen: map[Subject]int{}}
-	for _, entry := range list {
-		s.list[entry.Number] = entry.Kind
+	for _, injection := range list {
+		s.list[injection.Number] = injection.Kind
 	}
 	return s
 }
@@ -266,7 +266,7 @@ func (s *Source) Next(subject Subject) Fault {
 		fault.Kind = s.weights.choose(at)
 	}
 	if fault.Kind != None {
-		s.given = append(s.given, Entry{fault.Number, fault.Kind})
+		s.given = append(s.given, Injection{fault.Number, fault.Kind})
 	}
 	return fault
 }
@@ -279,25 +279,25 @@ func (s *Source) End() {
 }
 
 // Faults returns the faults that have befallen requests, in the order of their numbers.
-func (s *Source) Faults() []Entry {
+func (s *Source) Faults() []Injection {
 	s.mutex.Lock()
 	defer s.mutex.Unlock()
-	given := append([]Entry(nil), s.given...)
+	given := append([]Injection(nil), s.given...)
 	sortList(given)
 	return given
 }
 
 // Unmet returns the faults of the list that have befallen no request, in the order of their numbers.
-func (s *Source) Unmet() (unmet []Entry) {
+func (s *Source) Unmet() (unmet []Injection) {
 	s.mutex.Lock()
 	defer s.mutex.Unlock()
 	isMet := map[Number]bool{}
-	for _, entry := range s.given {
-		isMet[entry.Number] = true
+	for _, injection := range s.given {
+		isMet[injection.Number] = true
 	}
 	for number, kind := range s.list {
 		if !isMet[number] {
-			unmet = append(unmet, Entry{number, kind})
+			unmet = append(unmet, Injection{number, kind})
 		}
 	}
 	sortList(unmet)
@@ -306,7 +306,7 @@ func (s *Source) Unmet() (unmet []Entry) {
 
 // WantsFaults reports whether a run should have faults: those of a list, or of this share of all requests if the list
 // is nil.
-func WantsFaults(share float64, list []Entry) bool {
+func WantsFaults(share float64, list []Injection) bool {
 	return list == nil && share > 0 || len(list) > 0
 }
 

@@ -12,7 +12,7 @@ import (
 )
 
 func TestList(t *testing.T) {
-	list := []Entry{{Number{Subject{12, 0}, 3}, AnswerLost}, {Number{Subject{12, 2}, 1}, HangUp}}
+	list := []Injection{{Number{Subject{12, 0}, 3}, AnswerLost}, {Number{Subject{12, 2}, 1}, HangUp}}
 	var text bytes.Buffer
 	if err := WriteList(&text, list); err != nil || text.String() != "12.3 answer-lost\n12/2.1 hang-up\n" {
 		t.Fatalf("got the error %v and the list %q, want two lines", err, text.String())
@@ -83,7 +83,7 @@ func TestByList(t *testing.T) {
 		again.Next(Subject{Instance: 4})
 	}
 	diff.Check(t, again.Faults(), first.Faults(), "the faults again")
-	ended := ByList(7, []Entry{{Number{Subject{1, 0}, 2}, HangUp}})
+	ended := ByList(7, []Injection{{Number{Subject{1, 0}, 2}, HangUp}})
 	ended.Next(Subject{Instance: 1})
 	ended.End()
 	if fault := ended.Next(Subject{Instance: 1}); fault.Kind != None || len(ended.Faults()) != 0 {

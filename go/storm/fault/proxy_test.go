@@ -70,7 +70,7 @@ func between(t *testing.T, broker *countingBroker, kind Kind, change func(*Confi
 	t.Cleanup(server.Close)
 	at := diff.Value(url.Parse(server.URL))(t)
 	config := Config{
-		Broker: at, Journal: NewJournal(), Source: ByList(1, []Entry{{Number{Subject{1, 0}, 1}, kind}}),
+		Broker: at, Journal: NewJournal(), Source: ByList(1, []Injection{{Number{Subject{1, 0}, 1}, kind}}),
 		RequestTime: requestTime, Late: late, AnswerTime: 5 * time.Second, Catalogue: []byte(`{"services": []}`),
 		Subject: func(instance, _ string) (Subject, bool) { return Subject{1, 0}, instance == "ours" },
 	}
@@ -210,7 +210,7 @@ func startLong(t *testing.T, broker *countingBroker, kind Kind) (p *Proxy, share
 		share = ByList(seed+1, nil).Next(Subject{Instance: 1}).Share
 	}
 	return between(t, broker, kind, func(c *Config) {
-		c.Source = ByList(seed, []Entry{{Number{Subject{1, 0}, 1}, kind}})
+		c.Source = ByList(seed, []Injection{{Number{Subject{1, 0}, 1}, kind}})
 	}), share
 }
 

@@ -253,17 +253,17 @@ func WriteKinds(w io.Writer, all []KindCount) {
 }
 
 // ListLines returns the lines of a list of faults.
-func ListLines(list []fault.Entry) []string {
+func ListLines(list []fault.Injection) []string {
 	all := make([]string, 0, len(list))
-	for _, entry := range list {
-		all = append(all, entry.String())
+	for _, injection := range list {
+		all = append(all, injection.String())
 	}
 	return all
 }
 
 // Omissions returns what a run with some faults hasn't tried, for people: nothing if a fault befell a request, or none
 // was wanted. more says how a run gets more requests.
-func Omissions(given []fault.Entry, share float64, list []fault.Entry, more string) []string {
+func Omissions(given []fault.Injection, share float64, list []fault.Injection, more string) []string {
 	switch {
 	case len(given) > 0 || !fault.WantsFaults(share, list):
 		return []string{}

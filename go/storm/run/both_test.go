@@ -161,7 +161,7 @@ func TestBothRejected(t *testing.T) {
 		"brokers":   func(c *BothConfig) { c.Brokers = 0 },
 		"share":     func(c *BothConfig) { c.Share = -0.1 },
 		"time":      func(c *BothConfig) { c.Late = 0 },
-		"restart":   func(c *BothConfig) { c.List = []fault.Entry{{Kind: fault.RestartAfter}} },
+		"restart":   func(c *BothConfig) { c.List = []fault.Injection{{Kind: fault.RestartAfter}} },
 		"broker":    func(c *BothConfig) { c.Broker += "-none" },
 		"no part":   func(c *BothConfig) { c.Without = "everything" },
 		"databases": func(c *BothConfig) { c.Without, c.Backend, c.KillDatabase = "work", InPostgreSQL, 1 },

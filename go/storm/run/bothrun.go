@@ -50,7 +50,7 @@ func (b *BothStorm) once(ctx context.Context) (*Result, error) {
 func (b *BothStorm) again(ctx context.Context, of Candidate) (*Result, error) {
 	config := b.config
 	config.Calm, config.CrashPoints, config.Unruly, config.password = true, "", false, b.password
-	config.List, config.only = append([]fault.Entry{}, of.List...), of.Only
+	config.List, config.only = append([]fault.Injection{}, of.List...), of.Only
 	trial, err := NewBoth(ctx, config)
 	if err != nil {
 		return nil, err
@@ -439,8 +439,8 @@ func (b *BothStorm) unmetFaults() (all []string) {
 		return nil
 	}
 	met := map[fault.Kind]bool{}
-	for _, entry := range b.source.Faults() {
-		met[entry.Kind] = true
+	for _, injection := range b.source.Faults() {
+		met[injection.Kind] = true
 	}
 	for _, weight := range fault.StandardWeights(false) {
 		if !met[weight.Kind] {

@@ -547,7 +547,7 @@ func (s *BrokerStorm) trialByPlatform(ctx context.Context) (keys []Key, remove f
 	if err != nil {
 		return nil, nil, err.Error()
 	}
-	r, err := s.startRun(ctx, ctx, folder, fault.ByList(s.config.Seed, []fault.Entry{}))
+	r, err := s.startRun(ctx, ctx, folder, fault.ByList(s.config.Seed, []fault.Injection{}))
 	if err != nil {
 		_ = os.RemoveAll(folder)
 		return nil, nil, err.Error()

@@ -335,7 +335,7 @@ func TestConfigRejected(t *testing.T) {
 		"start":             func(c *BrokerConfig) { c.Commands.Start = "x" },
 		"both":              func(c *BrokerConfig) { c.Commands = Commands{Restart: "x", Kill: "x", Start: "x"} },
 		"list of bindings":  func(c *BrokerConfig) { c.Commands.ListBindings = "x" },
-		"restart":           func(c *BrokerConfig) { c.List = []fault.Entry{{Kind: fault.RestartAfter}} },
+		"restart":           func(c *BrokerConfig) { c.List = []fault.Injection{{Kind: fault.RestartAfter}} },
 		"URL with password": func(c *BrokerConfig) { c.Broker.URL = "http://u:p@127.0.0.1" },
 	} {
 		t.Run(name, func(t *testing.T) {

@@ -24,8 +24,8 @@ import (
 // A Config says which faults a storm of any kind has, and within which limits it goes on.
 type Config struct {
 	Seed  int64
-	Share float64       // how many of all requests have a fault, from 0 to 1
-	List  []fault.Entry // the faults of the run, in place of those by the seed; or nil
+	Share float64           // how many of all requests have a fault, from 0 to 1
+	List  []fault.Injection // the faults of the run, in place of those by the seed; or nil
 	// RequestTime is how long the platform waits for an answer, and Late is the bound of every delay.
 	RequestTime, Late time.Duration
 	Time, SettleTime  time.Duration // with faults, and then without
@@ -72,8 +72,8 @@ func (c Config) Check(own Demands) error {
 			return errors.New("every limit must be above 0")
 		}
 	}
-	for _, numbered := range c.List {
-		if numbered.Kind.IsRestart() && !c.Commands.restarts() {
+	for _, injection := range c.List {
+		if injection.Kind.IsRestart() && !c.Commands.restarts() {
 			return errors.New("the list of faults has a restart: " + own.NoRestart)
 		}
 	}
@@ -105,8 +105,8 @@ type Result struct {
 	Events      []Event
 	Differences report.Differences
 	Broken      []Violation
-	Given       []fault.Entry
-	Unmet       []fault.Entry // of the list that was given
+	Given       []fault.Injection
+	Unmet       []fault.Injection // of the list that was given
 	Restarts    int
 	Ended       string // why the run was ended before, or empty
 	Converged   bool

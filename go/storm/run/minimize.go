@@ -20,13 +20,13 @@ type Minimum struct {
 	// MinimizeEnded is why --minimize was ended before the list was the shortest, or empty.
 	MinimizeEnded string `json:"minimize_ended,omitempty"`
 
-	minimal      []fault.Entry
+	minimal      []fault.Injection
 	minimalKills []report.Line // what happened to the programs in the run that MinimalLost is about
 }
 
 // A Candidate is a list of faults that may lose something.
 type Candidate struct {
-	List []fault.Entry
+	List []fault.Injection
 	Only map[int]bool // the numbers of the instances that the faults are about, or nil for all
 }
 
@@ -56,7 +56,7 @@ func (r *Report) shrink(
 	words := r.words()
 	for _, of := range candidates {
 		only := of.Only
-		loses := func(ctx context.Context, list []fault.Entry) bool {
+		loses := func(ctx context.Context, list []fault.Injection) bool {
 			return r.loses(ctx, func() (*Result, error) { return once(ctx, Candidate{list, only}) })
 		}
 		switch {
@@ -66,13 +66,13 @@ func (r *Report) shrink(
 				return
 			}
 			continue
-		case loses(ctx, []fault.Entry{}):
+		case loses(ctx, []fault.Injection{}):
 			r.Minimal = []string{}
 			r.Notes = append(r.Notes, fmt.Sprintf("--minimize: something is %s without any fault, too", words.lost))
 			return
 		}
 		var isShortest bool
-		r.minimal, isShortest = fault.Minimize(ctx, of.List, func(ctx context.Context, list []fault.Entry) bool {
+		r.minimal, isShortest = fault.Minimize(ctx, of.List, func(ctx context.Context, list []fault.Injection) bool {
 			return len(list) > 0 && loses(ctx, list)
 		})
 		if r.Minimal = report.ListLines(r.minimal); !isShortest {
@@ -141,7 +141,7 @@ func (s *Minimum) writeMinimal(w io.Writer, lost string) {
 }
 
 // replayList returns the list of faults that a further run is to have: the one that was shrunk, or else the given one.
-func (s *Minimum) replayList(given []fault.Entry) []fault.Entry {
+func (s *Minimum) replayList(given []fault.Injection) []fault.Injection {
 	if s.Minimal != nil {
 		return s.minimal
 	}
@@ -171,9 +171,9 @@ func candidates(found *Result) (all []Candidate) {
 	}
 	all = append(all, part(found.Given, lost))
 	if found.Restarts > 0 {
-		for _, numbered := range found.Given {
-			number := numbered.Number.Instance
-			restarted[number] = lost[number] || numbered.Kind.IsRestart() || restarted[number]
+		for _, injection := range found.Given {
+			number := injection.Number.Instance
+			restarted[number] = lost[number] || injection.Kind.IsRestart() || restarted[number]
 		}
 		all = append(all, part(found.Given, restarted))
 	}
@@ -183,11 +183,11 @@ func candidates(found *Result) (all []Candidate) {
 	return all
 }
 
-func part(given []fault.Entry, only map[int]bool) Candidate {
+func part(given []fault.Injection, only map[int]bool) Candidate {
 	of := Candidate{Only: only}
-	for _, entry := range given {
-		if only[entry.Number.Instance] {
-			of.List = append(of.List, entry)
+	for _, injection := range given {
+		if only[injection.Number.Instance] {
+			of.List = append(of.List, injection)
 		}
 	}
 	return of

@@ -12,13 +12,13 @@ import (
 	"pippinterm/storm/stormtest"
 )
 
-func listOf(t *testing.T, text string) []fault.Entry {
+func listOf(t *testing.T, text string) []fault.Injection {
 	t.Helper()
 	list := diff.Value(fault.ReadList(strings.NewReader(text)))(t)
 	return list
 }
 
-func contains(list []fault.Entry, needed string) bool {
+func contains(list []fault.Injection, needed string) bool {
 	words := strings.Fields(needed)
 	for at := 0; at < len(words); at += 2 {
 		if !strings.Contains(fmt.Sprint(list), words[at]+" "+words[at+1]) {

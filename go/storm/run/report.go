@@ -47,7 +47,7 @@ type Report struct {
 	Given    []string  `json:"fault_list"`
 	Minimum
 
-	given          []fault.Entry
+	given          []fault.Injection
 	user, password string
 	course         []Finding // what is drawn if nothing was found
 	kills          []report.Line

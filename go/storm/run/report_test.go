@@ -248,7 +248,7 @@ func TestUntriedFaults(t *testing.T) {
 	list := listOf(t, "99.1 answer-lost")
 	for name, test := range map[string]struct {
 		share       float64
-		list, given []fault.Entry
+		list, given []fault.Injection
 		ended, says string
 	}{
 		"none of many": {0.4, nil, nil, "", "no request had a fault. Pass a greater number to --instances, "},
@@ -257,7 +257,7 @@ func TestUntriedFaults(t *testing.T) {
 		"one":          {0.4, nil, list, "", ""},
 		"one of list":  {0.4, list, list, "", ""},
 		"no share":     {0, nil, nil, "", ""},
-		"empty list":   {0.4, []fault.Entry{}, nil, "", ""},
+		"empty list":   {0.4, []fault.Injection{}, nil, "", ""},
 		"ended":        {0.4, nil, nil, "x", ""},
 	} {
 		t.Run(name, func(t *testing.T) {

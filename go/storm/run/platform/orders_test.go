@@ -50,7 +50,7 @@ func orderingConfig(t *testing.T, count int, list ...string) (Config, string) {
 	var err error
 	config.List, err = fault.ReadList(strings.NewReader(strings.Join(list, "\n")))
 	check(t, err)
-	config.List = append([]fault.Entry{}, config.List...)
+	config.List = append([]fault.Injection{}, config.List...)
 	config.Commands = run.Commands{Order: command, List: "cat " + filepath.Join(folder, "listed")}
 	config.Time, config.SettleTime = 5*time.Minute, 300*time.Millisecond
 	config.RequestTime, config.Journal = unhurried, filepath.Join(folder, "journals")

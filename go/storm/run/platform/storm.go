@@ -354,10 +354,10 @@ var errIdle = errors.New("in a further run")
 // again is a further run, with a list of faults and with a broker that is empty and listens at the same address.
 //
 // Errors: errIdle; the run has failed; the broker can't be opened or closed.
-func (s *Storm) again(ctx context.Context, list []fault.Entry) (*run.Result, error) {
+func (s *Storm) again(ctx context.Context, list []fault.Injection) (*run.Result, error) {
 	config := s.config
 	config.Address, config.MinimizeTime = strings.TrimPrefix(s.URL(), "http://"), 0
-	config.List = append([]fault.Entry{}, list...)
+	config.List = append([]fault.Injection{}, list...)
 	storm, err := startAgain(ctx, config)
 	if err != nil {
 		return nil, err

@@ -94,13 +94,14 @@ func TestNothingAbandoned(t *testing.T) {
 const unhurried = 20 * time.Second
 
 // listOf is a list of faults: the same for each instance and its first binding.
-func listOf(kinds map[int]fault.Kind) []fault.Entry {
-	list := []fault.Entry{}
+func listOf(kinds map[int]fault.Kind) []fault.Injection {
+	list := []fault.Injection{}
 	for instance := 1; instance <= 500; instance++ {
 		for _, binding := range []int{0, 1} {
 			for request, kind := range kinds {
 				subject := fault.Subject{Instance: instance, Binding: binding}
-				list = append(list, fault.Entry{Number: fault.Number{Subject: subject, Request: request}, Kind: kind})
+				number := fault.Number{Subject: subject, Request: request}
+				list = append(list, fault.Injection{Number: number, Kind: kind})
 			}
 		}
 	}
@@ -252,13 +253,13 @@ func TestIsClean(t *testing.T) {
 func TestUntried(t *testing.T) {
 	for name, test := range map[string]struct {
 		share float64
-		list  []fault.Entry
+		list  []fault.Injection
 		says  string
 	}{
 		"none of many": {1e-9, nil, "no request had a fault. Let the platform send more requests, "},
 		"none of list": {0.4, listOf(map[int]fault.Kind{99: fault.HangUp}), "no request had a fault. Pass the --seed "},
 		"no share":     {0, nil, ""},
-		"empty list":   {0.4, []fault.Entry{}, ""},
+		"empty list":   {0.4, []fault.Injection{}, ""},
 	} {
 		it := test
 		t.Run(name, func(t *testing.T) {
@@ -388,10 +389,10 @@ func TestNoSecrets(t *testing.T) {
 	t.Parallel()
 	config := configFor(t)
 	config.Time, config.SettleTime, config.RequestTime = 2*time.Second, time.Second, unhurried
-	config.List = []fault.Entry{}
+	config.List = []fault.Injection{}
 	for instance := 1; instance <= 500; instance++ { // the broker answers with credentials, and the answers are lost
 		subject := fault.Subject{Instance: instance, Binding: 1}
-		lost := fault.Entry{Number: fault.Number{Subject: subject, Request: 1}, Kind: fault.AnswerLost}
+		lost := fault.Injection{Number: fault.Number{Subject: subject, Request: 1}, Kind: fault.AnswerLost}
 		config.List = append(config.List, lost)
 	}
 	report := runStorm(t, config, mistakes{forgetsTimeout: true, noType: true}, false)
@@ -415,7 +416,7 @@ func TestNoSecrets(t *testing.T) {
 // The same list of faults gives the same requests the same faults. Those that no request has met are in each form.
 func TestList(t *testing.T) {
 	config := configFor(t)
-	config.List = []fault.Entry{
+	config.List = []fault.Injection{
 		{Number: fault.Number{Subject: fault.Subject{Instance: 1}, Request: 1}, Kind: fault.AnswerLost},
 		{Number: fault.Number{Subject: fault.Subject{Instance: 99}, Request: 1}, Kind: fault.AnswerLost},
 	}
@@ -441,7 +442,7 @@ func TestConfigRejected(t *testing.T) {
 		"time":             func(c *Config) { c.Time = 0 },
 		"list of bindings": func(c *Config) { c.Commands.ListBindings = "x" },
 		"minimize":         func(c *Config) { c.MinimizeTime = time.Minute },
-		"restart":          func(c *Config) { c.List = []fault.Entry{{Kind: fault.RestartAfter}} },
+		"restart":          func(c *Config) { c.List = []fault.Injection{{Kind: fault.RestartAfter}} },
 		"user":             func(c *Config) { c.User = "a:b" },
 		"address":          func(c *Config) { c.Address = "127.0.0.1:99999" },
 	} {
