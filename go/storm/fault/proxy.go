@@ -31,7 +31,7 @@ type Config struct {
 	// Others are further brokers over the same store. Each copy of a request reaches Broker or one of them, by chance.
 	Others  []*url.URL
 	Source  *Source
-	Journal *Journal
+	Capture *Capture
 	// Subject returns the Subject of an instance, or of a binding of it. The request of an instance that isn't one of
 	// the run's is answered with 502, and doesn't reach the broker.
 	Subject func(instance, binding string) (Subject, bool)
@@ -172,12 +172,12 @@ func (p *Proxy) serve(connection net.Conn) {
 	header.Del("Authorization")
 	carried := &carriage{
 		Proxy: p, connection: connection, request: request, body: body, fault: fault,
-		exchange: p.Journal.begin(Exchange{
+		exchange: p.Capture.begin(Exchange{
 			Number: fault.Number, Fault: fault.Kind, Instance: instance, Binding: binding, Method: request.Method,
 			Target: request.URL.RequestURI(), Header: header, Body: body,
 		}),
 	}
-	p.Journal.end(carried.exchange, carried.carry())
+	p.Capture.end(carried.exchange, carried.carry())
 }
 
 // fault returns what befalls a request. One without a subject has no fault, and reaches the brokers in turn.
@@ -368,9 +368,9 @@ func (c *carriage) delay() time.Duration {
 // deliver sends the request to the broker, as far as the kind says, and notes the answer. That counts whatever happens
 // to the Proxy.
 func (c *carriage) deliver(kind Kind) (*answer, error) {
-	at := c.Journal.deliver(c.exchange)
+	at := c.Capture.deliver(c.exchange)
 	answer, err := c.upstream(at).send(context.Background(), c.request, c.body, kind, c.fault.Share)
-	c.Journal.noteDelivery(c.exchange, at, answer, err)
+	c.Capture.noteDelivery(c.exchange, at, answer, err)
 	return answer, err
 }
 
@@ -588,7 +588,7 @@ type Exchange struct {
 	Method, Target    string      // Target is the path with the query
 	Header            http.Header // without Authorization
 	Body              []byte
-	Begun, Ended      time.Duration // since the start of the Journal; Ended is 0 until the platform has what it gets
+	Begun, Ended      time.Duration // since the start of the Capture; Ended is 0 until the platform has what it gets
 	Deliveries        []Delivery
 	Receipt           Receipt // what the platform got
 }
@@ -610,25 +610,25 @@ type Delivery struct {
 	Lost         string // why there is no answer
 }
 
-// A Journal keeps the exchanges of a run. Any number of goroutines use it.
-type Journal struct {
+// A Capture keeps the exchanges of a run. Any number of goroutines use it.
+type Capture struct {
 	start time.Time
 	mutex sync.Mutex
 	all   []*Exchange
 }
 
-// NewJournal returns an empty Journal that starts now.
-func NewJournal() *Journal { return &Journal{start: time.Now()} }
+// NewCapture returns an empty Capture that starts now.
+func NewCapture() *Capture { return &Capture{start: time.Now()} }
 
 // Now returns the time since the start.
-func (j *Journal) Now() time.Duration { return time.Since(j.start) }
+func (c *Capture) Now() time.Duration { return time.Since(c.start) }
 
 // Exchanges returns a copy of all exchanges, in the order in which they began.
-func (j *Journal) Exchanges() []Exchange {
-	j.mutex.Lock()
-	defer j.mutex.Unlock()
-	all := make([]Exchange, 0, len(j.all))
-	for _, exchange := range j.all {
+func (c *Capture) Exchanges() []Exchange {
+	c.mutex.Lock()
+	defer c.mutex.Unlock()
+	all := make([]Exchange, 0, len(c.all))
+	for _, exchange := range c.all {
 		one := *exchange
 		one.Deliveries = append([]Delivery(nil), exchange.Deliveries...)
 		all = append(all, one)
@@ -636,33 +636,33 @@ func (j *Journal) Exchanges() []Exchange {
 	return all
 }
 
-func (j *Journal) begin(x Exchange) *Exchange {
-	j.mutex.Lock()
-	defer j.mutex.Unlock()
-	x.Begun = j.Now()
-	j.all = append(j.all, &x)
+func (c *Capture) begin(x Exchange) *Exchange {
+	c.mutex.Lock()
+	defer c.mutex.Unlock()
+	x.Begun = c.Now()
+	c.all = append(c.all, &x)
 	return &x
 }
 
-func (j *Journal) end(x *Exchange, receipt Receipt) {
-	j.mutex.Lock()
-	defer j.mutex.Unlock()
-	x.Ended, x.Receipt = j.Now(), receipt
+func (c *Capture) end(x *Exchange, receipt Receipt) {
+	c.mutex.Lock()
+	defer c.mutex.Unlock()
+	x.Ended, x.Receipt = c.Now(), receipt
 }
 
 // deliver notes that a copy is being sent. It returns the index of the delivery.
-func (j *Journal) deliver(x *Exchange) int {
-	j.mutex.Lock()
-	defer j.mutex.Unlock()
-	x.Deliveries = append(x.Deliveries, Delivery{Begun: j.Now()})
+func (c *Capture) deliver(x *Exchange) int {
+	c.mutex.Lock()
+	defer c.mutex.Unlock()
+	x.Deliveries = append(x.Deliveries, Delivery{Begun: c.Now()})
 	return len(x.Deliveries) - 1
 }
 
-func (j *Journal) noteDelivery(x *Exchange, at int, answer *answer, err error) {
-	j.mutex.Lock()
-	defer j.mutex.Unlock()
+func (c *Capture) noteDelivery(x *Exchange, at int, answer *answer, err error) {
+	c.mutex.Lock()
+	defer c.mutex.Unlock()
 	it := &x.Deliveries[at]
-	it.Ended = j.Now()
+	it.Ended = c.Now()
 	if err != nil {
 		it.Lost = err.Error()
 		return

@@ -70,7 +70,7 @@ func between(t *testing.T, broker *countingBroker, kind Kind, change func(*Confi
 	t.Cleanup(server.Close)
 	at := diff.Value(url.Parse(server.URL))(t)
 	config := Config{
-		Broker: at, Journal: NewJournal(), Source: ByList(1, []Injection{{Number{Subject{1, 0}, 1}, kind}}),
+		Broker: at, Capture: NewCapture(), Source: ByList(1, []Injection{{Number{Subject{1, 0}, 1}, kind}}),
 		RequestTime: requestTime, Late: late, AnswerTime: 5 * time.Second, Catalogue: []byte(`{"services": []}`),
 		Subject: func(instance, _ string) (Subject, bool) { return Subject{1, 0}, instance == "ours" },
 	}
@@ -182,9 +182,9 @@ func TestKinds(t *testing.T) {
 				whole, broken, _ := broker.counts()
 				return whole == it.later && broken == it.broken
 			})
-			all := p.Journal.Exchanges()
+			all := p.Capture.Exchanges()
 			if len(all) != 1 || all[0].Fault != it.kind || all[0].Number.String() != "1.1" || all[0].Receipt.Words == "" {
-				t.Fatalf("the journal: got %+v, want the fault of 1.1", all)
+				t.Fatalf("the capture: got %+v, want the fault of 1.1", all)
 			}
 			if again := put(p, path); !answered(again) {
 				t.Errorf("the next request: got %+v, want an answer", again)
@@ -241,7 +241,7 @@ func slowParts(t *testing.T, kind Kind) (request, answer bool) {
 	p, share := startLong(t, &countingBroker{}, kind)
 	put(p, path)
 	until(t, func() bool { return p.Pending() == 0 })
-	x := p.Journal.Exchanges()[0]
+	x := p.Capture.Exchanges()[0]
 	delivery := x.Deliveries[0]
 	least := time.Duration(share * float64(time.Second))
 	return delivery.Ended-delivery.Begun >= least*9/10, x.Ended-delivery.Ended >= requestTime/2*9/10
@@ -384,13 +384,13 @@ func TestClose(t *testing.T) {
 	go put(p, path)
 	until(t, func() bool { whole, _, _ := broker.counts(); return whole == 1 })
 	p.Close()
-	all := p.Journal.Exchanges()
+	all := p.Capture.Exchanges()
 	if last := all[len(all)-1].Deliveries; len(all) != 2 || len(all[0].Deliveries) != 0 || last[0].Status != 201 {
-		t.Errorf("the journal: got %+v, want the answer of the second", all)
+		t.Errorf("the capture: got %+v, want the answer of the second", all)
 	}
 }
 
-// The journal has what the platform got: which status, and whether all of the answer arrived.
+// The capture has what the platform got: which status, and whether all of the answer arrived.
 func TestReceipts(t *testing.T) {
 	const whole = `{"operation": "one"}`
 	for kind, wanted := range map[Kind]Receipt{
@@ -411,14 +411,14 @@ func TestReceipts(t *testing.T) {
 			p := between(t, &countingBroker{}, kind, nil)
 			putOf(p, kind)
 			until(t, func() bool { return p.Pending() == 0 })
-			got := p.Journal.Exchanges()[0].Receipt
+			got := p.Capture.Exchanges()[0].Receipt
 			got.Words = ""
 			diff.Check(t, got, wanted, "what the platform got")
 		})
 	}
 }
 
-// With ForwardsOthers, the broker gets the other requests and those for the catalogue, without faults. The journal has
+// With ForwardsOthers, the broker gets the other requests and those for the catalogue, without faults. The capture has
 // their headers without the login.
 func TestForwardsOthers(t *testing.T) {
 	broker := &countingBroker{}
@@ -440,7 +440,7 @@ func TestForwardsOthers(t *testing.T) {
 	if whole, _, _ := broker.counts(); whole != len(others) || strings.Join(broker.paths, " ") != wanted {
 		t.Errorf("the broker: got %q, want %q", broker.paths, wanted)
 	}
-	for _, x := range p.Journal.Exchanges()[:len(others)] {
+	for _, x := range p.Capture.Exchanges()[:len(others)] {
 		if x.Fault != None || x.Header.Get("Authorization") != "" || x.Header.Get("X-Broker-API-Version") != "2.17" {
 			t.Errorf("got %+v, want no fault, no password and the version 2.17", x)
 		}

@@ -107,7 +107,7 @@ type BothStorm struct {
 	folder           string
 	addresses        []*url.URL // of the brokers
 	password         string
-	journal          *fault.Journal
+	capture          *fault.Capture
 	source           *fault.Source
 	keys             *Keys
 	events           *events
@@ -131,7 +131,7 @@ func NewBoth(ctx context.Context, config BothConfig) (*BothStorm, error) {
 	if err := FirstError(config.Check(config.demands()), config.findPrograms()); err != nil {
 		return nil, err
 	}
-	b := &BothStorm{config: config, journal: fault.NewJournal(), password: config.password}
+	b := &BothStorm{config: config, capture: fault.NewCapture(), password: config.password}
 	if b.password == "" {
 		password := make([]byte, 16)
 		if _, err := rand.Read(password); err != nil {
@@ -161,7 +161,7 @@ func (b *BothStorm) open(ctx context.Context) (err error) {
 		return err
 	}
 	b.keys = newKeys(b.ids.NewID)
-	b.events = &events{now: b.journal.Now, keyOf: keyOf}
+	b.events = &events{now: b.capture.Now, keyOf: keyOf}
 	faults := b.config.Config
 	faults.Share = b.config.share()
 	b.source = faults.Source(b.config.weights())
@@ -203,7 +203,7 @@ func (b *BothStorm) openProxy(ctx context.Context) (err error) {
 		others = nil
 	}
 	b.proxy, err = fault.Listen(fault.Config{
-		Broker: first, Others: others, Source: b.source, Journal: b.journal, Subject: b.keys.SubjectOrNew,
+		Broker: first, Others: others, Source: b.source, Capture: b.capture, Subject: b.keys.SubjectOrNew,
 		ForwardsOthers: true, RequestTime: b.config.RequestTime, Late: b.config.Late, AnswerTime: 30 * time.Second,
 	})
 	return err

@@ -132,9 +132,9 @@ func (b *BothStorm) remainingPoints() (points []string) {
 func (b *BothStorm) course(ctx context.Context) *Result {
 	endUnruly := b.runUnruly(ctx)
 	troubles := b.trouble(ctx)
-	begun := b.journal.Now()
+	begun := b.capture.Now()
 	c := &course{
-		orders: b.commands, keys: b.keys, events: b.events, source: b.source, now: b.journal.Now, lives: b.lives,
+		orders: b.commands, keys: b.keys, events: b.events, source: b.source, now: b.capture.Now, lives: b.lives,
 		isQuiet: func() bool { return b.proxy.Pending() == 0 && (b.unruly == nil || b.unruly.isDone(ctx)) },
 		time:    b.config.time(), settleTime: b.config.SettleTime,
 		look: b.auditor.look, lookEach: lookEach / 2,
@@ -142,7 +142,7 @@ func (b *BothStorm) course(ctx context.Context) *Result {
 			if b.config.Calm {
 				return true
 			}
-			since := b.journal.Now() - begun
+			since := b.capture.Now() - begun
 			if since < b.config.Time || len(b.auditor.list()) > 0 {
 				return since >= b.config.Time
 			}
@@ -154,7 +154,7 @@ func (b *BothStorm) course(ctx context.Context) *Result {
 	found.Converged, found.Took = c.run(ctx)
 	endUnruly()
 	b.compare(ctx, found)
-	found.Exchanges, found.Events, found.Given = b.journal.Exchanges(), b.events.list(), b.source.Faults()
+	found.Exchanges, found.Events, found.Given = b.capture.Exchanges(), b.events.list(), b.source.Faults()
 	hide := report.NewHider("platform", b.password, found.Exchanges)
 	found.Broken, found.Unmet = judge(found.Exchanges, found.Differences, hide), b.source.Unmet()
 	return found

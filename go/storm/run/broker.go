@@ -172,12 +172,12 @@ func (s *BrokerStorm) once(running, deleting context.Context, source *fault.Sour
 		return &Result{Keys: newKeys(nil)}, err
 	}
 	found := r.storm(running, deleting, only)
-	begun := r.journal.Now()
+	begun := r.capture.Now()
 	records := s.end(deleting, r, found)
 	r.proxy.Close()
-	found.Exchanges = r.journal.Exchanges()
+	found.Exchanges = r.capture.Exchanges()
 	found.Differences = append(found.Differences, s.byDeletion(deleting, records, r.last, begun, found)...)
-	found.end = r.journal.Now()
+	found.end = r.capture.Now()
 	found.Leftovers = s.deleteAll(running, deleting, found)
 	hide := report.NewHider(s.config.Broker.User, s.config.Broker.Password, found.Exchanges)
 	found.Broken = judge(found.Exchanges, found.Differences, hide)
@@ -274,7 +274,7 @@ func (c BrokerConfig) demands() Demands {
 
 type brokerRun struct {
 	*BrokerStorm
-	journal  *fault.Journal
+	capture  *fault.Capture
 	source   *fault.Source
 	keys     *Keys
 	events   *events
@@ -294,15 +294,15 @@ const readEach = 50 * time.Millisecond
 const lookEach = 500 * time.Millisecond
 
 func (s *BrokerStorm) startRun(ctx, deleting context.Context, folder string, source *fault.Source) (*brokerRun, error) {
-	r := &brokerRun{BrokerStorm: s, journal: fault.NewJournal(), source: source, keys: newKeys(s.broker.NewID)}
-	r.events = &events{now: r.journal.Now, keyOf: keyOf}
+	r := &brokerRun{BrokerStorm: s, capture: fault.NewCapture(), source: source, keys: newKeys(s.broker.NewID)}
+	r.events = &events{now: r.capture.Now, keyOf: keyOf}
 	restart := s.config.Commands.restart(s.address)
 	if restart != nil {
 		restart = r.noteRestarts(ctx, deleting, restart)
 	}
 	var err error
 	r.proxy, err = fault.Listen(fault.Config{
-		Broker: s.address, Source: source, Journal: r.journal, Subject: r.keys.Subject, Catalogue: s.target.Catalogue,
+		Broker: s.address, Source: source, Capture: r.capture, Subject: r.keys.Subject, Catalogue: s.target.Catalogue,
 		CatalogueHeader: s.target.CatalogueHeader,
 		RequestTime:     s.config.RequestTime, Late: s.config.Late, AnswerTime: s.config.Broker.RequestTime,
 		Restart: restart, Failed: func(err error) { r.fail("a restart of the broker failed: " + err.Error()) },
@@ -350,7 +350,7 @@ func (r *brokerRun) fail(what string) {
 func (r *brokerRun) storm(ctx, deleting context.Context, only map[int]bool) *Result {
 	found := &Result{Keys: r.keys}
 	course := &course{
-		orders: r.platform, keys: r.keys, events: r.events, look: r.watch.look, source: r.source, now: r.journal.Now,
+		orders: r.platform, keys: r.keys, events: r.events, look: r.watch.look, source: r.source, now: r.capture.Now,
 		isQuiet: r.isQuiet, isDone: func() bool { return true }, calm: func() {}, time: r.config.Time,
 		settleTime: r.config.SettleTime, lookEach: lookEach,
 	}

@@ -26,7 +26,7 @@ type Storm struct {
 	folder  string
 	shop    *shop
 	proxy   *fault.Proxy
-	journal *fault.Journal
+	capture *fault.Capture
 	source  *fault.Source
 	keys    *run.Keys
 	events  []report.Event
@@ -44,7 +44,7 @@ func Start(ctx context.Context, config Config) (s *Storm, err error) {
 		return nil, err
 	}
 	s = &Storm{
-		config: config, journal: fault.NewJournal(), keys: run.NewKeys(), source: config.Source(fault.StandardWeights(false)),
+		config: config, capture: fault.NewCapture(), keys: run.NewKeys(), source: config.Source(fault.StandardWeights(false)),
 		restTime: 2*config.OperationTime + 10*time.Second,
 	}
 	if s.folder, err = os.MkdirTemp(config.Folder, "osb-storm-"); err != nil {
@@ -54,7 +54,7 @@ func Start(ctx context.Context, config Config) (s *Storm, err error) {
 		return nil, run.FirstError(err, os.RemoveAll(s.folder))
 	}
 	s.proxy, err = fault.Listen(fault.Config{
-		Address: config.Address, Broker: s.shop.address, Source: s.source, Journal: s.journal, Subject: s.keys.SubjectOrNew,
+		Address: config.Address, Broker: s.shop.address, Source: s.source, Capture: s.capture, Subject: s.keys.SubjectOrNew,
 		ForwardsOthers: true, RequestTime: config.RequestTime, Late: config.Late,
 		AnswerTime: config.RequestTime + config.RequestTime/10 + config.OperationTime + time.Second,
 	})
@@ -126,7 +126,7 @@ func (s *Storm) once(ctx context.Context) *run.Result {
 	if found.Ended == "" {
 		s.source.End()
 		s.note("ends the faults")
-		calm := s.journal.Now()
+		calm := s.capture.Now()
 		found.calm = calm
 		found.Took, found.Converged = s.settle(ctx, calm)
 	}
@@ -172,7 +172,7 @@ func (s *Storm) lookLast(ctx context.Context, found *result) {
 }
 
 func (s *Storm) note(what string) {
-	s.events = append(s.events, report.Event{At: s.journal.Now(), Who: "osb-storm", What: what})
+	s.events = append(s.events, report.Event{At: s.capture.Now(), Who: "osb-storm", What: what})
 }
 
 // storm waits for the first request, and then until the faults end. ordered is closed once the order command has ended,
@@ -205,17 +205,17 @@ func (s *Storm) settle(ctx context.Context, calm time.Duration) (took time.Durat
 	defer cancel()
 	for {
 		if s.proxy.Pending() == 0 && s.isSettled(within, calm) {
-			return s.journal.Now() - calm, true
+			return s.capture.Now() - calm, true
 		}
 		if !fault.Sleep(within, lookEach) {
-			return s.journal.Now() - calm, false
+			return s.capture.Now() - calm, false
 		}
 	}
 }
 
 // isSettled reports whether nothing would be found now, and the platform doesn't wait for an operation.
 func (s *Storm) isSettled(ctx context.Context, calm time.Duration) bool {
-	exchanges := s.journal.Exchanges()
+	exchanges := s.capture.Exchanges()
 	for _, view := range viewsOf(exchanges) {
 		if view.belief == creating || view.belief == deleting || view.belief == doubtful || view.belief == undeleted {
 			return false
@@ -235,7 +235,7 @@ type result struct {
 
 // look compares what exists with what the platform has.
 func (s *Storm) look(ctx context.Context, found *result) {
-	found.Exchanges = s.journal.Exchanges()
+	found.Exchanges = s.capture.Exchanges()
 	found.views = viewsOf(found.Exchanges)
 	keys := s.keys.All()
 	existing, err := s.shop.findExisting(ctx, keys)
