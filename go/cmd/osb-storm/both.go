@@ -46,13 +46,13 @@ converged, an answer broke a MUST, a program ended by itself, not everything was
 the command line can't be parsed; 78 change something first: an option, a file, a program or a server; 70 any other
 error`
 
-func bothCommand(o *cli.Verdict) *cobra.Command {
+func bothCommand(v *cli.Verdict) *cobra.Command {
 	s := &bothSettings{}
 	run := func(c *cobra.Command) (int, error) {
 		s.chooseSettleTime(c)
 		return s.run(c, s.open)
 	}
-	return commandOf(o, "both",
+	return commandOf(v, "both",
 		"Run osb-broker and osb-platform through faults and kills, and find what was lost", bothHelp, "", s.add, run)
 }
 

@@ -43,10 +43,10 @@ a signal ended the run; 2 the command line can't be parsed; 3 an instance or a b
 output lists it; 69 the broker can't be reached; 78 change something first: an option, a file, a name, a plan that can't
 be created without faults, or a command that doesn't list what exists; 70 any other error`
 
-func brokerCommand(o *cli.Verdict) *cobra.Command {
+func brokerCommand(v *cli.Verdict) *cobra.Command {
 	s := &brokerSettings{}
 	run := func(c *cobra.Command) (int, error) { return s.run(c, s.open) }
-	return commandOf(o, "broker --url URL",
+	return commandOf(v, "broker --url URL",
 		"Drive a broker through a faulty network, and find what was lost", brokerHelp, "url", s.add, run)
 }
 

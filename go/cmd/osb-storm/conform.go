@@ -38,9 +38,9 @@ were tried; 2 the command line can't be parsed; 3 an instance or a binding could
 standard output lists it; 69 the broker can't be reached; 78 change something first: an option, a file
 or a name; 70 any other error`
 
-func conformCommand(o *cli.Verdict) *cobra.Command {
+func conformCommand(v *cli.Verdict) *cobra.Command {
 	s := &conformSettings{}
-	return commandOf(o, "conform --url URL",
+	return commandOf(v, "conform --url URL",
 		"Compare the answers of a broker with the standard", conformHelp, "url", s.add,
 		func(c *cobra.Command) (int, error) { return s.run(c.Context(), c.OutOrStdout(), c.ErrOrStderr()) })
 }
@@ -135,7 +135,7 @@ func (s *conformSettings) status(report *conform.Report) int {
 		excepted[name] = true
 	}
 	for _, result := range report.Results {
-		if result.Level == conform.Must && result.Verdict == conform.Fail && !excepted[result.Name] {
+		if result.Level == conform.Must && result.Grade == conform.Fail && !excepted[result.Name] {
 			return statusDeviates
 		}
 	}

@@ -23,7 +23,7 @@ const (
 	statusUnreachable = 69 // the broker doesn't answer (EX_UNAVAILABLE in sysexits.h)
 )
 
-func rootCommand(o *cli.Verdict) *cobra.Command {
+func rootCommand(v *cli.Verdict) *cobra.Command {
 	root := &cobra.Command{
 		Use:     "osb-storm",
 		Short:   "Test a broker or a platform under the Open Service Broker API 2.17",
@@ -40,7 +40,7 @@ Of osb-broker and osb-platform, it tests both together.
 
 docs/storm.md says how to run it against a broker or a platform of your own.`,
 	}
-	root.AddCommand(conformCommand(o), brokerCommand(o), platformCommand(o), bothCommand(o))
+	root.AddCommand(conformCommand(v), brokerCommand(v), platformCommand(v), bothCommand(v))
 	root.CompletionOptions.DisableDefaultCmd = true
 	return root
 }

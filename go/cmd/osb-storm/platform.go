@@ -49,10 +49,10 @@ request broke a MUST, no request came, no request had a fault though --fault-per
 signal ended the run; 2 the command line can't be parsed; 78 change something first: an option or a file; 70 any other
 error, such as a command that fails`
 
-func platformCommand(o *cli.Verdict) *cobra.Command {
+func platformCommand(v *cli.Verdict) *cobra.Command {
 	s := &platformSettings{}
 	run := func(c *cobra.Command) (int, error) { return s.run(c, s.open) }
-	return commandOf(o, "platform --listen HOST:PORT",
+	return commandOf(v, "platform --listen HOST:PORT",
 		"Be a broker behind a faulty network, and find what your platform abandons", platformHelp, "listen", s.add, run)
 }
 

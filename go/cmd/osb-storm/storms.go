@@ -172,12 +172,12 @@ func statusOfFailure(found *run.Report, failure error, out, stderr io.Writer) (i
 // commandOf returns a command. required is the option without which the command isn't run, or "". run returns the exit
 // status.
 func commandOf(
-	o *cli.Verdict, use, short, long, required string, add func(*cobra.Command), run func(*cobra.Command) (int, error),
+	v *cli.Verdict, use, short, long, required string, add func(*cobra.Command), run func(*cobra.Command) (int, error),
 ) *cobra.Command {
 	made := &cobra.Command{
 		Use: use, Short: short, Long: long,
 		RunE: func(c *cobra.Command, _ []string) (err error) {
-			o.Status, err = run(c)
+			v.Status, err = run(c)
 			return err
 		},
 	}

@@ -92,8 +92,8 @@ func TestOurBroker(t *testing.T) {
 				isAsync := plan == "later" || plan == "make-later"
 				for _, result := range report.Results {
 					wanted := result.Name == again || result.Name == bind && isAsync
-					if failed := result.Verdict == conform.Fail; failed && !wanted || wanted && firstPoll && !failed {
-						t.Errorf("%s, first Poll %v: got %+v, want the verdict of the page", plan, firstPoll, result)
+					if failed := result.Grade == conform.Fail; failed && !wanted || wanted && firstPoll && !failed {
+						t.Errorf("%s, first Poll %v: got %+v, want the grade of the page", plan, firstPoll, result)
 					}
 				}
 				if passed := report.Count(conform.Must, conform.Pass); passed < 50 {

@@ -65,11 +65,11 @@ func cleansUp(t *testing.T, r *Runner, m *model) {
 	}
 }
 
-// caseNames returns the names of the cases with a verdict, sorted.
-func caseNames(report *Report, verdict Verdict) string {
+// caseNames returns the names of the cases with a grade, sorted.
+func caseNames(report *Report, grade Grade) string {
 	var names []string
 	for _, result := range report.Results {
-		if result.Verdict == verdict {
+		if result.Grade == grade {
 			names = append(names, result.Name)
 		}
 	}
@@ -91,10 +91,10 @@ func TestModelPasses(t *testing.T) {
 			m := newModel(async)
 			r := runnerFor(t, configFor(serve(t, m)))
 			for _, result := range ran(t, r).Results {
-				if result.Verdict == Fail || result.Verdict == NotRun && result.Reason == "" {
+				if result.Grade == Fail || result.Grade == NotRun && result.Reason == "" {
 					t.Errorf("got %+v, want no failure, and a reason if it isn't run", result)
 				}
-				passed[result.Name] = passed[result.Name] || result.Verdict == Pass
+				passed[result.Name] = passed[result.Name] || result.Grade == Pass
 			}
 			cleansUp(t, r, m)
 		})

@@ -35,10 +35,10 @@ func (r *Runner) report() *Report {
 	return report
 }
 
-// Count returns how many cases of a level have a verdict.
-func (r *Report) Count(level Level, verdict Verdict) (count int) {
+// Count returns how many cases of a level have a grade.
+func (r *Report) Count(level Level, grade Grade) (count int) {
 	for _, result := range r.Results {
-		if result.Level == level && result.Verdict == verdict {
+		if result.Level == level && result.Grade == grade {
 			count++
 		}
 	}
@@ -59,7 +59,7 @@ func (r *Report) WriteText(w io.Writer) error {
 	table := tabwriter.NewWriter(w, 0, 0, 2, ' ', 0)
 	fmt.Fprintln(table, "VERDICT\tLEVEL\tCASE\tSECTION")
 	for _, result := range r.Results {
-		fmt.Fprintf(table, "%s\t%s\t%s\t%s\n", result.Verdict, result.Level, result.Name, result.Section)
+		fmt.Fprintf(table, "%s\t%s\t%s\t%s\n", result.Grade, result.Level, result.Name, result.Section)
 	}
 	if err := table.Flush(); err != nil {
 		return err
@@ -86,7 +86,7 @@ func (r *Report) WriteText(w io.Writer) error {
 
 func (r *Report) writeFailures(w io.Writer) {
 	for _, result := range r.Results {
-		if result.Verdict == Fail {
+		if result.Grade == Fail {
 			fmt.Fprintf(w, "\n%s (%s, section %s): %s\n  expected: %s\n  sent:     %s\n  came:     %s\n",
 				result.Name, result.Level, result.Section, result.Reason, result.Expected, result.Sent, result.Came)
 		}
@@ -98,7 +98,7 @@ func (r *Report) writeNotRun(w io.Writer) {
 	names := map[string][]string{}
 	var reasons []string
 	for _, result := range r.Results {
-		if result.Verdict != NotRun {
+		if result.Grade != NotRun {
 			continue
 		}
 		if len(names[result.Reason]) == 0 {

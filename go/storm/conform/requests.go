@@ -626,7 +626,7 @@ func (s Observation) Fail(name, reason string) Result {
 	for _, test := range Cases() {
 		if test.Name == name {
 			x := s.exchange()
-			return Result{Case: test, Verdict: Fail, Reason: reason, Sent: x.requestLine(), Came: x.came()}
+			return Result{Case: test, Grade: Fail, Reason: reason, Sent: x.requestLine(), Came: x.came()}
 		}
 	}
 	panic("there is no case " + name)

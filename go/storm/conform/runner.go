@@ -85,7 +85,7 @@ func New(c Config) (*Runner, error) {
 	}
 	r := &Runner{config: c, client: made, results: map[string]*Result{}}
 	for _, test := range Cases() {
-		r.results[test.Name] = &Result{Case: test, Verdict: NotRun}
+		r.results[test.Name] = &Result{Case: test, Grade: NotRun}
 	}
 	if r.prefix, err = random(4); err != nil {
 		return nil, err
@@ -180,19 +180,19 @@ func (r *Runner) create(k key, p Pair, sent request) *exchange {
 func (r *Runner) judge(name string, x *exchange, problem string) {
 	result := r.results[name]
 	switch {
-	case result.Verdict == Fail:
+	case result.Grade == Fail:
 		return
 	case x.unsent:
-		if result.Verdict == NotRun {
+		if result.Grade == NotRun {
 			result.Reason = x.err.Error()
 		}
 		return
 	case x.err != nil:
 		problem = "there is no answer"
 	}
-	result.Verdict, result.Reason = Pass, r.client.hider().In(problem)
+	result.Grade, result.Reason = Pass, r.client.hider().In(problem)
 	if problem != "" {
-		result.Verdict = Fail
+		result.Grade = Fail
 	}
 	result.Sent, result.Came = x.requestLine(), x.came()
 }
@@ -206,7 +206,7 @@ func (r *Runner) skip(reason string, names ...string) {
 		}
 	}
 	for _, name := range names {
-		if result := r.results[name]; result.Verdict == NotRun && result.Reason == "" {
+		if result := r.results[name]; result.Grade == NotRun && result.Reason == "" {
 			result.Reason = reason
 		}
 	}
@@ -257,24 +257,24 @@ type Case struct {
 	Expected string `json:"expected"`
 }
 
-// A Verdict is the result of a case.
-type Verdict string
+// A Grade is the result of a case.
+type Grade string
 
-// The verdicts. NotRun is a case that doesn't concern this broker or plan, or that an earlier answer has made
+// The grades. NotRun is a case that doesn't concern this broker or plan, or that an earlier answer has made
 // impossible: its reason says which.
 const (
-	Pass   Verdict = "pass"
-	Fail   Verdict = "FAIL"
-	NotRun Verdict = "not run"
+	Pass   Grade = "pass"
+	Fail   Grade = "FAIL"
+	NotRun Grade = "not run"
 )
 
-// A Result is a case with its verdict.
+// A Result is a case with its grade.
 type Result struct {
 	Case
-	Verdict Verdict `json:"verdict"`
-	Reason  string  `json:"reason,omitempty"` // of a case that failed or wasn't run
-	Sent    string  `json:"sent,omitempty"`   // the request; no password
-	Came    string  `json:"came,omitempty"`   // the status and the body; no credentials
+	Grade  Grade  `json:"verdict"`
+	Reason string `json:"reason,omitempty"` // of a case that failed or wasn't run
+	Sent   string `json:"sent,omitempty"`   // the request; no password
+	Came   string `json:"came,omitempty"`   // the status and the body; no credentials
 }
 
 // A scenario is a few cases that share their requests.

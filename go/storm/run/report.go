@@ -301,7 +301,7 @@ func (r *Report) writeEnd(w io.Writer) {
 	for _, leftover := range r.Leftovers {
 		lines = append(lines, "not deleted: "+leftover.String())
 	}
-	for _, line := range append(lines, r.verdict()) {
+	for _, line := range append(lines, r.summary()) {
 		fmt.Fprintln(w, line)
 	}
 }
@@ -315,7 +315,7 @@ func (r *Report) notes() []string {
 	return notes
 }
 
-func (r *Report) verdict() string {
+func (r *Report) summary() string {
 	if r.IsOfPlatform {
 		return fmt.Sprintf("%d abandoned, %d false records, %s of the standard broken, %s", len(r.Lost), len(r.False),
 			report.Quantity(len(r.Broken), "rule"), r.convergence())
@@ -355,7 +355,7 @@ func (r *Report) WriteHTML(w io.Writer) error {
 	lost := capital(r.words().lost)
 	page := &report.Page{
 		Title:   "Storm against " + r.URL,
-		Summary: r.verdict(),
+		Summary: r.summary(),
 		Minimal: r.minimalLines(r.words().lost), MinimalTitle: r.minimalTitle(),
 		Sections: []report.Section{
 			{Title: lost, Findings: r.Lost, Kills: r.kills}, {Title: "False records", Findings: r.False, Kills: r.kills},

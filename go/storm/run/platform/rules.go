@@ -135,7 +135,7 @@ func (b *breaches) add(of conform.Case, why string, x fault.Exchange) {
 		number = x.Number.String()
 	}
 	b.Add(conform.Result{
-		Case: of, Verdict: conform.Fail, Reason: why, Sent: sentBy(x), Came: conform.Printable(x.Receipt.Words),
+		Case: of, Grade: conform.Fail, Reason: why, Sent: sentBy(x), Came: conform.Printable(x.Receipt.Words),
 	}, number, "about no instance")
 }
 
