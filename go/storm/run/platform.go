@@ -10,7 +10,7 @@ import (
 	"time"
 
 	"pippinterm/internal/journalfile"
-	sqlitefile "pippinterm/internal/sqlitefile"
+	"pippinterm/internal/sqlitefile"
 	"pippinterm/osb"
 	"pippinterm/platform"
 	"pippinterm/platform/client"

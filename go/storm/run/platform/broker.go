@@ -16,7 +16,7 @@ import (
 	"pippinterm/internal/cli"
 	"pippinterm/internal/httpserver"
 	"pippinterm/internal/journalfile"
-	sqlitefile "pippinterm/internal/sqlitefile"
+	"pippinterm/internal/sqlitefile"
 	"pippinterm/osb"
 	"pippinterm/storm/fault"
 	"pippinterm/storm/report"
