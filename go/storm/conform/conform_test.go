@@ -109,16 +109,16 @@ func TestModelPasses(t *testing.T) {
 // Each mistake fails the cases that are about it, and no others. What exists is deleted all the same.
 func TestMistakes(t *testing.T) {
 	for _, mistake := range mistakes {
-		it := mistake
-		t.Run(strings.ReplaceAll(it.name, " ", "-"), func(t *testing.T) {
-			m := newModel(it.async)
-			m.spoil = it.spoil
+		mistake := mistake
+		t.Run(strings.ReplaceAll(mistake.name, " ", "-"), func(t *testing.T) {
+			m := newModel(mistake.async)
+			m.spoil = mistake.spoil
 			c := configFor(serve(t, m))
 			c.OperationTime = time.Second
 			r := runnerFor(t, c)
 			report := ran(t, r)
-			if failed := caseNames(report, Fail); failed != sortWords(it.fails) {
-				t.Errorf("got the failures  %s\nwant %s", failed, sortWords(it.fails))
+			if failed := caseNames(report, Fail); failed != sortWords(mistake.fails) {
+				t.Errorf("got the failures  %s\nwant %s", failed, sortWords(mistake.fails))
 			}
 			within, cancel := context.WithTimeout(context.Background(), 5*time.Second)
 			defer cancel()

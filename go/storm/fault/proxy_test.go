@@ -165,25 +165,25 @@ func TestKinds(t *testing.T) {
 		{GatewayAfter, 1, 0, 1, html(502, 503, 504)},
 		{PageAfter, 1, 0, 1, html(404, 429)},
 	} {
-		it := test
-		t.Run(string(it.kind), func(t *testing.T) {
+		test := test
+		t.Run(string(test.kind), func(t *testing.T) {
 			t.Parallel()
 			broker := &countingBroker{}
-			p := between(t, broker, it.kind, nil)
-			r := putOf(p, it.kind)
-			if !it.gets(r) {
+			p := between(t, broker, test.kind, nil)
+			r := putOf(p, test.kind)
+			if !test.gets(r) {
 				t.Errorf("the platform: got %+v, want what the fault gives", r)
 			}
-			if whole, _, _ := broker.counts(); it.whole >= 0 && whole != it.whole {
-				t.Errorf("the broker: got %d requests, want %d", whole, it.whole)
+			if whole, _, _ := broker.counts(); test.whole >= 0 && whole != test.whole {
+				t.Errorf("the broker: got %d requests, want %d", whole, test.whole)
 			}
 			until(t, func() bool { return p.Pending() == 0 })
 			until(t, func() bool {
 				whole, broken, _ := broker.counts()
-				return whole == it.later && broken == it.broken
+				return whole == test.later && broken == test.broken
 			})
 			all := p.Capture.Exchanges()
-			if len(all) != 1 || all[0].Fault != it.kind || all[0].Number.String() != "1.1" || all[0].Receipt.Words == "" {
+			if len(all) != 1 || all[0].Fault != test.kind || all[0].Number.String() != "1.1" || all[0].Receipt.Words == "" {
 				t.Fatalf("the capture: got %+v, want the fault of 1.1", all)
 			}
 			if again := put(p, path); !answered(again) {

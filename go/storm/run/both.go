@@ -448,12 +448,12 @@ func workerPoints() (points []string) {
 // atOnce calls for each program, or something else, at once, and returns once all calls have returned.
 func atOnce[T any](all []T, call func(T)) {
 	var group sync.WaitGroup
-	for _, one := range all {
-		it := one
+	for _, element := range all {
+		element := element
 		group.Add(1)
 		go func() {
 			defer group.Done()
-			call(it)
+			call(element)
 		}()
 	}
 	group.Wait()

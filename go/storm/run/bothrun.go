@@ -260,11 +260,11 @@ func (b *BothStorm) trouble(ctx context.Context) *troubles {
 		calls = append(calls, b.strike)
 	}
 	for _, call := range calls {
-		it := call
+		call := call
 		t.group.Add(1)
 		go func() {
 			defer t.group.Done()
-			it(ctx)
+			call(ctx)
 		}()
 	}
 	return t

@@ -114,28 +114,28 @@ func TestMistakes(t *testing.T) {
 		{"creates-again", false, mistakes{createsAgain: true}, "exist", "", "provision-repeated"},
 		{"too-early", true, mistakes{tooEarly: true}, "", "its record said ready, and it didn't exist", ""},
 	} {
-		it := test
-		t.Run(it.name, func(t *testing.T) {
+		test := test
+		t.Run(test.name, func(t *testing.T) {
 			t.Parallel()
 			inOneStorm(t, func(seed int64) string {
-				m, url := newModel(t, it.isAsync, it.wrong)
-				if it.wrong.goneWhileMaking {
+				m, url := newModel(t, test.isAsync, test.wrong)
+				if test.wrong.goneWhileMaking {
 					m.takes = 4 * time.Second // the platform deletes once what is late has arrived
 				}
 				config := configFor(t, url)
 				config.Seed, config.Commands = seed, m.commands()
-				if it.wrong.forgetsRestart {
+				if test.wrong.forgetsRestart {
 					config.Commands.Restart = "touch " + m.folder + "/restart"
 				}
 				report := runStorm(t, config)
 				text := textOf(t, report)
 				switch {
-				case it.lost != "" && !strings.Contains(stormtest.Whats(report.Lost), it.lost):
-					return fmt.Sprintf("nothing is lost because %q:\n%s", it.lost, text)
-				case it.false != "" && !strings.Contains(stormtest.Whats(report.False), it.false):
-					return fmt.Sprintf("no record is false because %q:\n%s", it.false, text)
-				case it.broken != "" && !stormtest.HasViolation(report.Broken, it.broken):
-					return fmt.Sprintf("no answer breaks %s:\n%s", it.broken, text)
+				case test.lost != "" && !strings.Contains(stormtest.Whats(report.Lost), test.lost):
+					return fmt.Sprintf("nothing is lost because %q:\n%s", test.lost, text)
+				case test.false != "" && !strings.Contains(stormtest.Whats(report.False), test.false):
+					return fmt.Sprintf("no record is false because %q:\n%s", test.false, text)
+				case test.broken != "" && !stormtest.HasViolation(report.Broken, test.broken):
+					return fmt.Sprintf("no answer breaks %s:\n%s", test.broken, text)
 				case report.IsClean():
 					return "the report is clean"
 				}
@@ -479,12 +479,12 @@ func TestWrongLists(t *testing.T) {
 	} {
 		for _, isAsync := range []bool{false, true} {
 			for _, hasJournal := range []bool{false, true} {
-				name, it, isAsync, hasJournal := name, test, isAsync, hasJournal
+				name, test, isAsync, hasJournal := name, test, isAsync, hasJournal
 				t.Run(fmt.Sprint(name, isAsync, hasJournal), func(t *testing.T) {
 					t.Parallel()
 					m, url := newModel(t, isAsync, mistakes{})
 					config := configFor(t, url)
-					config.Commands, config.Time, config.Broker.Instances = it.commands, time.Second, 2
+					config.Commands, config.Time, config.Broker.Instances = test.commands, time.Second, 2
 					if config.Commands.List == "right" {
 						config.Commands.List = m.commands().List
 					}
@@ -496,10 +496,10 @@ func TestWrongLists(t *testing.T) {
 					}
 					storm := openStorm(t, config)
 					report, err := storm.Run(context.Background(), context.Background())
-					if errors.Is(err, ErrList) != (it.wanted != "") {
-						t.Fatalf("got the error %v, want %q:\n%s", err, it.wanted, textOf(t, report))
+					if errors.Is(err, ErrList) != (test.wanted != "") {
+						t.Fatalf("got the error %v, want %q:\n%s", err, test.wanted, textOf(t, report))
 					}
-					for _, wanted := range []string{it.wanted, "It must print the id"} {
+					for _, wanted := range []string{test.wanted, "It must print the id"} {
 						if err != nil && !strings.Contains(err.Error(), wanted) {
 							t.Errorf("got the error %v, want %q", err, wanted)
 						}

@@ -173,12 +173,12 @@ func TestOrderEnds(t *testing.T) {
 		"goes on":        {"sleep 1000 & echo $! >FOLDER/child; wait", time.Second},
 		"leaves a child": {"sleep 1000 & echo $! >FOLDER/child", time.Minute},
 	} {
-		it := test
+		test := test
 		t.Run(name, func(t *testing.T) {
 			t.Parallel()
 			config, folder := orderingConfig(t, 1)
-			config.Commands.Order += strings.ReplaceAll(it.after, "FOLDER", folder)
-			config.Time, config.SettleTime = it.time, time.Minute
+			config.Commands.Order += strings.ReplaceAll(test.after, "FOLDER", folder)
+			config.Time, config.SettleTime = test.time, time.Minute
 			report, took := runOrders(t, context.Background(), config)
 			if len(report.Failed) > 0 || !report.IsClean() || !report.Converged || took > 50*time.Second {
 				t.Errorf("got an end after %v, want a clean report of a storm that has converged within 50 s:\n%s",
@@ -271,24 +271,24 @@ func TestMinimizeNotes(t *testing.T) {
 			[]string{"1.1 answer-slow"}, fmt.Sprintf(first, body), 6, "--minimize: in 6 further runs, nothing was abandoned",
 		},
 	} {
-		it, isWithout := test, name == "without any"
+		test, isWithout := test, name == "without any"
 		t.Run(name, func(t *testing.T) {
 			t.Parallel()
-			config, folder := orderingConfig(t, 1, it.list...)
+			config, folder := orderingConfig(t, 1, test.list...)
 			minimize(&config)
 			config.Late = 100 * time.Millisecond
-			config.Commands.Order += strings.ReplaceAll(it.after, "FOLDER", folder)
+			config.Commands.Order += strings.ReplaceAll(test.after, "FOLDER", folder)
 			report, _ := runOrders(t, context.Background(), config)
-			if notes := strings.Join(report.Notes, ""); report.MinimizeRuns != it.runs || notes != it.note {
-				t.Errorf("got %d runs and %s, want %d and %q\n%s", report.MinimizeRuns, notes, it.runs, it.note, stormtest.TextOf(t, report.WriteText))
+			if notes := strings.Join(report.Notes, ""); report.MinimizeRuns != test.runs || notes != test.note {
+				t.Errorf("got %d runs and %s, want %d and %q\n%s", report.MinimizeRuns, notes, test.runs, test.note, stormtest.TextOf(t, report.WriteText))
 			}
-			if report.IsClean() != (it.note == "") || report.NeedsNoFault() != isWithout {
+			if report.IsClean() != (test.note == "") || report.NeedsNoFault() != isWithout {
 				t.Errorf("got\n%s\nwant the verdict of the note", stormtest.TextOf(t, report.WriteText))
 			}
 			for form, text := range formsOf(t, report) {
 				isNone := strings.Contains(text, "none: something is abandoned without any fault")
-				if form != "list" && !strings.Contains(text, it.note) || isNone != (isWithout && (form == "text" || form == "HTML")) {
-					t.Errorf("%s: got %s, want the note %q", form, text, it.note)
+				if form != "list" && !strings.Contains(text, test.note) || isNone != (isWithout && (form == "text" || form == "HTML")) {
+					t.Errorf("%s: got %s, want the note %q", form, text, test.note)
 				}
 			}
 		})
@@ -308,33 +308,33 @@ func TestMinimizeEnds(t *testing.T) {
 		"at once":            {"2", true, nil, "--minimize was ended" + notFound},
 		"while it is shrunk": {"4", true, []string{"1.1 answer-lost", "1.2 answer-lost"}, "--minimize was ended" + isCut},
 	} {
-		it := test
+		test := test
 		t.Run(name, func(t *testing.T) {
 			t.Parallel()
 			config, folder := orderingConfig(t, 1, "1.1 answer-lost", "1.2 answer-lost")
 			minimize(&config)
 			config.Commands.Order += strings.ReplaceAll("curl -s -m 5 -u platform:secret -H 'X-Broker-API-Version: 2.17' "+
-				"$OSB_STORM_URL/v2/service_instances/$id; [ $(wc -l <FOLDER/urls) != "+it.hangs+
+				"$OSB_STORM_URL/v2/service_instances/$id; [ $(wc -l <FOLDER/urls) != "+test.hangs+
 				" ] || { touch FOLDER/hangs; sleep 1000; }; true", "FOLDER", folder)
 			ctx, cancel := context.WithCancel(context.Background())
 			defer cancel()
-			if it.isSignal {
+			if test.isSignal {
 				go cancelOnce(filepath.Join(folder, "hangs"), cancel)
 			} else {
 				config.MinimizeTime = time.Second
 			}
 			report, took := runOrders(t, ctx, config)
-			if !reflect.DeepEqual(report.Minimal, it.minimal) || report.MinimizeEnded != it.ended || took > time.Minute {
+			if !reflect.DeepEqual(report.Minimal, test.minimal) || report.MinimizeEnded != test.ended || took > time.Minute {
 				t.Errorf("got an end after %v, want the list %q and the end %q:\n%s",
-					took, it.minimal, it.ended, stormtest.TextOf(t, report.WriteText))
+					took, test.minimal, test.ended, stormtest.TextOf(t, report.WriteText))
 			}
-			if (report.Ended == run.EndedBefore) != it.isSignal || len(report.Failed)+len(report.Notes) > 0 || report.IsClean() {
+			if (report.Ended == run.EndedBefore) != test.isSignal || len(report.Failed)+len(report.Notes) > 0 || report.IsClean() {
 				t.Errorf("got the end %q and the failures %q, want an end by the signal: %v, and no failure",
-					report.Ended, report.Failed, it.isSignal)
+					report.Ended, report.Failed, test.isSignal)
 			}
 			for form, text := range formsOf(t, report) {
-				if form != "list" && (!strings.Contains(text, it.ended) || strings.Contains(text, "hortest list")) {
-					t.Errorf("%s: got %s, want that it says %q, and of no shortest list", form, text, it.ended)
+				if form != "list" && (!strings.Contains(text, test.ended) || strings.Contains(text, "hortest list")) {
+					t.Errorf("%s: got %s, want that it says %q, and of no shortest list", form, text, test.ended)
 				}
 				if form == "text" && !strings.Contains(text, "not everything cleaned up within ") { // in the first run
 					t.Errorf("got\n%s\nwant that not everything was cleaned up", text)

@@ -159,17 +159,17 @@ func TestMistakes(t *testing.T) {
 			abandoned: "The standard asks for no deletion then",
 		},
 	} {
-		it := test
+		test := test
 		t.Run(name, func(t *testing.T) {
 			t.Parallel()
 			config := configFor(t)
-			config.List, config.Time, config.RequestTime = listOf(it.kinds), time.Second, unhurried
-			if report := runStorm(t, config, mistakes{}, it.isListed); !report.IsClean() || len(report.Broken) > 0 {
+			config.List, config.Time, config.RequestTime = listOf(test.kinds), time.Second, unhurried
+			if report := runStorm(t, config, mistakes{}, test.isListed); !report.IsClean() || len(report.Broken) > 0 {
 				t.Errorf("without the mistake: got\n%s\nwant a clean report", stormtest.TextOf(t, report.WriteText))
 			}
 			config.SettleTime = time.Second
-			report := runStorm(t, config, it.wrong, it.isListed)
-			if missing := lacks(report, it.abandoned, it.false, it.broken); missing != "" {
+			report := runStorm(t, config, test.wrong, test.isListed)
+			if missing := lacks(report, test.abandoned, test.false, test.broken); missing != "" {
 				t.Errorf("got a report without %s, want it there:\n%s", missing, stormtest.TextOf(t, report.WriteText))
 			}
 		})
@@ -261,21 +261,21 @@ func TestUntried(t *testing.T) {
 		"no share":     {0, nil, ""},
 		"empty list":   {0.4, []fault.Injection{}, ""},
 	} {
-		it := test
+		test := test
 		t.Run(name, func(t *testing.T) {
 			t.Parallel()
 			config := configFor(t)
-			config.Share, config.List, config.Time, config.RequestTime = it.share, it.list, time.Second, unhurried
+			config.Share, config.List, config.Time, config.RequestTime = test.share, test.list, time.Second, unhurried
 			report := runStorm(t, config, mistakes{}, true)
-			if report.IsClean() != (it.says == "") || len(report.Lost)+len(report.False)+len(report.Stuck) > 0 {
+			if report.IsClean() != (test.says == "") || len(report.Lost)+len(report.False)+len(report.Stuck) > 0 {
 				t.Errorf("got\n%s\nwant the verdict of the list, and nothing lost, false or stuck", stormtest.TextOf(t, report.WriteText))
 			}
 			for form, text := range stormtest.Forms(t, report) {
 				before := map[string]string{
 					"text": "\nNOT TRIED: ", "JSON": "\"untried\": [\n    \"", "HTML": "<th>Wrong</th><td>NOT TRIED: ",
 				}[form]
-				if strings.Contains(text, before+it.says) != (it.says != "") {
-					t.Errorf("%s: got %s, want that it says %q", form, text, it.says)
+				if strings.Contains(text, before+test.says) != (test.says != "") {
+					t.Errorf("%s: got %s, want that it says %q", form, text, test.says)
 				}
 			}
 		})
