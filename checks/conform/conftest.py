@@ -17,5 +17,5 @@ def served(broker: Path, tmp_path: Path) -> Iterator[str]:
     at = free_address()
     with serving(broker, tmp_path, at, "--sweep-seconds", "0.1", journals="journals/broker"):
         yield f"http://{at}"
-    sold = [it.name for it in (tmp_path / "state" / "instances").iterdir() if not it.name.startswith(".")]
+    sold = [path.name for path in (tmp_path / "state" / "instances").iterdir() if not path.name.startswith(".")]
     assert sold == []

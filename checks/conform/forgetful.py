@@ -41,9 +41,9 @@ def main() -> None:
     """Creates as many instances as the first argument says. The second one is the file."""
     port = urlsplit(os.environ["OSB_STORM_URL"]).port
     assert port is not None
-    it = Forgetful(port)
+    platform = Forgetful(port)
     ids = [str(uuid.uuid4()) for _ in range(int(sys.argv[1]))]
-    Path(sys.argv[2]).write_text("".join(f"{id}\n" for id in ids if it.create(id)))
+    Path(sys.argv[2]).write_text("".join(f"{id}\n" for id in ids if platform.create(id)))
 
 
 if __name__ == "__main__":

@@ -30,7 +30,7 @@ def test_broker_passes(storm: Path, served: str, tmp_path: Path) -> None:
     assert ran.returncode == 0, ran.stdout + ran.stderr
     report = json.loads((tmp_path / "report.json").read_text())
     table = re.findall(r"^(pass|FAIL|not run) +(MUST|SHOULD|MAY) +(\S+)  ", ran.stdout, re.MULTILINE)
-    assert table == [(it["verdict"], it["level"], it["name"]) for it in report["results"]]
+    assert table == [(case["verdict"], case["level"], case["name"]) for case in report["results"]]
     assert ("pass", "MUST", "bind-new") in table
     assert report["plan"] == "at-once" and report["leftovers"] == []
     assert f"Each id begins with {report['prefix']}.\n" in ran.stdout
@@ -65,7 +65,7 @@ def test_leftovers(storm: Path) -> None:
         ran = conform(storm, small.url)
         listed = set(re.findall(r"^not deleted: instance (.*?): the deletion was answered with 500", ran.stdout, re.M))
         assert ran.returncode == 3
-        plain = {it for it in small.instances if "%" not in it}
+        plain = {id for id in small.instances if "%" not in id}
         assert plain and plain <= listed
 
 

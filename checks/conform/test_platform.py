@@ -51,16 +51,16 @@ def test_platform_abandons_nothing(storm: Path, platform: Path, replay: Path, tm
     words = "--list-command", f"{listed} | cut -f1", "--json", str(tmp_path / "json"), "--journal", str(journals)
     ordered = "--order-command", f"until [ -e {tmp_path}/ordered ]; do sleep 0.1; done; sleep 2", "--seconds", "150"
     with storming(storm, *words, *ordered, "--seed", "2") as (process, port):
-        it = Platform(platform, tmp_path, f"127.0.0.1:{port}", journals="journals/platform")
-        with it.working("--seconds", "1"):
-            until(lambda: it.run(*orders, "at-once") == 0)  # it has asked for the catalogue
+        ours = Platform(platform, tmp_path, f"127.0.0.1:{port}", journals="journals/platform")
+        with ours.working("--seconds", "1"):
+            until(lambda: ours.run(*orders, "at-once") == 0)  # it has asked for the catalogue
             for plan in ("at-once", "by-worker", "bindings-by-worker") * 5:
-                assert it.run(*orders, plan) == 0
-            until(lambda: len(it.ids("--state", "ready")) >= 3, 60)
-            for id in it.ids("--state", "ready")[:3]:
-                it.run("bind", id)
-            for id in it.ids()[::2]:
-                it.run("remove", id, "--bindings")
+                assert ours.run(*orders, plan) == 0
+            until(lambda: len(ours.ids("--state", "ready")) >= 3, 60)
+            for id in ours.ids("--state", "ready")[:3]:
+                ours.run("bind", id)
+            for id in ours.ids()[::2]:
+                ours.run("remove", id, "--bindings")
             (tmp_path / "ordered").touch()
             text, errors = process.communicate(timeout=150)
     report = json.loads((tmp_path / "json").read_text())
@@ -79,16 +79,16 @@ def test_forgetful_platform(storm: Path, tmp_path: Path) -> None:
     lists = "--list-command", f"cat {tmp_path / 'list'}", "--faults-to", str(tmp_path / "again")
     for _ in range(2):
         with storming(storm, *files, *lists, "--settle-seconds", "1", "--seconds", "1") as (process, port):
-            it = Forgetful(port)
-            has = [f"mine-{n}" for n in range(1, 6) if it.create(f"mine-{n}")]
+            forgetful = Forgetful(port)
+            has = [f"mine-{n}" for n in range(1, 6) if forgetful.create(f"mine-{n}")]
             assert has == ["mine-1", "mine-3", "mine-5"]
             (tmp_path / "list").write_text("".join(f"{id}\n" for id in has))
             text, errors = process.communicate(timeout=60)
         assert process.returncode == 1, text + errors
         report = json.loads((tmp_path / "json").read_text())
         assert re.findall(r"^ABANDONED: instance (\d+) \((.*?)\): it exists", text, re.M) == [("2", "mine-2")]
-        assert [(it["number"], it["instance"]) for it in report["abandoned"]] == [("2", "mine-2")]
-        assert [(it["name"], it["number"], it["count"], it["numbers"]) for it in report["broken"]] == [
+        assert [(finding["number"], finding["instance"]) for finding in report["abandoned"]] == [("2", "mine-2")]
+        assert [(rule["name"], rule["number"], rule["count"], rule["numbers"]) for rule in report["broken"]] == [
             ("mitigates-provision", "2.1", 2, ["2.1", "4.1"])
         ]
         assert "mine-2" in (tmp_path / "html").read_text()
@@ -112,7 +112,7 @@ def test_minimize(storm: Path, tmp_path: Path) -> None:
     done = ran(storm, *orders, "--faults", str(given), *files, "--minimize")
     assert (done.returncode, done.stderr) == (1, ""), done.stdout + done.stderr
     report = json.loads((tmp_path / "json").read_text())
-    assert [it["number"] for it in report["abandoned"] + report["minimal_lost"]] == ["2", "2"]
+    assert [finding["number"] for finding in report["abandoned"] + report["minimal_lost"]] == ["2", "2"]
     assert report["minimal_fault_list"] == ["2.1 answer-lost"]
     assert shortest.read_text() == "2.1 answer-lost\n"
     found = f"\nThe shortest list of faults that still loses one ({report['minimize_runs']} runs):\n  2.1 answer-lost\n"

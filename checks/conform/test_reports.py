@@ -18,6 +18,8 @@ pytestmark = pytest.mark.slow
 
 SHORT = "--instances", "20", "--poll-seconds", "0.1", "--seed", "1"
 """With this seed, six instances stay to the end."""
+OPTIONS = ["--json", "--html", "--faults-to"]
+"""Each names the file of a report."""
 TIMES = {"--seconds": 2, "--request-seconds": 1, "--late-seconds": 1.5}
 REPEATED = "".join(f"{instance}.1 repeated\n" for instance in range(1, 21))
 """The faults: each creation reaches the broker twice."""
@@ -35,10 +37,10 @@ def test_names_are_tried_first(storm: Path, tmp_path: Path, command: str) -> Non
     with SmallBroker().running() as small:
         own: dict[str, list[str]] = {"platform": ["--listen", "127.0.0.1:0"], "both": []}
         arguments = own.get(command, ["--url", small.url])
-        for option in ["--json"] if command == "conform" else ["--json", "--html", "--faults-to"]:
+        for option in ["--json"] if command == "conform" else OPTIONS:
             for wrong in tmp_path / "none" / "file", tmp_path:
-                others = [it for it in ("--json", "--html", "--faults-to") if it != option and command != "conform"]
-                files = [it for pair in zip(others, (kept, new)) for it in pair]
+                others = [other for other in OPTIONS if other != option and command != "conform"]
+                files = [word for pair in zip(others, (kept, new)) for word in pair]
                 done = ran(storm, command, *arguments, option, wrong, *files, seconds=20)
                 assert (done.returncode, done.stderr.count("\n"), done.stdout) == (78, 1, ""), done.stderr
                 assert f"the report can't be written: open {wrong}: " in done.stderr
@@ -68,8 +70,8 @@ def of_twice_broker(storm: Path, folder: Path, files: dict[str, Path]) -> subpro
             if file != Path("/dev/full"):
                 file.write_text("x" * 1_000_000)
         with broker.running():
-            times = [it for option, seconds in TIMES.items() for it in (option, seconds * slower)]
-            options = [*times, *(it for pair in files.items() for it in pair)]
+            times = [word for option, seconds in TIMES.items() for word in (option, seconds * slower)]
+            options = [*times, *(word for pair in files.items() for word in pair)]
             found = ("--list-command", broker.list_command, "--faults", faults)
             done = ran(storm, "broker", "--url", broker.url, *SHORT, *found, *options, seconds=600)
         if "it exists twice" in done.stdout:
@@ -80,8 +82,8 @@ def of_twice_broker(storm: Path, folder: Path, files: dict[str, Path]) -> subpro
 @pytest.mark.long(20)
 def test_all_reports_are_written(storm: Path, tmp_path: Path) -> None:
     """A full disk costs one report. The others are written over longer ones, and what was found decides the status."""
-    for full in "--json", "--html", "--faults-to":
-        files = {it: tmp_path / f"report{it}" for it in ("--json", "--html", "--faults-to")}
+    for full in OPTIONS:
+        files = {option: tmp_path / f"report{option}" for option in OPTIONS}
         files[full] = Path("/dev/full")
         (tmp_path / full).mkdir()
         done = of_twice_broker(storm, tmp_path / full, files)

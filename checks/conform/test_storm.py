@@ -53,7 +53,7 @@ def test_broker_loses_nothing(storm: Path, served: str, replay: Path, tmp_path: 
         assert f"Each id begins with {report['prefix']}. The seed is 1.\n" in done.stdout
     audit = audited(tmp_path / "journals", replay)
     assert audit["instances"] == 40 and audit["events"] > 400, audit
-    assert not any("no journal" in it for it in audit["notes"]), audit
+    assert not any("no journal" in note for note in audit["notes"]), audit
 
 
 def test_lost(storm: Path, tmp_path: Path) -> None:
@@ -66,8 +66,8 @@ def test_lost(storm: Path, tmp_path: Path) -> None:
         assert done.returncode == 1, done.stdout + done.stderr
         report = json.loads((tmp_path / "json").read_text())
         lost = re.findall(r"^LOST: instance (\d+) \((.*?)\): .*it exists twice", done.stdout, re.MULTILINE)
-        assert lost == [(it["number"], it["instance"]) for it in report["lost"]] != []
-        assert [it["name"] for it in report["broken"]] == ["provision-repeated"]
+        assert lost == [(finding["number"], finding["instance"]) for finding in report["lost"]] != []
+        assert [rule["name"] for rule in report["broken"]] == ["provision-repeated"]
         assert all(id in (tmp_path / "html").read_text() for _, id in lost)
         shortest = (tmp_path / "faults").read_text()
         assert re.fullmatch(r"\d+\.\d+ repeated\S*\n", shortest)
@@ -153,7 +153,7 @@ def test_hanging_command(storm: Path) -> None:
                 time.sleep(0.5)
             text, _ = process.communicate(timeout=120)
         assert process.returncode == 3
-        assert [f"not deleted: instance {it}: the time for deletions was over\n" in text for it in small.instances] == [
+        assert [f"not deleted: instance {id}: the time for deletions was over\n" in text for id in small.instances] == [
             True
         ]
 

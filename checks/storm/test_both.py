@@ -21,7 +21,7 @@ SHORT = "--seconds", "12", "--settle-seconds", "60", "--instances", "60", "--lat
 
 def command(storm: Path, broker: Path, platform: Path, *arguments: object) -> list[str]:
     line = storm, "both", "--broker-program", broker, "--platform-program", platform, *arguments
-    return [str(it) for it in line]
+    return [str(word) for word in line]
 
 
 def both(storm: Path, broker: Path, platform: Path, *arguments: str) -> subprocess.CompletedProcess[str]:
@@ -69,7 +69,7 @@ def test_calm(storm: Path, broker: Path, platform: Path, replay: Path, tmp_path:
     assert report["instances"] >= 20 and report["bindings"] > 0 and len(report["fault_list"]) > 10, ran.stdout
     programs = report["programs"]
     kinds = "broker_kills", "platform_kills", "broker_pauses", "platform_pauses", "untried", "odd"
-    assert not any(programs[it] for it in kinds), programs
+    assert not any(programs[kind] for kind in kinds), programs
     assert audited(journal, replay)["instances"] >= 20
 
 
@@ -109,7 +109,7 @@ def test_lost(storm: Path, broker: Path, platform: Path, replay: Path, tmp_path:
     ran = both(storm, keeps, platform, *files, "--journal", str(journal))
     assert ran.returncode == 1, ran.stdout + ran.stderr
     report = json.loads((tmp_path / "json").read_text())
-    assert any("it exists, and its record says" in it["what"] for it in report["lost"])
+    assert any("it exists, and its record says" in finding["what"] for finding in report["lost"])
     assert audited(journal, replay)["instances"] > 30
 
 
@@ -138,11 +138,11 @@ def test_signal(storm: Path, broker: Path, platform: Path, replay: Path, tmp_pat
     """After a signal both programs end, and nothing is left. Their journals are as the model says."""
     journal, environment = broken_off(tmp_path)
     line = [*WITH_SIGNALS, *command(storm, broker, platform, "--journal", journal)]
-    with subprocess.Popen(line, env=environment, stdout=subprocess.PIPE, text=True) as it:
+    with subprocess.Popen(line, env=environment, stdout=subprocess.PIPE, text=True) as process:
         time.sleep(4)
-        it.send_signal(number)
-        text, _ = it.communicate(timeout=60)
-    assert it.returncode == 1 and "the run was ended before\n" in text
+        process.send_signal(number)
+        text, _ = process.communicate(timeout=60)
+    assert process.returncode == 1 and "the run was ended before\n" in text
     assert list((tmp_path / "storm").iterdir()) == []
     assert subprocess.run(["pgrep", "-f", str(tmp_path)]).returncode == 1
     assert audited(journal, replay)["instances"] > 0
@@ -156,12 +156,12 @@ def test_killed(storm: Path, broker: Path, platform: Path, replay: Path, tmp_pat
         return subprocess.run(["pgrep", "-f", str(tmp_path)], stdout=subprocess.DEVNULL).returncode == 0
 
     def has_arrived() -> bool:
-        return any('"arrived"' in it.read_text() for it in journal.glob("broker/*.jsonl"))
+        return any('"arrived"' in file.read_text() for file in journal.glob("broker/*.jsonl"))
 
     line = command(storm, broker, platform, "--journal", journal)
-    with subprocess.Popen(line, env=environment, stdout=subprocess.DEVNULL) as it:
+    with subprocess.Popen(line, env=environment, stdout=subprocess.DEVNULL) as process:
         until(has_arrived)
-        it.kill()
+        process.kill()
     until(lambda: not runs())
     assert audited(journal, replay)["instances"] > 0
 

@@ -121,5 +121,7 @@ def test_minimize(storm: Path, replay: Path, programs: list[str], tmp_path: Path
     again = "--calm", "--faults", str(shortest)
     assert _DIFFERS.search(storming(storm, replay, programs, tmp_path / "again", *words, *again))
     what = json.loads(report.read_text())
-    assert [it["number"] for it in what["lost"]] == [found[1]] and what["fault_list"] == [found[0].strip()], what
+    assert [finding["number"] for finding in what["lost"]] == [found[1]] and what["fault_list"] == [
+        found[0].strip()
+    ], what
     assert (what["programs"]["broker_kills"], what["programs"]["platform_pauses"]) == (0, 0)
