@@ -14,6 +14,8 @@ import (
 	"sync"
 	"testing"
 	"time"
+
+	"pippinterm/internal/diff"
 )
 
 func serve(t *testing.T, m *model) string {
@@ -117,9 +119,7 @@ func TestMistakes(t *testing.T) {
 			c.OperationTime = time.Second
 			r := runnerFor(t, c)
 			report := ran(t, r)
-			if failed := caseNames(report, Fail); failed != sortWords(mistake.fails) {
-				t.Errorf("got the failures  %s\nwant %s", failed, sortWords(mistake.fails))
-			}
+			diff.Equal(t, caseNames(report, Fail), sortWords(mistake.fails), "the failures")
 			within, cancel := context.WithTimeout(context.Background(), 5*time.Second)
 			defer cancel()
 			left := r.CleanUp(within)
@@ -171,9 +171,7 @@ func TestReasonsWithoutCatalogue(t *testing.T) {
 	}
 	for _, name := range []string{"provision-conflict-plan", "fetch-instance"} {
 		t.Run(name, func(t *testing.T) {
-			if of[name] != "the catalogue can't be read" {
-				t.Errorf("%s: got %q, want that the catalogue can't be read", name, of[name])
-			}
+			diff.Equal(t, of[name], "the catalogue can't be read", "%s", name)
 		})
 	}
 }

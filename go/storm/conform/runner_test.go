@@ -262,19 +262,17 @@ func TestErrors(t *testing.T) {
 			}
 		})
 	}
-	c := configFor(url)
-	c.Service, c.Plan = "service", "another"
-	if _, err := runnerFor(t, c).Run(context.Background()); !errors.Is(err, ErrNoPlan) {
-		t.Errorf("a plan that doesn't exist: got %v, want %v", err, ErrNoPlan)
-	}
-	c = configFor(url)
-	c.Password = "another"
-	if _, err := runnerFor(t, c).Run(context.Background()); !errors.Is(err, ErrLogin) {
-		t.Errorf("another password: got %v, want %v", err, ErrLogin)
-	}
-	c = configFor("http://127.0.0.1:1")
-	if _, err := runnerFor(t, c).Run(context.Background()); !errors.Is(err, ErrUnreachable) {
-		t.Errorf("no broker: got %v, want %v", err, ErrUnreachable)
+	for wanted, change := range map[error]func(*Config){
+		ErrNoPlan:      func(c *Config) { c.Service, c.Plan = "service", "another" },
+		ErrLogin:       func(c *Config) { c.Password = "another" },
+		ErrUnreachable: func(c *Config) { c.URL = "http://127.0.0.1:1" },
+	} {
+		t.Run(wanted.Error(), func(t *testing.T) {
+			c := configFor(url)
+			change(&c)
+			_, err := runnerFor(t, c).Run(context.Background())
+			diff.ErrorIs(t, err, wanted, "")
+		})
 	}
 }
 
@@ -383,9 +381,7 @@ func TestProvision(t *testing.T) {
 		t.Errorf("got %+v and %d that exist, want 201 and 1", answer, m.countExisting())
 	}
 	answer := r.Ask(context.Background(), http.MethodGet, id, "", "/last_operation", nil)
-	if answer.Text("state") != "succeeded" {
-		t.Errorf("got %+v, want the state succeeded", answer)
-	}
+	diff.Equal(t, answer.Text("state"), "succeeded", "the state in %+v", answer)
 	cleansUp(t, r, m)
 }
 
@@ -430,15 +426,11 @@ func TestSeen(t *testing.T) {
 			for _, failed := range test.seen.Judge() {
 				names = append(names, failed.Name)
 			}
-			if strings.Join(names, " ") != test.fails {
-				t.Errorf("%+v: got the failures %v, want %s", test.seen, names, test.fails)
-			}
+			diff.Equal(t, strings.Join(names, " "), test.fails, "the failures of %+v", test.seen)
 		})
 	}
 	it := seen("PUT", binding, 201, `{"credentials": {"a": "hunter2"}}`)
-	if shown := it.Describe() + it.Fail("bind-new", "").Came; strings.Contains(shown, "hunter2") {
-		t.Errorf("got %q, want no \"hunter2\" in it", shown)
-	}
+	diff.Lacks(t, it.Describe()+it.Fail("bind-new", "").Came, "hunter2", "")
 }
 
 // secretsOf are the forms in which the passwords of a run may be returned, and what each begins with.
@@ -490,9 +482,7 @@ func TestBrokerRepeatsSecrets(t *testing.T) {
 // Of two secrets the longer one is left out, and an error keeps what it wraps.
 func TestHider(t *testing.T) {
 	h := NewHider("u", "abc").And("abcdef", "left")
-	if got, wanted := h.In("abcdef abc abcd left"), "(left out) (left out) (left out)d (left out)"; got != wanted {
-		t.Errorf("got %q, want %q", got, wanted)
-	}
+	diff.Equal(t, h.In("abcdef abc abcd left"), "(left out) (left out) (left out)d (left out)", "")
 	of := errors.New("it is abc")
 	if err := h.Error(of); err.Error() != "it is (left out)" || !errors.Is(err, of) || h.Error(nil) != nil {
 		t.Errorf("got the error %v, want it is (left out)", err)

@@ -27,9 +27,8 @@ func TestListRejected(t *testing.T) {
 		"1/.1 hang-up", "1.1 hang-up twice", "1.1 hang-up\n1.1 repeated", "-1.1 hang-up",
 	} {
 		t.Run(line, func(t *testing.T) {
-			if list, err := ReadList(strings.NewReader(line)); err == nil {
-				t.Errorf("%q: got %v, want an error", line, list)
-			}
+			_, err := ReadList(strings.NewReader(line))
+			diff.Error(t, err, "%q", line)
 		})
 	}
 }
@@ -101,9 +100,7 @@ func TestUnmet(t *testing.T) {
 	s.End()
 	s.Next(Subject{Instance: 1})
 	diff.Equal(t, fmt.Sprint(s.Unmet()), "[1.2 answer-lost 2.1 hang-up 9.1 hang-up]", "")
-	if unmet := BySeed(1, 0.5, StandardWeights(false)).Unmet(); len(unmet) > 0 {
-		t.Errorf("got unmet faults %v, want none", unmet)
-	}
+	diff.Equal(t, fmt.Sprint(BySeed(1, 0.5, StandardWeights(false)).Unmet()), "[]", "unmet faults by a seed")
 }
 
 // loserOf returns a test that passes if a list has all of these, and counts its calls.

@@ -278,9 +278,8 @@ func TestHangUp(t *testing.T) {
 			put(p, path)
 			until(t, func() bool { _, _, hangUps := broker.counts(); return hangUps >= wanted })
 			time.Sleep(200 * time.Millisecond)
-			if _, _, hangUps := broker.counts(); hangUps != wanted {
-				t.Errorf("%s: got %d connections that were cut, want %d", kind, hangUps, wanted)
-			}
+			_, _, hangUps := broker.counts()
+			diff.Equal(t, hangUps, wanted, "%s: connections that were cut", kind)
 		})
 	}
 }
@@ -323,14 +322,11 @@ func TestOthersUntouched(t *testing.T) {
 	p := between(t, broker, None, nil)
 	for _, path := range []string{"/v2/service_instances/theirs", "/v2/service_instances/", "/v2/x", "/"} {
 		t.Run(path, func(t *testing.T) {
-			if r := put(p, path); r.status != 502 {
-				t.Errorf("%s: got %+v, want the status 502", path, r)
-			}
+			r := put(p, path)
+			diff.Equal(t, r.status, 502, "%s: the status in %+v", path, r)
 		})
 	}
-	if r := put(p, "/v2/catalog"); r.body != `{"services": []}` {
-		t.Errorf("the catalogue: got %+v, want no services", r)
-	}
+	diff.Equal(t, put(p, "/v2/catalog").body, `{"services": []}`, "the catalogue")
 	if whole, broken, _ := broker.counts(); whole+broken > 0 {
 		t.Errorf("the broker: got %q, want nothing", broker.paths)
 	}
@@ -371,9 +367,7 @@ func TestPrefix(t *testing.T) {
 	broker := &countingBroker{}
 	p := between(t, broker, None, func(c *Config) { c.Broker.Path = "/postgres/" })
 	put(p, path+"?service_id=s&operation=a%2Fb")
-	if broker.paths[0] != "/postgres"+path+"?service_id=s&operation=a%2Fb" {
-		t.Errorf("the broker: got %q, want the whole path", broker.paths)
-	}
+	diff.Equal(t, broker.paths[0], "/postgres"+path+"?service_id=s&operation=a%2Fb", "the path at the broker")
 }
 
 // Close drops what is late, and waits for what the broker has.

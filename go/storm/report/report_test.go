@@ -42,9 +42,7 @@ func TestLifeOf(t *testing.T) {
 	for _, line := range LifeOf(key, []fault.Exchange{x}, events, Hider{}) {
 		got = append(got, line.What)
 	}
-	if wanted := "ready|PUT /x|doesn't get the request|is paused"; strings.Join(got, "|") != wanted {
-		t.Errorf("got %q, want %q", got, wanted)
-	}
+	diff.Equal(t, strings.Join(got, "|"), "ready|PUT /x|doesn't get the request|is paused", "the life")
 	x.Ended, x.Receipt.Words = 7*time.Second, "no answer"
 	life := LifeOf(key, []fault.Exchange{x}, events, Hider{})
 	if last := life[len(life)-1]; len(life) != len(got)+1 || last.What != "gives the platform no answer" {
@@ -165,9 +163,7 @@ func TestPictureOfAllKills(t *testing.T) {
 	check(t, written.Write(&page))
 	text := page.String()
 	for _, title := range []string{"<title>the broker is killed</title>", "<title>the platform is paused</title>"} {
-		if strings.Count(text, title) != 1 {
-			t.Errorf("%q: got it not once, want it once", title)
-		}
+		diff.Equal(t, strings.Count(text, title), 1, "how often the page has %q", title)
 	}
 	if strings.Count(text, "<svg") != 1 || strings.Count(text, `class="restart"`) != 2 ||
 		strings.Contains(text, "<h2>The storm") {

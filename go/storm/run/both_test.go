@@ -93,9 +93,7 @@ func TestSeveralPrograms(t *testing.T) {
 		t.Errorf("got %v and the logs %v, want 3 brokers, 2 workers and 5 logs", seen, logs)
 	}
 	for _, address := range b.addresses {
-		if seen[address.Host] != 1 {
-			t.Errorf("got %d brokers at %s, want 1", seen[address.Host], address)
-		}
+		diff.Equal(t, seen[address.Host], 1, "brokers at %s", address)
 	}
 	if wanted := len(crash.Points()) + len(workerPoints()); open != wanted || len(b.remainingPoints()) != wanted+2 {
 		t.Errorf("got %d crash points to be visited, want %d", open, wanted)
@@ -118,9 +116,7 @@ func TestUntried(t *testing.T) {
 	} {
 		diff.Contains(t, all, part, "")
 	}
-	if strings.Contains(all, "crash points") {
-		t.Errorf("got %q, want no \"crash points\" in it", all)
-	}
+	diff.Lacks(t, all, "crash points", "")
 	b.config.CrashPoints, b.config.Share = AllPoints, 0
 	if all := strings.Join(b.omissions(), "\n"); !strings.Contains(all, "order-next") || strings.Contains(all, "the fault") {
 		t.Errorf("got %s, want the order that is left out, and no fault", all)
@@ -192,9 +188,7 @@ func TestProgramsInReport(t *testing.T) {
 		t.Run(name, func(t *testing.T) {
 			report := emptyReport()
 			report.Converged, report.Programs = true, programs
-			if report.IsClean() != (name == "") {
-				t.Errorf("%q: got clean %v, want %v", name, report.IsClean(), name == "")
-			}
+			diff.Equal(t, report.IsClean(), name == "", "%q: it is clean", name)
 			for form, text := range stormtest.Forms(t, report) {
 				if form != "JSON" && !strings.Contains(text, name) {
 					t.Errorf("%s: got no %q, want it", form, name)
@@ -320,16 +314,11 @@ func TestWithout(t *testing.T) {
 			b := openFakes(t, func(c *BothConfig) { c.Without, c.Share = name, 0.4 })
 			for _, program := range b.programs() {
 				has := strings.HasSuffix(strings.Join(program.environment, "\n"), "\nOSB_WITHOUT="+name)
-				if has != (program.name == wanted) {
-					t.Errorf("%q: got a variable in the environment of %s: %v, want one of %s alone", name, program, has, wanted)
-				}
-				if killed := name != "attempts" || program.name == whoBroker; b.isKilled(program) != killed {
-					t.Errorf("%q: %s: got it killed %v, want the opposite", name, program, !killed)
-				}
+				diff.Equal(t, has, program.name == wanted, "%q: a variable in the environment of %s", name, program)
+				killed := name != "attempts" || program.name == whoBroker
+				diff.Equal(t, b.isKilled(program), killed, "%q: %s is killed", name, program)
 			}
-			if isUnruly := b.unruly != nil; isUnruly != (name == "held") {
-				t.Errorf("%q: got unruly %v, want %v", name, isUnruly, name == "held")
-			}
+			diff.Equal(t, b.unruly != nil, name == "held", "%q: an unruly client", name)
 			usual := BothConfig{}.weights()
 			slow := b.config.share() > 0.4 && b.config.weights()[1] != usual[1] && usual[1].Kind == fault.RequestSwallowed
 			if slow != (name == "attempts") {
@@ -383,16 +372,11 @@ func TestReportWithout(t *testing.T) {
 func TestWithoutBoth(t *testing.T) {
 	b := openFakes(t, func(c *BothConfig) { c.Without, c.CrashPoints = withoutBoth, SomePoints })
 	for _, program := range b.programs() {
-		if !strings.HasSuffix(strings.Join(program.environment, "\n"), "\nOSB_WITHOUT="+program.name) {
-			t.Errorf("got the environment of %s %v, want its own name in it", program, program.environment)
-		}
-		if (len(program.open) == 0) != (program.name == whoBroker) {
-			t.Errorf("got crash points of %s %v, want none of the broker alone", program, program.open)
-		}
+		last := program.environment[len(program.environment)-1]
+		diff.Equal(t, last, "OSB_WITHOUT="+program.name, "the last variable of %s", program)
+		diff.Equal(t, len(program.open) == 0, program.name == whoBroker, "no crash points of %s", program)
 	}
-	if words := strings.Join(b.brokers[0].line, " "); !strings.Contains(words, "--first-poll=false") {
-		t.Errorf("got %q, want \"--first-poll=false\" in it", words)
-	}
+	diff.Contains(t, strings.Join(b.brokers[0].line, " "), "--first-poll=false", "")
 }
 
 // A leavingBroker holds what was bound until it was unbound twice.

@@ -315,9 +315,8 @@ func TestTrial(t *testing.T) {
 			config := configFor(t, url)
 			config.Broker.RequestTime, config.Journal = time.Second, folder
 			storm := openStorm(t, config)
-			if _, err := storm.Run(context.Background(), context.Background()); !errors.Is(err, ErrTrial) {
-				t.Errorf("got the error %v, want %v", err, ErrTrial)
-			}
+			_, err := storm.Run(context.Background(), context.Background())
+			diff.ErrorIs(t, err, ErrTrial, "")
 			if len(m.rows) > 0 {
 				t.Errorf("got the rows %v, want none", m.rows)
 			}
@@ -377,16 +376,13 @@ func TestOwed(t *testing.T) {
 			if !isOwed {
 				got = conform.Debt{}
 			}
-			if (expectation{isOwed, got.Rejected, got.Unanswered}) != test.wanted {
-				t.Errorf("%v: got owed %v, %+v, want %+v", test.statuses, isOwed, got, test.wanted)
-			}
+			diff.Equal(t, expectation{isOwed, got.Rejected, got.Unanswered}, test.wanted, "%v", test.statuses)
 		})
 	}
 	old := delivered(0)
 	old.end = time.Hour
-	if got, _ := debtOf(key, old, time.Minute); got.Unanswered {
-		t.Error("an hour later: got a creation that may still be carried out, want none")
-	}
+	got, _ := debtOf(key, old, time.Minute)
+	diff.Equal(t, got.Unanswered, false, "an hour later, a creation may still be carried out")
 }
 
 // The leftovers of one run aren't those of the next one.
@@ -581,9 +577,7 @@ func TestCalm(t *testing.T) {
 		c.Calm, c.Without, c.Time, c.password = true, "held", 3*time.Second, "the password"
 	})
 	for _, program := range b.programs() {
-		if b.isKilled(program) {
-			t.Errorf("%s: got it killed, want it to live", program)
-		}
+		diff.Equal(t, b.isKilled(program), false, "%s is killed", program)
 	}
 	diff.Equal(t, b.password, "the password", "the password")
 	if untried := b.omissions(); b.unruly != nil || len(untried) > 0 || b.config.time() != 3*time.Second {
@@ -604,9 +598,8 @@ func TestCalm(t *testing.T) {
 	} {
 		t.Run(name, func(t *testing.T) {
 			wrong := b.config
-			if change(&wrong); wrong.Check(wrong.demands()) == nil {
-				t.Errorf("%s: got no error of a calm storm, want one", name)
-			}
+			change(&wrong)
+			diff.Error(t, wrong.Check(wrong.demands()), "%s", name)
 		})
 	}
 }

@@ -107,9 +107,8 @@ func TestCommandsAreKilled(t *testing.T) {
 	t.Parallel()
 	c, one, _ := commandsOver(t, `[ -z "$OSB_CRASH_AT" ] || kill -9 $$
 exit 1`)
-	if _, _, unvisited := c.points(); len(unvisited) != 2 {
-		t.Errorf("got %v to be visited, want 2", unvisited)
-	}
+	_, _, unvisited := c.points()
+	diff.Equal(t, len(unvisited), 2, "crash points to be visited: %v", unvisited)
 	c.kill(true)
 	for try := 0; try < 60; try++ {
 		_ = c.Create(context.Background(), one)
@@ -239,12 +238,8 @@ func TestLive(t *testing.T) {
 	end()
 	m := &memory{created: audit.Ready}
 	operatorOf(m).run(ended, []life{{number: 7}})
-	if operatorOf(m).remove(ended, one, false) {
-		t.Error("after the end: got something removed, want nothing")
-	}
-	if len(m.calls) > 0 {
-		t.Errorf("after the end: got %q, want none", m.calls)
-	}
+	diff.Equal(t, operatorOf(m).remove(ended, one, false), false, "something is removed after the end")
+	diff.Equal(t, len(m.calls), 0, "calls after the end: %q", m.calls)
 }
 
 // Everything has converged if each record rests, none waits for an operator, and no request is on its way.

@@ -105,9 +105,7 @@ func TestJudgeDeletionThatFindsNothing(t *testing.T) {
 			for _, differences := range [][]Difference{
 				nil, {{Key: Key{Instance: "one"}, Kind: Stuck}}, {{Key: Key{Instance: "another"}, Kind: Lost}},
 			} {
-				if found := judge(all, differences, report.Hider{}); len(found) > 0 {
-					t.Errorf("%s, %v: got %+v, want nothing", name, differences, found)
-				}
+				diff.Equal(t, namesOf(judge(all, differences, report.Hider{})), "", "%s, %v", name, differences)
 			}
 		})
 	}
@@ -121,9 +119,7 @@ func TestJudgeAtOnce(t *testing.T) {
 		exchange("DELETE", 410, `{}`, 20*ms, 25*ms), exchange("PUT", 201, `{}`, 40*ms, 50*ms),
 		exchange("PUT", 201, `{}`, 45*ms, 55*ms),
 	}
-	if found := judge(atOnce, nil, report.Hider{}); len(found) > 0 {
-		t.Errorf("got %+v, want nothing", found)
-	}
+	diff.Equal(t, namesOf(judge(atOnce, nil, report.Hider{})), "", "")
 	after := append(atOnce, exchange("PUT", 201, `{}`, 60*ms, 65*ms), exchange("PUT", 201, `{}`, 70*ms, 75*ms))
 	if found := judge(after, nil, report.Hider{}); namesOf(found) != "provision-repeated" || found[0].Count != 1 {
 		t.Errorf("got %+v, want provision-repeated once", found)
@@ -318,9 +314,8 @@ func TestWatch(t *testing.T) {
 	failing := &stub{records: []map[Key]Record{ready}, sight: Sight{Of: map[Key]Existence{one: Missing}}}
 	failing.err = errors.New("away")
 	w := watchOf(failing, true)
-	if w.look(context.Background()); len(w.list()) > 0 {
-		t.Errorf("a look that failed: got %q, want nothing", textsOf(w.list()))
-	}
+	w.look(context.Background())
+	diff.Equal(t, textsOf(w.list()), "", "a look that failed")
 }
 
 // If each key costs a request, it is asked for once for each state of its record.
@@ -334,7 +329,5 @@ func TestWatchAsksOnce(t *testing.T) {
 	for count := 0; count < 5; count++ {
 		w.look(context.Background())
 	}
-	if len(f.asked) != 2 {
-		t.Errorf("asked: got %v, want 2", f.asked)
-	}
+	diff.Equal(t, len(f.asked), 2, "looks: %v", f.asked)
 }

@@ -61,9 +61,8 @@ func TestHTML(t *testing.T) {
 	if count := strings.Count(page, "&lt;script&gt;"); count < 40 {
 		t.Errorf("the text: got it only %d times, want at least 40", count)
 	}
-	if found := regexp.MustCompile(`(src|href)=|url\(|@import`).FindString(page); found != "" {
-		t.Errorf("the page: got %s, want nothing from elsewhere", found)
-	}
+	elsewhere := regexp.MustCompile(`(src|href)=|url\(|@import`)
+	diff.Equal(t, elsewhere.FindString(page), "", "what the page has from elsewhere")
 	// Apart from the void elements, the page is XML: each element ends.
 	page = strings.Replace(page, "<!DOCTYPE html>", "", 1)
 	text := regexp.MustCompile(`<(meta)([^>]*)>`).ReplaceAllString(page, "<$1$2/>")
@@ -148,9 +147,7 @@ func mapOf(all map[string]string) (values []string) {
 // A report is clean only if nothing was found, and everything has converged.
 func TestIsClean(t *testing.T) {
 	clean := func() *Report { return &Report{Converged: true} }
-	if !clean().IsClean() {
-		t.Error("a report without a finding: got it not clean, want it clean")
-	}
+	diff.Equal(t, clean().IsClean(), true, "a report without a finding is clean")
 	must, should := conform.Result{Case: conform.Case{Level: conform.Must}}, conform.Result{}
 	for name, change := range map[string]func(*Report){
 		"lost": func(r *Report) { r.Lost = []Finding{{}} }, "false": func(r *Report) { r.False = []Finding{{}} },
@@ -162,15 +159,13 @@ func TestIsClean(t *testing.T) {
 	} {
 		t.Run(name, func(t *testing.T) {
 			report := clean()
-			if change(report); report.IsClean() {
-				t.Errorf("%s: got it clean, want it not", name)
-			}
+			change(report)
+			diff.Equal(t, report.IsClean(), false, "%s: it is clean", name)
 		})
 	}
 	report := clean()
-	if report.Broken = []Violation{brokenWith(should, "")}; !report.IsClean() {
-		t.Error("a SHOULD: got another verdict, want it clean")
-	}
+	report.Broken = []Violation{brokenWith(should, "")}
+	diff.Equal(t, report.IsClean(), true, "a report with a SHOULD is clean")
 }
 
 // What nobody could ask for doesn't count as nothing lost: each form says how many, and which option helps.
@@ -189,9 +184,7 @@ func TestUnasked(t *testing.T) {
 		t.Run(fmt.Sprint(test.unknown), func(t *testing.T) {
 			report := emptyReport()
 			report.Converged, report.Unknown, report.Inventory = true, test.unknown, test.inventory
-			if report.IsClean() != (test.unknown == 0) {
-				t.Errorf("%d: got clean %v, want %v", test.unknown, report.IsClean(), test.unknown == 0)
-			}
+			diff.Equal(t, report.IsClean(), test.unknown == 0, "%d: it is clean", test.unknown)
 			for form, text := range stormtest.Forms(t, report) {
 				text = html.UnescapeString(text)
 				if form != "JSON" && !(strings.Contains(text, test.line) && strings.Contains(text, test.verdict)) {
@@ -511,7 +504,6 @@ func TestNoJournals(t *testing.T) {
 	config := configFor(t, url)
 	config.Journal = filepath.Join(t.TempDir(), "file")
 	check(t, os.WriteFile(config.Journal, nil, 0o600))
-	if _, err := NewBroker(config); err == nil {
-		t.Error("a file: got no error, want that it is no folder")
-	}
+	_, err := NewBroker(config)
+	diff.Error(t, err, "a file")
 }

@@ -136,9 +136,7 @@ func TestVictimIsOdd(t *testing.T) {
 	t.Parallel()
 	v, folder := victimOf(t, "exit 3")
 	runs(t, v, folder, func() bool { return len(v.counts().odd) >= 2 })
-	if odd := v.counts().odd; !strings.Contains(odd[0], "has ended by itself: exit status 3") {
-		t.Errorf("got %v, want that it has ended by itself with status 3", odd)
-	}
+	diff.Contains(t, v.counts().odd[0], "has ended by itself: exit status 3", "")
 	for script, wanted := range map[string]string{
 		"exec sleep 60":                            "has ended after SIGTERM: signal: terminated",
 		"trap '' TERM; sleep 60":                   "didn't end after SIGTERM",
@@ -213,9 +211,7 @@ func TestPausesAreWritten(t *testing.T) {
 	} {
 		t.Run(file, func(t *testing.T) {
 			text := diff.Value(os.ReadFile(file))(t)
-			if !strings.Contains(strings.Join(strings.Fields(string(text)), " ")+" ", want) {
-				t.Errorf("%s: got no %q, want it", file, want)
-			}
+			diff.Contains(t, strings.Join(strings.Fields(string(text)), " ")+" ", want, "%s", file)
 		})
 	}
 }

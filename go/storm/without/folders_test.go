@@ -4,7 +4,6 @@ package without
 
 import (
 	"context"
-	"errors"
 	"os"
 	"path/filepath"
 	"testing"
@@ -59,9 +58,7 @@ func TestFailures(t *testing.T) {
 		t.Run(test.name, func(t *testing.T) {
 			for pause, want := range []broker.There{test.before, test.after} {
 				s.pause = failingAt(pause + 1)
-				if err := test.call(ctx, request(test.key)); !errors.Is(err, errFails) {
-					t.Errorf("%s: got %[3]v of the call when pause %[2]d fails, want %[4]v", test.name, pause+1, err, errFails)
-				}
+				diff.ErrorIs(t, test.call(ctx, request(test.key)), errFails, "%s: pause %d fails", test.name, pause+1)
 				there := diff.Value(test.look(ctx, request(test.key)))(t)
 				diff.Equal(t, there, want, "%s: pause %d fails", test.name, pause+1)
 			}
@@ -93,9 +90,7 @@ func TestTogether(t *testing.T) {
 	within(binding)
 	check(t, s.DeleteBinding(ctx, request(binding)))
 	text := diff.Value(os.ReadFile(filepath.Join(state, "together")))(t)
-	if want := instance.String() + "\n" + binding.String() + "\n"; string(text) != want {
-		t.Errorf("written down: got %q, want %q", text, want)
-	}
+	diff.Equal(t, string(text), instance.String()+"\n"+binding.String()+"\n", "written down")
 }
 
 // A backend that forgets has every interface of the folders but the one of credentials.

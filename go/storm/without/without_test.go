@@ -63,9 +63,8 @@ func TestALaterLifeWithoutAPart(t *testing.T) {
 }
 
 func TestUnknownPart(t *testing.T) {
-	if _, _, err := StoreAndLocks(context.Background(), "everything", openEmpty(t), withoutLocks{}); err == nil {
-		t.Error("a broker without everything: got no error, want one")
-	}
+	_, _, err := StoreAndLocks(context.Background(), "everything", openEmpty(t), withoutLocks{})
+	diff.Error(t, err, "a broker without everything")
 }
 
 func TestTombstones(t *testing.T) {
@@ -188,12 +187,9 @@ func TestAnswerInTime(t *testing.T) {
 	client := lateClient{make(chan platform.Incoming, 1), make(chan time.Time, 1)}
 	client.answers <- platform.Incoming{Status: http.StatusCreated}
 	out := platform.Outgoing{Entry: entry, Until: time.Now().Add(time.Minute)}
-	if in := ClientWithoutAttempts(client, store).Exchange(context.Background(), out); in.Status != http.StatusCreated {
-		t.Errorf("got %+v, want the status 201", in)
-	}
-	if until := <-client.until; !until.Equal(out.Until.Add(listens)) {
-		t.Errorf("got it to listen until %v, want it %v after the exchange", until, listens)
-	}
+	in := ClientWithoutAttempts(client, store).Exchange(context.Background(), out)
+	diff.Equal(t, in.Status, http.StatusCreated, "the status")
+	diff.Equal(t, (<-client.until).Sub(out.Until), listens, "for how much longer it listens")
 	if read, err := store.Read(context.Background(), entry.Key); err != nil || read.State != platform.Wanted {
 		t.Errorf("got the state %v and the error %v, want wanted", read.State, err)
 	}
@@ -298,9 +294,7 @@ func TestForgetsNothingElse(t *testing.T) {
 			}))
 			read, err := store.Read(ctx, entry.Key)
 			check(t, err)
-			if read.State != test.wanted {
-				t.Errorf("%s: got the state %s, want %s", name, read.State, test.wanted)
-			}
+			diff.Equal(t, read.State, test.wanted, "%s: the state", name)
 		})
 	}
 }
@@ -367,9 +361,7 @@ func TestBusyBinding(t *testing.T) {
 	check(t, err)
 	write(t, store, binding, holding(t, in("ready"), pendingWork("deprovision", binding), false))
 	check(t, wrapped.Change(ctx, binding, 0, func(snapshot broker.Snapshot) (*broker.Entry, error) {
-		if want := holding(t, in("ready"), "null", false); snapshot.Holding != want {
-			t.Errorf("the step: got %v, want %v", snapshot.Holding, want)
-		}
+		diff.Equal(t, snapshot.Holding, holding(t, in("ready"), "null", false), "the step")
 		return nil, nil
 	}))
 }

@@ -242,9 +242,7 @@ func checkScenes(t *testing.T, key Key, scenes map[string]finding) {
 func TestAnotherPlan(t *testing.T) {
 	r := scene{state: platform.Wanted, restless: true, held: "provision"}.reading(t, bound)
 	r.Held[one] = Row{Holding: row(t, "ready", otherPlan)}
-	if found := texts(r.Compare(), bound); !strings.Contains(found, "at the same plan") {
-		t.Errorf("got %q, want two at the same plan", found)
-	}
+	diff.Contains(t, texts(r.Compare(), bound), "at the same plan", "")
 }
 
 // The same for instances.

@@ -63,9 +63,7 @@ func TestOrphanMitigation(t *testing.T) {
 
 // An answer that was cut can't be read, even if what has arrived is an object.
 func TestCutObject(t *testing.T) {
-	if got := beliefAfterCreation(fault.Receipt{Status: 201, Body: []byte("{}")}); got != doubtful {
-		t.Errorf("got the belief %d, want %d", got, doubtful)
-	}
+	diff.Equal(t, beliefAfterCreation(fault.Receipt{Status: 201, Body: []byte("{}")}), doubtful, "the belief")
 }
 
 // What the platform can know after several requests.
@@ -185,9 +183,7 @@ func TestKinds(t *testing.T) {
 	} {
 		t.Run(text, func(t *testing.T) {
 			method, target, _ := strings.Cut(text, " ")
-			if got := kindOf(fault.Exchange{Method: method, Target: target}); got != wanted {
-				t.Errorf("%s: got the kind %d, want %d", text, got, wanted)
-			}
+			diff.Equal(t, kindOf(fault.Exchange{Method: method, Target: target}), wanted, "%s", text)
 		})
 	}
 }
@@ -213,9 +209,7 @@ func TestIDs(t *testing.T) {
 						reason = violation.Reason
 					}
 				}
-				if reason != wanted {
-					t.Errorf("%s: got the reason %q, want %q", query, reason, wanted)
-				}
+				diff.Equal(t, reason, wanted, "%s: the reason", query)
 			}
 		})
 	}

@@ -150,9 +150,8 @@ exit 3`
 			if got != test.wanted || took > 50*time.Second {
 				t.Errorf("got after %v\n%+v\nwant\n%+v", took, got, test.wanted)
 			}
-			if _, err := os.Stat(filepath.Join(folder, "gone")); (err == nil) != (name == "outlives the broker") {
-				t.Errorf("the order command: got %v, want it to run until it has failed", err)
-			}
+			_, err := os.Stat(filepath.Join(folder, "gone"))
+			diff.Equal(t, err == nil, name == "outlives the broker", "the order command ran until it failed (%v)", err)
 		})
 	}
 }

@@ -81,9 +81,7 @@ func TestNothingAbandoned(t *testing.T) {
 					t.Errorf("got\n%s\nwant a clean report that has converged", stormtest.TextOf(t, report.WriteText))
 				}
 				diff.Equal(t, strings.Count(stormtest.TextOf(t, report.WriteHTML), "<svg"), 1, "pictures of the storm")
-				if isListed != (len(report.Exists) == 0) {
-					t.Errorf("got %d to be compared, want none exactly if they are listed", len(report.Exists))
-				}
+				diff.Equal(t, len(report.Exists) == 0, isListed, "nothing is to be compared")
 				return stormtest.Tally{report.Instances, report.Bindings, report.Requests, len(report.Given)}
 			})
 		})
@@ -242,9 +240,7 @@ func TestIsClean(t *testing.T) {
 	} {
 		t.Run(name, func(t *testing.T) {
 			test.report.IsOfPlatform = true
-			if test.report.IsClean() != test.isClean {
-				t.Errorf("%s: got clean %v, want %v", name, !test.isClean, test.isClean)
-			}
+			diff.Equal(t, test.report.IsClean(), test.isClean, "%s: it is clean", name)
 		})
 	}
 }
@@ -321,15 +317,11 @@ func TestAfterRun(t *testing.T) {
 	if storm.source.Next(fault.Subject{Instance: 100}).Kind == fault.None {
 		t.Error("got an end of the faults before the run, want it after that")
 	}
-	if report := storm.Run(context.Background()); report.Ended != "" {
-		t.Errorf("got %v, want none", report.Ended)
-	}
-	if next := storm.source.Next(fault.Subject{Instance: 99}); next.Kind != fault.None {
-		t.Errorf("a request after the run: got the fault %s, want none", next.Kind)
-	}
-	if a := m.send(context.Background(), http.MethodGet, "/v2/catalog", nil); a.status != 0 {
-		t.Errorf("a request after the run: got %d, want none", a.status)
-	}
+	diff.Equal(t, storm.Run(context.Background()).Ended, "", "why the run ended before")
+	next := storm.source.Next(fault.Subject{Instance: 99})
+	diff.Equal(t, next.Kind, fault.None, "the fault of a request after the run")
+	a := m.send(context.Background(), http.MethodGet, "/v2/catalog", nil)
+	diff.Equal(t, a.status, 0, "the status of a request after the run")
 }
 
 // At the end of the run, too, a list command may take longer than the broker's operations.
@@ -406,9 +398,7 @@ func TestNoSecrets(t *testing.T) {
 		for part, isWanted := range map[string]bool{
 			"a-secret-parameter": false, `"token"`: false, "Basic ": false, "standard asks for a deletion": true, "(left out)": true,
 		} {
-			if strings.Contains(text, part) != isWanted {
-				t.Errorf("%s: got %s in it %v, want %v", form, part, !isWanted, isWanted)
-			}
+			diff.Equal(t, strings.Contains(text, part), isWanted, "%s: it has %s", form, part)
 		}
 	}
 }
@@ -431,9 +421,8 @@ func TestList(t *testing.T) {
 	for form, text := range stormtest.Forms(t, report) {
 		diff.Contains(t, text, "99.1 answer-lost", "%s", form)
 	}
-	if text := stormtest.TextOf(t, report.WriteText); !strings.Contains(text, "1 fault of the list met no request: 99.1 answer-lost\n") {
-		t.Errorf("got %q, want %q in it", text, "1 fault of the list met no request: 99.1 answer-lost\n")
-	}
+	text := stormtest.TextOf(t, report.WriteText)
+	diff.Contains(t, text, "1 fault of the list met no request: 99.1 answer-lost\n", "")
 }
 
 func TestConfigRejected(t *testing.T) {

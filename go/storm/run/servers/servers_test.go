@@ -111,9 +111,7 @@ func TestDatabase(t *testing.T) {
 		t.Errorf("got ended %v, %v, want true", isEnded, err)
 	}
 	diff.NoError(t, d.Close(), "")
-	if found := rows(t, d.URL(), "SELECT 1"); !strings.Contains(found, "does not exist") {
-		t.Errorf("got %q, want \"does not exist\" in it", found)
-	}
+	diff.Contains(t, rows(t, d.URL(), "SELECT 1"), "does not exist", "")
 }
 
 // No password stands in the URL that the programs get, since everybody can read command lines.
