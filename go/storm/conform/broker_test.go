@@ -52,10 +52,9 @@ func serve(t *testing.T, service *broker.Service) string {
 	}()
 	t.Cleanup(func() { cancel(); <-swept })
 	users := diff.Value(broker.NewUsers(map[string][]string{"u": {"p"}}))(t)
-	handler, err := broker.NewHandler(ctx, service, broker.Config{
+	handler := diff.Value(broker.NewHandler(ctx, service, broker.Config{
 		Users: users, LongestBody: 1 << 20, AtOnce: 8, Touch: sweeper.Touch, Observer: silent,
-	})
-	check(t, err)
+	}))(t)
 	server := httptest.NewServer(handler)
 	t.Cleanup(server.Close)
 	return server.URL
@@ -82,11 +81,10 @@ func TestOurBroker(t *testing.T) {
 		url := brokerAt(t, rules)
 		for _, plan := range []string{"now", "later", "bind-later", "make-later"} {
 			t.Run(fmt.Sprintf("%s, first Poll %v", plan, firstPoll), func(t *testing.T) {
-				r, err := conform.New(conform.Config{
+				r := diff.Value(conform.New(conform.Config{
 					URL: url, User: "u", Password: "p", Service: "folder", Plan: plan, Instances: 50,
 					RequestTime: 20 * time.Second, OperationTime: 20 * time.Second, Pause: 5 * time.Millisecond,
-				})
-				check(t, err)
+				}))(t)
 				report := diff.Value(r.Run(context.Background()))(t)
 				// Without the rule of the first Poll, an instance may exist before the Bind arrives.
 				isAsync := plan == "later" || plan == "make-later"
@@ -108,5 +106,3 @@ func TestOurBroker(t *testing.T) {
 		}
 	}
 }
-
-var check = diff.Must

@@ -37,24 +37,18 @@ func configFor(url string) Config {
 
 func runnerFor(t *testing.T, c Config) *Runner {
 	t.Helper()
-	r, err := New(c)
-	check(t, err)
-	return r
+	return diff.Value(New(c))(t)
 }
 
 // openTarget returns the target of a Runner that has read the catalogue.
 func openTarget(t *testing.T, r *Runner) Target {
 	t.Helper()
-	target, err := r.Open(context.Background())
-	check(t, err)
-	return target
+	return diff.Value(r.Open(context.Background()))(t)
 }
 
 func ran(t *testing.T, r *Runner) *Report {
 	t.Helper()
-	report, err := r.Run(context.Background())
-	check(t, err)
-	return report
+	return diff.Value(r.Run(context.Background()))(t)
 }
 
 // cleansUp checks that a Runner deletes everything at a model, within a minute.

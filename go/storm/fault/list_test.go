@@ -92,9 +92,8 @@ func TestByList(t *testing.T) {
 
 // A fault of a list that befalls no request, or only after the end, is unmet. Faults by a seed never are.
 func TestUnmet(t *testing.T) {
-	list, err := ReadList(strings.NewReader("9.1 hang-up\n2.1 hang-up\n2/1.1 hang-up\n1.2 answer-lost\n1.1 answer-lost"))
-	check(t, err)
-	s := ByList(1, list)
+	const list = "9.1 hang-up\n2.1 hang-up\n2/1.1 hang-up\n1.2 answer-lost\n1.1 answer-lost"
+	s := ByList(1, diff.Value(ReadList(strings.NewReader(list)))(t))
 	s.Next(Subject{Instance: 1})
 	s.Next(Subject{Instance: 2, Binding: 1})
 	s.End()

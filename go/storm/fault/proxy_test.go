@@ -449,8 +449,7 @@ func TestExpectContinue(t *testing.T) {
 	defer connection.Close()
 	_ = connection.SetDeadline(time.Now().Add(10 * time.Second))
 	head := "PUT " + path + " HTTP/1.1\r\nHost: x\r\nExpect: 100-continue\r\nContent-Length: 2\r\n\r\n"
-	_, err := io.WriteString(connection, head)
-	check(t, err)
+	diff.Value(io.WriteString(connection, head))(t)
 	came := bufio.NewReader(connection)
 	if line, err := came.ReadString('\n'); err != nil || line != "HTTP/1.1 100 Continue\r\n" {
 		t.Fatalf("got the line %q and the error %v, want HTTP/1.1 100 Continue", line, err)
@@ -458,8 +457,7 @@ func TestExpectContinue(t *testing.T) {
 	if line, err := came.ReadString('\n'); err != nil || line != "\r\n" {
 		t.Fatalf("got the line %q and the error %v, want an empty line", line, err)
 	}
-	_, err = io.WriteString(connection, "{}")
-	check(t, err)
+	diff.Value(io.WriteString(connection, "{}"))(t)
 	answer := diff.Value(http.ReadResponse(came, nil))(t)
 	defer answer.Body.Close()
 	if whole, _, _ := broker.counts(); whole != 1 || broker.bodies[0] != "{}" || answer.StatusCode != 201 {

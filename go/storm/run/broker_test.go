@@ -37,15 +37,13 @@ func configFor(t *testing.T, url string) BrokerConfig {
 
 func openStorm(t *testing.T, config BrokerConfig) *BrokerStorm {
 	t.Helper()
-	storm := diff.Value(NewBroker(config))(t)
-	return storm
+	return diff.Value(NewBroker(config))(t)
 }
 
 func runStorm(t *testing.T, config BrokerConfig) *Report {
 	t.Helper()
 	storm := openStorm(t, config)
-	report := diff.Value(storm.Run(context.Background(), context.Background()))(t)
-	return report
+	return diff.Value(storm.Run(context.Background(), context.Background()))(t)
 }
 
 // storms is in how many storms a mistake must show at least once: on a busy machine other requests meet the faults.

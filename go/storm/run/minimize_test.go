@@ -14,8 +14,7 @@ import (
 
 func listOf(t *testing.T, text string) []fault.Injection {
 	t.Helper()
-	list := diff.Value(fault.ReadList(strings.NewReader(text)))(t)
-	return list
+	return diff.Value(fault.ReadList(strings.NewReader(text)))(t)
 }
 
 func contains(list []fault.Injection, needed string) bool {

@@ -11,6 +11,8 @@ import (
 	"sync"
 	"testing"
 	"time"
+
+	"pippinterm/internal/diff"
 )
 
 // secret stands in the credentials of each binding.
@@ -84,8 +86,7 @@ func (m *model) file(k Key) string {
 func (m *model) list(t *testing.T) (names []string) {
 	t.Helper()
 	for _, name := range []string{"instances", "bindings"} {
-		files, err := os.ReadDir(filepath.Join(m.folder, name))
-		check(t, err)
+		files := diff.Value(os.ReadDir(filepath.Join(m.folder, name)))(t)
 		for _, file := range files {
 			names = append(names, file.Name())
 		}

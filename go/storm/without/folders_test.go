@@ -17,8 +17,7 @@ func newSlowFolders(t *testing.T) (*slowFolders, string) {
 	t.Helper()
 	state := t.TempDir()
 	of := diff.Value(folders.New(filepath.Join(state, "instances")))(t)
-	_, err := SlowFolders(of, state)
-	check(t, err)
+	diff.Value(SlowFolders(of, state))(t)
 	return &slowFolders{Folders: of, state: state, pause: func(context.Context) error { return nil }}, state
 }
 

@@ -118,12 +118,9 @@ func TestLocks(t *testing.T) {
 	_, locks, err := StoreAndLocks(ctx, "locks", openEmpty(t), nil)
 	check(t, err)
 	for n := 0; n < 2; n++ {
-		if lock, err := locks.TryLock(ctx, instance); err != nil || lock == nil {
-			t.Errorf("attempt %d: got the lock %v, %v, want one", n, lock, err)
-		}
+		diff.Equal(t, diff.Value(locks.TryLock(ctx, instance))(t) != nil, true, "attempt %d gets the lock", n)
 	}
-	_, err = locks.Lock(ctx, instance)
-	check(t, err)
+	diff.Value(locks.Lock(ctx, instance))(t)
 }
 
 // The unfinished work of the last process has failed, if the broker is as usual.
@@ -138,9 +135,7 @@ func TestUnfinishedHasFailed(t *testing.T) {
 	wantHolding(t, store, instance, holding(t, in("failed"), "null", false))
 	wantHolding(t, store, other, holding(t, in("delete-failed"), "null", false))
 	write(t, store, instance, making) // as a request has begun it since
-	if keys, err := usual.UnfinishedKeys(ctx); err != nil || len(keys) > 0 {
-		t.Errorf("unfinished: got %v, %v, want none", keys, err)
-	}
+	diff.Equal(t, len(diff.Value(usual.UnfinishedKeys(ctx))(t)), 0, "unfinished keys")
 }
 
 // A lateClient answers once the test lets it.
@@ -164,8 +159,7 @@ func (lateClient) Clock() time.Time { return time.Now() }
 func inFlight(t *testing.T) (platform.Store, platform.Entry) {
 	t.Helper()
 	ctx := context.Background()
-	store, err := sqlite.Open(ctx, filepath.Join(t.TempDir(), "store"))
-	check(t, err)
+	store := diff.Value(sqlite.Open(ctx, filepath.Join(t.TempDir(), "store")))(t)
 	t.Cleanup(func() { check(t, store.Close()) })
 	check(t, store.AddBroker(ctx, platform.Broker{Name: "b", URL: "http://127.0.0.1"}))
 	record, _ := osb.Create(one, service, now, true)
@@ -190,9 +184,7 @@ func TestAnswerInTime(t *testing.T) {
 	in := ClientWithoutAttempts(client, store).Exchange(context.Background(), out)
 	diff.Equal(t, in.Status, http.StatusCreated, "the status")
 	diff.Equal(t, (<-client.until).Sub(out.Until), listens, "for how much longer it listens")
-	if read, err := store.Read(context.Background(), entry.Key); err != nil || read.State != platform.Wanted {
-		t.Errorf("got the state %v and the error %v, want wanted", read.State, err)
-	}
+	diff.Equal(t, diff.Value(store.Read(context.Background(), entry.Key))(t).State, platform.Wanted, "the state")
 }
 
 // A late answer is taken for that to another request: the 201 of a Provision for the answer to the Deprovision.
@@ -206,16 +198,13 @@ func TestLateAnswerIsTaken(t *testing.T) {
 	}
 	check(t, store.Change(ctx, entry.Key, func(_ time.Time, snapshot platform.Snapshot) (*platform.Change, error) {
 		e := snapshot.Entry
-		record, err := e.Record.Timeout(1)
-		check(t, err)
-		e.Record, _, err = record.Send(one)
-		e.State = platform.StateOf(e.Record)
+		record, _, err := diff.Value(e.Record.Timeout(1))(t).Send(one)
+		e.Record, e.State = record, platform.StateOf(record)
 		return &platform.Change{Entry: e}, err
 	}))
 	client.answers <- platform.Incoming{Answer: osb.Answer{Status: http.StatusOK, Body: osb.BodyEmpty}}
 	waits.Until(t, "the state is gone", func() bool {
-		read, err := store.Read(ctx, entry.Key)
-		check(t, err)
+		read := diff.Value(store.Read(ctx, entry.Key))(t)
 		return read.State == platform.Gone
 	})
 }
@@ -228,11 +217,10 @@ func givenUp(t *testing.T, steps *[]platform.State) platform.Step {
 		if e.State == platform.Gone {
 			return &platform.Change{Entry: e}, nil
 		}
-		record, err := e.Record.Timeout(e.Record.Attempt())
+		record, _, err := diff.Value(e.Record.Timeout(e.Record.Attempt()))(t).Send(e.Key.ID())
 		check(t, err)
-		e.Record, _, err = record.Send(e.Key.ID())
-		check(t, err)
-		e.State, e.Due, e.Lease = platform.StateOf(e.Record), time.Now(), platform.Lease{Worker: "w", Until: time.Now()}
+		e.Record, e.State, e.Due = record, platform.StateOf(record), time.Now()
+		e.Lease = platform.Lease{Worker: "w", Until: time.Now()}
 		return &platform.Change{Entry: e}, nil
 	}
 }
@@ -253,8 +241,7 @@ func TestForgets(t *testing.T) {
 			store, entry := inFlight(t)
 			var steps []platform.State
 			check(t, change(ForgetfulStore(store), entry.Key, givenUp(t, &steps)))
-			read, err := store.Read(ctx, entry.Key)
-			check(t, err)
+			read := diff.Value(store.Read(ctx, entry.Key))(t)
 			if read.State != platform.Gone || !read.Record.IsGone() || !read.Due.IsZero() || read.Lease.Worker != "" {
 				t.Errorf("%s: got %+v, want a record that is gone, and of no worker", name, read)
 			}
@@ -278,8 +265,7 @@ func TestForgetsNothingElse(t *testing.T) {
 			return r.Answer(1, osb.Answer{Status: 201, Body: osb.BodyEmpty})
 		}, platform.Ready},
 		"deleted": {platform.Removed, func(r osb.Record) (osb.Record, error) {
-			record, err := r.Answer(1, osb.Answer{Status: 201, Body: osb.BodyEmpty})
-			check(t, err)
+			record := diff.Value(r.Answer(1, osb.Answer{Status: 201, Body: osb.BodyEmpty}))(t)
 			return record.Remove()
 		}, platform.Cleaning},
 	} {
@@ -292,8 +278,7 @@ func TestForgetsNothingElse(t *testing.T) {
 				e.State, e.Removal = platform.StateOf(e.Record), test.removal
 				return &platform.Change{Entry: e}, err
 			}))
-			read, err := store.Read(ctx, entry.Key)
-			check(t, err)
+			read := diff.Value(store.Read(ctx, entry.Key))(t)
 			diff.Equal(t, read.State, test.wanted, "%s: the state", name)
 		})
 	}

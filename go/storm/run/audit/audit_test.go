@@ -7,6 +7,7 @@ import (
 	"net/url"
 	"os"
 	"path/filepath"
+	"strconv"
 	"strings"
 	"syscall"
 	"testing"
@@ -160,8 +161,7 @@ func texts(all report.Differences, key Key) string {
 
 func differencesAtEnd(t *testing.T, r Reading, key Key) string {
 	t.Helper()
-	all := diff.Value(r.CompareAtEnd(context.Background(), resourceStub{is: true}))(t)
-	return texts(all, key)
+	return texts(diff.Value(r.CompareAtEnd(context.Background(), resourceStub{is: true}))(t), key)
 }
 
 var readyBinding = scene{state: Ready, held: "ready", object: object, exists: broker.Whole, shows: token, given: object}
@@ -318,11 +318,10 @@ func TestFolders(t *testing.T) {
 		{Instance: guid(1)}: broker.Whole, {Instance: guid(2)}: broker.Part, {Instance: guid(3)}: broker.Whole, whole: broker.Whole,
 		{Instance: guid(1), Binding: guid(6)}: broker.Part,
 	}, Credentials: map[Key]json.RawMessage{whole: json.RawMessage(token)}}
-	stock := diff.Value((Folders{top}).Look(background, every))(t)
+	stock := diff.Value(Folders{top}.Look(background, every))(t)
 	diff.Check(t, stock, wanted, "what exists")
-	if stock, err := (Folders{top + "/none"}).Look(background, every); err != nil || len(stock.Of) > 0 {
-		t.Errorf("got the error %v and %v, want nothing", err, stock)
-	}
+	stock = diff.Value(Folders{top + "/none"}.Look(background, every))(t)
+	diff.Equal(t, len(stock.Of), 0, "what exists without a folder: %v", stock)
 }
 
 // Credentials give access if the file of the binding has them, and they are for the folder of its instance.
@@ -342,9 +341,8 @@ func TestCredentialsOfFolders(t *testing.T) {
 			if test.written != "" {
 				write(t, file, test.written)
 			}
-			if works, err := f.Works(background, bound, json.RawMessage(test.given)); err != nil || works != test.works {
-				t.Errorf("got %v and the error %v, want %v", works, err, test.works)
-			}
+			works := diff.Value(f.Works(background, bound, json.RawMessage(test.given)))(t)
+			diff.Equal(t, works, test.works, "they give access")
 		})
 	}
 }
@@ -362,14 +360,11 @@ func TestLabels(t *testing.T) {
 	} {
 		t.Run(text, func(t *testing.T) {
 			write(t, filepath.Join(top, one.Instance, "instance.json"), text)
-			if is, err := (Folders{top}).IsUsable(background, one, record); err != nil || is != wanted {
-				t.Errorf("%s: got %v and the error %v, want %v", text, is, err, wanted)
-			}
+			diff.Equal(t, diff.Value(Folders{top}.IsUsable(background, one, record))(t), wanted, "it can be used")
 		})
 	}
-	if is, err := (Folders{top}).IsUsable(background, Key{Instance: guid(9)}, record); err != nil || is {
-		t.Errorf("without a folder: got %v %v, want false", is, err)
-	}
+	is := diff.Value(Folders{top}.IsUsable(background, Key{Instance: guid(9)}, record))(t)
+	diff.Equal(t, is, false, "without a folder, it can be used")
 	for _, test := range []struct {
 		plan   osb.ID
 		wanted bool
@@ -380,9 +375,7 @@ func TestLabels(t *testing.T) {
 				t.Logf("the file system of the temporary folder has no extended attributes: %v", err)
 				return
 			}
-			if is, err := (Folders{top}).IsUsable(background, one, record); err != nil || is != test.wanted {
-				t.Errorf("%s in an attribute: got %v %v, want %v", text, is, err, test.wanted)
-			}
+			diff.Equal(t, diff.Value(Folders{top}.IsUsable(background, one, record))(t), test.wanted, "it can be used")
 		})
 	}
 }
@@ -390,16 +383,11 @@ func TestLabels(t *testing.T) {
 // The rows of a broker are read from its file, which isn't created.
 func TestFile(t *testing.T) {
 	path := filepath.Join(t.TempDir(), "holdings.sqlite")
-	if all, err := File(path).Read(background); err != nil || len(all) > 0 {
-		t.Errorf("without a file: got %v %v, want none", all, err)
-	}
-	if _, err := os.Stat(path); err == nil {
-		t.Error("the file: got it created, want none")
-	}
+	diff.Equal(t, len(diff.Value(File(path).Read(background))(t)), 0, "rows without a file")
+	_, err := os.Stat(path)
+	diff.ErrorIs(t, err, os.ErrNotExist, "the file")
 	write(t, path, "")
-	if all, err := File(path).Read(background); err != nil || len(all) > 0 {
-		t.Errorf("without tables: got %v %v, want none", all, err)
-	}
+	diff.Equal(t, len(diff.Value(File(path).Read(background))(t)), 0, "rows without tables")
 	store := diff.Value(brokersqlite.Open(background, path, broker.Silent{}))(t)
 	defer store.Close()
 	wanted := map[Key]Row{
@@ -411,15 +399,14 @@ func TestFile(t *testing.T) {
 		step := func(broker.Snapshot) (*broker.Entry, error) { return &entry, nil }
 		check(t, store.Change(background, numbered, 0, step))
 	}
-	all := diff.Value(File(path).Read(background))(t)
-	diff.Check(t, all, wanted, "the rows")
+	diff.Check(t, diff.Value(File(path).Read(background))(t), wanted, "the rows")
 }
 
 // What exists at a server is read from the names of roles and databases. Credentials give access while the role may log
 // in. Nobody knows of a server that is away.
 func TestDatabases(t *testing.T) {
 	server := pgtest.URL(t)
-	db, parsed := pgtest.DB(t, server), mustParse(t, server)
+	db, parsed := pgtest.DB(t, server), diff.Value(url.Parse(server))(t)
 	secret := []byte("the key of a test's passwords, long enough for that")
 	d := Databases{DB: db, Server: server, Secret: secret}
 	instance := diff.Value(BrokerKey(one))(t)
@@ -427,8 +414,7 @@ func TestDatabases(t *testing.T) {
 	name, role, password := postgres.NameOf(instance), postgres.NameOf(binding), postgres.PasswordOf(secret, instance)
 	ours := func(id string) bool { return id == one.Instance }
 	look := func() map[Key]broker.There {
-		stock := diff.Value(d.Look(background, ours))(t)
-		return stock.Of
+		return diff.Value(d.Look(background, ours))(t).Of
 	}
 	given := func(change func(map[string]any)) json.RawMessage {
 		all := map[string]any{
@@ -439,9 +425,7 @@ func TestDatabases(t *testing.T) {
 		return text
 	}
 	works := func(change func(map[string]any)) bool {
-		is, err := d.Works(background, bound, given(change))
-		diff.NoError(t, err, "")
-		return is
+		return diff.Value(d.Works(background, bound, given(change)))(t)
 	}
 	same := func(map[string]any) {}
 	t.Cleanup(func() { _ = d.Clear(background, ours) })
@@ -452,43 +436,33 @@ func TestDatabases(t *testing.T) {
 	diff.Check(t, look(), map[Key]broker.There{one: broker.Part}, "a role alone")
 	pgtest.Exec(t, db, "CREATE DATABASE "+name+" OWNER "+name, "CREATE ROLE "+role+" LOGIN PASSWORD 'secret'")
 	diff.Check(t, look(), map[Key]broker.There{one: broker.Whole, bound: broker.Whole}, "the instance and the binding")
-	if stock, err := d.Look(background, func(string) bool { return false }); err != nil || len(stock.Of) > 0 {
-		t.Errorf("somebody else's: got %v %v, want none", stock, err)
-	}
-	if is, err := d.IsUsable(background, one, Record{}); err != nil || !is {
-		t.Errorf("IsUsable: got false (%v), want true", err)
-	}
+	stock := diff.Value(d.Look(background, func(string) bool { return false }))(t)
+	diff.Equal(t, len(stock.Of), 0, "what exists of nobody's: %v", stock)
+	diff.Equal(t, diff.Value(d.IsUsable(background, one, Record{}))(t), true, "it can be used")
 	for what, change := range map[string]func(map[string]any){
 		"the password": func(all map[string]any) { all["password"] = "other" },
 		"the database": func(all map[string]any) { all["database"] = "postgres" },
 		"the user":     func(all map[string]any) { all["username"] = "nobody" },
 	} {
 		t.Run(what, func(t *testing.T) {
-			if works(change) {
-				t.Errorf("other credentials for %s: got access, want none", what)
-			}
+			diff.Equal(t, works(change), false, "other credentials for %s give access", what)
 		})
 	}
-	if !works(same) {
-		t.Error("the credentials: got no access, want it")
-	}
+	diff.Equal(t, works(same), true, "the credentials give access")
 	_, err := d.Works(background, bound, given(func(all map[string]any) { all["port"] = 1 }))
 	diff.Error(t, err, "a server that is away")
 	pgtest.Exec(t, db, "ALTER ROLE "+role+" NOLOGIN", "ALTER ROLE "+name+" PASSWORD 'other'")
 	if is, err := d.IsUsable(background, one, Record{}); works(same) || look()[bound] != broker.Part || is || err != nil {
 		t.Errorf("without the right to log in: got %v %v, want a part that can't be used", look(), err)
 	}
-	if err := d.Clear(background, ours); err != nil || len(look()) > 0 {
-		t.Errorf("after Clear: got %v %v, want none", look(), err)
-	}
+	check(t, d.Clear(background, ours))
+	diff.Equal(t, len(look()), 0, "what exists after Clear: %v", look())
 }
 
 // The rows of a broker are read from its tables.
 func TestTables(t *testing.T) {
 	db := pgtest.DB(t, pgtest.Schema(t, pgtest.URL(t), "osb_stormaudit"))
-	if all, err := (Tables{db}).Read(background); err != nil || len(all) > 0 {
-		t.Errorf("without tables: got %v %v, want none", all, err)
-	}
+	diff.Equal(t, len(diff.Value(Tables{db}.Read(background))(t)), 0, "rows without tables")
 	ready := row(t, "ready", plan)
 	ofBinding := diff.Value(ready.BindingText())(t)
 	pgtest.Exec(t, db, "CREATE TABLE osb_holdings (id uuid, holding text)",
@@ -500,24 +474,14 @@ func TestTables(t *testing.T) {
 		one: {Holding: ready}, bound: {Holding: ready, Object: json.RawMessage(object)},
 		{Instance: one.Instance, Binding: one.Instance}: {Holding: ready},
 	}
-	all := diff.Value((Tables{db}).Read(background))(t)
-	diff.Check(t, all, wanted, "the rows")
-}
-
-func mustParse(t *testing.T, address string) *url.URL {
-	t.Helper()
-	parsed := diff.Value(url.Parse(address))(t)
-	return parsed
+	diff.Check(t, diff.Value(Tables{db}.Read(background))(t), wanted, "the rows")
 }
 
 func port(t *testing.T, address string) int {
 	t.Helper()
 	_, text, err := pg.HostAndPort(address)
 	check(t, err)
-	var number int
-	_, err = fmt.Sscan(text, &number)
-	check(t, err)
-	return number
+	return diff.Value(strconv.Atoi(text))(t)
 }
 
 var check = diff.Must

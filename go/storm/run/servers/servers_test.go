@@ -74,9 +74,8 @@ func TestPostgres(t *testing.T) {
 	if found := rows(t, url, "SHOW fsync"); found != "on" || strings.Contains(states(p), "T") {
 		t.Errorf("after the pause: got fsync %s and the states %s, want on and none paused", found, states(p))
 	}
-	if kills, pauses := p.Counts(); kills != 2 || pauses != 1 {
-		t.Errorf("got %d kills and %d pauses, want 2 and 1", kills, pauses)
-	}
+	kills, pauses := p.Counts()
+	diff.Equal(t, [2]int{kills, pauses}, [2]int{2, 1}, "the kills and the pauses")
 	if err := p.Close(); err != nil || !strings.HasPrefix(rows(t, url, "SELECT 1"), "error: ") {
 		t.Errorf("Close: got %v, or a server that still runs, want its end", err)
 	}
@@ -97,9 +96,7 @@ func TestDatabase(t *testing.T) {
 	server, ctx := pgtest.URL(t), context.Background()
 	d := diff.Value(Create(ctx, server, "storm_of_a_test"))(t)
 	diff.Equal(t, rows(t, d.URL(), "SELECT current_database()"), "storm_of_a_test", "")
-	if isEnded, err := d.EndSession(ctx); isEnded || err != nil {
-		t.Errorf("got ended %v, %v, want false", isEnded, err)
-	}
+	diff.Equal(t, diff.Value(d.EndSession(ctx))(t), false, "a session was ended")
 	address, environment := d.ForPrograms()
 	for _, variable := range environment {
 		name, value, _ := strings.Cut(variable, "=")
@@ -107,9 +104,7 @@ func TestDatabase(t *testing.T) {
 	}
 	db := pgtest.DB(t, address)
 	check(t, db.Ping())
-	if isEnded, err := d.EndSession(ctx); !isEnded || err != nil {
-		t.Errorf("got ended %v, %v, want true", isEnded, err)
-	}
+	diff.Equal(t, diff.Value(d.EndSession(ctx))(t), true, "a session was ended")
 	diff.NoError(t, d.Close(), "")
 	diff.Contains(t, rows(t, d.URL(), "SELECT 1"), "does not exist", "")
 }

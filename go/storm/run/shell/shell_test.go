@@ -19,9 +19,7 @@ import (
 func TestRows(t *testing.T) {
 	rows := diff.Value(Rows(context.Background(), `printf 'a b\n\n  c\td \n'`, 2))(t)
 	diff.Check(t, rows, [][]string{{"a", "b"}, {"c", "d"}}, "the rows")
-	if rows, err := Rows(context.Background(), "true", 1); err != nil || len(rows) > 0 {
-		t.Errorf("got the error %v and the rows %v, want none", err, rows)
-	}
+	diff.Equal(t, len(diff.Value(Rows(context.Background(), "true", 1))(t)), 0, "rows of no output")
 }
 
 // A command that fails says nothing, and the error has the last line of its standard error.
@@ -42,10 +40,8 @@ func TestRowsFail(t *testing.T) {
 
 // However much a command prints on either output, all of it is read.
 func TestRowsMuch(t *testing.T) {
-	rows, err := Rows(context.Background(), "seq 50000 >&2; seq 50000; seq 50000 >&2", 1)
-	if err != nil || len(rows) != 50000 {
-		t.Errorf("got %v and %d rows, want 50000", err, len(rows))
-	}
+	rows := diff.Value(Rows(context.Background(), "seq 50000 >&2; seq 50000; seq 50000 >&2", 1))(t)
+	diff.Equal(t, len(rows), 50000, "rows")
 }
 
 // A command ends with its context, and what it has started may go on.
@@ -165,9 +161,8 @@ func TestMostPrinted(t *testing.T) {
 			}
 		})
 	}
-	if rows, err := few.rows(context.Background(), "yes 123456789 | head -c 10000", 1); err != nil || len(rows) != 1000 {
-		t.Errorf("got %v and %d rows, want 1000", err, len(rows))
-	}
+	rows := diff.Value(few.rows(context.Background(), "yes 123456789 | head -c 10000", 1))(t)
+	diff.Equal(t, len(rows), 1000, "rows")
 }
 
 func awaitEnd(t *testing.T, c *Command) {
@@ -250,8 +245,7 @@ func pidIn(t *testing.T, path string) int {
 	t.Helper()
 	for until := time.Now().Add(10 * time.Second); time.Now().Before(until); time.Sleep(10 * time.Millisecond) {
 		if text, err := os.ReadFile(path); err == nil && strings.HasSuffix(string(text), "\n") {
-			pid := diff.Value(strconv.Atoi(strings.TrimSpace(string(text))))(t)
-			return pid
+			return diff.Value(strconv.Atoi(strings.TrimSpace(string(text))))(t)
 		}
 	}
 	t.Fatal("the command: got no id of it in time, want one")
