@@ -248,8 +248,7 @@ func (b *BothStorm) addPlatform(ctx context.Context) error {
 		return err
 	}
 	book := &notedBook{
-		book:       book{service: goods.Service, plan: b.plan},
-		stateNotes: &stateNotes{events: b.events, states: map[Key]platform.State{}},
+		book: book{service: goods.Service, plan: b.plan}, events: b.events, states: map[Key]platform.State{},
 	}
 	chance := fault.Chance(b.config.Seed, "commands")
 	b.commands = newCommands(book, chance, b.platformLine(), journal, b.storage.environment)

@@ -5,7 +5,6 @@ import (
 	"encoding/json"
 	"fmt"
 	"strings"
-	"sync"
 	"time"
 
 	"pippinterm/platform"
@@ -19,7 +18,7 @@ type auditor struct {
 	reader audit.Reader
 	*finds
 
-	mutex    sync.Mutex
+	guard
 	compared map[string]int // how many records of each kind were compared
 }
 
@@ -87,7 +86,7 @@ type keyring struct {
 	works   func(context.Context, Key, json.RawMessage) (bool, error)
 	*finds
 
-	mutex sync.Mutex
+	guard
 	given map[Key]json.RawMessage // the objects that were read, also of bindings that are gone now
 }
 
@@ -159,9 +158,7 @@ func (k *keyring) try(ctx context.Context, key Key) error {
 	if err != nil || object == nil {
 		return err
 	}
-	k.mutex.Lock()
-	k.given[key] = object
-	k.mutex.Unlock()
+	k.hold(func() { k.given[key] = object })
 	works, failed := k.works(ctx, key, audit.CredentialsOf(object))
 	if works {
 		return nil

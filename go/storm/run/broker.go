@@ -9,7 +9,6 @@ import (
 	"net/url"
 	"os"
 	"sort"
-	"sync"
 	"time"
 
 	"pippinterm/platform"
@@ -283,7 +282,7 @@ type brokerRun struct {
 	watch    *watch
 	last     Sight // of the end
 
-	mutex  sync.Mutex
+	guard
 	failed []string
 }
 
@@ -339,11 +338,7 @@ func (r *brokerRun) noteRestarts(
 	}
 }
 
-func (r *brokerRun) fail(what string) {
-	r.mutex.Lock()
-	defer r.mutex.Unlock()
-	r.failed = append(r.failed, what)
-}
+func (r *brokerRun) fail(what string) { r.hold(func() { r.failed = append(r.failed, what) }) }
 
 // storm lives all lives, ends the faults, waits until everything has converged, and compares. If ctx is done, it
 // doesn't wait. If deleting is done, it doesn't ask what exists.

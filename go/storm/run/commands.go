@@ -9,7 +9,6 @@ import (
 	"math/rand"
 	"os/exec"
 	"strings"
-	"sync"
 	"syscall"
 	"time"
 
@@ -45,7 +44,7 @@ type commands struct {
 	slots       chan struct{}
 	triesOf     func(Key) int // how many ids an order of an instance, or of a binding of it, may use up
 
-	turn    sync.Mutex
+	guard
 	chance  *rand.Rand
 	isKill  bool           // commands are killed at their crash points
 	visited map[string]int // how often a command was killed at each
@@ -104,9 +103,7 @@ func (c *commands) order(ctx context.Context, key Key, words ...string) error {
 	if !record.Known {
 		return errors.New(strings.TrimSpace(ended.said))
 	}
-	c.turn.Lock()
-	defer c.turn.Unlock()
-	c.deeds.ordered[key] = true
+	c.hold(func() { c.deeds.ordered[key] = true })
 	return nil
 }
 
@@ -152,9 +149,7 @@ func (c *commands) Abandon(ctx context.Context, key Key) error {
 	if !isAbandoned {
 		return errors.New(strings.TrimSpace(ended.said))
 	}
-	c.turn.Lock()
-	defer c.turn.Unlock()
-	c.deeds.abandoned[key] = true
+	c.hold(func() { c.deeds.abandoned[key] = true })
 	return nil
 }
 
@@ -167,9 +162,7 @@ func (c *commands) change(ctx context.Context, done func(), words ...string) err
 	if ended.status != cli.StatusDone {
 		return errors.New(strings.TrimSpace(ended.said))
 	}
-	c.turn.Lock()
-	defer c.turn.Unlock()
-	done()
+	c.hold(done)
 	return nil
 }
 
@@ -213,8 +206,8 @@ func (c *commands) ShowState(ctx context.Context, key Key) (string, error) {
 }
 
 func (c *commands) counts() (instances, bindings int) {
-	c.turn.Lock()
-	defer c.turn.Unlock()
+	c.mutex.Lock()
+	defer c.mutex.Unlock()
 	for key := range c.deeds.ordered {
 		if key.Binding == "" {
 			instances++
@@ -227,8 +220,8 @@ func (c *commands) counts() (instances, bindings int) {
 
 // missingDeeds returns what the records don't show of the operator's deeds.
 func (c *commands) missingDeeds(records map[Key]Record) (all report.Differences) {
-	c.turn.Lock()
-	defer c.turn.Unlock()
+	c.mutex.Lock()
+	defer c.mutex.Unlock()
 	for key := range c.deeds.ordered {
 		if !records[key].Known {
 			all.Add(key, Stuck, "it was ordered, and the platform has no record")
@@ -309,11 +302,7 @@ func (c *commands) once(ctx context.Context, point string, words []string) (ende
 }
 
 // kill has commands killed at their crash points, or not any more.
-func (c *commands) kill(is bool) {
-	c.turn.Lock()
-	defer c.turn.Unlock()
-	c.isKill = is
-}
+func (c *commands) kill(is bool) { c.hold(func() { c.isKill = is }) }
 
 // pointOf returns the crash point at which the next command is to be killed, or "".
 func (c *commands) pointOf(command string) string {
@@ -321,24 +310,20 @@ func (c *commands) pointOf(command string) string {
 	case "list", "show", "credentials":
 		return ""
 	}
-	c.turn.Lock()
-	defer c.turn.Unlock()
+	c.mutex.Lock()
+	defer c.mutex.Unlock()
 	if !c.isKill || c.chance.Float64() >= killedCommands {
 		return ""
 	}
 	return []string{orderNext, orderWritten}[c.chance.Intn(2)]
 }
 
-func (c *commands) visit(point string) {
-	c.turn.Lock()
-	defer c.turn.Unlock()
-	c.visited[point]++
-}
+func (c *commands) visit(point string) { c.hold(func() { c.visited[point]++ }) }
 
 // points returns how often commands were killed, which of their crash points were visited, and which weren't.
 func (c *commands) points() (kills int, visited, unvisited []string) {
-	c.turn.Lock()
-	defer c.turn.Unlock()
+	c.mutex.Lock()
+	defer c.mutex.Unlock()
 	for _, point := range []string{orderNext, orderWritten} {
 		kills += c.visited[point]
 		if c.visited[point] > 0 {
@@ -350,14 +335,10 @@ func (c *commands) points() (kills int, visited, unvisited []string) {
 	return kills, visited, unvisited
 }
 
-func (c *commands) note(what string) {
-	c.turn.Lock()
-	defer c.turn.Unlock()
-	c.wrong = append(c.wrong, what)
-}
+func (c *commands) note(what string) { c.hold(func() { c.wrong = append(c.wrong, what) }) }
 
 func (c *commands) oddities() []string {
-	c.turn.Lock()
-	defer c.turn.Unlock()
+	c.mutex.Lock()
+	defer c.mutex.Unlock()
 	return append([]string{}, c.wrong...)
 }

@@ -39,7 +39,7 @@ func commandsOver(t *testing.T, script string) (c *commands, one Key, folder str
 	program := filepath.Join(folder, "program")
 	text := "#!/bin/sh\ncd " + folder + "\necho \"$*\" >>calls\n" + script + "\n"
 	check(t, os.WriteFile(program, []byte(text), 0o700))
-	noted := &notedBook{book: book, stateNotes: &stateNotes{events: silentEvents(), states: map[Key]platform.State{}}}
+	noted := &notedBook{book: book, events: silentEvents(), states: map[Key]platform.State{}}
 	return newCommands(noted, fault.Chance(1, "test"), []string{program}, []string{"--journal", "j"}, os.Environ()), one, folder
 }
 

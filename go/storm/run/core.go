@@ -305,17 +305,24 @@ func (k *Keys) inOrder() []Key {
 	return all
 }
 
+// A guard makes calls one at a time.
+type guard struct{ mutex sync.Mutex }
+
+func (g *guard) hold(call func()) {
+	g.mutex.Lock()
+	defer g.mutex.Unlock()
+	call()
+}
+
 // finds are the differences that were found so far. Each is an event, too. Any number of goroutines use them.
 type finds struct {
 	events *events
-	mutex  sync.Mutex
-	all    report.Differences
+	guard
+	all report.Differences
 }
 
 func (f *finds) add(key Key, kind report.Kind, what string) {
-	f.mutex.Lock()
-	f.all.Add(key, kind, what)
-	f.mutex.Unlock()
+	f.hold(func() { f.all.Add(key, kind, what) })
 	f.events.add(key, "osb-storm", what)
 }
 
@@ -340,15 +347,13 @@ type events struct {
 	platform.Silent
 	now   func() time.Duration
 	keyOf func(platform.Key) Key
-	mutex sync.Mutex
+	guard
 	all   []Event
 	found []Event // the last deletion has found what was recorded as gone
 }
 
 func (e *events) add(key Key, who, what string) {
-	e.mutex.Lock()
-	defer e.mutex.Unlock()
-	e.all = append(e.all, Event{At: e.now(), Key: key, Who: who, What: what})
+	e.hold(func() { e.all = append(e.all, Event{At: e.now(), Key: key, Who: who, What: what}) })
 }
 
 func (e *events) list() []Event {
@@ -394,7 +399,5 @@ func (e *events) OnOrphan(key platform.Key, status int, isFound bool) {
 		At: e.now(), Key: e.keyOf(key), Who: "platform",
 		What: fmt.Sprintf("it existed though its record says gone: the last deletion was answered with %d", status),
 	}
-	e.mutex.Lock()
-	defer e.mutex.Unlock()
-	e.all, e.found = append(e.all, found), append(e.found, found)
+	e.hold(func() { e.all, e.found = append(e.all, found), append(e.found, found) })
 }

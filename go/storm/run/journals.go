@@ -7,7 +7,6 @@ import (
 	"path/filepath"
 	"strconv"
 	"strings"
-	"sync"
 
 	"pippinterm/internal/cli"
 	"pippinterm/internal/journalfile"
@@ -20,7 +19,7 @@ import (
 type journals struct {
 	folder string
 	ofOwn  *journalfile.Writer
-	mutex  sync.Mutex
+	guard
 	failed []string
 }
 
@@ -49,11 +48,7 @@ func (j *journals) open(worker string) (*journalfile.Writer, error) {
 	})
 }
 
-func (j *journals) fail(what string) {
-	j.mutex.Lock()
-	defer j.mutex.Unlock()
-	j.failed = append(j.failed, what)
-}
+func (j *journals) fail(what string) { j.hold(func() { j.failed = append(j.failed, what) }) }
 
 // close ends the journal of osb-storm's own requests, and returns what has failed.
 func (j *journals) close() []string {

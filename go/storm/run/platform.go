@@ -245,10 +245,12 @@ func keyOf(key platform.Key) Key {
 	return Key{Instance: key.Instance.String()}
 }
 
-// A notedBook is a book that notes how the records change.
+// A notedBook is a book that notes how the records change. Any number of goroutines use it.
 type notedBook struct {
 	book
-	*stateNotes
+	events *events
+	turn   sync.Mutex
+	states map[Key]platform.State
 }
 
 // Record returns the record of a key.
@@ -269,16 +271,9 @@ func (n *notedBook) Records(ctx context.Context) (map[Key]Record, error) {
 	return records, err
 }
 
-// stateNotes note how records change. Any number of goroutines use them.
-type stateNotes struct {
-	events *events
-	mutex  sync.Mutex
-	states map[Key]platform.State
-}
-
-func (n *stateNotes) note(key Key, record Record) {
-	n.mutex.Lock()
-	defer n.mutex.Unlock()
+func (n *notedBook) note(key Key, record Record) {
+	n.turn.Lock()
+	defer n.turn.Unlock()
 	before := n.states[key]
 	if before == record.State || !record.Known {
 		return

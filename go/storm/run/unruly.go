@@ -39,7 +39,7 @@ type unrulyClient struct {
 	client        http.Client
 	chance        *rand.Rand // of run alone
 
-	mutex   sync.Mutex
+	guard
 	isCalm  bool         // nothing is bound any more, and all that the broker holds is unbound
 	bound   map[Key]bool // what a Bind was sent for
 	sending map[Key]bool
@@ -117,10 +117,8 @@ func sentOf(records map[Key]Record) (ids []string) {
 
 // toUnbind returns some of what was bound, or in the calm what the broker holds of it.
 func (u *unrulyClient) toUnbind(ctx context.Context) (keys []Key) {
-	u.mutex.Lock()
-	isCalm := u.isCalm
-	u.mutex.Unlock()
-	if isCalm {
+	isCalm := false
+	if u.hold(func() { isCalm = u.isCalm }); isCalm {
 		keys, _ = u.heldKeys(ctx) // while the store is away, nothing is unbound
 		return keys
 	}
@@ -159,11 +157,7 @@ func (u *unrulyClient) isDone(ctx context.Context) bool {
 }
 
 // calm ends the Binds, and has all that the broker holds unbound.
-func (u *unrulyClient) calm() {
-	u.mutex.Lock()
-	defer u.mutex.Unlock()
-	u.isCalm = true
-}
+func (u *unrulyClient) calm() { u.hold(func() { u.isCalm = true }) }
 
 func (u *unrulyClient) all() map[Key]bool {
 	u.mutex.Lock()
@@ -177,11 +171,7 @@ func (u *unrulyClient) all() map[Key]bool {
 
 // send sends a request, and polls if work goes on: no creation begins before its first Poll.
 func (u *unrulyClient) send(ctx context.Context, it bindingRequest) {
-	defer func() {
-		u.mutex.Lock()
-		defer u.mutex.Unlock()
-		delete(u.sending, it.key)
-	}()
+	defer u.hold(func() { delete(u.sending, it.key) })
 	path := "/v2/service_instances/" + it.key.Instance + "/service_bindings/" + it.key.Binding
 	query := url.Values{"accepts_incomplete": {"true"}, "service_id": {goods.Service}, "plan_id": {it.plan}}
 	body := ""

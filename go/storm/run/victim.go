@@ -9,7 +9,6 @@ import (
 	"os/exec"
 	"regexp"
 	"sort"
-	"sync"
 	"syscall"
 	"time"
 
@@ -49,7 +48,7 @@ type victim struct {
 	// wasKilled says that the process that has ended last was killed.
 	wasKilled bool
 
-	mutex sync.Mutex
+	guard
 	tally
 }
 
@@ -113,7 +112,7 @@ func (v *victim) live(ctx context.Context, point string, isPaused bool) {
 	if isDead && v.wasKilled && point != "" {
 		v.visit(point)
 	} else if point != "" {
-		v.guard(func() { v.open, v.trying = append(v.open, point), "" })
+		v.hold(func() { v.open, v.trying = append(v.open, point), "" })
 	}
 	if isPaused && !isDead {
 		v.pause(ctx)
@@ -133,7 +132,7 @@ func (v *victim) nextPoint() string {
 
 func (v *victim) visit(point string) {
 	v.tell("is killed at " + point)
-	v.guard(func() { v.visited, v.trying, v.kills = append(v.visited, point), "", v.kills+1 })
+	v.hold(func() { v.visited, v.trying, v.kills = append(v.visited, point), "", v.kills+1 })
 }
 
 // start starts a process, which is to kill itself at a crash point. It returns false if that fails.
@@ -199,7 +198,7 @@ func (v *victim) judge(isFirst bool) {
 	for _, accepted := range v.accepted {
 		if status == accepted {
 			v.tell(fmt.Sprintf("ends with status %d", status))
-			v.guard(func() { v.ends++ })
+			v.hold(func() { v.ends++ })
 			return
 		}
 	}
@@ -215,7 +214,7 @@ func (v *victim) pause(ctx context.Context) {
 	v.tell(fmt.Sprintf("is paused for %.1f s", rest.Seconds()))
 	fault.Sleep(ctx, rest)
 	_ = v.running.Process.Signal(syscall.SIGCONT)
-	v.guard(func() { v.pauses++ })
+	v.hold(func() { v.pauses++ })
 	v.dies(ctx, v.between(v.times.life)/2)
 }
 
@@ -227,7 +226,7 @@ func (v *victim) kill() {
 	_ = v.running.Process.Kill()
 	<-v.ended
 	v.tell("is killed")
-	v.guard(func() { v.kills++ })
+	v.hold(func() { v.kills++ })
 }
 
 // end ends the process as an operator does. What is odd about that is noted.
@@ -257,17 +256,10 @@ func (v *victim) tell(what string) {
 	v.events.add(Key{}, v.name, what)
 }
 
-func (v *victim) note(what string) { v.guard(func() { v.odd = append(v.odd, what) }) }
-
-// guard makes a call while the mutex is locked.
-func (v *victim) guard(call func()) {
-	v.mutex.Lock()
-	defer v.mutex.Unlock()
-	call()
-}
+func (v *victim) note(what string) { v.hold(func() { v.odd = append(v.odd, what) }) }
 
 func (v *victim) counts() (now tally) {
-	v.guard(func() { now = v.tally })
+	v.hold(func() { now = v.tally })
 	return now
 }
 
