@@ -51,19 +51,8 @@ func brokerCommand(v *cli.Verdict) *cobra.Command {
 }
 
 func (s *brokerSettings) add(made *cobra.Command) {
-	s.addBroker(made)
-	s.addStorm(made)
-	s.addReports(made)
-}
-
-func (s *brokerSettings) addBroker(made *cobra.Command) {
-	flags, broker, commands := made.Flags(), &s.config.Broker, &s.config.Commands
-	flags.StringVar(&broker.URL, "url", "", "the `URL` of the broker, without /v2")
-	flags.StringVar(&broker.User, "user", "platform", "the `name` with which to log in")
-	flags.StringVar(&s.passwordFile, "password-file", "", "a `file` with the password")
-	flags.StringVar(&broker.Service, "service", "",
-		"the `name` or id of the service to order; with --plan. Default: the first bindable plan")
-	flags.StringVar(&broker.Plan, "plan", "", "the `name` or id of the plan to order; with --service")
+	flags, config, commands := made.Flags(), &s.config, &s.config.Commands
+	addTarget(flags, &config.Broker, &s.passwordFile)
 	flags.StringVar(&commands.List, "list-command", "",
 		"a `command` that prints the id of each instance that exists, one on a line")
 	flags.StringVar(&commands.ListBindings, "list-bindings-command", "",
@@ -72,10 +61,6 @@ func (s *brokerSettings) addBroker(made *cobra.Command) {
 		"a `command` that kills the broker and starts it again; it is run at random moments")
 	flags.StringVar(&commands.Kill, "kill-command", "", "a `command` that kills the broker; with --start-command")
 	flags.StringVar(&commands.Start, "start-command", "", "a `command` that starts the broker; with --kill-command")
-}
-
-func (s *brokerSettings) addStorm(made *cobra.Command) {
-	flags, config := made.Flags(), &s.config
 	flags.Var(cli.Count(&config.Broker.Instances, 50, 2, 10000), "instances", "the most instances that a run creates")
 	flags.Var(cli.Seconds(&config.Time, time.Minute), "seconds", "after which the faults end")
 	flags.Var(cli.Seconds(&config.SettleTime, 2*time.Minute), "settle-seconds", "until everything has converged")
@@ -92,6 +77,7 @@ func (s *brokerSettings) addStorm(made *cobra.Command) {
 	flags.Var(cli.Seconds(&config.CleanUpTime, 5*time.Minute), "cleanup-seconds", "for the deletions at the end")
 	flags.StringVar(&config.Journal, "journal", "",
 		"a `directory`: the journal of the storm's platform is written to DIRECTORY/platform, for osb-audit")
+	s.addReports(made)
 }
 
 // open reads the password and the list of faults, and opens a storm for the settings.

@@ -11,6 +11,7 @@ import (
 	"time"
 
 	"github.com/spf13/cobra"
+	"github.com/spf13/pflag"
 
 	"pippinterm/internal/cli"
 	"pippinterm/storm/conform"
@@ -47,12 +48,7 @@ func conformCommand(v *cli.Verdict) *cobra.Command {
 
 func (s *conformSettings) add(made *cobra.Command) {
 	flags, config := made.Flags(), &s.config
-	flags.StringVar(&config.URL, "url", "", "the `URL` of the broker, without /v2")
-	flags.StringVar(&config.User, "user", "platform", "the `name` with which to log in")
-	flags.StringVar(&s.passwordFile, "password-file", "", "a `file` with the password")
-	flags.StringVar(&config.Service, "service", "",
-		"the `name` or id of the service to order; with --plan. Default: the first bindable plan")
-	flags.StringVar(&config.Plan, "plan", "", "the `name` or id of the plan to order; with --service")
+	addTarget(flags, config, &s.passwordFile)
 	flags.Var(cli.Count(&config.Instances, 50, 1, 10000), "instances", "the most instances to order")
 	flags.Var(cli.Seconds(&s.runTime, 10*time.Minute), "seconds", "after which no further case is tried")
 	flags.Var(cli.Seconds(&config.RequestTime, 30*time.Second), "request-seconds", "for the answer to a request")
@@ -62,6 +58,16 @@ func (s *conformSettings) add(made *cobra.Command) {
 	flags.Var(cli.Seconds(&s.cleanupTime, 5*time.Minute), "cleanup-seconds", "for the deletions at the end")
 	flags.StringSliceVar(&s.except, "except", nil, "`cases` that don't change the exit status, separated by commas")
 	flags.StringVar(&s.json, "json", "", "a `file` to which the report is written as JSON, too")
+}
+
+// addTarget adds the options that say which broker is tested, and what is ordered at it.
+func addTarget(flags *pflag.FlagSet, config *conform.Config, passwordFile *string) {
+	flags.StringVar(&config.URL, "url", "", "the `URL` of the broker, without /v2")
+	flags.StringVar(&config.User, "user", "platform", "the `name` with which to log in")
+	flags.StringVar(passwordFile, "password-file", "", "a `file` with the password")
+	flags.StringVar(&config.Service, "service", "",
+		"the `name` or id of the service to order; with --plan. Default: the first bindable plan")
+	flags.StringVar(&config.Plan, "plan", "", "the `name` or id of the plan to order; with --service")
 }
 
 // run checks the broker, deletes what it has created, and writes the report. It returns the exit status.
@@ -173,8 +179,8 @@ func untilSignals(ctx context.Context) (first, second context.Context, forget fu
 	go func() {
 		for {
 			select {
-			case it := <-signals:
-				if first.Err() != nil && it != syscall.SIGHUP {
+			case received := <-signals:
+				if first.Err() != nil && received != syscall.SIGHUP {
 					endSecond()
 				}
 				endFirst()

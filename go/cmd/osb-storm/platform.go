@@ -57,12 +57,6 @@ func platformCommand(v *cli.Verdict) *cobra.Command {
 }
 
 func (s *platformSettings) add(made *cobra.Command) {
-	s.addPlatform(made)
-	s.addStorm(made)
-	s.addReports(made)
-}
-
-func (s *platformSettings) addPlatform(made *cobra.Command) {
 	flags, config := made.Flags(), &s.config
 	flags.Var(cli.Address(&config.Address, ""), "listen",
 		"where the platform reaches the broker; port 0 is any free port")
@@ -76,10 +70,6 @@ func (s *platformSettings) addPlatform(made *cobra.Command) {
 		"a `command` that prints the ids of the instance and the binding for each binding that the platform has")
 	flags.StringVar(&config.Commands.Order, "order-command", "",
 		"a `command` that has the platform create and delete instances and bindings at the broker OSB_STORM_URL")
-}
-
-func (s *platformSettings) addStorm(made *cobra.Command) {
-	flags, config := made.Flags(), &s.config
 	flags.Var(cli.Seconds(&config.WaitTime, 10*time.Minute), "wait-seconds", "for the first request about an instance")
 	flags.Var(cli.Seconds(&config.Time, time.Minute), "seconds",
 		"from then on until the faults end, unless --order-command ends before")
@@ -95,6 +85,7 @@ func (s *platformSettings) addStorm(made *cobra.Command) {
 		"for an asynchronous operation, at most")
 	flags.StringVar(&config.Journal, "journal", "",
 		"a `directory`: the journal of the storm's broker is written to DIRECTORY/broker, for osb-audit")
+	s.addReports(made)
 }
 
 // open reads the password and the list of faults, and starts a storm for the settings.
