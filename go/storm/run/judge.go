@@ -208,32 +208,30 @@ func (s *delivery) judge(isLost bool) []conform.Result {
 	return failed
 }
 
+type statuses map[int]bool
+
 // A rule is an answer that breaks the standard, by what was known before.
 type rule struct {
-	method  string
-	isPoll  bool
-	before  knowledge
-	status  int
-	of      string // the case of an instance
-	binding string // that of a binding, or empty for none
-	reason  string
+	method   string
+	isPoll   bool
+	before   knowledge
+	statuses statuses
+	of       string // the case of an instance
+	binding  string // that of a binding, or empty for none
+	reason   string
 }
 
 var rules = []rule{
-	{http.MethodPut, false, exists, 201, "provision-repeated", "bind-repeated",
+	{http.MethodPut, false, exists, statuses{201: true, 202: true}, "provision-repeated", "bind-repeated",
 		"the broker creates it again: the same creation has succeeded before"},
-	{http.MethodPut, false, exists, 202, "provision-repeated", "bind-repeated",
-		"the broker creates it again: the same creation has succeeded before"},
-	{http.MethodDelete, false, creating, 410, "async-deprovision-during-provision", "",
+	{http.MethodDelete, false, creating, statuses{410: true}, "async-deprovision-during-provision", "",
 		"the broker says that the instance doesn't exist while it is being created"},
-	{http.MethodDelete, false, exists, 410, "deprovision-existing", "unbind-existing",
+	{http.MethodDelete, false, exists, statuses{410: true}, "deprovision-existing", "unbind-existing",
 		"the broker says that it doesn't exist, after its creation has succeeded"},
-	{http.MethodDelete, false, gone, 200, "deprovision-repeated", "unbind-repeated", "it was deleted before"},
-	{http.MethodGet, true, creating, 410, "last-operation-state", "binding-last-operation-state",
-		"the broker doesn't know the operation any more that its 202 has begun"},
-	{http.MethodGet, true, creating, 404, "last-operation-state", "binding-last-operation-state",
-		"the broker doesn't know the operation any more that its 202 has begun"},
-	{http.MethodGet, true, creating, 400, "last-operation-state", "binding-last-operation-state",
+	{http.MethodDelete, false, gone, statuses{200: true}, "deprovision-repeated", "unbind-repeated",
+		"it was deleted before"},
+	{http.MethodGet, true, creating, statuses{400: true, 404: true, 410: true},
+		"last-operation-state", "binding-last-operation-state",
 		"the broker doesn't know the operation any more that its 202 has begun"},
 }
 
@@ -244,7 +242,7 @@ func (s *delivery) breaks() (name, reason string) {
 		return "async-repeated", "the operation isn't that of the first answer"
 	}
 	for _, rule := range rules {
-		if rule.method != s.Method || rule.before != s.before || rule.status != s.Status || rule.isPoll != s.isPoll() {
+		if rule.method != s.Method || rule.before != s.before || rule.isPoll != s.isPoll() || !rule.statuses[s.Status] {
 			continue
 		}
 		if rule.isPoll && s.pollOperation() != s.first.Operation() { // it doesn't name the operation
