@@ -56,9 +56,9 @@ func (c BothConfig) demands() Demands {
 				"a database is killed only if PostgreSQL is the store or the backend"},
 			{c.needsPostgreSQL() && c.KillDatabase == 0 && c.PostgreSQL == "",
 				"give the URL of a PostgreSQL server on which databases and roles may be created"},
-			{c.Without != "" && !isPart(c.Without),
+			{partOf(c.Without).name != c.Without,
 				fmt.Sprintf("there is no part %q. Choose one of: %s", c.Without, strings.Join(Parts(), ", "))},
-			{needsFolders(c.Without) && c.Backend != AsFolders,
+			{partOf(c.Without).needsFolders && c.Backend != AsFolders,
 				fmt.Sprintf("without %s, the broker has to sell folders", c.Without)},
 			{c.Calm && (c.Unruly || c.CrashPoints != ""),
 				"a calm storm has no second client, and visits no crash points"},
@@ -127,7 +127,7 @@ type BothStorm struct {
 //
 // Errors: a limit isn't above 0; a program can't be run; those of the folder and of the platform's store.
 func NewBoth(ctx context.Context, config BothConfig) (*BothStorm, error) {
-	config.Unruly = config.Unruly || isRule(config.Without) && !config.Calm
+	config.Unruly = config.Unruly || partOf(config.Without).isRule && !config.Calm
 	if err := FirstError(config.Check(config.demands()), config.findPrograms()); err != nil {
 		return nil, err
 	}
@@ -353,7 +353,7 @@ func (b *BothStorm) prepare() error {
 			b.config.Broker, "serve", "--listen", address.Host, "--catalog", b.file("catalogue.json"), "--sweep-seconds", "0.5",
 			"--wait-for-poll", "2", "--workers", "8", "--stop-seconds", "20",
 		}
-		if isUsualBroker(b.config.Without) { // it has no such rule
+		if partOf(b.config.Without).isUsualBroker { // it has no such rule
 			words = append(words, "--first-poll=false")
 		}
 		named := programNumber(number, b.config.Brokers)
@@ -373,7 +373,7 @@ func (b *BothStorm) prepare() error {
 		}
 		b.workers = append(b.workers, made)
 	}
-	if b.config.CrashPoints != "" && !isUsualBroker(b.config.Without) { // such a broker doesn't reach them
+	if b.config.CrashPoints != "" && !partOf(b.config.Without).isUsualBroker { // such a broker doesn't reach them
 		b.share(b.brokers, crash.Points())
 	}
 	if b.config.CrashPoints != "" {

@@ -46,11 +46,6 @@ func partOf(name string) designPart {
 	return designPart{}
 }
 
-func isPart(name string) bool        { return partOf(name).name != "" }
-func isRule(name string) bool        { return partOf(name).isRule }
-func needsFolders(name string) bool  { return partOf(name).needsFolders }
-func isUsualBroker(name string) bool { return partOf(name).isUsualBroker }
-
 // weights are how often the kinds of faults are chosen. Without attempts, most answers are too late or missing: then
 // the 200 to a Provision that arrived twice is taken for that to a Deprovision that was swallowed.
 func (c BothConfig) weights() fault.Weights {
