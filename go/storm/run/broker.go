@@ -87,7 +87,10 @@ func (s *BrokerStorm) Run(running, deleting context.Context) (into *Report, err 
 		}
 		return into, err
 	}
-	into.Inventory = s.describe()
+	into.Inventory = s.standard.describe()
+	if s.isListed {
+		into.Inventory = ByListCommand
+	}
 	into.Instances++ // the one that was created without faults
 	once := func(running context.Context, of *Candidate) (*Result, error) {
 		if of == nil {
@@ -141,13 +144,6 @@ func catalogueOf(target conform.Target) []byte {
 		panic(err) // these values are JSON
 	}
 	return text
-}
-
-func (s *BrokerStorm) describe() string {
-	if s.isListed {
-		return ByListCommand
-	}
-	return s.standard.describe()
 }
 
 // ByListCommand is how osb-storm finds out what exists if there is a command for it.
@@ -214,7 +210,7 @@ func (s *BrokerStorm) byDeletion(
 	}
 	var asked []Key
 	for key, record := range records {
-		isSent := hasCreation(found.Exchanges, key)
+		isSent := len(creationsOf(key, found.Exchanges)) > 0
 		switch {
 		case last.Of[key] != Unknown || !record.Rests || !isSent || record.State != audit.Ready && !record.IsEnded():
 		case deleted[key] != Unknown:
@@ -245,13 +241,15 @@ func deletedSince(begun time.Duration, exchanges []fault.Exchange) map[Key]Exist
 	return found
 }
 
-func hasCreation(exchanges []fault.Exchange, key Key) bool {
+// creationsOf returns the creations of a key that have reached the broker.
+func creationsOf(key Key, exchanges []fault.Exchange) (all []fault.Delivery) {
 	for _, exchange := range exchanges {
-		if exchange.Method == http.MethodPut && exchange.Instance == key.Instance && exchange.Binding == key.Binding && len(exchange.Deliveries) > 0 {
-			return true
+		its := Key{Instance: exchange.Instance, Binding: exchange.Binding}
+		if exchange.Method == http.MethodPut && its == key {
+			all = append(all, exchange.Deliveries...)
 		}
 	}
-	return false
+	return all
 }
 
 // A BrokerConfig says which broker a BrokerStorm is about, and within which limits. Folder is that of the platform's
@@ -392,8 +390,8 @@ func (r *brokerRun) isQuiet() bool { return r.proxy.Pending() == 0 }
 // earlier run has returned.
 func (s *BrokerStorm) deleteAll(running, deleting context.Context, found *Result) []conform.Leftover {
 	for _, key := range found.Keys.inOrder() {
-		if it, isOwed := debtOf(key, found, s.config.Broker.RequestTime); isOwed {
-			s.broker.Owe(it)
+		if debt, isOwed := debtOf(key, found, s.config.Broker.RequestTime); isOwed {
+			s.broker.Owe(debt)
 		}
 	}
 	left := s.cleanUp(deleting)
@@ -419,23 +417,14 @@ func (s *BrokerStorm) cleanUp(ctx context.Context) []conform.Leftover {
 // debtOf returns what has to be deleted of a key. It is false if no creation has reached the broker. A creation that
 // wasn't answered may still be carried out within a time, unless the platform has waited for that and converged.
 func debtOf(key Key, found *Result, within time.Duration) (conform.Debt, bool) {
-	it := conform.Debt{Instance: key.Instance, Binding: key.Binding, Rejected: true}
-	isSent := false
-	for _, x := range found.Exchanges {
-		if x.Method != http.MethodPut || x.Instance != key.Instance || x.Binding != key.Binding {
-			continue
-		}
-		for _, d := range x.Deliveries {
-			isSent = true
-			it.Rejected = it.Rejected && isRejection(d)
-			it.Unanswered = it.Unanswered || d.Status == 0 && !found.Converged && found.end-d.Begun < within
-		}
+	debt := conform.Debt{Instance: key.Instance, Binding: key.Binding, Rejected: true}
+	creations := creationsOf(key, found.Exchanges)
+	for _, d := range creations {
+		isRejection := d.Status >= 400 && d.Status < 500 && d.Status != http.StatusRequestTimeout
+		debt.Rejected = debt.Rejected && isRejection
+		debt.Unanswered = debt.Unanswered || d.Status == 0 && !found.Converged && found.end-d.Begun < within
 	}
-	return it, isSent
-}
-
-func isRejection(d fault.Delivery) bool {
-	return d.Status >= 400 && d.Status < 500 && d.Status != http.StatusRequestTimeout
+	return debt, len(creations) > 0
 }
 
 // leftoversInList returns what the list command prints after the deletions, besides what is known to be left.
@@ -620,8 +609,8 @@ func (s *BrokerStorm) deletionsOf(ctx context.Context, keys []Key) map[Key]Exist
 				continue
 			}
 			answer := s.broker.Ask(ctx, http.MethodDelete, key.Instance, key.Binding, "", s.deletion())
-			if it := byDeletion(answer.Status); it != Unknown {
-				found[key] = it
+			if existence := byDeletion(answer.Status); existence != Unknown {
+				found[key] = existence
 			}
 		}
 	}
