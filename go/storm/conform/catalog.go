@@ -36,9 +36,10 @@ var catalogCases = scenario{
 			return
 		}
 		for name, check := range map[string]func([]object) string{
-			"catalog-services": checkServices, "catalog-plans": checkPlans, "catalog-ids-unique": checkIDs,
-			"catalog-names-unique": checkNames, "catalog-flags": checkFlags, "catalog-requires": checkRequires,
-			"catalog-names-for-cli": checkForCLI,
+			"catalog-services": checkServices, "catalog-plans": checkPlans,
+			"catalog-ids-unique":   func(all []object) string { return checkUnique(all, "id", "two plans", false) },
+			"catalog-names-unique": func(all []object) string { return checkUnique(all, "name", "two plans of a service", true) },
+			"catalog-flags":        checkFlags, "catalog-requires": checkRequires, "catalog-names-for-cli": checkForCLI,
 		} {
 			r.judge(name, x, check(services))
 		}
@@ -106,12 +107,6 @@ func missingText(of object) string {
 		}
 	}
 	return ""
-}
-
-func checkIDs(services []object) string { return checkUnique(services, "id", "two plans", false) }
-
-func checkNames(services []object) string {
-	return checkUnique(services, "name", "two plans of a service", true)
 }
 
 // checkUnique returns a problem if a member stands twice: in two services, or in two plans, perhaps of one service.
@@ -306,6 +301,14 @@ func targetsOf(service object) (all []Target) {
 		all = append(all, it)
 	}
 	return all
+}
+
+// objectIn returns the object that a text of JSON is, or nil.
+func objectIn(text []byte) (read object) {
+	if json.Unmarshal(text, &read) != nil {
+		return nil
+	}
+	return read
 }
 
 func text(value any) string {

@@ -46,11 +46,14 @@ func (r *Report) Count(level Level, grade Grade) (count int) {
 }
 
 // WriteJSON writes the report as a JSON object.
-func (r *Report) WriteJSON(w io.Writer) error {
+func (r *Report) WriteJSON(w io.Writer) error { return WriteJSON(w, r) }
+
+// WriteJSON writes a report of any kind as a JSON object.
+func WriteJSON(w io.Writer, report any) error {
 	encoder := json.NewEncoder(w)
 	encoder.SetEscapeHTML(false)
 	encoder.SetIndent("", "  ")
-	return encoder.Encode(r)
+	return encoder.Encode(report)
 }
 
 // WriteText writes the report for people: a table of all cases, what was sent and received for each case that failed,

@@ -371,10 +371,7 @@ func (c *client) send(ctx context.Context, r request) *exchange {
 		x.err = cause(err)
 		return x
 	}
-	x.status, x.header, x.text = answer.StatusCode, answer.Header, string(text)
-	if json.Unmarshal(text, &x.object) != nil {
-		x.object = nil
-	}
+	x.status, x.header, x.text, x.object = answer.StatusCode, answer.Header, string(text), objectIn(text)
 	c.learn(x.object["credentials"])
 	x.hide = c.hider()
 	return x
@@ -477,10 +474,7 @@ func (x *exchange) wantOr(code string, statuses ...int) string {
 func (x *exchange) hasError(code string) bool { return x.wantError(code) == "" }
 
 // string returns a member of the body that is a string, or "".
-func (x *exchange) string(member string) string {
-	text, _ := x.object[member].(string)
-	return text
-}
+func (x *exchange) string(member string) string { return textIn(x.object, member) }
 
 // requestLine returns the request as a line for people, without secrets.
 func (x *exchange) requestLine() string {
@@ -567,10 +561,7 @@ type Answer struct {
 }
 
 // Text returns a member of the body that is a string, or "".
-func (a Answer) Text(member string) string {
-	text, _ := a.Object[member].(string)
-	return text
-}
+func (a Answer) Text(member string) string { return textIn(a.Object, member) }
 
 // Ask sends a request about an instance, or about a binding of it. path follows the path of the instance or the
 // binding, such as /last_operation. It judges nothing, and is sent even if Run has ended.
@@ -638,14 +629,10 @@ func (s Observation) exchange() *exchange {
 	if err != nil {
 		values = nil
 	}
-	x := &exchange{
+	return &exchange{
 		request: request{method: s.Method, path: path, query: values, body: string(s.Sent)},
-		status:  s.Status, header: s.Header, text: string(s.Came), hide: s.Hide,
+		status:  s.Status, header: s.Header, text: string(s.Came), object: objectIn(s.Came), hide: s.Hide,
 	}
-	if json.Unmarshal(s.Came, &x.object) != nil {
-		x.object = nil
-	}
-	return x
 }
 
 // Judge returns the cases that an answer fails by itself, whatever was answered before.

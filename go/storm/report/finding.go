@@ -290,14 +290,6 @@ func UnmetLines(unmet []string) []string {
 		strings.Join(shown, ", "), more)}
 }
 
-// WriteJSON writes a report as a JSON object.
-func WriteJSON(w io.Writer, report any) error {
-	encoder := json.NewEncoder(w)
-	encoder.SetEscapeHTML(false)
-	encoder.SetIndent("", "  ")
-	return encoder.Encode(report)
-}
-
 // A Key names an instance, or a binding of it if Binding isn't empty, by their ids.
 type Key struct{ Instance, Binding string }
 

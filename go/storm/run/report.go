@@ -190,7 +190,7 @@ func (r *Report) hasLoss() bool {
 // WriteJSON writes the report as a JSON object.
 func (r *Report) WriteJSON(w io.Writer) error {
 	if r.IsOfPlatform {
-		return report.WriteJSON(w, struct {
+		return conform.WriteJSON(w, struct {
 			*Report
 			FirstPoll bool      `json:"first_poll"`
 			Known     string    `json:"known"`
@@ -200,7 +200,7 @@ func (r *Report) WriteJSON(w io.Writer) error {
 			Exists    []Finding `json:"exists"`
 		}{r, r.FirstPoll, r.Inventory, r.Converged, r.Took, r.Lost, r.Exists})
 	}
-	return report.WriteJSON(w, struct {
+	return conform.WriteJSON(w, struct {
 		*Report
 		Prefix    string             `json:"prefix"`
 		Service   string             `json:"service"`
