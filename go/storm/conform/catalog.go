@@ -37,8 +37,8 @@ var catalogCases = scenario{
 		}
 		for name, check := range map[string]func([]object) string{
 			"catalog-services": checkServices, "catalog-plans": checkPlans,
-			"catalog-ids-unique":   func(all []object) string { return checkUnique(all, "id", "two plans", false) },
-			"catalog-names-unique": func(all []object) string { return checkUnique(all, "name", "two plans of a service", true) },
+			"catalog-ids-unique":   checkUnique("id", "two plans", false),
+			"catalog-names-unique": checkUnique("name", "two plans of a service", true),
 			"catalog-flags":        checkFlags, "catalog-requires": checkRequires, "catalog-names-for-cli": checkForCLI,
 		} {
 			r.judge(name, x, check(services))
@@ -109,23 +109,26 @@ func missingText(of object) string {
 	return ""
 }
 
-// checkUnique returns a problem if a member stands twice: in two services, or in two plans, perhaps of one service.
-func checkUnique(services []object, member, plans string, isOfService bool) string {
-	ofServices, ofPlans := stringSet{}, stringSet{}
-	for _, service := range services {
-		if ofServices.again(service[member]) {
-			return fmt.Sprintf("two services have the %s %v", member, service[member])
-		}
-		if isOfService {
-			ofPlans = stringSet{}
-		}
-		for _, plan := range plansOf(service) {
-			if ofPlans.again(plan[member]) {
-				return fmt.Sprintf("%s have the %s %v", plans, member, plan[member])
+// checkUnique returns a check with a problem if a member stands twice: in two services, or in two plans, perhaps of one
+// service.
+func checkUnique(member, plans string, isOfService bool) func([]object) string {
+	return func(services []object) string {
+		ofServices, ofPlans := stringSet{}, stringSet{}
+		for _, service := range services {
+			if ofServices.again(service[member]) {
+				return fmt.Sprintf("two services have the %s %v", member, service[member])
+			}
+			if isOfService {
+				ofPlans = stringSet{}
+			}
+			for _, plan := range plansOf(service) {
+				if ofPlans.again(plan[member]) {
+					return fmt.Sprintf("%s have the %s %v", plans, member, plan[member])
+				}
 			}
 		}
+		return ""
 	}
-	return ""
 }
 
 // stringSet are the strings that have been met.

@@ -35,6 +35,13 @@ func configFor(t *testing.T, url string) BrokerConfig {
 	}
 }
 
+// configForModel returns a model, and the configuration of a storm against it.
+func configForModel(t *testing.T, isAsync bool, wrong mistakes) (*model, BrokerConfig) {
+	t.Helper()
+	m, url := newModel(t, isAsync, wrong)
+	return m, configFor(t, url)
+}
+
 func openStorm(t *testing.T, config BrokerConfig) *BrokerStorm {
 	t.Helper()
 	return diff.Value(NewBroker(config))(t)
@@ -74,8 +81,7 @@ func TestNothingLost(t *testing.T) {
 			t.Run("", func(t *testing.T) {
 				t.Parallel()
 				stormtest.UntilEnough(t, stormtest.Tally{20, 5, 100, 30}, func(seed int64) stormtest.Tally {
-					m, url := newModel(t, isAsync, mistakes{})
-					config := configFor(t, url)
+					m, config := configForModel(t, isAsync, mistakes{})
 					config.Seed, config.SettleTime, config.CleanUpTime = seed, time.Minute, time.Minute
 					if isListed {
 						config.Commands = m.commands()
@@ -84,9 +90,7 @@ func TestNothingLost(t *testing.T) {
 					if !report.IsClean() || len(report.Broken) > 0 || len(report.Failed) > 0 || len(report.Leftovers) > 0 {
 						t.Errorf("got\n%s\nwant a clean report with nothing broken, failed or left", textOf(t, report))
 					}
-					if left := m.list(t); len(left) > 0 {
-						t.Errorf("got %v left, want none", left)
-					}
+					m.expectNothing(t)
 					return stormtest.Tally{report.Instances, report.Bindings, report.Requests, len(report.Given)}
 				})
 			})
@@ -180,8 +184,7 @@ func TestByTheStandard(t *testing.T) {
 func TestMinimize(t *testing.T) {
 	t.Parallel()
 	inOneStorm(t, func(seed int64) string {
-		m, url := newModel(t, false, mistakes{forgetsUnread: true})
-		config := configFor(t, url)
+		m, config := configForModel(t, false, mistakes{forgetsUnread: true})
 		config.Seed, config.Commands, config.MinimizeTime = seed, m.commands(), time.Minute
 		config.Broker.Instances = 15
 		report := runStorm(t, config)
@@ -211,8 +214,7 @@ func TestNoCatalogue(t *testing.T) {
 // At the first signal the storm ends, and everything is deleted, whatever was going on.
 func TestCleanUpAfterSignal(t *testing.T) {
 	t.Parallel()
-	m, url := newModel(t, true, mistakes{})
-	config := configFor(t, url)
+	m, config := configForModel(t, true, mistakes{})
 	config.Commands, config.Time, config.Broker.RequestTime = m.commands(), 15*time.Second, time.Second
 	storm := openStorm(t, config)
 	running, signal := context.WithCancel(context.Background())
@@ -230,9 +232,7 @@ func TestCleanUpAfterSignal(t *testing.T) {
 	if len(report.Lost)+len(report.False)+len(report.Stuck) > 0 {
 		t.Errorf("got\n%s\nwant nothing lost, false or stuck before everything converged", textOf(t, report))
 	}
-	if left := m.list(t); len(left) > 0 {
-		t.Errorf("got %v left, want none", left)
-	}
+	m.expectNothing(t)
 	if time.Since(begun) > 30*time.Second {
 		t.Errorf("got %v, want at most %v", time.Since(begun), 30*time.Second)
 	}
@@ -242,8 +242,7 @@ func TestCleanUpAfterSignal(t *testing.T) {
 // At the second signal nothing more is deleted, and what is left is listed.
 func TestSecondSignal(t *testing.T) {
 	t.Parallel()
-	m, url := newModel(t, false, mistakes{})
-	config := configFor(t, url)
+	m, config := configForModel(t, false, mistakes{})
 	config.Commands, config.Time = m.commands(), 15*time.Second
 	storm := openStorm(t, config)
 	running, first := context.WithCancel(context.Background())
@@ -273,8 +272,7 @@ func TestSecondSignal(t *testing.T) {
 // What others have at the broker is neither deleted nor reported, even if its id is like one of the run.
 func TestOthersUntouched(t *testing.T) {
 	t.Parallel()
-	m, url := newModel(t, false, mistakes{})
-	config := configFor(t, url)
+	m, config := configForModel(t, false, mistakes{})
 	config.Commands, config.Time, config.Broker.Instances = m.commands(), 2*time.Second, 8
 	storm := openStorm(t, config)
 	other := "0" + storm.Prefix()[1:]
@@ -476,8 +474,7 @@ func TestWrongLists(t *testing.T) {
 				name, test, isAsync, hasJournal := name, test, isAsync, hasJournal
 				t.Run(fmt.Sprint(name, isAsync, hasJournal), func(t *testing.T) {
 					t.Parallel()
-					m, url := newModel(t, isAsync, mistakes{})
-					config := configFor(t, url)
+					m, config := configForModel(t, isAsync, mistakes{})
 					config.Commands, config.Time, config.Broker.Instances = test.commands, time.Second, 2
 					if config.Commands.List == "right" {
 						config.Commands.List = m.commands().List
@@ -530,8 +527,7 @@ func TestHangingCommands(t *testing.T) {
 			name, change, second := name, change, second
 			t.Run(fmt.Sprint(name, second), func(t *testing.T) {
 				t.Parallel()
-				m, url := newModel(t, false, mistakes{})
-				config := configFor(t, url)
+				m, config := configForModel(t, false, mistakes{})
 				config.Commands, config.Time = m.commands(), 30*time.Second
 				flag := filepath.Join(t.TempDir(), "hang")
 				change(&config.Commands, "! test -e "+flag)

@@ -94,6 +94,13 @@ func (m *model) list(t *testing.T) (names []string) {
 	return names
 }
 
+func (m *model) expectNothing(t *testing.T) {
+	t.Helper()
+	if left := m.list(t); len(left) > 0 {
+		t.Errorf("got %v left, want none", left)
+	}
+}
+
 func (m *model) create(k Key) {
 	name := m.file(k)
 	if _, err := os.Stat(name); err == nil {

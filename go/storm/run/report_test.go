@@ -80,8 +80,7 @@ func TestHTML(t *testing.T) {
 // No report has the password or credentials, even if the broker repeats them in its errors.
 func TestNoSecrets(t *testing.T) {
 	t.Parallel()
-	m, url := newModel(t, false, mistakes{losesBindings: true, forgetsUnread: true, talks: true})
-	config := configFor(t, url)
+	m, config := configForModel(t, false, mistakes{losesBindings: true, forgetsUnread: true, talks: true})
 	config.Commands = m.commands()
 	got := runStorm(t, config)
 	if !stormtest.HasBinding(got.Lost) {
@@ -217,8 +216,7 @@ func TestNoFaultIsNeeded(t *testing.T) {
 // Faults of a list that meet no request are named in each form.
 func TestUnmet(t *testing.T) {
 	t.Parallel()
-	_, url := newModel(t, false, mistakes{})
-	config := configFor(t, url)
+	_, config := configForModel(t, false, mistakes{})
 	config.Broker.Instances, config.Time = 2, time.Second
 	config.List = listOf(t, "99.1 answer-lost\n1.1 answer-lost\n98/1.2 hang-up")
 	for form, text := range stormtest.Forms(t, runStorm(t, config)) {
@@ -276,8 +274,7 @@ func TestUntriedFaults(t *testing.T) {
 // The storm itself counts: one whose few requests have no fault isn't clean.
 func TestStormWithoutFault(t *testing.T) {
 	t.Parallel()
-	_, url := newModel(t, false, mistakes{})
-	config := configFor(t, url)
+	_, config := configForModel(t, false, mistakes{})
 	config.Broker.Instances, config.Time, config.Share = 2, time.Second, 1e-9
 	report := runStorm(t, config)
 	if report.IsClean() || len(report.Untried) != 1 || !report.Converged || len(report.Lost) > 0 {
@@ -292,8 +289,7 @@ func TestStormWithoutFault(t *testing.T) {
 // A storm that has found nothing is drawn, too, with the restarts of the broker.
 func TestPictureOfCleanStorm(t *testing.T) {
 	t.Parallel()
-	m, url := newModel(t, false, mistakes{})
-	config := configFor(t, url)
+	m, config := configForModel(t, false, mistakes{})
 	config.Commands, config.Time = m.commands(), 2*time.Second
 	config.Commands.Restart = "true"
 	config.List = listOf(t, "1.1 restart-after\n2.1 answer-lost")
@@ -377,9 +373,7 @@ func TestJournals(t *testing.T) {
 			if !report.IsClean() || len(report.Failed) > 0 || len(report.Leftovers) > 0 {
 				t.Errorf("got\n%s\nwant a clean report and nothing left", textOf(t, report))
 			}
-			if left := m.list(t); len(left) > 0 {
-				t.Errorf("got %v left, want none", left)
-			}
+			m.expectNothing(t)
 			stormtest.Empty(t, config.Folder)
 			lines := linesOf(t, filepath.Join(config.Journal, "platform"))
 			checkRequests(t, lines, arrivals())
@@ -463,8 +457,7 @@ func checkDeletions(t *testing.T, lines []journalLine, report *Report) {
 func TestJournalsByDeletion(t *testing.T) {
 	t.Parallel()
 	inOneStorm(t, func(seed int64) string {
-		m, url := newModel(t, false, mistakes{blind: true, mute: true})
-		config := configFor(t, url)
+		m, config := configForModel(t, false, mistakes{blind: true, mute: true})
 		config.Seed, config.Journal = seed, t.TempDir()
 		report := runStorm(t, config)
 		if left := m.list(t); !report.IsClean() || report.Unknown > 0 || len(left) > 0 {
@@ -500,8 +493,7 @@ func TestDeletedSince(t *testing.T) {
 
 // A journal that can't be opened ends the storm before anything is created.
 func TestNoJournals(t *testing.T) {
-	_, url := newModel(t, false, mistakes{})
-	config := configFor(t, url)
+	_, config := configForModel(t, false, mistakes{})
 	config.Journal = filepath.Join(t.TempDir(), "file")
 	check(t, os.WriteFile(config.Journal, nil, 0o600))
 	_, err := NewBroker(config)

@@ -87,6 +87,12 @@ func UntilEnough(t *testing.T, enough Tally, run func(seed int64) Tally) {
 	}
 }
 
+// IsRunning reports whether a process runs. One that has ended may wait for its parent.
+func IsRunning(pid string) bool {
+	text, err := os.ReadFile("/proc/" + pid + "/stat")
+	return err == nil && !strings.Contains(string(text), ") Z ")
+}
+
 // Empty checks that nothing is in a folder.
 func Empty(t testing.TB, folder string) {
 	t.Helper()

@@ -181,20 +181,14 @@ func TestOrderEnds(t *testing.T) {
 			report, took := runOrders(t, context.Background(), config)
 			if len(report.Failed) > 0 || !report.IsClean() || !report.Converged || took > 50*time.Second {
 				t.Errorf("got an end after %v, want a clean report of a storm that has converged within 50 s:\n%s",
-					took, stormtest.TextOf(t, report.WriteText))
+					took, textOf(t, report))
 			}
 			text := diff.Value(os.ReadFile(filepath.Join(folder, "child")))(t)
 			waits.Until(t, "the child of the order command ends", func() bool {
-				return !isRunning(string(bytes.TrimSpace(text)))
+				return !stormtest.IsRunning(string(bytes.TrimSpace(text)))
 			})
 		})
 	}
-}
-
-// isRunning reports whether a process runs. One that has ended may wait for its parent.
-func isRunning(pid string) bool {
-	text, err := os.ReadFile("/proc/" + pid + "/stat")
-	return err == nil && !strings.Contains(string(text), ") Z ")
 }
 
 // formsOf returns the report in its forms, and its list of faults.
@@ -214,10 +208,10 @@ func TestMinimize(t *testing.T) {
 	config.Late = 100 * time.Millisecond
 	report, _ := runOrders(t, context.Background(), config)
 	if !reflect.DeepEqual(report.Minimal, []string{"2.1 answer-lost"}) || report.MinimizeEnded+report.Ended != "" {
-		t.Fatalf("got\n%s\nwant the list 2.1 answer-lost", stormtest.TextOf(t, report.WriteText))
+		t.Fatalf("got\n%s\nwant the list 2.1 answer-lost", textOf(t, report))
 	}
 	if len(report.Lost) != 1 || len(report.MinimalLost) != 1 || len(report.Given) != 3 || len(report.Failed) > 0 {
-		t.Errorf("got\n%s\nwant one life lost, with and without the minimal list", stormtest.TextOf(t, report.WriteText))
+		t.Errorf("got\n%s\nwant one life lost, with and without the minimal list", textOf(t, report))
 	}
 	again := report.MinimalLost[0]
 	if first := report.Lost[0]; again.Number != "2" || first.Number != "2" || again.Instance == first.Instance {
@@ -279,10 +273,10 @@ func TestMinimizeNotes(t *testing.T) {
 			config.Commands.Order += strings.ReplaceAll(test.after, "FOLDER", folder)
 			report, _ := runOrders(t, context.Background(), config)
 			if notes := strings.Join(report.Notes, ""); report.MinimizeRuns != test.runs || notes != test.note {
-				t.Errorf("got %d runs and %s, want %d and %q\n%s", report.MinimizeRuns, notes, test.runs, test.note, stormtest.TextOf(t, report.WriteText))
+				t.Errorf("got %d runs and %s, want %d and %q\n%s", report.MinimizeRuns, notes, test.runs, test.note, textOf(t, report))
 			}
 			if report.IsClean() != (test.note == "") || report.NeedsNoFault() != isWithout {
-				t.Errorf("got\n%s\nwant the verdict of the note", stormtest.TextOf(t, report.WriteText))
+				t.Errorf("got\n%s\nwant the verdict of the note", textOf(t, report))
 			}
 			for form, text := range formsOf(t, report) {
 				isNone := strings.Contains(text, "none: something is abandoned without any fault")
@@ -325,7 +319,7 @@ func TestMinimizeEnds(t *testing.T) {
 			report, took := runOrders(t, ctx, config)
 			if !reflect.DeepEqual(report.Minimal, test.minimal) || report.MinimizeEnded != test.ended || took > time.Minute {
 				t.Errorf("got an end after %v, want the list %q and the end %q:\n%s",
-					took, test.minimal, test.ended, stormtest.TextOf(t, report.WriteText))
+					took, test.minimal, test.ended, textOf(t, report))
 			}
 			if (report.Ended == run.EndedBefore) != test.isSignal || len(report.Failed)+len(report.Notes) > 0 || report.IsClean() {
 				t.Errorf("got the end %q and the failures %q, want an end by the signal: %v, and no failure",

@@ -66,6 +66,11 @@ func runStorm(t *testing.T, config Config, wrong mistakes, isListed bool) *run.R
 	return report
 }
 
+func textOf(t *testing.T, report *run.Report) string {
+	t.Helper()
+	return stormtest.TextOf(t, report.WriteText)
+}
+
 // Nothing is found of a platform without a mistake, with a list and without one, with the rule of the first Poll and
 // without it.
 func TestNothingAbandoned(t *testing.T) {
@@ -78,7 +83,7 @@ func TestNothingAbandoned(t *testing.T) {
 				config.Seed, config.FirstPoll = seed, firstPoll
 				report := runStorm(t, config, mistakes{}, isListed)
 				if !report.IsClean() || len(report.Broken) > 0 || !report.Converged {
-					t.Errorf("got\n%s\nwant a clean report that has converged", stormtest.TextOf(t, report.WriteText))
+					t.Errorf("got\n%s\nwant a clean report that has converged", textOf(t, report))
 				}
 				diff.Equal(t, strings.Count(stormtest.TextOf(t, report.WriteHTML), "<svg"), 1, "pictures of the storm")
 				diff.Equal(t, len(report.Exists) == 0, isListed, "nothing is to be compared")
@@ -163,12 +168,12 @@ func TestMistakes(t *testing.T) {
 			config := configFor(t)
 			config.List, config.Time, config.RequestTime = listOf(test.kinds), time.Second, unhurried
 			if report := runStorm(t, config, mistakes{}, test.isListed); !report.IsClean() || len(report.Broken) > 0 {
-				t.Errorf("without the mistake: got\n%s\nwant a clean report", stormtest.TextOf(t, report.WriteText))
+				t.Errorf("without the mistake: got\n%s\nwant a clean report", textOf(t, report))
 			}
 			config.SettleTime = time.Second
 			report := runStorm(t, config, test.wrong, test.isListed)
 			if missing := lacks(report, test.abandoned, test.false, test.broken); missing != "" {
-				t.Errorf("got a report without %s, want it there:\n%s", missing, stormtest.TextOf(t, report.WriteText))
+				t.Errorf("got a report without %s, want it there:\n%s", missing, textOf(t, report))
 			}
 		})
 	}
@@ -207,7 +212,7 @@ func TestRules(t *testing.T) {
 			}
 			got := runStorm(t, config, wrong, true)
 			if !stormtest.HasViolation(got.Broken, rule) {
-				t.Fatalf("got\n%s\nwant the rule broken", stormtest.TextOf(t, got.WriteText))
+				t.Fatalf("got\n%s\nwant the rule broken", textOf(t, got))
 			}
 			first := got.Broken[0]
 			if first.Name != rule || first.Count < 2 || first.Sent == "" || first.Came == "" {
@@ -218,7 +223,7 @@ func TestRules(t *testing.T) {
 			}
 			isMust := rule != "content-type" && rule != "accepts-incomplete"
 			if report.BreaksMust(got.Broken) != isMust || got.IsClean() == isMust {
-				t.Errorf("got\n%s\nwant the verdict of the rule's level", stormtest.TextOf(t, got.WriteText))
+				t.Errorf("got\n%s\nwant the verdict of the rule's level", textOf(t, got))
 			}
 		})
 	}
@@ -264,7 +269,7 @@ func TestUntried(t *testing.T) {
 			config.Share, config.List, config.Time, config.RequestTime = test.share, test.list, time.Second, unhurried
 			report := runStorm(t, config, mistakes{}, true)
 			if report.IsClean() != (test.says == "") || len(report.Lost)+len(report.False)+len(report.Stuck) > 0 {
-				t.Errorf("got\n%s\nwant the verdict of the list, and nothing lost, false or stuck", stormtest.TextOf(t, report.WriteText))
+				t.Errorf("got\n%s\nwant the verdict of the list, and nothing lost, false or stuck", textOf(t, report))
 			}
 			for form, text := range stormtest.Forms(t, report) {
 				before := map[string]string{
@@ -285,7 +290,7 @@ func TestEnded(t *testing.T) {
 	storm := diff.Value(Start(context.Background(), config))(t)
 	report := storm.Run(context.Background())
 	if report.IsClean() || !strings.HasPrefix(report.Ended, "no request about an instance came") {
-		t.Errorf("got\n%s\nwant an end because no request came", stormtest.TextOf(t, report.WriteText))
+		t.Errorf("got\n%s\nwant an end because no request came", textOf(t, report))
 	}
 	diff.NoError(t, storm.Close(), "")
 	config.WaitTime = time.Minute
@@ -300,7 +305,7 @@ func TestEnded(t *testing.T) {
 	report = storm.Run(ctx) // nobody waits for what the platform does next
 	if report.IsClean() || report.Ended != "the run was ended before" || sent.status != 202 || len(report.Stuck) > 0 {
 		t.Errorf("got the status %d and %d that are stuck, want 202 and none, in a run that was ended:\n%s",
-			sent.status, len(report.Stuck), stormtest.TextOf(t, report.WriteText))
+			sent.status, len(report.Stuck), textOf(t, report))
 	}
 	diff.NoError(t, storm.Close(), "")
 	stormtest.Empty(t, config.Folder)
@@ -334,7 +339,7 @@ func TestListIsSlow(t *testing.T) {
 	storm.restTime = 200 * time.Millisecond
 	if report := storm.Run(context.Background()); len(report.Failed) > 0 || !report.Converged || !report.IsClean() {
 		t.Errorf("got the failures %q, want a clean report of a storm that has converged:\n%s",
-			report.Failed, stormtest.TextOf(t, report.WriteText))
+			report.Failed, textOf(t, report))
 	}
 }
 
@@ -350,7 +355,7 @@ func TestListIsCutOff(t *testing.T) {
 	report, took := runOrders(t, ctx, config)
 	if len(report.Failed) > 0 || report.Ended != run.EndedBefore || report.Inventory != knownByList || took > time.Minute {
 		t.Errorf("got an end after %v with the failures %q, want one by the signal within a minute, without any:\n%s",
-			took, report.Failed, stormtest.TextOf(t, report.WriteText))
+			took, report.Failed, textOf(t, report))
 	}
 }
 
@@ -389,10 +394,10 @@ func TestNoSecrets(t *testing.T) {
 	}
 	report := runStorm(t, config, mistakes{forgetsTimeout: true, noType: true}, false)
 	if !stormtest.HasBinding(report.Lost) || len(report.Broken) == 0 {
-		t.Fatalf("got\n%s\nwant a binding that is lost, and a rule that is broken", stormtest.TextOf(t, report.WriteText))
+		t.Fatalf("got\n%s\nwant a binding that is lost, and a rule that is broken", textOf(t, report))
 	}
 	if len(report.Stuck) == 0 || stormtest.HasBinding(report.Stuck) { // the instances can't be deleted before their bindings
-		t.Errorf("got\n%s\nwant instances that are stuck, and no binding", stormtest.TextOf(t, report.WriteText))
+		t.Errorf("got\n%s\nwant instances that are stuck, and no binding", textOf(t, report))
 	}
 	for form, text := range stormtest.Forms(t, report) {
 		for part, isWanted := range map[string]bool{
@@ -416,12 +421,12 @@ func TestList(t *testing.T) {
 		t.Errorf("got the faults %v, want 1.1 answer-lost", report.Given)
 	}
 	if len(report.Lost) != 1 || report.Lost[0].Number != "1" {
-		t.Errorf("got\n%s\nwant instance 1 lost", stormtest.TextOf(t, report.WriteText))
+		t.Errorf("got\n%s\nwant instance 1 lost", textOf(t, report))
 	}
 	for form, text := range stormtest.Forms(t, report) {
 		diff.Contains(t, text, "99.1 answer-lost", "%s", form)
 	}
-	text := stormtest.TextOf(t, report.WriteText)
+	text := textOf(t, report)
 	diff.Contains(t, text, "1 fault of the list met no request: 99.1 answer-lost\n", "")
 }
 

@@ -13,6 +13,7 @@ import (
 
 	"pippinterm/internal/diff"
 	"pippinterm/internal/waits"
+	"pippinterm/storm/stormtest"
 )
 
 // The words of each line are returned, except those of empty lines.
@@ -102,13 +103,7 @@ func TestKillsGroup(t *testing.T) {
 			_ = syscall.Kill(pid, syscall.SIGKILL)
 		}
 	})
-	waits.Until(t, "what the command has started ends", func() bool { return !isRunning(pid) })
-}
-
-// isRunning reports whether a process runs. One that has ended may wait for its parent.
-func isRunning(pid int) bool {
-	text, err := os.ReadFile(fmt.Sprintf("/proc/%d/stat", pid))
-	return err == nil && !strings.Contains(string(text), ") Z ")
+	waits.Until(t, "what the command has started ends", func() bool { return !stormtest.IsRunning(fmt.Sprint(pid)) })
 }
 
 // Each command has a limit of its own, and the error says so.
@@ -231,11 +226,11 @@ time.sleep(1000)'`, // the command itself has left its group
 			if name == "has ended" {
 				awaitEnd(t, c)
 			}
-			if !isRunning(pid) {
+			if !stormtest.IsRunning(fmt.Sprint(pid)) {
 				t.Errorf("%s: got the child ended before, want it to run", name)
 			}
 			diff.NoError(t, c.End(), "%s", name)
-			waits.Until(t, "what the command has started ends", func() bool { return !isRunning(pid) })
+			waits.Until(t, "what the command has started ends", func() bool { return !stormtest.IsRunning(fmt.Sprint(pid)) })
 		})
 	}
 }
