@@ -377,9 +377,9 @@ func TestProvision(t *testing.T) {
 	r := runnerFor(t, configFor(serve(t, m)))
 	openTarget(t, r)
 	id := r.NewID(1)
-	if answer := r.Create(context.Background(), id, ""); answer.Status != 201 || m.countExisting() != 1 {
-		t.Errorf("got %+v and %d that exist, want 201 and 1", answer, m.countExisting())
-	}
+	created := r.Create(context.Background(), id, "")
+	diff.Equal(t, created.Status, 201, "the status in %+v", created)
+	diff.Equal(t, m.countExisting(), 1, "instances that exist")
 	answer := r.Ask(context.Background(), http.MethodGet, id, "", "/last_operation", nil)
 	diff.Equal(t, answer.Text("state"), "succeeded", "the state in %+v", answer)
 	cleansUp(t, r, m)

@@ -62,9 +62,7 @@ func TestAllKinds(t *testing.T) {
 				met[source.Next(Subject{Instance: 1}).Kind] = true
 			}
 			for _, kind := range Kinds() {
-				if met[kind] != (restarts || !kind.IsRestart()) {
-					t.Errorf("restarts %v: %s is chosen: got %v, want %v", restarts, kind, met[kind], restarts || !kind.IsRestart())
-				}
+				diff.Equal(t, met[kind], restarts || !kind.IsRestart(), "restarts %v: %s is chosen", restarts, kind)
 			}
 		})
 	}
@@ -146,9 +144,8 @@ func TestMinimizeSmallLists(t *testing.T) {
 	for _, all := range [][]int{{}, {5}, numbers(3)} {
 		t.Run(fmt.Sprint(all), func(t *testing.T) {
 			list, isShortest := Minimize(context.Background(), append([]int{}, all...), loserOf(&calls, all...))
-			if fmt.Sprint(list) != fmt.Sprint(all) || !isShortest {
-				t.Errorf("got %v and the shortest %[3]v, want %[2]v and true", list, all, isShortest)
-			}
+			diff.Equal(t, fmt.Sprint(list), fmt.Sprint(all), "what is left")
+			diff.Equal(t, isShortest, true, "it is the shortest")
 		})
 	}
 }

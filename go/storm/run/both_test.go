@@ -89,9 +89,8 @@ func TestSeveralPrograms(t *testing.T) {
 			t.Errorf("%s: got %d crash points, want some", program, len(program.open))
 		}
 	}
-	if seen["/broker"] != 3 || seen["--worker storm-1 "] != 1 || seen["--worker storm-2 "] != 1 || len(logs) != 5 {
-		t.Errorf("got %v and the logs %v, want 3 brokers, 2 workers and 5 logs", seen, logs)
-	}
+	got := [4]int{seen["/broker"], seen["--worker storm-1 "], seen["--worker storm-2 "], len(logs)}
+	diff.Equal(t, got, [4]int{3, 1, 1, 5}, "the brokers, the workers of each name and the logs")
 	for _, address := range b.addresses {
 		diff.Equal(t, seen[address.Host], 1, "brokers at %s", address)
 	}

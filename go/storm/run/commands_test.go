@@ -59,14 +59,12 @@ func TestCommandLines(t *testing.T) {
 	if err := c.Bind(ctx, bound); err == nil { // the script writes no order
 		t.Error("the binding: got no error, want one")
 	}
-	text, err := os.ReadFile(filepath.Join(folder, "calls"))
+	text := diff.Value(os.ReadFile(filepath.Join(folder, "calls")))(t)
 	i, b := one.Instance, bound.Binding
 	wanted := fmt.Sprintf("create --id %s --service %s --plan %s --tries 3\nremove %s --bindings\nremove %s\nunbind %s/%s\n"+
 		"retry %s --journal j\nbind %s --id %s --parameters {\"role\": \"reader\"} --tries 3\n", i, goods.Service,
 		goods.AtOnce, i, i, i, b, i, i, b)
-	if err != nil || string(text) != wanted {
-		t.Errorf("got the error %v and %s, want %s", err, text, wanted)
-	}
+	diff.Equal(t, string(text), wanted, "the calls")
 }
 
 // If the records aren't what a command has reported, that is wrong.
@@ -261,10 +259,8 @@ func TestSettle(t *testing.T) {
 		t.Run(test.name, func(t *testing.T) {
 			m := &memory{records: map[Key]Record{one: test.record}}
 			ctx, cancel := context.WithTimeout(context.Background(), 30*time.Millisecond)
-			if converged := operatorOf(m).settle(ctx, test.isQuiet); converged != test.wanted || len(m.calls) != test.calls {
-				t.Errorf("%s: got converged %v after the calls %q, want %v after %d",
-					test.name, converged, m.calls, test.wanted, test.calls)
-			}
+			diff.Equal(t, operatorOf(m).settle(ctx, test.isQuiet), test.wanted, "%s: it has converged", test.name)
+			diff.Equal(t, len(m.calls), test.calls, "%s: the calls %q", test.name, m.calls)
 			cancel()
 		})
 	}

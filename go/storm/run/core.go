@@ -177,22 +177,14 @@ func FirstError(all ...error) error {
 	return nil
 }
 
-// What is common to the reports of all storms.
+// What is common to the reports of all storms, under its own names.
 type (
-	// A Key names an instance, or a binding of it.
-	Key = report.Key
-	// A Record is what the platform records about an instance or a binding.
-	Record = audit.Record
-	// A Difference is what a record and what exists disagree in, or what somebody has to compare.
+	Key        = report.Key
+	Record     = audit.Record
 	Difference = report.Difference
-	// An Event is something that has happened to an instance or a binding, besides its requests.
-	Event = report.Event
-	// A Finding is an instance or a binding that was lost, or whose record was false.
-	Finding = report.Finding
-	// A Violation is a rule that an answer of the broker breaks.
-	Violation = report.Violation
-	// A KindCount is how many requests a kind of fault befell.
-	KindCount = report.KindCount
+	Event      = report.Event
+	Finding    = report.Finding
+	Violation  = report.Violation
 )
 
 const (
@@ -203,10 +195,7 @@ const (
 	Present  = report.Present
 )
 
-const (
-	whoBroker   = report.WhoBroker
-	whoPlatform = report.WhoPlatform
-)
+const whoBroker, whoPlatform = report.WhoBroker, report.WhoPlatform
 
 // Keys are the ids of a run with their numbers. Any number of goroutines use them.
 type Keys struct {

@@ -31,7 +31,7 @@ type Report struct {
 	Unknown   int      `json:"-"`            // how many instances and bindings nobody could ask for
 	Unmet     []string `json:"unmet_faults"` // those of the given list that no request has met
 
-	Counts    []KindCount        `json:"faults"`
+	Counts    []report.KindCount `json:"faults"`
 	Lost      []Finding          `json:"-"`
 	False     []Finding          `json:"false_records"`
 	Stuck     []Finding          `json:"not_converged"`
@@ -95,7 +95,7 @@ func NewReport(url string, seed int64, user, password string) *Report {
 // emptyReport returns a report without a member that is nil.
 func emptyReport() *Report {
 	return &Report{
-		Counts: []KindCount{}, Lost: []Finding{}, False: []Finding{}, Stuck: []Finding{}, Disagree: []Finding{},
+		Counts: []report.KindCount{}, Lost: []Finding{}, False: []Finding{}, Stuck: []Finding{}, Disagree: []Finding{},
 		Exists: []Finding{}, Broken: []Violation{}, Failed: []string{}, Leftovers: []conform.Leftover{}, Notes: []string{},
 		Given: []string{}, Unmet: []string{}, Untried: []string{},
 	}

@@ -126,9 +126,8 @@ func TestVictimVisitsPoints(t *testing.T) {
 		}
 		return left == 0
 	})
-	if its := v.counts(); len(its.visited) != 2 || len(its.odd) > 0 {
-		t.Errorf("got %v visited and odd %v, want 2 and none", its.visited, its.odd)
-	}
+	diff.Equal(t, len(v.counts().visited), 2, "crash points that were visited")
+	diff.Equal(t, len(v.counts().odd), 0, "what is odd: %v", v.counts().odd)
 }
 
 // An end that nobody caused is noted, and so is a program that ends with an error at SIGTERM, or not at all.
@@ -175,9 +174,8 @@ func TestVictimWhoseStoreIsAway(t *testing.T) {
 	v.line[2] = "cd " + folder + "; " + v.line[2]
 	v.startCalmly()
 	defer v.kill()
-	if started, ends := starts(t, folder), v.counts().ends; started != 3 || ends != 2 {
-		t.Errorf("got %d starts and %d ends, want 3 and 2", started, ends)
-	}
+	diff.Equal(t, starts(t, folder), 3, "starts")
+	diff.Equal(t, v.counts().ends, 2, "ends")
 }
 
 // What a program logs of an error that nothing has caught is found.

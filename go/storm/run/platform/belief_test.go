@@ -53,9 +53,8 @@ func TestOrphanMitigation(t *testing.T) {
 				"": {Instance: "one"}, "/service_bindings/two": {Instance: "one", Binding: "two"},
 			} {
 				views := viewsOf(one(requestWith(http.MethodPut, path, test.status, test.body)))
-				if got := views[key].belief; got != test.wanted || len(views) != 1 {
-					t.Errorf("%d %q: got the belief %d, want %d of one instance", test.status, test.body, got, test.wanted)
-				}
+				diff.Equal(t, views[key].belief, test.wanted, "%d %q: the belief", test.status, test.body)
+				diff.Equal(t, len(views), 1, "%d %q: views", test.status, test.body)
 			}
 		})
 	}
@@ -109,9 +108,8 @@ func TestViews(t *testing.T) {
 	} {
 		t.Run(name, func(t *testing.T) {
 			got := viewsOf(test.all)[report.Key{Instance: "one"}]
-			if got.belief != test.wanted || got.tried != test.tried {
-				t.Errorf("%s: got %d, tried %v, want %d, %v", name, got.belief, got.tried, test.wanted, test.tried)
-			}
+			diff.Equal(t, got.belief, test.wanted, "%s: the belief", name)
+			diff.Equal(t, got.tried, test.tried, "%s: a deletion was tried", name)
 		})
 	}
 }

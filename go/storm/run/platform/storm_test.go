@@ -417,9 +417,7 @@ func TestList(t *testing.T) {
 	}
 	config.Time, config.SettleTime, config.RequestTime = time.Second, time.Second, unhurried
 	report := runStorm(t, config, mistakes{forgetsTimeout: true}, false)
-	if len(report.Given) != 1 || report.Given[0] != "1.1 answer-lost" {
-		t.Errorf("got the faults %v, want 1.1 answer-lost", report.Given)
-	}
+	diff.Check(t, report.Given, []string{"1.1 answer-lost"}, "the faults")
 	if len(report.Lost) != 1 || report.Lost[0].Number != "1" {
 		t.Errorf("got\n%s\nwant instance 1 lost", textOf(t, report))
 	}

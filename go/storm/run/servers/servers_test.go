@@ -166,9 +166,7 @@ func TestHAProxy(t *testing.T) {
 		t.Errorf("got %s and %s, want one and other", first, second)
 	}
 	brokers[0].Close()
-	if first, second := said(), said(); first != "other" || second != "other" {
-		t.Errorf("with one broker: got %s and %s, want \"other\" twice", first, second)
-	}
+	diff.Equal(t, said()+" "+said(), "other other", "two answers of one broker")
 }
 
 var check = diff.Must
