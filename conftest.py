@@ -26,7 +26,7 @@ def pytest_configure(config: pytest.Config) -> None:
     for name in ("MAKEFLAGS", "MFLAGS"):  # of a `make` that started this: they aren't for what the tests start
         os.environ.pop(name, None)
     before = os.environ.get("PYTHONPATH", "").split(os.pathsep)
-    os.environ["PYTHONPATH"] = os.pathsep.join([*PATHS, *(it for it in before if it and it not in PATHS)])
+    os.environ["PYTHONPATH"] = os.pathsep.join([*PATHS, *(path for path in before if path and path not in PATHS)])
     with contextlib.suppress(LookupError):
         os.environ["LIBOSB"] = str(_where("LIBOSB_FOLDER", "library") / "libosb.so")
     is_worker = hasattr(config, "workerinput")  # a process that pytest-xdist started
@@ -153,7 +153,7 @@ def postgresql(pytestconfig: pytest.Config) -> Iterator[str]:
     few_locks = "max_locks_per_transaction=10"  # a test that fills their table has less to do
     prepared = "max_prepared_transactions=10"  # a test prepares one; by default a server allows none
     options = f"port={pytestconfig.stash[PORT]}", "max_connections=300", few_locks, prepared
-    settings = ["-c", "--locale=C --encoding=UTF8", *(word for it in options for word in ("-o", it))]
+    settings = ["-c", "--locale=C --encoding=UTF8", *(word for option in options for word in ("-o", option))]
     server = subprocess.Popen(
         ["pg_virtualenv", "-t", *settings, "sh", "-ec", _SERVE],
         env={**os.environ, "OSB_TEST_PASSWORD": os.environ["PGPASSWORD"]},

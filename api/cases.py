@@ -14,7 +14,7 @@ _LETTERS = {b"t": b"\t", b"n": b"\n", b"r": b"\r"}
 Cells = dict[str, Optional[bytes]]
 
 INSTANCE, BINDING, SERVICE, _SYNC, _ASYNC = (
-    b"00000000-0000-0000-0000-0000000000" + it for it in (b"01", b"02", b"a0", b"b1", b"b2")
+    b"00000000-0000-0000-0000-0000000000" + ending for ending in (b"01", b"02", b"a0", b"b1", b"b2")
 )
 PLANS = {"sync": _SYNC, "async": _ASYNC}
 OF_A_BINDING = {"bind": "provision", "unbind": "deprovision", "poll-binding": "poll"}

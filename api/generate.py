@@ -22,9 +22,9 @@ WIDTH = 120
 DESCRIPTION = "go/platform/api/openapi.json"
 """The API's description. Only its form is changed."""
 
-ENUMS = [it for it in INTERFACE if isinstance(it, Enum) and it is not STATUS]
-STRUCTS = {f"struct osb_{it.name}": it for it in INTERFACE if isinstance(it, Struct)}
-CALLS = [it for it in INTERFACE if isinstance(it, Call)]
+ENUMS = [part for part in INTERFACE if isinstance(part, Enum) and part is not STATUS]
+STRUCTS = {f"struct osb_{part.name}": part for part in INTERFACE if isinstance(part, Struct)}
+CALLS = [part for part in INTERFACE if isinstance(part, Call)]
 
 
 def wrapped(text: str, first: str, others: str) -> list[str]:
@@ -70,7 +70,7 @@ def comment(text: str, front: str = "", returns: str = "") -> list[str]:
     blocks: list[tuple[str, str]] = []
     for paragraph in re.split(r"\n\s*\n", text.strip()):
         blocks += [("", "")] if blocks else []
-        blocks += [(it, "  " * it.startswith("- ")) for it in re.split(r"\n\s*(?=- )", paragraph.strip())]
+        blocks += [(item, "  " * item.startswith("- ")) for item in re.split(r"\n\s*(?=- )", paragraph.strip())]
     blocks += [(returns, "")] if returns else []
     blocks[-1] = (blocks[-1][0] + "\0*/", blocks[-1][1])
     lines: list[str] = []
@@ -90,11 +90,11 @@ def c_part(part: Part) -> list[str]:
         taken = ",\n".join((taken[:-1] or "void").split(", ")).replace(" ", "\0")
         return above + wrapped(f"{taken});", front + bracket, " " * len(front + bracket))
     if isinstance(part, Enum):
-        kind, rows = "enum", [(f"{part.front}{it.name} = {it.number},", it.means) for it in part.values]
+        kind, rows = "enum", [(f"{part.front}{value.name} = {value.number},", value.means) for value in part.values]
         rows[-1] = (rows[-1][0][:-1], rows[-1][1])
     else:
         kind = "struct"
-        rows = [(re.sub(r"enum osb_\w+", "uint8_t", it.declared) + ";", it.comment) for it in part.members]
+        rows = [(re.sub(r"enum osb_\w+", "uint8_t", member.declared) + ";", member.comment) for member in part.members]
     width = max((len(text) for text, about in rows if about), default=0)
     lines = [f"    {text:{width}} /* {about} */" if about else f"    {text}" for text, about in rows]
     return [*above, f"{kind} osb_{part.name} {{", *lines, "};"]
@@ -117,24 +117,26 @@ def camel(name: str, small: bool = False) -> str:
     """The name in Go's spelling, which begins with a small letter if it isn't exported."""
     first, *others = name.lower().split("_")
     words = [first if small else SPELLED.get(first, first.capitalize())]
-    return "".join([*words, *(SPELLED.get(it, it.capitalize()) for it in others)])
+    return "".join([*words, *(SPELLED.get(other, other.capitalize()) for other in others)])
 
 
 def go_constants(enum: Enum, front: str) -> list[str]:
     """The constants of an enum. What each means stands behind it if that fits into the lines, and else above it."""
-    values = [it for it in enum.values if it.name != "DONE" or enum is not STATUS]
-    names = [f"\t{front}{camel(it.name)}" for it in values]
-    numbers = [f"{camel(enum.name)} = C.{enum.front}{it.name}" for it in values]
+    values = [value for value in enum.values if value.name != "DONE" or enum is not STATUS]
+    names = [f"\t{front}{camel(value.name)}" for value in values]
+    numbers = [f"{camel(enum.name)} = C.{enum.front}{value.name}" for value in values]
     first, second = max(map(len, names)), max(map(len, numbers))
-    lines = [f"{name:{first}} {number:{second}} // {it.words}" for name, number, it in zip(names, numbers, values)]
+    lines = [
+        f"{name:{first}} {number:{second}} // {value.words}" for name, number, value in zip(names, numbers, values)
+    ]
     if max(map(len, lines)) > WIDTH:
-        above = ["\n".join(wrapped(sentence(it.words), "\t// ", "\t// ")) for it in values]
+        above = ["\n".join(wrapped(sentence(value.words), "\t// ", "\t// ")) for value in values]
         lines = [f"{words}\n{name} {number}" for words, name, number in zip(above, names, numbers)]
     return ["", "const (", *lines, ")", ""]
 
 
 def go_statuses() -> list[str]:
-    keys = {f"Err{camel(it.name)}:": it.words for it in STATUS.values if it.name != "DONE"}
+    keys = {f"Err{camel(value.name)}:": value.words for value in STATUS.values if value.name != "DONE"}
     meanings = [f'\t{key:{max(map(len, keys))}} "{words}",' for key, words in keys.items()]
     return [*go_constants(STATUS, "Err"), "var meanings = map[Status]string{", *meanings, "}"]
 
@@ -143,9 +145,11 @@ def go_enum(enum: Enum) -> list[str]:
     """The type, its numbers, and the name of each."""
     kind, article = camel(enum.name), "An" if enum.name[0] in "aeiou" else "A"
     names, following = [], 0
-    for it in enum.values:
-        names += [("" if it.number == following else f"{it.number}: ") + f'"{it.name.lower().replace("_", "-")}",']
-        following = it.number + 1
+    for value in enum.values:
+        names += [
+            ("" if value.number == following else f"{value.number}: ") + f'"{value.name.lower().replace("_", "-")}",'
+        ]
+        following = value.number + 1
     return [
         *["", *wrapped(f"{article} {kind} is {enum.what}. {enum.go}", "// ", "// "), f"type {kind} uint8"],
         *go_constants(enum, kind),
@@ -157,11 +161,13 @@ def go_enum(enum: Enum) -> list[str]:
 
 def crossing(is_written: bool) -> list[Struct]:
     """The structs that some call writes, or those that some call only reads, with the structs within them."""
-    all_taken = [it for call in CALLS for it in call.parameters if it.type in STRUCTS]
-    found = [it.type for it in all_taken if is_written == (it.pointer and not it.const)]
+    all_taken = [parameter for call in CALLS for parameter in call.parameters if parameter.type in STRUCTS]
+    found = [parameter.type for parameter in all_taken if is_written == (parameter.pointer and not parameter.const)]
     for name in found:
-        found += [it.type for it in STRUCTS[name].variables if it.type in STRUCTS and it.type not in found]
-    return [it for name, it in STRUCTS.items() if name in found and it.name != "id" and not it.has_lengths]
+        found += [part.type for part in STRUCTS[name].variables if part.type in STRUCTS and part.type not in found]
+    return [
+        struct for name, struct in STRUCTS.items() if name in found and struct.name != "id" and not struct.has_lengths
+    ]
 
 
 def go_value(it: Variable, value: str, is_to_c: bool) -> str:
@@ -240,16 +246,16 @@ VERSION = {VERSION[0] * 10000 + VERSION[1] * 100 + VERSION[2]}
 def listed(front: str, items: list[str], back: str) -> list[str]:
     """A list as black writes it: on one line, or else an item a line."""
     line, indent = f"{front}{', '.join(items)}{back}", front[: len(front) - len(front.lstrip())]
-    return [line] if len(line) <= WIDTH else [front, *(f"{indent}    {it}," for it in items), f"{indent}{back}"]
+    return [line] if len(line) <= WIDTH else [front, *(f"{indent}    {item}," for item in items), f"{indent}{back}"]
 
 
 def python_enums() -> str:
     lines = [ENUMS_HEAD]
     for enum in (STATUS, *ENUMS):
         lines += ["", f"class {pascal(enum.name)}(Named):", f'    """{sentence(enum.what)}"""', ""]
-        for it in (it for it in enum.values if it.name != "NONE"):
-            quote = "'" if '"' in it.words else '"'
-            lines += [f"    {it.name} = {it.number}, {quote}{it.words}{quote}"]
+        for value in (value for value in enum.values if value.name != "NONE"):
+            quote = "'" if '"' in value.words else '"'
+            lines += [f"    {value.name} = {value.number}, {quote}{value.words}{quote}"]
         lines += [""]
     return "\n".join(lines)
 
@@ -268,22 +274,25 @@ def ctypes_of(kind: str) -> str:
 def python_call(call: Call) -> list[str]:
     """An export with what it gives and takes. A pointer to bytes is a text."""
     kinds = []
-    for it in call.parameters:
-        is_text = it.plain == "uint8_t" and (it.pointer or it.length > 0)
-        plain = ctypes_of(it.plain)
-        text = "c.c_char_p" if it.const or it.length else "written"
-        kinds += [text if is_text else f"_AT({plain})" if it.pointer else plain]
+    for parameter in call.parameters:
+        is_text = parameter.plain == "uint8_t" and (parameter.pointer or parameter.length > 0)
+        plain = ctypes_of(parameter.plain)
+        text = "c.c_char_p" if parameter.const or parameter.length else "written"
+        kinds += [text if is_text else f"_AT({plain})" if parameter.pointer else plain]
     taken = ", ".join(kinds).replace("written, c.c_size_t, _AT(c.c_size_t)", "*_WRITTEN")
     taken = taken.replace("c.c_char_p, c.c_size_t", "*_READ")
     return listed("    (", [f'"{call.name}"', ctypes_of(call.given), f"[{taken}]"], "),")
 
 
 def python_header() -> str:
-    nones = [f"{enum.name.upper()}_NONE = {it.number}" for enum in ENUMS for it in enum.values if it.name == "NONE"]
+    nones = [
+        f"{enum.name.upper()}_NONE = {value.number}" for enum in ENUMS for value in enum.values if value.name == "NONE"
+    ]
     lines = [HEADER_HEAD, *nones]
     for struct in STRUCTS.values():
         fields = [
-            f'("{it.name}", {ctypes_of(it.plain)}{f" * {it.length}" if it.length else ""})' for it in struct.variables
+            f'("{variable.name}", {ctypes_of(variable.plain)}{f" * {variable.length}" if variable.length else ""})'
+            for variable in struct.variables
         ]
         lines += ["", "", f"class C{pascal(struct.name)}(c.Structure):", *listed("    _fields_ = [", fields, "]")]
     lines += ["", "", "EXPORTS: list[tuple[str, Any, list[Any]]] = ["]
@@ -296,12 +305,15 @@ def python_header() -> str:
 
 def status_table() -> str:
     """The rows of the table in docs/c.md."""
-    by: dict[str, list[str]] = {it.name: [] for it in STATUS.values}
+    by: dict[str, list[str]] = {value.name: [] for value in STATUS.values}
     for call in CALLS:
         for name, about in call.statuses(STATUS):
             by[name] += [f"`{call.name}` ({about})" if about else f"`{call.name}`"]
     by["DONE"] = ["all that return a status"]
-    rows = ((it.number, it.name, EXACTLY.get(it.name, it.means), ", ".join(by[it.name])) for it in STATUS.values)
+    rows = (
+        (value.number, value.name, EXACTLY.get(value.name, value.means), ", ".join(by[value.name]))
+        for value in STATUS.values
+    )
     return "".join("| %d | `OSB_%s` | %s | %s |\n" % row for row in rows)
 
 

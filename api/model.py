@@ -94,7 +94,7 @@ class Struct:
         for declared, _, go in members:
             first, *others = declared.split(", ")
             kind = first.rpartition(" ")[0]
-            self.variables += [Variable.of(it, go) for it in (first, *(f"{kind} {other}" for other in others))]
+            self.variables += [Variable.of(text, go) for text in (first, *(f"{kind} {other}" for other in others))]
 
 
 class Call:
@@ -107,11 +107,11 @@ class Call:
         front, _, taken = declared[:-1].partition("(")
         self.given, self.name = front.split()
         self.declared, self.comment, self.returns = declared, comment, returns
-        self.parameters = [Variable.of(it) for it in taken.split(", ") if it]
+        self.parameters = [Variable.of(text) for text in taken.split(", ") if text]
 
     def statuses(self, enum: Enum) -> list[tuple[str, str]]:
         """The name of each status that it returns, in their order, with what stands in parentheses behind it."""
-        names = [it.name for it in enum.values]
+        names = [value.name for value in enum.values]
         return [
             (name, about)
             for first, last, about in _NAMED.findall(self.returns)

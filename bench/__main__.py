@@ -80,10 +80,10 @@ class Brokers:
 
     def megabytes(self) -> float:
         """What all of them hold in memory."""
-        return sum(_resident(it.pid) for it in self._running) / 1024
+        return sum(_resident(program.pid) for program in self._running) / 1024
 
     def _processor(self) -> float:
-        return sum(_processor(it.pid) for it in self._running)
+        return sum(_processor(program.pid) for program in self._running)
 
 
 @contextlib.contextmanager

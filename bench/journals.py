@@ -64,7 +64,7 @@ def _heads(folder: Path) -> dict[str, str]:
 
 def write(folder: Path, lines: int) -> int:
     """Writes journals of at least so many lines into a new folder, and returns how many there are."""
-    lives = cycle([_lines(it) for it in _LIVES.values()])
+    lives = cycle([_lines(life) for life in _LIVES.values()])
     written, first, time = 0, 1, _TIME
     with contextlib.ExitStack() as stack:
         folder.mkdir(parents=True)
@@ -94,7 +94,7 @@ def _told(some: list[tuple[int, list[_Line]]], time: int) -> Iterator[tuple[_Lin
                     "\x00instance\x00": f"{number:08x}-0000-4000-8000-000000000001",
                     "\x00binding\x00": f"{number:08x}-0000-4000-8000-00000000000b",
                 }
-                yield lines[at], "".join(places.get(it, it) for it in lines[at].parts) + "\n"
+                yield lines[at], "".join(places.get(part, part) for part in lines[at].parts) + "\n"
 
 
 def _main() -> None:

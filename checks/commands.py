@@ -40,7 +40,7 @@ def ran(
 ) -> subprocess.CompletedProcess[str]:
     """Runs a command to its end. `given`: its standard input; `merged`: whether its errors are part of its output."""
     return subprocess.run(
-        [str(it) for it in line],
+        [str(word) for word in line],
         cwd=folder,
         env=environment,
         input=given,
@@ -56,7 +56,7 @@ def begun(
 ) -> subprocess.Popen[str]:
     """Starts a command whose output the test reads. `errors`: where its errors go."""
     nothing, read = subprocess.DEVNULL, subprocess.PIPE
-    words = [str(it) for it in line]
+    words = [str(word) for word in line]
     return subprocess.Popen(words, env=environment, stdin=nothing, stdout=read, stderr=errors, text=True)
 
 

@@ -12,4 +12,4 @@ def test_parts_that_are_needed_are_left(needed: list[int]) -> None:
 
 
 def test_one_is_left_of_several_that_serve() -> None:
-    assert len(shortest(range(100), lambda parts: any(it % 10 == 0 for it in parts))) == 1
+    assert len(shortest(range(100), lambda parts: any(part % 10 == 0 for part in parts))) == 1

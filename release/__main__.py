@@ -51,7 +51,7 @@ def build(folder: Path, into: Path) -> None:
     ]
     bill = into / f"osb-{found.version}.spdx.json"
     bill.write_text(sbom.document(found, packages, linked.package("ca-certificates"), made), encoding="utf-8")
-    lines = (f"{hashlib.sha256(it.read_bytes()).hexdigest()}  {it.name}\n" for it in sorted([*made, bill]))
+    lines = (f"{hashlib.sha256(path.read_bytes()).hexdigest()}  {path.name}\n" for path in sorted([*made, bill]))
     (into / "SHA256SUMS").write_text("".join(lines), encoding="utf-8")
 
 
@@ -62,9 +62,9 @@ def put(made: Path, to: Path) -> None:
     if sums.exists():
         for line in sums.read_text(encoding="utf-8").splitlines():
             (to / Path(line.split("  ", 1)[1]).name).unlink(missing_ok=True)
-    for it in sorted(made.iterdir()):
-        shutil.copyfile(it, to / it.name)
-        print(to / it.name)
+    for path in sorted(made.iterdir()):
+        shutil.copyfile(path, to / path.name)
+        print(to / path.name)
 
 
 if __name__ == "__main__":

@@ -24,12 +24,12 @@ def tar(entries: list[Entry], epoch: int) -> bytes:
     """A tar of the entries, in this order, with this time. It owns no name of a user."""
     made = io.BytesIO()
     with tarfile.open(fileobj=made, mode="w", format=tarfile.GNU_FORMAT) as archive:
-        for it in entries:
-            about = tarfile.TarInfo(it.name)
-            about.type = tarfile.DIRTYPE if it.content is None else tarfile.REGTYPE
-            about.mode, about.mtime, about.uid, about.gid = it.mode, epoch, it.owner, it.owner
-            about.size = len(it.content or b"")
-            archive.addfile(about, io.BytesIO(it.content or b""))
+        for entry in entries:
+            about = tarfile.TarInfo(entry.name)
+            about.type = tarfile.DIRTYPE if entry.content is None else tarfile.REGTYPE
+            about.mode, about.mtime, about.uid, about.gid = entry.mode, epoch, entry.owner, entry.owner
+            about.size = len(entry.content or b"")
+            archive.addfile(about, io.BytesIO(entry.content or b""))
     return made.getvalue()
 
 

@@ -50,37 +50,39 @@ class Tree:
         }
         text = re.sub(r"\$\{(\w+)\}", lambda it: values[it[1]], text)
         self.put("DEBIAN/md5sums", self._sums())
-        etc = [it for it in self._files() if it.startswith("etc/")]
+        etc = [file for file in self._files() if file.startswith("etc/")]
         if etc:
-            self.put("DEBIAN/conffiles", "".join(f"/{it}\n" for it in etc))
+            self.put("DEBIAN/conffiles", "".join(f"/{name}\n" for name in etc))
         self.put("DEBIAN/control", text)
 
     def pack(self, into: Path) -> Path:
         """Writes the package. All its files belong to root, and have the time of the release."""
         made = into / f"{self.name}_{self._sources.version}_amd64.deb"
-        for it in [self.folder, *self.folder.rglob("*")]:
-            if it.is_dir() and not it.is_symlink():
-                it.chmod(0o700 if it == self.folder / "etc" / "osb" else 0o755)
-            os.utime(it, (self._sources.epoch, self._sources.epoch), follow_symlinks=False)
+        for path in [self.folder, *self.folder.rglob("*")]:
+            if path.is_dir() and not path.is_symlink():
+                path.chmod(0o700 if path == self.folder / "etc" / "osb" else 0o755)
+            os.utime(path, (self._sources.epoch, self._sources.epoch), follow_symlinks=False)
         options = ("--root-owner-group", "--threads-max=1", "-Zxz")
         epoch = {"SOURCE_DATE_EPOCH": str(self._sources.epoch)}
         run("dpkg-deb", *options, "--build", self.folder, made, environment=epoch)
         return made
 
     def _files(self) -> list[str]:
-        found = (it for it in self.folder.rglob("*") if it.is_file() and not it.is_symlink())
+        found = (path for path in self.folder.rglob("*") if path.is_file() and not path.is_symlink())
         return sorted(
-            str(it.relative_to(self.folder)) for it in found if it.relative_to(self.folder).parts[0] != "DEBIAN"
+            str(path.relative_to(self.folder)) for path in found if path.relative_to(self.folder).parts[0] != "DEBIAN"
         )
 
     def _sums(self) -> str:
-        lines = ((it, hashlib.md5((self.folder / it).read_bytes()).hexdigest()) for it in self._files())
-        return "".join(f"{digest}  {it}\n" for it, digest in lines if not it.startswith("etc/"))
+        lines = ((file, hashlib.md5((self.folder / file).read_bytes()).hexdigest()) for file in self._files())
+        return "".join(f"{digest}  {line}\n" for line, digest in lines if not line.startswith("etc/"))
 
     def _size(self) -> int:
         """In KiB, as dpkg-gencontrol counts: each file is rounded up, and all else is 1."""
-        found = [it for it in self.folder.rglob("*")]
-        return sum(math.ceil(it.stat().st_size / 1024) if it.is_file() and not it.is_symlink() else 1 for it in found)
+        found = [path for path in self.folder.rglob("*")]
+        return sum(
+            math.ceil(path.stat().st_size / 1024) if path.is_file() and not path.is_symlink() else 1 for path in found
+        )
 
 
 def maintainer() -> str:
@@ -92,7 +94,7 @@ def maintainer() -> str:
 def build(sources: Sources, linked: list[Package], folder: Path, into: Path) -> list[Path]:
     """Writes both packages. `folder`: a new one for what it needs meanwhile."""
     trees = [_programs(sources, linked, folder), _development(sources, folder)]
-    return [it.pack(into) for it in trees]
+    return [tree.pack(into) for tree in trees]
 
 
 # ---- The package osb
@@ -100,8 +102,8 @@ def build(sources: Sources, linked: list[Package], folder: Path, into: Path) -> 
 
 def _programs(sources: Sources, linked: list[Package], folder: Path) -> Tree:
     tree = Tree(folder / "osb", "osb", sources)
-    for it in sources.programs:
-        tree.put(f"usr/bin/{it.name}", it, 0o755)
+    for program in sources.programs:
+        tree.put(f"usr/bin/{program.name}", program, 0o755)
     tree.put("usr/bin/osb-replay", sources.replay, 0o755)
     _python_programs(tree)
     tree.put(f"{LIBRARIES}/libosb.so.{sources.version}", sources.library / "libosb.so")
@@ -115,7 +117,7 @@ def _programs(sources: Sources, linked: list[Package], folder: Path) -> Tree:
     _guides(tree)
     tree.put("usr/share/doc/osb/THIRD-PARTY.gz", compressed(notices(linked).encode()))
     tree.put("usr/share/lintian/overrides/osb", FILES / "osb.lintian-overrides")
-    built_using = ", ".join(sorted({f"{it.source} (= {it.source_version})" for it in linked}))
+    built_using = ", ".join(sorted({f"{package.source} (= {package.source_version})" for package in linked}))
     tree.control(FILES / "osb.control", Depends=_depends(tree, folder), Built_Using=built_using)
     for name in ("postinst", "prerm", "postrm"):
         tree.put(f"DEBIAN/{name}", FILES / f"osb.{name}", 0o755)
@@ -141,8 +143,8 @@ def _pages(tree: Tree, sources: Sources) -> None:
     for name in pages.ABOUT:
         text = pages.page(name, pages.help_of(name, sources.replay), sources.version, month)
         tree.put(f"usr/share/man/man1/{name}.1.gz", compressed(text.encode()))
-    for it in sorted((sources.built / "pages").glob("*.1")):
-        tree.put(f"usr/share/man/man1/{it.name}.gz", compressed(it.read_bytes()))
+    for path in sorted((sources.built / "pages").glob("*.1")):
+        tree.put(f"usr/share/man/man1/{path.name}.gz", compressed(path.read_bytes()))
     for name in PROGRAMS:
         tree.put(f"usr/share/bash-completion/completions/{name}", sources.built / "pages" / f"{name}.bash")
         tree.put(f"usr/share/zsh/vendor-completions/_{name}", sources.built / "pages" / f"_{name}")
@@ -150,8 +152,8 @@ def _pages(tree: Tree, sources: Sources) -> None:
 
 def _guides(tree: Tree) -> None:
     """The pages that the programs name in their help. They lie as in the sources, so that their links lead on."""
-    for it in [*TOP.glob("*.md"), *(TOP / "docs").rglob("*.md"), *(TOP / "docs").rglob("*.svg")]:
-        tree.put(f"usr/share/doc/osb/{it.relative_to(TOP)}", it)
+    for page in [*TOP.glob("*.md"), *(TOP / "docs").rglob("*.md"), *(TOP / "docs").rglob("*.svg")]:
+        tree.put(f"usr/share/doc/osb/{page.relative_to(TOP)}", page)
 
 
 def _depends(tree: Tree, folder: Path) -> str:
@@ -160,9 +162,11 @@ def _depends(tree: Tree, folder: Path) -> str:
     description.parent.mkdir()
     description.write_text("Source: osb\n\nPackage: osb\nArchitecture: amd64\n")
     shared = [
-        it for it in (tree.folder / "usr").rglob("*") if it.name == "osb-replay" or it.name.startswith("libosb.so.0.")
+        path
+        for path in (tree.folder / "usr").rglob("*")
+        if path.name == "osb-replay" or path.name.startswith("libosb.so.0.")
     ]
-    found = run("dpkg-shlibdeps", "-O", *(f"-e{it}" for it in sorted(shared)), folder=folder)
+    found = run("dpkg-shlibdeps", "-O", *(f"-e{name}" for name in sorted(shared)), folder=folder)
     return found.strip().removeprefix("shlibs:Depends=")
 
 

@@ -44,9 +44,9 @@ def entries(sources: Sources, linked: list[Package]) -> list[Entry]:
         "usr/share/doc/osb/THIRD-PARTY": notices(linked).encode(),
     }
     return [
-        *(Entry(it, None, 0o755) for it in folders),
+        *(Entry(folder, None, 0o755) for folder in folders),
         *(Entry(name, text, 0o644) for name, text in texts.items()),
-        *(Entry(f"usr/bin/{it}", (sources.built / it).read_bytes(), 0o755) for it in SERVICES),
+        *(Entry(f"usr/bin/{service}", (sources.built / service).read_bytes(), 0o755) for service in SERVICES),
         Entry("tmp", None, 0o1777),
         Entry("var", None, 0o755),
         Entry("var/lib", None, 0o755),
@@ -59,7 +59,7 @@ def authorities() -> bytes:
     found = sorted(AUTHORITIES.glob("*.crt"))
     if not found:
         raise Failed(f"{AUTHORITIES} has no certificates: apt-get install ca-certificates")
-    return b"".join(it.read_bytes().rstrip(b"\n") + b"\n" for it in found)
+    return b"".join(path.read_bytes().rstrip(b"\n") + b"\n" for path in found)
 
 
 def _add(name: str, layer: Path, layout: Path, sources: Sources) -> None:
@@ -97,7 +97,7 @@ def _of_folder(layout: Path) -> list[Entry]:
     parsed["manifests"].sort(key=lambda it: it["annotations"]["org.opencontainers.image.ref.name"])
     index.write_text(json.dumps(parsed, separators=(",", ":"), sort_keys=True), encoding="utf-8")
     found = []
-    for it in sorted(layout.rglob("*")):
-        content = None if it.is_dir() else it.read_bytes()
-        found.append(Entry(str(it.relative_to(layout)), content, 0o755 if it.is_dir() else 0o644))
+    for path in sorted(layout.rglob("*")):
+        content = None if path.is_dir() else path.read_bytes()
+        found.append(Entry(str(path.relative_to(layout)), content, 0o755 if path.is_dir() else 0o644))
     return found

@@ -51,7 +51,7 @@ class Package(NamedTuple):
 
 def packages() -> list[Package]:
     """The packages that are linked into the programs, by name. Raises Failed if a file belongs to no package."""
-    return [package(it) for it in sorted(owners([*_go_files(), *_archives()]))]
+    return [package(name) for name in sorted(owners([*_go_files(), *_archives()]))]
 
 
 def package(name: str) -> Package:
@@ -73,10 +73,10 @@ def owners(files: list[Path]) -> set[str]:
 def _go_files() -> list[Path]:
     """A file of each package of Go that is linked: of Debian's packages, and of Go's own."""
     template = "{{.Standard}} {{.Dir}}/{{if .GoFiles}}{{index .GoFiles 0}}{{end}}"
-    line = ["list", "-deps", "-tags", TAGS, "-f", template, *(f"./cmd/{it}" for it in PROGRAMS)]
+    line = ["list", "-deps", "-tags", TAGS, "-f", template, *(f"./cmd/{program}" for program in PROGRAMS)]
     found = set()
-    for it in run(TOP / "scripts" / "go", *line).splitlines():
-        standard, file = it.split(" ", 1)
+    for row in run(TOP / "scripts" / "go", *line).splitlines():
+        standard, file = row.split(" ", 1)
         path = Path(file).resolve()
         if TOP not in path.parents and (standard == "false" or path.parent.name == "runtime"):
             found.add(path)
@@ -84,7 +84,7 @@ def _go_files() -> list[Path]:
 
 
 def _archives() -> list[Path]:
-    return [Path(run("gcc", f"-print-file-name={it}").strip()).resolve() for it in ARCHIVES]
+    return [Path(run("gcc", f"-print-file-name={archive}").strip()).resolve() for archive in ARCHIVES]
 
 
 def licence(name: str, file: Path) -> str:
@@ -100,7 +100,7 @@ def licence(name: str, file: Path) -> str:
     unknown = sorted(found - set(SPDX))
     if unknown or not found:
         raise Failed(f"{file} names {', '.join(unknown) or 'no licence'}: add it to SPDX in release/linked.py")
-    return " AND ".join(sorted({SPDX[it] for it in found}))
+    return " AND ".join(sorted({SPDX[name] for name in found}))
 
 
 def notices(found: list[Package]) -> str:
@@ -109,5 +109,8 @@ def notices(found: list[Package]) -> str:
         "The static programs are linked with the packages of Debian below. Each has its name, its\n"
         "version and its copyright file here. https://snapshot.debian.org has the sources.\n"
     )
-    parts = [f"{it.name} {it.version}\n\n{it.copyright.read_text(encoding='utf-8').strip()}\n" for it in found]
+    parts = [
+        f"{package.name} {package.version}\n\n{package.copyright.read_text(encoding='utf-8').strip()}\n"
+        for package in found
+    ]
     return f"\n{'-' * 78}\n\n".join([begin, *parts])

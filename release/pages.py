@@ -23,8 +23,8 @@ def help_of(name: str, replay: Path) -> dict[str, str]:
     program = replay if name == "osb-replay" else TOP / name
     environment = {"OSB_REPLAY": str(replay), "COLUMNS": "100"}
     commands = ["", *COMMANDS.get(name, "").split()]
-    texts = {it: run(program, *it.split(), "--help", environment=environment) for it in commands}
-    return {it: re.sub(r"(processors): \d+", r"\1", text) for it, text in texts.items()}  # those of this machine
+    texts = {command: run(program, *command.split(), "--help", environment=environment) for command in commands}
+    return {name: re.sub(r"(processors): \d+", r"\1", text) for name, text in texts.items()}  # those of this machine
 
 
 def page(name: str, texts: dict[str, str], version: str, month: str) -> str:
@@ -44,7 +44,7 @@ def page(name: str, texts: dict[str, str], version: str, month: str) -> str:
         ]
         for paragraph in re.split(r"\n\n+", text.strip("\n")):
             lines += _paragraph(paragraph.split("\n"), heading)
-    others = ", ".join(f"{it} (1)" for it in (*ABOUT, "osb-broker", "osb-platform") if it != name)
+    others = ", ".join(f"{program} (1)" for program in (*ABOUT, "osb-broker", "osb-platform") if program != name)
     return "".join(f"{line}\n" for line in [*lines, ".SH SEE ALSO", _plain(others)] if line)
 
 

@@ -24,5 +24,5 @@ def modules() -> dict[str, Path]:
     programs, package = TOP / "programs", TOP / "python" / "src"
     found = {"run.py": programs / "run.py"}
     for top, folder in (programs, "osb_audit"), (programs, "osb_replay_log"), (package, "osb"):
-        found |= {str(it.relative_to(top)): it for it in sorted((top / folder).rglob("*.py"))}
+        found |= {str(path.relative_to(top)): path for path in sorted((top / folder).rglob("*.py"))}
     return found

@@ -43,7 +43,7 @@ def _with_library(plain: Path, library: Path, sources: Sources, into: Path) -> P
     """The wheel with the library, its tag, and a new RECORD."""
     about = f"osb-{sources.version}.dist-info"
     with zipfile.ZipFile(plain) as wheel:
-        files = {it: wheel.read(it) for it in wheel.namelist()}
+        files = {path: wheel.read(path) for path in wheel.namelist()}
     if f"{about}/RECORD" not in files:
         raise Failed(f"python/pyproject.toml has another version than VERSION: {plain.name}")
     files["osb/libosb.so.0"] = library.read_bytes()

@@ -21,8 +21,8 @@ def document(sources: Sources, linked: list[Package], certificates: Package, mad
     own = _own(sources)
     manifest = (sources.library / "MANIFEST").read_text(encoding="utf-8")
     kit, library, replay = _of_manifest(sources, manifest)
-    others = [_debian(it) for it in [*linked, certificates]]
-    files = [_file(it) for it in made]
+    others = [_debian(package) for package in [*linked, certificates]]
+    files = [_file(path) for path in made]
     body = {
         "spdxVersion": "SPDX-2.3",
         "dataLicense": "CC0-1.0",
@@ -36,11 +36,11 @@ def document(sources: Sources, linked: list[Package], certificates: Package, mad
         "files": files,
         "relationships": [
             _relation("SPDXRef-DOCUMENT", "DESCRIBES", own["SPDXID"]),
-            *(_relation(own["SPDXID"], "GENERATES", it["SPDXID"]) for it in files),
+            *(_relation(own["SPDXID"], "GENERATES", file["SPDXID"]) for file in files),
             _relation(own["SPDXID"], "STATIC_LINK", library["SPDXID"]),
             _relation(own["SPDXID"], "CONTAINS", replay["SPDXID"]),
-            *(_relation(kit["SPDXID"], "BUILD_TOOL_OF", it["SPDXID"]) for it in (library, replay)),
-            *(_relation(own["SPDXID"], "STATIC_LINK", it["SPDXID"]) for it in others[:-1]),
+            *(_relation(kit["SPDXID"], "BUILD_TOOL_OF", artifact["SPDXID"]) for artifact in (library, replay)),
+            *(_relation(own["SPDXID"], "STATIC_LINK", other["SPDXID"]) for other in others[:-1]),
             _relation(own["SPDXID"], "CONTAINS", others[-1]["SPDXID"]),
         ],
     }
@@ -61,7 +61,7 @@ def _own(sources: Sources) -> dict[str, Any]:
 
 def _of_manifest(sources: Sources, manifest: str) -> tuple[dict[str, Any], dict[str, Any], dict[str, Any]]:
     """The kit, the library and osb-replay, by the lines of MANIFEST: file, SHA-256, digest of the sources, kit."""
-    rows = [it.split(" ", 3) for it in manifest.splitlines() if it and not it.startswith("#")]
+    rows = [line.split(" ", 3) for line in manifest.splitlines() if line and not line.startswith("#")]
     by_file = {row[0]: row for row in rows}
     kit = {
         "SPDXID": "SPDXRef-kit",

@@ -45,14 +45,14 @@ class Sources(NamedTuple):
     @property
     def programs(self) -> list[Path]:
         """The static programs."""
-        return [self.built / it for it in PROGRAMS]
+        return [self.built / program for program in PROGRAMS]
 
 
 def run(*line: str | Path, environment: dict[str, str] | None = None, folder: Path = TOP) -> str:
     """Runs a command, and returns what it printed. Raises Failed if it fails."""
     try:
         ran = subprocess.run(
-            [str(it) for it in line],
+            [str(word) for word in line],
             cwd=folder,
             env={**os.environ, **(environment or {})},
             stdin=subprocess.DEVNULL,
@@ -68,9 +68,9 @@ def run(*line: str | Path, environment: dict[str, str] | None = None, folder: Pa
 
 def check_tools() -> None:
     """Raises Failed unless all tools that make a release are on the PATH."""
-    missing = [it for it in TOOLS if not shutil.which(it)]
+    missing = [tool for tool in TOOLS if not shutil.which(tool)]
     if missing:
-        packages = " ".join(sorted({TOOLS[it] for it in missing}))
+        packages = " ".join(sorted({TOOLS[tool] for tool in missing}))
         raise Failed(f"to make a release, install {', '.join(missing)}: apt-get install {packages}")
 
 

@@ -14,12 +14,12 @@ from release.sources import TOP, Sources
 def build(sources: Sources, linked: list[Package], into: Path) -> Path:
     """Writes osb-VERSION-linux-amd64.tar.gz."""
     top = f"osb-{sources.version}"
-    texts = {it: (TOP / it).read_bytes() for it in ("LICENSE", "README.md")}
+    texts = {name: (TOP / name).read_bytes() for name in ("LICENSE", "README.md")}
     texts["THIRD-PARTY"] = notices(linked).encode()
     entries = [
         Entry(top, None, 0o755),
         *(Entry(f"{top}/{name}", text, 0o644) for name, text in texts.items()),
-        *(Entry(f"{top}/{it.name}", it.read_bytes(), 0o755) for it in [*sources.programs, sources.replay]),
+        *(Entry(f"{top}/{path.name}", path.read_bytes(), 0o755) for path in [*sources.programs, sources.replay]),
         *_python_programs(top, sources),
     ]
     made = into / f"{top}-linux-amd64.tar.gz"
@@ -35,7 +35,7 @@ def _python_programs(top: str, sources: Sources) -> Iterator[Entry]:
         yield Entry(f"{top}/{name}", text.encode(), 0o755)
     files = {**python_programs.modules(), "osb/libosb.so.0": sources.library / "libosb.so"}
     share = PurePosixPath(top, python_programs.SHARE)
-    folders = {share / it for name in files for it in PurePosixPath(name).parents} | {share.parent}
+    folders = {share / parent for name in files for parent in PurePosixPath(name).parents} | {share.parent}
     for folder in sorted(folders):
         yield Entry(str(folder), None, 0o755)
     for name, file in sorted(files.items()):

@@ -224,7 +224,7 @@ def name_of(failure: str) -> str:
 
 def few(result: Result) -> bool:
     """Whether some tests failed, and so few that each is worth another try."""
-    return 0 < len(result.failures) <= FEW and all(test_of(TOP, it) for it in result.failures)
+    return 0 < len(result.failures) <= FEW and all(test_of(TOP, failure) for failure in result.failures)
 
 
 def test_of(top: Path, failure: str) -> str | None:
@@ -272,7 +272,7 @@ class Tests:
         result = self._tried_again(self._end("alone", process, may_fail=True), fails=self._clock_decides)
         if self._clock_decides or not few(result):
             return result
-        skips = [f"{name_of(it)}: it goes by the clock, and failed {TRIES} times" for it in result.failures]
+        skips = [f"{name_of(failure)}: it goes by the clock, and failed {TRIES} times" for failure in result.failures]
         return Result(result.passed, [], [*result.skips, *skips], result.late)
 
     def _tried_again(self, result: Result, fails: bool) -> Result:
@@ -282,9 +282,9 @@ class Tests:
         for turn in range(2, TRIES + 1):
             if not few(result):
                 return result
-            process = self._begin("again", "-n", "0", *[test_of(TOP, it) or it for it in result.failures])
+            process = self._begin("again", "-n", "0", *[test_of(TOP, test) or test for test in result.failures])
             again = self._end("again", process, may_fail=turn < TRIES or not fails)
-            late = [name_of(it) for it in result.failures if name_of(it) not in map(name_of, again.failures)]
+            late = [name_of(test) for test in result.failures if name_of(test) not in map(name_of, again.failures)]
             result = Result(result.passed + again.passed, again.failures, result.skips, [*result.late, *late])
         return result
 
@@ -371,9 +371,9 @@ def in_units(seconds: float, one: float, why: str) -> str:
 
 
 def summary(results: list[Result]) -> str:
-    passed = sum(it.passed for it in results)
-    failed = sum(len(it.failures) for it in results)
-    return f"{passed} passed, {failed} failed, {sum(len(it.skips) for it in results)} skipped"
+    passed = sum(result.passed for result in results)
+    failed = sum(len(result.failures) for result in results)
+    return f"{passed} passed, {failed} failed, {sum(len(result.skips) for result in results)} skipped"
 
 
 def main() -> int:
@@ -389,7 +389,7 @@ def main() -> int:
 def count(found: dict[str, Callable[[], Result]], anew: bool = False) -> int:
     """Runs the steps, and reports what they counted. Returns the status of the gate."""
     if "proofs" in found:
-        for name in [it for it in os.environ if it in NAMED or it.startswith(LIBPQ)]:
+        for name in [name for name in os.environ if name in NAMED or name.startswith(LIBPQ)]:
             del os.environ[name]
         os.environ["OSB_WHOLE"] = "anew" if anew else "1"
     one, why = unit() if "proofs" in found else (0, "")
@@ -403,13 +403,13 @@ def count(found: dict[str, Callable[[], Result]], anew: bool = False) -> int:
         results.append(result)
         seconds = f"{time.monotonic() - begun:.0f} s, {processor_seconds() - used:.0f} processor seconds"
         report.append(f"{name}: {summary([result])} ({seconds})")
-        report += [f"FAILED: {name}: {it}" for it in dict.fromkeys(result.failures)]
-        report += [f"{name}: {it} passed when it was tried again" for it in result.late]
+        report += [f"FAILED: {name}: {failure}" for failure in dict.fromkeys(result.failures)]
+        report += [f"{name}: {test} passed when it was tried again" for test in result.late]
     if "proofs" in found:
         report.append(in_units(processor_seconds() - all_used, one, why))
-    report += [f"{SKIPPED}{it}" for result in results for it in result.skips]
+    report += [f"{SKIPPED}{skip}" for result in results for skip in result.skips]
     print("== all", *report, summary(results), sep="\n", flush=True)
-    return 1 if any(it.failures for it in results) else 0
+    return 1 if any(outcome.failures for outcome in results) else 0
 
 
 if __name__ == "__main__":

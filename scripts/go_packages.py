@@ -83,7 +83,7 @@ class Package(NamedTuple):
     @property
     def others(self) -> list[str]:
         """The libraries of others that it imports."""
-        return sorted({library(it) for it in self.imports if "." in it.partition("/")[0]})
+        return sorted({library(path) for path in self.imports if "." in path.partition("/")[0]})
 
 
 Packages = dict[str, Package]
@@ -92,7 +92,7 @@ Packages = dict[str, Package]
 
 def ours(paths: Iterable[str]) -> list[str]:
     """Those of the paths that are packages of go/, below go/."""
-    return sorted(it.removeprefix(ROOT) for it in paths if it.startswith(ROOT))
+    return sorted(path.removeprefix(ROOT) for path in paths if path.startswith(ROOT))
 
 
 def library(path: str) -> str:
@@ -113,9 +113,11 @@ def packages() -> Packages:
         ]
         environment = {**os.environ, "GOFLAGS": f"-tags={tags}"}
         listed = subprocess.run(line, check=True, stdout=subprocess.PIPE, text=True, env=environment).stdout
-        for it in map(package, objects(listed)):
-            before = found.get(it.path, it)
-            found[it.path] = it._replace(imports=it.imports | before.imports, tests=it.tests | before.tests)
+        for package_ in map(package, objects(listed)):
+            before = found.get(package_.path, package_)
+            found[package_.path] = package_._replace(
+                imports=package_.imports | before.imports, tests=package_.tests | before.tests
+            )
     return found
 
 
@@ -145,18 +147,18 @@ def package(listed: dict[str, Any]) -> Package:
 def mistakes(of: Packages) -> list[str]:
     """What the rules forbid: each import, and each name of a folder."""
     found = []
-    for path, it in sorted(of.items()):
-        if it.folder not in FOLDERS:
-            found.append(f"go/{it.folder} isn't one of the folders of go/: {', '.join(FOLDERS)}")
+    for path, package_ in sorted(of.items()):
+        if package_.folder not in FOLDERS:
+            found.append(f"go/{package_.folder} isn't one of the folders of go/: {', '.join(FOLDERS)}")
             continue
-        if it.name not in ("main", path.rpartition("/")[2]):
-            found.append(f"the folder go/{path} has the package {it.name}. Give both one name")
-        if not it.what:
+        if package_.name not in ("main", path.rpartition("/")[2]):
+            found.append(f"the folder go/{path} has the package {package_.name}. Give both one name")
+        if not package_.what:
             found.append(f"the package {path} has no comment that says what it is for")
-        may = (it.folder, *FOLDERS[it.folder].may_import)
-        for other in ours(it.imports | it.tests if it.folder in STRICT else it.imports):
+        may = (package_.folder, *FOLDERS[package_.folder].may_import)
+        for other in ours(package_.imports | package_.tests if package_.folder in STRICT else package_.imports):
             if other.partition("/")[0] not in may:
-                found.append(f"{path} imports {other}, but {it.folder} may import only {', '.join(may)}")
+                found.append(f"{path} imports {other}, but {package_.folder} may import only {', '.join(may)}")
     return found
 
 
@@ -166,7 +168,7 @@ def chain(of: Packages) -> list[str]:
 
     def below(path: str) -> list[str]:
         if path not in longest:  # Go rejects a circle
-            chains = (below(it) for it in of[path].own)
+            chains = (below(other) for other in of[path].own)
             longest[path] = [path, *max(chains, key=len, default=[])]
         return longest[path]
 
@@ -178,19 +180,21 @@ def picture(of: Packages) -> Iterator[str]:
     yield "```mermaid"
     yield "flowchart TD"
     for folder in FOLDERS:
-        below = [it.path.removeprefix(f"{folder}/") for it in in_folder(of, folder) if it.path != folder]
+        below = [
+            package_.path.removeprefix(f"{folder}/") for package_ in in_folder(of, folder) if package_.path != folder
+        ]
         lines = [", ".join(below[at : at + 4]) for at in range(0, len(below), 4)]
         yield f'    {folder}["{"<br/>".join([f"<b>{folder}</b>", *lines])}"]'
     for folder in FOLDERS:
-        imported = {other.partition("/")[0] for it in in_folder(of, folder) for other in it.own} - {folder}
+        imported = {other.partition("/")[0] for package_ in in_folder(of, folder) for other in package_.own} - {folder}
         if imported:
-            yield f"    {folder} --> {' & '.join(it for it in FOLDERS if it in imported)}"
+            yield f"    {folder} --> {' & '.join(target for target in FOLDERS if target in imported)}"
     yield "```"
 
 
 def in_folder(of: Packages, folder: str) -> list[Package]:
     """The packages of a folder, in the order of their paths."""
-    return [it for _, it in sorted(of.items()) if it.folder == folder]
+    return [package_ for _, package_ in sorted(of.items()) if package_.folder == folder]
 
 
 def section(of: Packages) -> str:
@@ -209,14 +213,14 @@ def section(of: Packages) -> str:
         "",
         *wrapped(
             "The packages of a folder may import each other, and those of the folders in the last column. "
-            f"In {' and '.join(f'`{it}`' for it in STRICT)}, that holds for tests, too:"
+            f"In {' and '.join(f'`{name}`' for name in STRICT)}, that holds for tests, too:"
         ),
         "",
         "| folder of `go/` | what it has | may import |",
         "|---|---|---|",
     ]
-    for folder, it in FOLDERS.items():
-        lines.append(f"| `{folder}` | {it.what} | {code(it.may_import) or 'nothing'} |")
+    for folder, about in FOLDERS.items():
+        lines.append(f"| `{folder}` | {about.what} | {code(about.may_import) or 'nothing'} |")
     for folder in FOLDERS:
         lines += ["", f"### The folder `{folder}`", "", "| package | what it is for | imports |", "|---|---|---|"]
         for each in in_folder(of, folder):
@@ -234,7 +238,7 @@ def together(paths: list[str]) -> list[str]:
     """The paths as code, with those below one folder in one: `internal/{crash,pg}`."""
     found = []
     for folder in FOLDERS:
-        below = [it.removeprefix(f"{folder}/") for it in paths if it.startswith(f"{folder}/")]
+        below = [path.removeprefix(f"{folder}/") for path in paths if path.startswith(f"{folder}/")]
         if folder in paths:
             found.append(f"`{folder}`")
         if len(below) == 1:
@@ -245,7 +249,7 @@ def together(paths: list[str]) -> list[str]:
 
 
 def code(names: Iterable[str]) -> str:
-    return ", ".join(f"`{it}`" for it in names)
+    return ", ".join(f"`{name}`" for name in names)
 
 
 def with_section(page: str, text: str) -> str:
@@ -268,8 +272,8 @@ def main() -> int:
         wrong.append(f"{PAGE.relative_to(TOP)}: the section isn't current. Run scripts/go_packages.py")
     elif new != page:
         PAGE.write_text(new, encoding="utf-8")
-    for it in wrong:
-        print(it)
+    for mistake in wrong:
+        print(mistake)
     return bool(wrong)
 
 

@@ -75,7 +75,9 @@ def crate_of(name: str) -> str:
 def rows_of(top: Path) -> Rows:
     lines = [line.partition("#")[0].strip() for line in (top / "crates.txt").read_text().splitlines()]
     heads = {line.partition(":")[0].split()[0]: line for line in lines if line}
-    return {name: (line, [it for it in line.partition(":")[2].split() if it in heads]) for name, line in heads.items()}
+    return {
+        name: (line, [use for use in line.partition(":")[2].split() if use in heads]) for name, line in heads.items()
+    }
 
 
 def below(rows: Rows, names: Iterable[str]) -> set[str]:
@@ -100,7 +102,7 @@ def lines_now(top: Path, kit: str) -> dict[str, Line]:
     def digest(name: str) -> str:
         if name not in digests:
             line, uses = rows[name]
-            parts = [ground, line, *(digest(it) for it in uses), *files_of(top / "crates" / name)]
+            parts = [ground, line, *(digest(name) for name in uses), *files_of(top / "crates" / name)]
             digests[name] = digest_of(parts)
         return digests[name]
 
@@ -125,7 +127,7 @@ def prebuilt_now(top: Path) -> dict[str, Line]:
 
 def mutants_of(top: Path, crate: str) -> list[str]:
     """The names of the crate's mutants."""
-    return sorted(f"{crate}/{it.name}" for it in (top / "crates" / crate / MUST_FAIL).glob("*.edit"))
+    return sorted(f"{crate}/{path.name}" for path in (top / "crates" / crate / MUST_FAIL).glob("*.edit"))
 
 
 def edit_of(top: Path, mutant: str) -> Path:
@@ -173,7 +175,7 @@ def read(top: Path) -> dict[str, Line]:
 def add(top: Path, lines: Ledger) -> None:
     """Writes these lines into the ledger, in the place of those of the same names. What no longer exists goes."""
     ledger = {**read(top), **lines}
-    names = [*(it for crate in rows_of(top) for it in (crate, *mutants_of(top, crate))), *prebuilt_now(top)]
+    names = [*(unit for crate in rows_of(top) for unit in (crate, *mutants_of(top, crate))), *prebuilt_now(top)]
     text = "".join(f"{name} {ledger[name].digest} {ledger[name].result}\n" for name in names if name in ledger)
     new = top / f"{FILE}.new"
     new.write_text(HEADING + text)

@@ -143,7 +143,7 @@ def function_of(crate: Path, change: Change) -> Function:
         head = lines[first]
         if match := HEAD.match(head):
             closing = head[: len(head) - len(head.lstrip())] + "}"
-            last = next((it for it in range(first, len(lines)) if lines[it] == closing), first)
+            last = next((number for number in range(first, len(lines)) if lines[number] == closing), first)
             if here <= last:
                 while first > 0 and lines[first - 1].lstrip().startswith("#["):
                     first -= 1
@@ -197,15 +197,15 @@ def refused(group: Iterable[Mutant], status: int, output: str) -> set[str]:
     if status != 1 or not NOT_PROVED.search(output):
         return set()
     failures = [*FAILED.finditer(output)]
-    changed = [it for mutant in group for it in mutant.functions]
-    if not all(any(it.fails(failure) for it in changed) for failure in failures):
+    changed = [function for mutant in group for function in mutant.functions]
+    if not all(any(part.fails(failure) for part in changed) for failure in failures):
         return set()
-    return {it.name for it in group if all(any(map(part.fails, failures)) for part in it.functions)}
+    return {mutant.name for mutant in group if all(any(map(part.fails, failures)) for part in mutant.functions)}
 
 
 def only(group: Iterable[Mutant]) -> list[str]:
     """The words for a check of the functions that a group changes, and of what they call."""
-    names = sorted({it.path() for mutant in group for it in mutant.functions})
+    names = sorted({function.path() for mutant in group for function in mutant.functions})
     return [word for name in names for word in ("--only", name)]
 
 
@@ -223,7 +223,7 @@ def try_all(crate: Path, edits: Iterable[Path]) -> Iterator[tuple[str, str]]:
 
     Gives the name of each that the prover refuses, and how that was seen.
     """
-    left = {it.name: it for it in edits}
+    left = {edit.name: edit for edit in edits}
     sources = crate / "src"
     kept = crate.parent / f"{crate.name}.src"
     shutil.copytree(sources, kept)

@@ -156,7 +156,7 @@ def try_mutants(top: Path, copy: Path, mutants: list[str]) -> list[str]:
     longest_first = sorted(edits, key=lambda crate: len(edits[crate]) * size_of(copy / "crates" / crate), reverse=True)
     with ThreadPoolExecutor(LANES) as lanes:
         tries = {crate: lanes.submit(try_mutants_of, copy, crate, edits[crate]) for crate in longest_first}
-        refused = {f"{crate}/{name}": how for crate, it in tries.items() for name, how in it.result().items()}
+        refused = {f"{crate}/{name}": how for crate, future in tries.items() for name, how in future.result().items()}
     for name in mutants:
         print(f"must-fail {name}: {refused.get(name, 'NOT REFUSED')}", flush=True)
     return [name for name in mutants if name in refused]

@@ -201,9 +201,9 @@ def legend(y: float) -> list[str]:
 def told(instance: str, lines: list[Line]) -> str:
     """The picture in words, for who can't see it."""
     events = (
-        f"{it.number}: {it.event.lower().replace(instance, 'it')}, {it.step}; platform {it.state}, broker {it.held}, "
-        f"pending {it.work}, resource {it.resource}, answer {it.answer}"
-        for it in lines
+        f"{line.number}: {line.event.lower().replace(instance, 'it')}, {line.step}; platform {line.state}, "
+        f"broker {line.held}, pending {line.work}, resource {line.resource}, answer {line.answer}"
+        for line in lines
     )
     return f"What happens to the instance {instance} and its bindings, line by line. {'. '.join(events)}."
 
@@ -216,7 +216,7 @@ def picture(instance: str, lines: list[Line]) -> str:
     parts += [f'<line class="life" x1="{x}" y1="72" x2="{x}" y2="{bottom}"/>' for x, _ in sides]
     lives = {life: Life(f"binding {at}" if at else "", at) for at, life in enumerate(in_order(instance, lines))}
     for key, life in lives.items():
-        parts += bars(life, [it for it in enumerate(lines) if it[1].life == key], len(lines))
+        parts += bars(life, [numbered for numbered in enumerate(lines) if numbered[1].life == key], len(lines))
     for place, line in enumerate(lines):
         life, y = lives[line.life], TOP + ROW * place + 8.0
         parts.append(text(LINE + 30, y + 4, line.number, "end", "number"))

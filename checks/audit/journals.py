@@ -53,7 +53,7 @@ def compact(members: dict[str, Any]) -> str:
 
 
 def _but(members: dict[str, Any], name: str) -> dict[str, Any]:
-    return {it: members[it] for it in members if it != name}
+    return {member: members[member] for member in members if member != name}
 
 
 def ids_of(plan: str, named: Mapping[str, str]) -> dict[str, str]:
@@ -140,12 +140,12 @@ class Journal:
         binding = BINDING if words[-2:] == ["of", "binding"] else ""
         words = words[:-2] if binding else words
         instance = f"{self.instance[:-1]}{words.pop(0)}" if words[0].isdigit() else self.instance
-        self.named = dict(it.split("=", 1) for it in words if it.partition("=")[0] in NAMED)
-        words = [it for it in words if it.partition("=")[0] not in NAMED]
-        flags = [it for it in words if it.startswith(("!", "@", "saw="))]
-        who, verb, *rest = [it for it in words if it not in flags]
+        self.named = dict(word.split("=", 1) for word in words if word.partition("=")[0] in NAMED)
+        words = [word for word in words if word.partition("=")[0] not in NAMED]
+        flags = [word for word in words if word.startswith(("!", "@", "saw="))]
+        who, verb, *rest = [word for word in words if word not in flags]
         more: dict[str, Any] = {"instance": instance, **({"binding": binding} if binding else {})}
-        digest = next((it[1:] for it in flags if it.startswith("@")), "")
+        digest = next((flag[1:] for flag in flags if flag.startswith("@")), "")
         more |= {"visit": int(self.named["visit"])} if "visit" in self.named else {}
         more |= {"credentials": digest} if digest else {}
         more |= {"life": 1, "life_before": 0} if "!returned" in flags else {}
@@ -153,7 +153,7 @@ class Journal:
             self._begin(who, verb, [verb], _but(more, "credentials"))
             self._end(who, verb, [verb, "done"], more)
             return
-        saw = next((it[4:] for it in flags if it.startswith("saw=")), None)
+        saw = next((flag[4:] for flag in flags if flag.startswith("saw=")), None)
         of = binding or instance
         more |= {"saw": held_text(saw, self.plan, of, self.named)} if saw is not None else {}
         getattr(self, f"_{METHODS.get(verb, verb)}")(who, verb, rest, more)
@@ -173,7 +173,7 @@ class Journal:
 
     @staticmethod
     def _key(more: dict[str, Any]) -> dict[str, Any]:
-        return {it: more[it] for it in ("instance", "binding") if it in more}
+        return {kind: more[kind] for kind in ("instance", "binding") if kind in more}
 
     def _changed(self, who: str, more: dict[str, Any], after: str, before: str | None) -> None:
         row = (who[0], more["instance"], more.get("binding", ""))

@@ -58,7 +58,7 @@ class Platform:
     def ids(self, *words: str) -> list[str]:
         """The ids that `list` prints."""
         listed = printed([self._program, "list", *self.store, *words], environment=ENVIRONMENT)
-        return [it.split("\t")[0] for it in listed.splitlines()]
+        return [line.split("\t")[0] for line in listed.splitlines()]
 
     @contextmanager
     def working(self, *more: str) -> Iterator[None]:

@@ -37,10 +37,10 @@ CREDENTIALS = "create done", "change 1 ready", "change 2 ready", "change 3 ready
 
 def statements(is_binding: bool) -> list[str]:
     """Those of the story."""
-    found = [it.strip() for it in STORY.replace("\n", ";").split(";") if it.strip()]
+    found = [statement.strip() for statement in STORY.replace("\n", ";").split(";") if statement.strip()]
     if is_binding:
-        found = [f"{it} @c1" if any(word in it for word in CREDENTIALS) else it for it in found]
-        found = [f"{it} of binding" for it in found]
+        found = [f"{text} @c1" if any(word in text for word in CREDENTIALS) else text for text in found]
+        found = [f"{text} of binding" for text in found]
     return found
 
 
@@ -85,14 +85,14 @@ def with_lines(story: list[str], lines: list[tuple[int, str]]) -> list[str]:
     behind: dict[int, list[str]] = {}
     for at, line in lines:
         behind.setdefault(at, []).append(line)
-    return [it for at, statement in enumerate(story) for it in (statement, *behind.get(at, ()))]
+    return [line for at, statement in enumerate(story) for line in (statement, *behind.get(at, ()))]
 
 
 def looks(story: list[str], of: str) -> Iterator[Variant]:
     """A look that begins and ends at any moment, and finds anything."""
     their = moments(story)
     for begin, end in list(combinations(range(3, len(story)), 2))[::3]:
-        meanwhile = {it.resource for it in their[begin : end + 1]}
+        meanwhile = {moment.resource for moment in their[begin : end + 1]}
         for found in ("absent", "part", "whole"):
             lines = [(begin, f"B9 begin look{of}"), (end, f"B9 end look {found}{of}")]
             is_found: bool | None = False
@@ -104,7 +104,7 @@ def looks(story: list[str], of: str) -> Iterator[Variant]:
 def failing(story: list[str], of: str) -> Iterator[Variant]:
     """A worker that has looked while work was pending, and whose call fails at any later moment."""
     their = moments(story)
-    pending = [at for at, it in enumerate(their) if it.is_pending]
+    pending = [at for at, moment in enumerate(their) if moment.is_pending]
     for looked in pending[::3]:
         for begin, end in list(combinations_with_replacement(range(looked, len(story)), 2))[::5]:
             for call in ("create", "delete"):
@@ -131,7 +131,7 @@ def report_of(variants: list[Variant], is_binding: bool, folder: Path) -> dict[s
         for who, texts in journal.lines.items():
             lines.setdefault(who, texts[:1]).extend(texts[1:])
     for who, texts in lines.items():
-        (folder / f"{who}.jsonl").write_text("".join(f"{it}\n" for it in texts))
+        (folder / f"{who}.jsonl").write_text("".join(f"{text}\n" for text in texts))
     ran = audited("--json", "--jobs", "2", str(folder))
     assert ran.err == "" and ran.report["instances"] == len(variants), ran
     return ran.report
@@ -142,11 +142,11 @@ def report_of(variants: list[Variant], is_binding: bool, folder: Path) -> dict[s
 def test_late_calls(replay: Path, library: Path, tmp_path: Path, name: str) -> None:
     is_binding, make = VARIANTS[name]
     variants = list(make(statements(is_binding), " of binding" if is_binding else ""))
-    assert len(variants) > 500 and (make is failing or sum(it.is_found is True for it in variants) > 100)
+    assert len(variants) > 500 and (make is failing or sum(variant.is_found is True for variant in variants) > 100)
     report = report_of(variants, is_binding, tmp_path)
-    found = {int(it["instance"][-12:]): it for it in report["differences"]}
-    false = {at: it for at, it in found.items() if variants[at].is_found is False}
-    missed = [at for at, it in enumerate(variants) if it.is_found is True and at not in found]
+    found = {int(difference["instance"][-12:]): difference for difference in report["differences"]}
+    false = {at: difference for at, difference in found.items() if variants[at].is_found is False}
+    missed = [at for at, variant in enumerate(variants) if variant.is_found is True and at not in found]
     some = next(iter(false), missed[0] if missed else 0)
     assert not false and not missed and not report["unjudged"], (
         f"{len(false)} found falsely, {len(missed)} missed, of {len(variants)}. For example:\n"

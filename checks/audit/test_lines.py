@@ -32,7 +32,7 @@ def texts() -> list[tuple[str, dict[str, Any]]]:
     """The process and the members of each line of a story."""
     journal = Journal().tell(BOUND + "P send f1 fetch 0 of binding; P lose f1 of binding")
     journal.write("B", "undone", {"instance": INSTANCE, "change": 99, "doubtful": True})
-    return [(who, json.loads(it)) for who, lines in journal.lines.items() for it in lines]
+    return [(who, json.loads(line)) for who, lines in journal.lines.items() for line in lines]
 
 
 def story_of(journal: list[dict[str, Any]]) -> None:
@@ -94,9 +94,11 @@ def test_texts_of_other_types(name: str) -> None:
             continue
         with pytest.raises(NoText):
             recorded_in(json.dumps({**record, member: wrong}))
-    others: list[dict[str, Any]] = [{**holding, "row": {**row, it: wrong}} for it in row]
-    others += [{**holding, "work": {**work, it: wrong}} for it in work if not (it == "id" and isinstance(wrong, str))]
-    others += [{**holding, it: wrong} for it in holding if not (it == "attributes" and isinstance(wrong, str))]
+    others: list[dict[str, Any]] = [{**holding, "row": {**row, member: wrong}} for member in row]
+    others += [
+        {**holding, "work": {**work, name: wrong}} for name in work if not (name == "id" and isinstance(wrong, str))
+    ]
+    others += [{**holding, name: wrong} for name in holding if not (name == "attributes" and isinstance(wrong, str))]
     for other in others:
         if other["tombstone"] is True or other["row"] is None or other["work"] is None:
             continue  # these are texts of other holdings

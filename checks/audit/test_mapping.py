@@ -58,7 +58,7 @@ def short(text: str) -> str:
 
 def events_of(found: Story) -> list[str]:
     """The events behind the orders."""
-    return [short(it.text) for it in found.events if not it.text.startswith(("instance ", "binding "))]
+    return [short(event.text) for event in found.events if not event.text.startswith(("instance ", "binding "))]
 
 
 MADE = "create I; arrive I 1; work I part; work I whole; end I done; take I 0"
@@ -532,7 +532,7 @@ def test_orders(first_poll: bool, binding: str, retrievable: bool, wanted: tuple
     found = story_of(
         Journal("async", of_broker=started(first_poll, binding, retrievable)).tell(f"{telling}; B arrive 9 x poll")
     )
-    orders = [short(it.text) for it in found.events if it.text.startswith(("instance", "binding"))]
+    orders = [short(event.text) for event in found.events if event.text.startswith(("instance", "binding"))]
     assert orders == [f"instance I {SERVICE} {PLANS['async']} {wanted[0]}", f"binding B {wanted[1]}"]
 
 

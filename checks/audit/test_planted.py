@@ -200,7 +200,10 @@ def test_planted_in_storm(audit: Audit, storm: Path, tmp_path: Path, name: str) 
     assert done.returncode in statuses, done.stdout + done.stderr
     ran = audit(tmp_path / "journals", tmp_path / "journals" / "platform")
     assert ran.status == 1, ran
-    found = [(it["event"].replace(it["instance"], "I"), it["why"]) for it in ran.report["differences"]]
+    found = [
+        (difference["event"].replace(difference["instance"], "I"), difference["why"])
+        for difference in ran.report["differences"]
+    ]
     assert len(found) > 1 and set(found) == {(slip.event, slip.why)}, ran
 
 
@@ -222,7 +225,7 @@ def assert_found(ran: Ran, slip: Slip | None) -> None:
     assert (ran.status, len(ran.report["differences"]), ran.err) == (1, 1, ""), ran
     found = ran.report["differences"][0]
     line = json.loads(Path(found["file"]).read_text().splitlines()[found["line"] - 1])
-    assert {it: line[it] for it in slip.line} == slip.line, line
+    assert {name: line[name] for name in slip.line} == slip.line, line
     assert (found["event"].replace(found["instance"], "I"), found["why"]) == (slip.event, slip.why), found
     assert not slip.model or (found["model"], found["journal"]) == (slip.model, slip.journal), found
 

@@ -117,7 +117,7 @@ def execute(url: str, statement: str) -> None:
 
 def lines_of(folder: Path) -> list[dict[str, Any]]:
     """Those of all brokers, in their order."""
-    texts = [line for it in folder.glob("broker-*") for line in it.read_text().splitlines()]
+    texts = [line for path in folder.glob("broker-*") for line in path.read_text().splitlines()]
     return sorted(map(json.loads, texts), key=lambda it: int(it["time"]))
 
 
@@ -139,13 +139,13 @@ def test_lost_commits(audit: Audit, broker: Path, platform: Path, tmp_path: Path
             created = platforms[number % 2].create("--id", str(number), "--wait=60")
             assert created == 3 and not proxy.is_armed, cut  # it is gone: after a 503, the platform cleans up
     lines = lines_of(tmp_path / "journals")
-    doubtful = [it for it in lines if it["event"] == "undone" and it.get("doubtful")]
+    doubtful = [line for line in lines if line["event"] == "undone" and line.get("doubtful")]
     assert len(doubtful) == len(CUTS)
     for undone, cut in zip(doubtful, CUTS):
-        changes = [it for it in lines if it["event"] == "changed" and it["instance"] == undone["instance"]]
-        names = [(it["process"], it["change"]) for it in changes]
+        changes = [line for line in lines if line["event"] == "changed" and line["instance"] == undone["instance"]]
+        names = [(change["process"], change["change"]) for change in changes]
         lost = names.index((undone["process"], undone["change"]))
         assert changes[lost + 1]["before"] == changes[lost]["after" if cut.is_delivered else "before"], cut
-    assert len({it["process"] for it in lines if it["event"] == "changed"}) == 2
+    assert len({line["process"] for line in lines if line["event"] == "changed"}) == 2
     ran = audit(tmp_path / "journals")
     assert (ran.status, ran.report["instances"], ran.report["unjudged"], ran.err) == (0, len(CUTS), [], ""), ran

@@ -72,7 +72,7 @@ def test_report(audit: Audit, tmp_path: Path) -> None:
         "  The trace up to there:",
         head.replace(" ", "\t"),
         *(
-            "\t".join(" ".join(ids.get(it, it) for it in part.split(" ")) for part in line.split("\t"))
+            "\t".join(" ".join(ids.get(word, word) for word in part.split(" ")) for part in line.split("\t"))
             for line in trace
         ),
         "",
@@ -118,7 +118,9 @@ def test_large_journals(audit: Audit, tmp_path: Path, jobs: str) -> None:
     broker.write_text("".join(texts))
     ran = audit(folder, options=("--json", "--jobs", jobs))
     assert ran.status == 1 and ran.err == ""
-    assert [(it["file"], it["line"]) for it in ran.report["differences"]] == [(str(broker), wrong + 1)]
+    assert [(difference["file"], difference["line"]) for difference in ran.report["differences"]] == [
+        (str(broker), wrong + 1)
+    ]
     assert ran.report["differences"][0]["instance"] == json.loads(texts[wrong])["instance"]
     assert lines == 60_000 and ran.report["instances"] == 2400 and ran.report["events"] == 29_400
 
@@ -249,11 +251,11 @@ def test_journals_of_03(audit: Audit, tmp_path: Path, visit: int, right: str, wr
     """They are judged to their end, and a wrong answer in them is found."""
     assert audit(OF_03, options=TEXT) == Ran(0, "1 instance, 38 events, 0 differences\n", "")
     lines = lines_of_03()
-    answer = next(at for at, it in enumerate(lines) if f'"answered","visit":{visit},' in it)
+    answer = next(at for at, line in enumerate(lines) if f'"answered","visit":{visit},' in line)
     lines[answer] = lines[answer].replace(f'"status":{right[:3]}', f'"status":{wrong}')
     (tmp_path / "broker.jsonl").write_text("".join(lines))
     ran = audit(tmp_path / "broker.jsonl", OF_03 / "platform.jsonl.gz")
-    found = [(it["model"], it["journal"].split("-")[0]) for it in ran.report["differences"]]
+    found = [(difference["model"], difference["journal"].split("-")[0]) for difference in ran.report["differences"]]
     assert (ran.status, ran.err, found) == (1, "", [(f"answer {right}", f"answer {wrong}")])
 
 
@@ -261,12 +263,12 @@ def test_journals_of_03(audit: Audit, tmp_path: Path, visit: int, right: str, wr
 def test_two_workers_of_03(audit: Audit, tmp_path: Path, locks: str, differences: int) -> None:
     """Version 0.3 doesn't write whether locks can be lost, so two workers at once may have broken no rule."""
     lines = lines_of_03()
-    assert not [it for it in lines if "locks_can_be_lost" in it or "committed" in it]
+    assert not [line for line in lines if "locks_can_be_lost" in line or "committed" in line]
     if locks:
         lines[0] = lines[0].replace('"plans"', f'"locks_can_be_lost":{locks},"plans"')
-    begun = next(at for at, it in enumerate(lines) if '"call":"create","stage":"begun"' in it)
-    moment, process = (json.loads(lines[begun])[it] for it in ("time", "process"))
-    other = [lines[0], *(at(it.encode(), moment + 1).decode() for it in lines[begun : begun + 2])]
+    begun = next(at for at, line in enumerate(lines) if '"call":"create","stage":"begun"' in line)
+    moment, process = (json.loads(lines[begun])[name] for name in ("time", "process"))
+    other = [lines[0], *(at(line.encode(), moment + 1).decode() for line in lines[begun : begun + 2])]
     (tmp_path / "one.jsonl").write_text("".join(lines))
     (tmp_path / "two.jsonl").write_text("".join(other).replace(process, process[::-1]))
     ran = audit(tmp_path, OF_03 / "platform.jsonl.gz")
@@ -305,8 +307,8 @@ def test_form_of_lines(audit: Audit, tmp_path: Path, name: str) -> None:
 
 def test_a_line_in_another_form_that_was_cut_off(audit: Audit, tmp_path: Path) -> None:
     broker, platform = sorted(journals_in(tmp_path, CREATED))
-    lines = [json.dumps(json.loads(it), sort_keys=True) for it in broker.read_text().splitlines()]
-    broker.write_text("".join(f"{it}\n" for it in lines) + lines[1][:40])
+    lines = [json.dumps(json.loads(line), sort_keys=True) for line in broker.read_text().splitlines()]
+    broker.write_text("".join(f"{line}\n" for line in lines) + lines[1][:40])
     printed = f"{broker}:12: the line was cut off\n1 instance, 7 events, 0 differences\n"
     assert audit(broker, platform, options=TEXT) == Ran(0, printed, "")
 
@@ -517,9 +519,9 @@ def test_lost_lines(audit: Audit, tmp_path: Path) -> None:
     broker.write_text("".join([*lines[:12], json.dumps(lost, separators=(",", ":")) + "\n", *lines[15:]]))
     ran = audit(broker, platform, options=ALL)
     assert (ran.status, ran.err) == (0, "") and ran.report["lost"] == 3
-    assert [(it["instances"], it["whole"], it["first"]["instance"]) for it in ran.report["unjudged"]] == [
-        (1, 0, INSTANCE)
-    ]
+    assert [
+        (reason["instances"], reason["whole"], reason["first"]["instance"]) for reason in ran.report["unjudged"]
+    ] == [(1, 0, INSTANCE)]
     assert "lines were lost" in ran.report["unjudged"][0]["why"]
     assert (ran.report["instances"], ran.report["differences"]) == (2, [])
 
@@ -591,7 +593,7 @@ def test_other_settings(audit: Audit, tmp_path: Path) -> None:
     """A broker that was restarted with another rule of the first Poll, or without a line `started`."""
     story = CREATED + "B2 arrive 1 r1 provision; B2 answer 1 200"
     paths = journals_in(tmp_path, story)
-    second = next(it for it in paths if it.name == "broker-B2.jsonl")
+    second = next(path for path in paths if path.name == "broker-B2.jsonl")
     assert audit(*paths).status == 0
     text = second.read_text()
     second.write_text(text.replace('"first_poll":false', '"first_poll":true'))

@@ -50,7 +50,7 @@ class Slip(NamedTuple):
 
 def slip(story: str, shown: str, plan: str = "sync", event: str = "") -> Slip:
     """`shown`: the line, why, and what the model and the journal have, with a bar between them."""
-    position, why, model, journal = (*(it.strip() for it in shown.split("|")), "", "")[:4]
+    position, why, model, journal = (*(part.strip() for part in shown.split("|")), "", "")[:4]
     file, line = position.split()
     return Slip(story, (file, int(line)), why, model, journal, plan, event)
 
@@ -69,8 +69,8 @@ def differing(story: str, shown: str, plan: str = "sync") -> Slip:
     return slip(story, f"{position} | after the event, the model has something else | {both}", plan, event)
 
 
-HELD_READY, HELD_MAKING = (held_text(it, "sync", INSTANCE) for it in ("ready", "making"))
-HELD_READY_ASYNC, HELD_MAKING_ASYNC = (held_text(it, "async", INSTANCE) for it in ("ready", "making"))
+HELD_READY, HELD_MAKING = (held_text(phase, "sync", INSTANCE) for phase in ("ready", "making"))
+HELD_READY_ASYNC, HELD_MAKING_ASYNC = (held_text(phase, "async", INSTANCE) for phase in ("ready", "making"))
 OF_THE_TABLES = "a request changes the row otherwise than the tables"
 # A worker has just ended the creation of an instance.
 STALE = "the request was decided on a row that there never was while it was carried out"
@@ -501,7 +501,10 @@ DISAGREE = {
 }
 
 
-STORIES = {**{name: it.story for name, it in SLIPS.items()}, **{name: story for name, (story, _) in DISAGREE.items()}}
+STORIES = {
+    **{name: planted.story for name, planted in SLIPS.items()},
+    **{name: story for name, (story, _) in DISAGREE.items()},
+}
 INSTANCES = {name: f"{INSTANCE[:-3]}{number:03x}" for number, name in enumerate(STORIES, 0x100)}
 """Each story is that of an instance of its own."""
 
@@ -524,7 +527,7 @@ def report(replay: Path, library: Path, tmp_path_factory: pytest.TempPathFactory
 
 def difference(report: dict[str, Any], name: str) -> dict[str, Any]:
     """The one difference of a story. It has INSTANCE in place of the instance."""
-    (found,) = (it for it in report["differences"] if it["instance"] == INSTANCES[name])
+    (found,) = (reported for reported in report["differences"] if reported["instance"] == INSTANCES[name])
     return {**found, "event": found["event"].replace(INSTANCES[name], INSTANCE)}
 
 
@@ -543,5 +546,7 @@ def test_slip(report: dict[str, Any], name: str) -> None:
 def test_disagreement(report: dict[str, Any], name: str) -> None:
     """Beside it, a first difference says how it came about."""
     assert difference(report, name)
-    found = [it["why"] for it in report["disagreements"] if it["instance"] == INSTANCES[name]]
-    assert [it.replace(INSTANCES[name], INSTANCE) for it in found] == DISAGREE[name][1]
+    found = [
+        disagreement["why"] for disagreement in report["disagreements"] if disagreement["instance"] == INSTANCES[name]
+    ]
+    assert [text.replace(INSTANCES[name], INSTANCE) for text in found] == DISAGREE[name][1]

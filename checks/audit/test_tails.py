@@ -24,7 +24,7 @@ OTHER = f"{INSTANCE[:-1]}2"
 
 def of_other(story: str) -> str:
     """The same story, about the other instance."""
-    return "".join(f"2 {it.strip()}; " for it in story.replace("\n", ";").split(";") if it.strip())
+    return "".join(f"2 {statement.strip()}; " for statement in story.replace("\n", ";").split(";") if statement.strip())
 
 
 READY = f"{CREATED}; {of_other(CREATED)}; P9 command - state=ordered of binding; P9 stop; "
@@ -106,7 +106,10 @@ TAILS = {
 def test_tail(audit: Audit, name: str) -> None:
     tail = TAILS[name]
     ran = audit(Journal(tail.plan).tell(tail.story))
-    found = [it["event"] or f"{it['instance']}: {it['why']}" for it in ran.report["differences"]]
+    found = [
+        difference["event"] or f"{difference['instance']}: {difference['why']}"
+        for difference in ran.report["differences"]
+    ]
     assert found == ([tail.event] if tail.event else []), ran
     assert ran.report["notes"].get(UNSHOWN, 0) == tail.unshown, ran
 
@@ -116,11 +119,11 @@ def test_tail(audit: Audit, name: str) -> None:
 
 def doubts_of(files: list[Path], folder: Path, chunk: int) -> list[Doubts]:
     """The changes that may not be committed, and what is known of all if one of them is committed, or isn't."""
-    body = [it for path in files for it in stretches(log_at(str(path)), 0, chunk)]
-    given = [Splitting(Room(str(folder)), number, it, 1, chunk) for number, it in enumerate(body)]
-    tails = joined(tail for it in given for tail in split(it).tails.values())
+    body = [stretch for path in files for stretch in stretches(log_at(str(path)), 0, chunk)]
+    given = [Splitting(Room(str(folder)), number, stretch, 1, chunk) for number, stretch in enumerate(body)]
+    tails = joined(tail for splitting in given for tail in split(splitting).tails.values())
     known = doubts(tails, {})
-    return [known, *(doubts(tails, {it: is_committed}) for it in known for is_committed in (False, True))]
+    return [known, *(doubts(tails, {change: is_committed}) for change in known for is_committed in (False, True))]
 
 
 @pytest.mark.parametrize("name", TAILS)

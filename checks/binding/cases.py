@@ -45,7 +45,7 @@ def lines_of(rules: Rules, way: Way) -> list[str]:
     `begin` is the event of a broker that reads in one transaction and writes in another. There is none in the crate.
     """
     service = Walk(random.Random(0), rules, way.instance, way.binding).begun.line
-    events = [it for it in way.events if not it.endswith(" begin")]
+    events = [event for event in way.events if not event.endswith(" begin")]
     run = f"run {service.removeprefix('service ')}: {', '.join(events)}"
     return [service, *events, "settle", "remove", run]
 

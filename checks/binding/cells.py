@@ -91,9 +91,9 @@ def cell_of(life: Life) -> Cell:
         out=sent[out - 1] if out else None,
         old=frozenset(request for number, request in enumerate(sent, 1) if number != out),
         answers=frozenset(
-            (sent[it.attempt - 1].kind, it.answer, beside(life, at))
-            for at, it in enumerate(life.given)
-            if it.attempt == out or any_attempt
+            (sent[answer.attempt - 1].kind, answer.answer, beside(life, at))
+            for at, answer in enumerate(life.given)
+            if answer.attempt == out or any_attempt
         ),
         fetched=frozenset(),
         held=life.held,
@@ -110,7 +110,13 @@ def of_credentials(cell: Cell, life: Binding) -> Cell:
     """The cell with the credentials, numbered as they come."""
     fetched = life.fetched if life.state in ("wanted", "polling") else []
     names = {0: 0}
-    for number in (life.recorded, life.row, life.credentials, *sorted(it[2] for it in cell.answers), *sorted(fetched)):
+    for number in (
+        life.recorded,
+        life.row,
+        life.credentials,
+        *sorted(answer[2] for answer in cell.answers),
+        *sorted(fetched),
+    ):
         names.setdefault(number, len(names))
     return cell._replace(
         answers=frozenset((kind, answer, names[number]) for kind, answer, number in cell.answers),
@@ -125,18 +131,21 @@ def beside(life: Life, place: int) -> int:
     return life.beside[place] if isinstance(life, Binding) else 0
 
 
-ANYWHERE = [it for it in PLAIN if it not in ("crash-platform", "work whole")]
+ANYWHERE = [event for event in PLAIN if event not in ("crash-platform", "work whole")]
 ANYWHERE += ["gateway 500", "begin", "fetch", "forget", "drop"]
 
 
 def takes(life: Life) -> Iterator[str]:
     """The answers that the platform may take, each once."""
-    places = {(it.attempt, it.answer, beside(life, at)): at for at, it in enumerate(life.given)}
+    places = {(answer.attempt, answer.answer, beside(life, at)): at for at, answer in enumerate(life.given)}
     for (_, answer, _), place in places.items():
         yield f"take {place}"
         yield f"garbled {place}"
         if isinstance(life, Binding) and life.needs_fetch(answer):
-            yield from (f"take-fetched {place} {it}" for it in {it: at for at, it in enumerate(life.fetched)}.values())
+            yield from (
+                f"take-fetched {place} {number}"
+                for number in {answer: at for at, answer in enumerate(life.fetched)}.values()
+            )
 
 
 def events(life: Life, contents: Collection[int]) -> Iterator[str]:
@@ -144,11 +153,11 @@ def events(life: Life, contents: Collection[int]) -> Iterator[str]:
     yield from ANYWHERE
     current = life.attempt if life.out else 0
     numbers = {(request, number == current): number for number, request in enumerate(life.sent, 1)}
-    yield from (f"arrive {it}" for it in numbers.values())
+    yield from (f"arrive {number}" for number in numbers.values())
     if current:
         yield f"put-off {current}"
     yield from takes(life)
-    yield from (f"work whole {it}" for it in contents) if isinstance(life, Binding) else ["work whole"]
+    yield from (f"work whole {content}" for content in contents) if isinstance(life, Binding) else ["work whole"]
 
 
 class Lives:
@@ -245,20 +254,20 @@ class World:
 
     def of_instance(self, numbers: Numbers) -> Permissions:
         faces = self.bindings.faces
-        return self.for_instance(*(faces[it] for it in numbers[1:]))
+        return self.for_instance(*(faces[number] for number in numbers[1:]))
 
     def of_binding(self, instance: int) -> Permissions:
         return self.for_binding(self.instances.faces[instance])
 
     def after(self, numbers: Numbers) -> Iterator[Numbers]:
         instance, *bindings = numbers
-        for _, it in self.instances.after(instance, self.of_instance(numbers)):
-            yield (it, *bindings)
+        for _, reached in self.instances.after(instance, self.of_instance(numbers)):
+            yield (reached, *bindings)
         allowed = self.of_binding(instance)
         for at, binding in enumerate(bindings):
             others = bindings[:at] + bindings[at + 1 :]
-            for _, it in self.bindings.after(binding, allowed):
-                yield (instance, *sorted([*others, it])) if others else (instance, it)
+            for _, reached in self.bindings.after(binding, allowed):
+                yield (instance, *sorted([*others, reached])) if others else (instance, reached)
 
     def broken(self, numbers: Numbers) -> frozenset[str]:
         instance, *bindings = numbers
@@ -266,7 +275,7 @@ class World:
         found = frozenset[str]()
         for binding in bindings:
             found |= self.between(self.instances.faces[instance], faces[binding])
-        if self.instances.agree[instance] and all(agree[it] for it in bindings):
+        if self.instances.agree[instance] and all(agree[number] for number in bindings):
             return found
         return found | {LIVES_AGREE}
 
@@ -291,11 +300,14 @@ class World:
     def round(self, numbers: Numbers, removing: bool) -> Numbers:
         instance = self.instances.round(numbers[0], self.of_instance(numbers), removing)
         allowed = self.of_binding(instance)
-        return (instance, *(self.bindings.round(it, allowed, removing) for it in numbers[1:]))
+        return (instance, *(self.bindings.round(number, allowed, removing) for number in numbers[1:]))
 
     def rests(self, numbers: Numbers, removing: bool) -> bool:
-        states = [self.instances.lives[numbers[0]].state, *(self.bindings.lives[it].state for it in numbers[1:])]
-        return all(it in ((None, "gone") if removing else AT_REST) for it in states)
+        states = [
+            self.instances.lives[numbers[0]].state,
+            *(self.bindings.lives[number].state for number in numbers[1:]),
+        ]
+        return all(last in ((None, "gone") if removing else AT_REST) for last in states)
 
     def rounds(self, came: Collection[Numbers], removing: bool = False) -> tuple[int, Numbers | None]:
         """The most rounds that any takes until nothing is due; and the first of those that never get there."""
@@ -309,8 +321,8 @@ class World:
                 path.append(at)
                 at = self.round(at, removing)
             known.setdefault(at, 0)
-            for count, it in enumerate(reversed(path), 1):
-                known[it] = known[at] + count
+            for count, passed in enumerate(reversed(path), 1):
+                known[passed] = known[at] + count
         return max(known.values()), None
 
     # ---- the way to one
@@ -339,8 +351,8 @@ class World:
     def numbers_of(self, tied: BoundInstance) -> Numbers | None:
         """The numbers of the cells; None if one has none."""
         instance = self.instances.numbers.get(cell_of(tied.instance))
-        found = [self.bindings.numbers.get(cell_of(it)) for it in tied.bindings]
-        numbers = [it for it in found if it is not None]
+        found = [self.bindings.numbers.get(cell_of(life)) for life in tied.bindings]
+        numbers = [number for number in found if number is not None]
         return None if instance is None or len(numbers) < len(found) else (instance, *sorted(numbers))
 
 
@@ -358,7 +370,7 @@ def shortest_way(rules: Rules, instance: Order, binding: Order, promises: Collec
     """The shortest way to what breaks one of these promises, or else to what never settles; None if there is none."""
     world = World(rules, instance, binding)
     explored = world.explore(promises)
-    wrong, why = explored.wrong, [it for it in PROMISES if it in explored.why]
+    wrong, why = explored.wrong, [promise for promise in PROMISES if promise in explored.why]
     if wrong is None and SETTLES in promises:
         wrong, why = world.rounds(explored.came)[1], [SETTLES]
     if wrong is None:
@@ -422,7 +434,7 @@ def main(arguments: list[str]) -> int:
     )
     parser.add_argument("--without", nargs="+", choices=PARTS, default=[], metavar="PART", help=", ".join(PARTS))
     options = parser.parse_args(arguments)
-    platform, broker, truthful = (it in options.rules for it in ("platform", "broker", "truthful"))
+    platform, broker, truthful = (rule in options.rules for rule in ("platform", "broker", "truthful"))
     rules = Rules(platform, broker, truthful, frozenset(options.without))
     if options.without:
         tell_way(rules)

@@ -140,12 +140,12 @@ class Permissions(NamedTuple):
 def of_instance(rules: Rules, bindings: Iterable[Face]) -> Permissions:
     """What an instance is allowed, by what is seen of its bindings."""
     seen = list(bindings)
-    held = [it for it in seen if it.held]
+    held = [face for face in seen if face.held]
     if not rules.has("rule b of pending work"):
-        held = [it for it in held if not it.pending]
+        held = [face for face in held if not face.pending]
     if not rules.has("rule b of waiting rows"):
-        held = [it for it in held if not it.waiting]
-    remove = not rules.has("rule c of removal") or all(it.rests for it in seen)
+        held = [face for face in held if not face.waiting]
+    remove = not rules.has("rule c of removal") or all(face.rests for face in seen)
     return Permissions(remove=remove, begin=not rules.has("rule b") or not held)
 
 
@@ -464,8 +464,8 @@ class Binding(Life):
 
     def more_words(self, given: int) -> list[str]:
         found = super().more_words(given)
-        gives = [f"{it.attempt} gives {beside}" for it, beside in zip(self.given, self.beside)][given:]
-        return [*found, *(it for it in gives if not it.endswith(" 0")), f"row {self.row or '-'}"]
+        gives = [f"{answer.attempt} gives {beside}" for answer, beside in zip(self.given, self.beside)][given:]
+        return [*found, *(text for text in gives if not text.endswith(" 0")), f"row {self.row or '-'}"]
 
 
 # The method of each event that network.model doesn't have.
@@ -504,7 +504,7 @@ def broken(instance: Face, binding: Face) -> frozenset[str]:
         READY_HAS_INSTANCE: binding.is_ready and not (instance.there and instance.whole),
         WHOLE_INSTANCE: somewhere and not instance.whole,
     }
-    return frozenset(promise for promise, it in checks.items() if it)
+    return frozenset(promise for promise, check in checks.items() if check)
 
 
 class BoundInstance:
@@ -520,12 +520,12 @@ class BoundInstance:
 
     def clone(self) -> BoundInstance:
         other = copy.copy(self)
-        other.instance, other.bindings = clone(self.instance), [clone(it) for it in self.bindings]
+        other.instance, other.bindings = clone(self.instance), [clone(binding) for binding in self.bindings]
         return other
 
     def allow(self) -> None:
         """Sets what each life is allowed, by what there is of the others."""
-        self.instance.allowed = of_instance(self.rules, [it.face for it in self.bindings])
+        self.instance.allowed = of_instance(self.rules, [life.face for life in self.bindings])
         for binding in self.bindings:
             binding.allowed = of_binding(self.rules, self.instance.face)
 
@@ -559,7 +559,7 @@ class BoundInstance:
 
     def broken(self) -> frozenset[str]:
         """The promises that are broken."""
-        found = frozenset[str]().union(*(broken(self.instance.face, it.face) for it in self.bindings))
+        found = frozenset[str]().union(*(broken(self.instance.face, binding.face) for binding in self.bindings))
         return found if all(life.agrees() for life in self.lives) else found | {LIVES_AGREE}
 
     def words(self) -> str:

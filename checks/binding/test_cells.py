@@ -33,7 +33,7 @@ def settled(rules: Rules, instance: Order, binding: Order, count: int = 1) -> Ce
         rounds, never = world.rounds(explored.came, removing)
         assert never is None and rounds <= most
     instances, bindings = list(world.instances.numbers), list(world.bindings.numbers)
-    return {(instances[first], *(bindings[it] for it in others)) for first, *others in explored.came}
+    return {(instances[first], *(bindings[other] for other in others)) for first, *others in explored.came}
 
 
 def test_one_pair_of_plans() -> None:
@@ -94,7 +94,7 @@ def test_any_platform() -> None:
         assert explored.wrong is None, broker
 
 
-@pytest.mark.parametrize("part", [it for it in alone.PARTS if it != "deleted tombstones"])
+@pytest.mark.parametrize("part", [name for name in alone.PARTS if name != "deleted tombstones"])
 def test_any_platform_without_a_part(part: str) -> None:
     broker = alone.Broker(("sync", "async"), ("async", "sync"), True, frozenset([part]))
     assert alone.explore(broker).wrong is not None
@@ -117,7 +117,7 @@ def test_way(name: str) -> None:
 
 
 @pytest.mark.slow
-@pytest.mark.parametrize("name", [it for it in WAYS if it != "attempts"])
+@pytest.mark.parametrize("name", [name for name in WAYS if name != "attempts"])
 def test_way_is_shortest(name: str) -> None:
     way = WAYS[name]
     found = shortest_way(way.rules, way.instance, way.binding, [way.broken])

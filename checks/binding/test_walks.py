@@ -31,8 +31,8 @@ def test_walks() -> None:
         assert step.line != "remove" or at.tied.settles(0, removing=True)
         whose, _, event = step.line.replace("binding 1 ", "binding ").replace("binding 2 ", "binding ").partition(" ")
         seen[whose, event.partition(" ")[0], step.wanted.partition(":")[0]] += 1
-    wanted = {("instance", it, "applied") for it in OF_ALL} | {("binding", it, "applied") for it in EVENTS}
-    wanted |= {(whose, it, "skipped") for whose, it, _ in wanted if it not in ALWAYS}
+    wanted = {("instance", name, "applied") for name in OF_ALL} | {("binding", name, "applied") for name in EVENTS}
+    wanted |= {(whose, name, "skipped") for whose, name, _ in wanted if name not in ALWAYS}
     assert not wanted - set(seen)
 
 

@@ -91,7 +91,11 @@ def settle(tied: BoundInstance) -> None:
 
 def remove(tied: BoundInstance) -> None:
     """Five rounds are enough."""
-    for life, removing in ((tied.instance, False), *((it, True) for it in tied.bindings), (tied.instance, True)):
+    for life, removing in (
+        (tied.instance, False),
+        *((binding, True) for binding in tied.bindings),
+        (tied.instance, True),
+    ):
         three_rounds(tied, life, removing)
 
 
@@ -145,7 +149,9 @@ class Walk:
 
     def is_over(self) -> bool:
         """Whether nothing is recorded any more but what is gone."""
-        return self.tied.instance.state == "gone" and all(it.state in (None, "gone") for it in self.tied.bindings)
+        return self.tied.instance.state == "gone" and all(
+            binding.state in (None, "gone") for binding in self.tied.bindings
+        )
 
     # ---- what is drawn
 
@@ -161,14 +167,18 @@ class Walk:
         found = []
         for at, life in enumerate(self.tied.lives):
             name = f"binding {at}" if at else "instance"
-            found += [f"{name} {it}" for it in (self.any_of(life) if some else self.likely_of(life))]
+            found += [f"{name} {event}" for event in (self.any_of(life) if some else self.likely_of(life))]
         return self.draw.choice(found)
 
     def likely_of(self, life: Life) -> list[str]:
         if life.state is None and not life.allowed.create:
             return ["create"]
-        found = [it for it in likely(life) if not disturbs(life, it) or self.draw.random() < 0.2]
-        return [self.of_binding(life, it) for it in found] + self.more_of(life) if isinstance(life, Binding) else found
+        found = [event for event in likely(life) if not disturbs(life, event) or self.draw.random() < 0.2]
+        return (
+            [self.of_binding(life, event) for event in found] + self.more_of(life)
+            if isinstance(life, Binding)
+            else found
+        )
 
     def more_of(self, life: Binding) -> list[str]:
         """The events that only a binding has, as far as they are likely to apply."""
@@ -181,9 +191,9 @@ class Walk:
         if not isinstance(life, Binding):
             return found
         places = range(len(life.given) + 1)
-        fetched = [f"take-fetched {it} {self.draw.randint(0, len(life.fetched))}" for it in places]
+        fetched = [f"take-fetched {place} {self.draw.randint(0, len(life.fetched))}" for place in places]
         drop = ["drop"] if self.tied.rules.has("deletion of records") else []
-        return [self.of_binding(life, it) for it in found] + fetched + ["fetch", "forget", *drop]
+        return [self.of_binding(life, event) for event in found] + fetched + ["fetch", "forget", *drop]
 
     def of_binding(self, life: Binding, line: str) -> str:
         """The event with what only a binding has. The credentials are mostly new."""

@@ -30,10 +30,10 @@ def received(prefix: str, longest: int, method: str, target: bytes, body: bytes)
 
 def named(kind: str, instance: str, binding: str, service: str, plan: str) -> list[str]:
     """What is sent of these ids, and then the Fetch."""
-    for name, it in (("INSTANCE", instance), ("BINDING", binding)):
-        if it in (".", ".."):
+    for name, id in (("INSTANCE", instance), ("BINDING", binding)):
+        if id in (".", ".."):
             raise Refused(f"NOT_{name}_TEXT")
-    quoted = [urllib.parse.quote(it, safe="") for it in (instance, binding)]
+    quoted = [urllib.parse.quote(id, safe="") for id in (instance, binding)]
     target = f"/v2/service_instances/{quoted[0]}/service_bindings/{quoted[1]}"
     ids = [("service_id", service), ("plan_id", plan)]
     pairs = [("accepts_incomplete", "true"), ("operation", "a b")]
@@ -68,7 +68,7 @@ def stored(body: bytes) -> None:
 
 def mode(modes: list[tuple[str, str, str]], service: str, plan: str) -> list[str]:
     """The mode of a plan, if it is among these."""
-    return [it for *pair, it in modes if pair == [guid(service), guid(plan)]]
+    return [retrievable for *pair, retrievable in modes if pair == [guid(service), guid(plan)]]
 
 
 CALLS: dict[str, Call] = {

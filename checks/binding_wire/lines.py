@@ -48,7 +48,7 @@ FETCHED = changed(["fetched 200", "fetched 200", "fetched 201", "fetched 404"], 
 def stored(draw: st.DrawFn) -> list[str]:
     """Lines of texts that a broker has stored."""
     wholes = variants(draw(OBJECTS | WHOLE_BODY), b'{}[]",:\\ 01-.eE', draw(SEEDS), AT_ONCE)
-    return [f"stored {hexed(it)}" for it in wholes]
+    return [f"stored {hexed(whole)}" for whole in wholes]
 
 
 # ---- catalogues
@@ -71,8 +71,8 @@ def documents(draw: st.DrawFn) -> bytes:
     for text in SERVICES[: draw(st.sampled_from([1, 2, 2, 0]))]:
         service = draw(flagged([*flags, "bindings_retrievable"], text))
         many = draw(st.sampled_from([1, 2, 3, 3, 0]))
-        texts = [draw(st.sampled_from([it] * 12 + ["p"])) for it in PLANS[:many]]
-        service["plans"] = [draw(flagged(flags, it)) for it in texts]
+        texts = [draw(st.sampled_from([plan] * 12 + ["p"])) for plan in PLANS[:many]]
+        service["plans"] = [draw(flagged(flags, content)) for content in texts]
         if draw(st.integers(0, 30)) == 30:
             service["plans"] = draw(st.sampled_from([{}, "x", [1]]))
         services.append(service)

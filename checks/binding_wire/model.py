@@ -57,7 +57,7 @@ def lacks_app(body: bytes) -> bool:
         return True
     resource = found.get("bind_resource")
     places = [found, dict(resource.pairs) if isinstance(resource, model.Pairs) else {}]
-    return not any(model.text_at(it, "app_guid") for it in places)
+    return not any(model.text_at(place, "app_guid") for place in places)
 
 
 # ---- catalogues
@@ -99,5 +99,7 @@ def retrievable(service: str, document: bytes) -> bool:
         services = model.listed(model.top_of(document), "services", "none")
     except Refused:
         return False
-    numbers = [(model.number_of(model.text_at(it, "id") or ""), it.get("bindings_retrievable")) for it in services]
+    numbers = [
+        (model.number_of(model.text_at(entry, "id") or ""), entry.get("bindings_retrievable")) for entry in services
+    ]
     return next((says is True for number, says in numbers if number == model.number_of(service)), False)

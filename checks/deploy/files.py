@@ -22,13 +22,13 @@ Value = dict[str, Any]
 
 def documents(file: Path) -> list[Value]:
     """The documents of a file of YAML."""
-    return [it for it in yaml.safe_load_all(file.read_text(encoding="utf-8")) if it is not None]
+    return [document for document in yaml.safe_load_all(file.read_text(encoding="utf-8")) if document is not None]
 
 
 def faults(value: object, schema: Value) -> list[str]:
     """What of the value doesn't fit the schema, with the place."""
     validator = jsonschema.Draft7Validator(schema)
-    return [f"{'/'.join(map(str, it.absolute_path))}: {it.message}" for it in validator.iter_errors(value)]
+    return [f"{'/'.join(map(str, error.absolute_path))}: {error.message}" for error in validator.iter_errors(value)]
 
 
 def kustomization(folder: str) -> Value:
@@ -39,26 +39,28 @@ def kustomization(folder: str) -> Value:
 
 def objects(folder: str) -> list[Value]:
     """The objects that the kustomization of the folder lists, in files of the folder."""
-    return [it for name in kustomization(folder)["resources"] for it in documents(KUBERNETES / folder / name)]
+    return [
+        document for name in kustomization(folder)["resources"] for document in documents(KUBERNETES / folder / name)
+    ]
 
 
 def of_kind(folder: str, kind: str) -> list[Value]:
     """Those of one kind. There is at least one."""
-    found = [it for it in objects(folder) if it["kind"] == kind]
+    found = [document for document in objects(folder) if document["kind"] == kind]
     assert found, f"{folder} has no {kind}"
     return found
 
 
 def workloads(folder: str) -> list[Value]:
     """The Deployments and StatefulSets."""
-    found = [it for it in objects(folder) if it["kind"] in ("Deployment", "StatefulSet")]
+    found = [document for document in objects(folder) if document["kind"] in ("Deployment", "StatefulSet")]
     assert found
     return found
 
 
 def all_workloads() -> list[tuple[str, Value]]:
     """Those of both programs, each with its folder."""
-    return [(folder, it) for folder in PROGRAMS for it in workloads(folder)]
+    return [(folder, workload) for folder in PROGRAMS for workload in workloads(folder)]
 
 
 def pod(workload: Value) -> Value:
@@ -82,12 +84,16 @@ def selects(selector: Value, labels: Value) -> bool:
 
 def selected(folder: str, selector: Value) -> list[Value]:
     """The workloads whose pods are selected."""
-    return [it for it in workloads(folder) if selects(selector, it["spec"]["template"]["metadata"]["labels"])]
+    return [
+        workload
+        for workload in workloads(folder)
+        if selects(selector, workload["spec"]["template"]["metadata"]["labels"])
+    ]
 
 
 def option(container: Value, name: str) -> str | None:
     """The value of an option in the arguments of a container."""
-    found = [it.partition("=")[2] for it in container["args"] if it.startswith(f"--{name}=")]
+    found = [arg.partition("=")[2] for arg in container["args"] if arg.startswith(f"--{name}=")]
     return found[0] if found else None
 
 
@@ -101,7 +107,7 @@ def copies(workload: Value) -> dict[str, str]:
 def literals(folder: str) -> dict[str, str]:
     """The texts of the ConfigMap that the kustomization makes."""
     (made,) = kustomization(folder)["configMapGenerator"]
-    return dict(it.split("=", 1) for it in made["literals"])
+    return dict(literal.split("=", 1) for literal in made["literals"])
 
 
 def yaml_files() -> Iterator[Path]:

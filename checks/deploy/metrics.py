@@ -37,7 +37,7 @@ def listed(program: str, page: str = "docs/operating.md") -> Metrics:
     _, _, rest = read(page).partition(f"\n## Metrics of {program}\n")
     section = rest.partition("\n## ")[0]
     rows = re.findall(r"^\| (`[a-z].*?) \|", section, re.MULTILINE)
-    cells = [it for row in rows for it in _METRIC.findall(row)]
+    cells = [name for row in rows for name in _METRIC.findall(row)]
     return {name: set(filter(None, labels.split(","))) for name, labels in cells}
 
 
@@ -75,7 +75,7 @@ def is_chosen(query: str) -> bool:
 
 def asked(query: str, metrics: Metrics) -> set[str]:
     """The metrics that a query asks for."""
-    return {it if it in metrics else _SUFFIX.sub("", it) for it, _ in _SELECTOR.findall(query)}
+    return {name if name in metrics else _SUFFIX.sub("", name) for name, _ in _SELECTOR.findall(query)}
 
 
 FAILING = """#!/bin/sh

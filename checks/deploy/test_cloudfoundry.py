@@ -80,7 +80,7 @@ def start(folder: Path, credentials: dict[str, Value], *arguments: str) -> subpr
     needs("jq")
     (folder / "osb-broker").write_text(STAND_IN, encoding="utf-8")
     (folder / "osb-broker").chmod(0o755)
-    bound = [{"name": name, "credentials": it} for name, it in credentials.items()]
+    bound = [{"name": name, "credentials": credential} for name, credential in credentials.items()]
     environment = {
         "PATH": os.environ["PATH"],
         "TMPDIR": str(folder),
@@ -112,7 +112,7 @@ def test_start(tmp_path: Path) -> None:
     assert (tmp_path / "pgpass").read_text(encoding="utf-8") == (
         "db.example:5432:brokers:broker:a\\:b\\\\c\nshop.example:5432:*:seller:seller-password\n"
     )
-    assert {it.split()[0] for it in (tmp_path / "modes").read_text(encoding="utf-8").splitlines()} == {"600"}
+    assert {line.split()[0] for line in (tmp_path / "modes").read_text(encoding="utf-8").splitlines()} == {"600"}
     assert (tmp_path / "users").read_text(encoding="utf-8") == "cf:THE-PASSWORD\n"
     assert (tmp_path / "store-ca.crt").read_text(encoding="utf-8").startswith("-----BEGIN CERTIFICATE-----\n")
     assert "VCAP_SERVICES" not in (tmp_path / "environment").read_text(encoding="utf-8")

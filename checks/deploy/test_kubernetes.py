@@ -38,7 +38,7 @@ from docs.pages import read
 from deploy import schemas
 
 PAGE = "docs/with-kubernetes.md"
-NAMES = [f"{folder}/{it['metadata']['name']}" for folder, it in all_workloads()]
+NAMES = [f"{folder}/{workload['metadata']['name']}" for folder, workload in all_workloads()]
 each_workload = pytest.mark.parametrize("folder, workload", all_workloads(), ids=NAMES)
 each_program = pytest.mark.parametrize("folder", PROGRAMS)
 
@@ -90,22 +90,26 @@ def test_schema_finds(wrong: str) -> None:
 
 @each_program
 def test_all_files_are_listed(folder: str) -> None:
-    files = {it.name for it in (KUBERNETES / folder).iterdir()} - {"kustomization.yaml"}
+    files = {path.name for path in (KUBERNETES / folder).iterdir()} - {"kustomization.yaml"}
     (made,) = kustomization(folder)["configMapGenerator"]
     assert files == {*kustomization(folder)["resources"], *made.get("files", [])}
-    assert sorted(FOLDERS) == sorted(it.name for it in KUBERNETES.iterdir())
+    assert sorted(FOLDERS) == sorted(path.name for path in KUBERNETES.iterdir())
 
 
 @each_program
 def test_images(folder: str) -> None:
     """Each image has a tag; the program's is this version, under the name of the program."""
-    images = {it["name"]: it for it in kustomization(folder)["images"]}
-    used = [it["image"] for w in workloads(folder) for it in (*pod(w)["initContainers"], *pod(w)["containers"])]
+    images = {image["name"]: image for image in kustomization(folder)["images"]}
+    used = [
+        container["image"]
+        for w in workloads(folder)
+        for container in (*pod(w)["initContainers"], *pod(w)["containers"])
+    ]
     assert set(used) == set(images) == {folder, "busybox"}
-    assert {program(it)["image"] for it in workloads(folder)} == {folder}
+    assert {program(workload)["image"] for workload in workloads(folder)} == {folder}
     header = read("include/osb.h")
-    numbers = [re.search(rf"#define OSB_VERSION_{it} (\d+)", header) for it in ("MAJOR", "MINOR", "PATCH")]
-    assert images[folder]["newTag"] == ".".join(it[1] for it in numbers if it is not None)
+    numbers = [re.search(rf"#define OSB_VERSION_{part} (\d+)", header) for part in ("MAJOR", "MINOR", "PATCH")]
+    assert images[folder]["newTag"] == ".".join(number[1] for number in numbers if number is not None)
     assert images[folder]["newName"].endswith(f"/{folder}")
 
 
@@ -129,8 +133,8 @@ def arguments(folder: str, workload: Value, there: Path) -> list[str]:
     """The arguments of the program as it gets them, with files below this folder."""
     values = {name.upper().replace("-", "_"): text for name, text in literals(folder).items()}
     values["WORKER"] = "osb-platform-0"
-    filled = [re.sub(r"\$\((\w+)\)", lambda it: values[str(it[1])], it) for it in program(workload)["args"]]
-    return [it.replace("/run/osb/", f"{there}/").replace("/etc/osb/", f"{KUBERNETES}/{folder}/") for it in filled]
+    filled = [re.sub(r"\$\((\w+)\)", lambda it: values[str(it[1])], arg) for arg in program(workload)["args"]]
+    return [arg.replace("/run/osb/", f"{there}/").replace("/etc/osb/", f"{KUBERNETES}/{folder}/") for arg in filled]
 
 
 @pytest.mark.slow
@@ -171,7 +175,9 @@ def test_init_script(folder: str, workload: Value, tmp_path: Path) -> None:
         (secrets / path).write_text(f"{path}\n", encoding="utf-8")
     script = init["args"][0].replace("/run/osb", str(run)).replace("/secrets/", f"{secrets}/")
     subprocess.run([*init["command"], script], check=True)
-    assert {it.name: it.stat().st_mode & 0o777 for it in run.iterdir()} == {it: 0o600 for it in copies(workload)}
+    assert {file.name: file.stat().st_mode & 0o777 for file in run.iterdir()} == {
+        name: 0o600 for name in copies(workload)
+    }
     servers = {"osb-broker": "store/pgpass\nsold/pgpass\n", "osb-platform": "store/pgpass\n"}
     assert (run / "pgpass").read_text(encoding="utf-8") == servers[folder]
 
@@ -179,7 +185,7 @@ def test_init_script(folder: str, workload: Value, tmp_path: Path) -> None:
 @each_workload
 def test_files_are_written_before_they_are_read(folder: str, workload: Value) -> None:
     container = program(workload)
-    texts = [*container["args"], *(it["value"] for it in container.get("env", []) if "value" in it)]
+    texts = [*container["args"], *(variable["value"] for variable in container.get("env", []) if "value" in variable)]
     texts += literals(folder).values()
     named = set(re.findall(r"/run/osb/([\w.-]+)", " ".join(texts)))
     assert named == set(copies(workload)) and len(named) > 2
@@ -192,24 +198,26 @@ def test_files_are_written_before_they_are_read(folder: str, workload: Value) ->
 def test_volumes(folder: str, workload: Value) -> None:
     """Each mount has its volume, and each volume a mount; the init container reads from Secrets that are mounted."""
     spec = pod(workload)
-    volumes = {it["name"]: it for it in spec["volumes"]}
+    volumes = {volume["name"]: volume for volume in spec["volumes"]}
     (init,) = spec["initContainers"]
-    mounts = [it for one in (init, program(workload)) for it in one["volumeMounts"]]
-    assert {it["name"] for it in mounts} == set(volumes)
-    sources = {it["mountPath"]: it["name"] for it in init["volumeMounts"]}
+    mounts = [mount for one in (init, program(workload)) for mount in one["volumeMounts"]]
+    assert {mount["name"] for mount in mounts} == set(volumes)
+    sources = {mount["mountPath"]: mount["name"] for mount in init["volumeMounts"]}
     for path in re.findall(r"/secrets/\w+", init["args"][0]):
         assert "secret" in volumes[sources[path]]
-    assert all(it.get("readOnly") for it in mounts if "emptyDir" not in volumes[it["name"]])
-    assert [it["name"] for it in mounts if not it.get("readOnly") and it in init["volumeMounts"]] == ["run"]
+    assert all(mount.get("readOnly") for mount in mounts if "emptyDir" not in volumes[mount["name"]])
+    assert [mount["name"] for mount in mounts if not mount.get("readOnly") and mount in init["volumeMounts"]] == ["run"]
 
 
 def secrets(folder: str) -> dict[str, set[str]]:
     """The Secrets that the pods of a folder mount, with the keys that are read."""
     found: dict[str, set[str]] = {}
     for workload in workloads(folder):
-        names = {it["name"]: it["secret"]["secretName"] for it in pod(workload)["volumes"] if "secret" in it}
+        names = {
+            volume["name"]: volume["secret"]["secretName"] for volume in pod(workload)["volumes"] if "secret" in volume
+        }
         (init,) = pod(workload)["initContainers"]
-        places = {it["mountPath"]: it["name"] for it in init["volumeMounts"]}
+        places = {mount["mountPath"]: mount["name"] for mount in init["volumeMounts"]}
         for place, key in re.findall(r"(/secrets/\w+)/(\S+)", init["args"][0]):
             found.setdefault(names[places[place]], set()).add(key)
     return found
@@ -222,7 +230,7 @@ def created() -> dict[str, set[str]]:
         name: set(re.findall(r"--from-file=([\w.]+)", rest))
         for name, rest in re.findall(r"create secret generic (\S+)(.*)$", text, re.MULTILINE)
     }
-    return {**found, **{it: {"tls.crt", "tls.key"} for it in re.findall(r"create secret tls (\S+)", text)}}
+    return {**found, **{name: {"tls.crt", "tls.key"} for name in re.findall(r"create secret tls (\S+)", text)}}
 
 
 def test_secrets_are_those_of_the_page() -> None:
@@ -242,9 +250,11 @@ def test_configuration(folder: str) -> None:
             if reference:
                 assert reference["name"] == made["name"]
                 used.add(reference["key"])
-        assert {it["configMap"]["name"] for it in pod(workload)["volumes"] if "configMap" in it} <= {made["name"]}
+        assert {volume["configMap"]["name"] for volume in pod(workload)["volumes"] if "configMap" in volume} <= {
+            made["name"]
+        }
         given = re.findall(r"\$\((\w+)\)", " ".join(program(workload)["args"]))
-        assert set(given) <= {it["name"] for it in program(workload)["env"]}
+        assert set(given) <= {variable["name"] for variable in program(workload)["env"]}
     assert used == set(literals(folder))
 
 
@@ -253,9 +263,13 @@ def test_own_selector(folder: str, workload: Value) -> None:
     assert selected(folder, workload["spec"]["selector"]["matchLabels"]) == [workload]
     for constraint in pod(workload)["topologySpreadConstraints"]:
         assert selected(folder, constraint["labelSelector"]["matchLabels"]) == [workload]
-    assert pod(workload)["serviceAccountName"] in [it["metadata"]["name"] for it in of_kind(folder, "ServiceAccount")]
+    assert pod(workload)["serviceAccountName"] in [
+        account["metadata"]["name"] for account in of_kind(folder, "ServiceAccount")
+    ]
     if workload["kind"] == "StatefulSet":
-        assert workload["spec"]["serviceName"] in [it["metadata"]["name"] for it in of_kind(folder, "Service")]
+        assert workload["spec"]["serviceName"] in [
+            service["metadata"]["name"] for service in of_kind(folder, "Service")
+        ]
 
 
 @each_program
@@ -279,8 +293,8 @@ def test_ports(folder: str, workload: Value) -> None:
     for port in container["ports"]:
         assert option(container, LISTENS[port["name"]]) == f"0.0.0.0:{port['containerPort']}"
     probes = {name: container[name]["httpGet"] for name in ("readinessProbe", "livenessProbe", "startupProbe")}
-    assert {it["port"] for it in probes.values()} == {"health"}
-    assert [probes[it]["path"] for it in ("readinessProbe", "livenessProbe", "startupProbe")] == [
+    assert {probe["port"] for probe in probes.values()} == {"health"}
+    assert [probes[name]["path"] for name in ("readinessProbe", "livenessProbe", "startupProbe")] == [
         "/readyz",
         "/healthz",
         "/healthz",
@@ -292,10 +306,12 @@ def test_monitor(folder: str) -> None:
     """It selects one Service, which leads to all processes of the program."""
     (monitor,) = of_kind(folder, "ServiceMonitor")
     labels = monitor["spec"]["selector"]["matchLabels"]
-    (service,) = [it for it in of_kind(folder, "Service") if selects(labels, it["metadata"].get("labels", {}))]
+    (service,) = [
+        service for service in of_kind(folder, "Service") if selects(labels, service["metadata"].get("labels", {}))
+    ]
     (endpoint,) = monitor["spec"]["endpoints"]
     assert (endpoint["port"], endpoint["path"]) == ("health", "/metrics")
-    assert endpoint["port"] in [it["name"] for it in service["spec"]["ports"]]
+    assert endpoint["port"] in [port["name"] for port in service["spec"]["ports"]]
     assert selected(folder, service["spec"]["selector"]) == workloads(folder)
 
 
@@ -303,12 +319,12 @@ def test_monitor(folder: str) -> None:
 def test_budgets(folder: str) -> None:
     """Each workload has one, which leaves a pod, and selects nothing else."""
     budgets = of_kind(folder, "PodDisruptionBudget")
-    covered = [selected(folder, it["spec"]["selector"]["matchLabels"]) for it in budgets]
-    assert sorted(it["metadata"]["name"] for (it,) in covered) == sorted(
-        it["metadata"]["name"] for it in workloads(folder)
+    covered = [selected(folder, budget["spec"]["selector"]["matchLabels"]) for budget in budgets]
+    assert sorted(workload["metadata"]["name"] for (workload,) in covered) == sorted(
+        workload["metadata"]["name"] for workload in workloads(folder)
     )
-    assert all(it["spec"]["maxUnavailable"] == 1 for it in budgets)
-    assert all(it["spec"]["replicas"] >= 2 for it in workloads(folder))
+    assert all(budget["spec"]["maxUnavailable"] == 1 for budget in budgets)
+    assert all(workload["spec"]["replicas"] >= 2 for workload in workloads(folder))
 
 
 @each_program
@@ -318,17 +334,17 @@ def test_network(folder: str) -> None:
     assert selected(folder, policy["spec"]["podSelector"]["matchLabels"]) == workloads(folder)
     assert policy["spec"]["policyTypes"] == ["Ingress", "Egress"]
     lets_in = {port["port"] for rule in policy["spec"]["ingress"] for port in rule["ports"]}
-    assert lets_in == {it["name"] for w in workloads(folder) for it in program(w)["ports"]}
-    lets_out = {(it["protocol"], it["port"]) for rule in policy["spec"]["egress"] for it in rule["ports"]}
-    servers = {int(it) for it in re.findall(r"//[^/]+:(\d+)/", " ".join(literals(folder).values()))}
-    assert lets_out >= {("UDP", 53), ("TCP", 53), *(("TCP", it) for it in servers)} and servers
+    assert lets_in == {port["name"] for w in workloads(folder) for port in program(w)["ports"]}
+    lets_out = {(port["protocol"], port["port"]) for rule in policy["spec"]["egress"] for port in rule["ports"]}
+    servers = {int(number) for number in re.findall(r"//[^/]+:(\d+)/", " ".join(literals(folder).values()))}
+    assert lets_out >= {("UDP", 53), ("TCP", 53), *(("TCP", server) for server in servers)} and servers
 
 
 def test_platform_reaches_the_broker() -> None:
     (policy,) = of_kind("osb-platform", "NetworkPolicy")
     (broker,) = workloads("osb-broker")
-    (port,) = [it["containerPort"] for it in program(broker)["ports"] if it["name"] == "broker"]
-    assert port in [it["port"] for rule in policy["spec"]["egress"] for it in rule["ports"]]
+    (port,) = [exposed["containerPort"] for exposed in program(broker)["ports"] if exposed["name"] == "broker"]
+    assert port in [opened["port"] for rule in policy["spec"]["egress"] for opened in rule["ports"]]
 
 
 # ---- Security, and the end
@@ -351,7 +367,7 @@ def test_rights(folder: str, workload: Value) -> None:
             "readOnlyRootFilesystem": True,
             "capabilities": {"drop": ["ALL"]},
         }
-    assert all(it["secret"]["defaultMode"] == 0o400 for it in spec["volumes"] if "secret" in it)
+    assert all(volume["secret"]["defaultMode"] == 0o400 for volume in spec["volumes"] if "secret" in volume)
     text = json.dumps(objects(folder))
     assert "secretKeyRef" not in text and "PASSWORD" not in text
 
@@ -365,13 +381,13 @@ def test_end(folder: str, workload: Value) -> None:
     assert stop > 0 and pod(workload)["terminationGracePeriodSeconds"] >= sleep + stop + 5
     probe = container["livenessProbe"]
     assert probe["periodSeconds"] * (probe["failureThreshold"] - 1) > stop
-    assert (sleep > 0) == any(it["name"] in ("broker", "api") for it in container["ports"])
+    assert (sleep > 0) == any(port["name"] in ("broker", "api") for port in container["ports"])
 
 
 def test_workers_have_names_of_their_own() -> None:
     (workers,) = of_kind("osb-platform", "StatefulSet")
     assert option(program(workers), "worker") == "$(WORKER)"
-    (name,) = [it for it in program(workers)["env"] if it["name"] == "WORKER"]
+    (name,) = [variable for variable in program(workers)["env"] if variable["name"] == "WORKER"]
     assert name["valueFrom"] == {"fieldRef": {"fieldPath": "metadata.name"}}
     lease = int(option(program(workers), "seconds") or "0") + 30
     assert f"after their lease, {lease} seconds here" in read(PAGE)
@@ -388,6 +404,6 @@ def test_the_broker_starts_over_its_store_only() -> None:
 def test_dns_is_that_of_the_cluster(folder: str) -> None:
     """A pod reaches port 53 in one namespace, and not at every address."""
     (policy,) = yaml.safe_load_all((KUBERNETES / folder / "networkpolicy.yaml").read_text())
-    rules = [it for it in policy["spec"]["egress"] if any(port["port"] == 53 for port in it["ports"])]
+    rules = [rule for rule in policy["spec"]["egress"] if any(port["port"] == 53 for port in rule["ports"])]
     (rule,) = rules
     assert rule["to"] == [{"namespaceSelector": {"matchLabels": {"kubernetes.io/metadata.name": "kube-system"}}}]

@@ -114,7 +114,7 @@ def test_of_the_api(broker: Path, platform: Path, tmp_path: Path, shape: str) ->
 @pytest.mark.parametrize("folder, name", [("osb-broker", "osb-broker"), ("osb-platform", "osb-platform-api")])
 def test_kubernetes_allows_it(folder: str, name: str) -> None:
     """The limit of the container has room for it, and for half as much of other memory."""
-    (found,) = [it for it in of_kind(folder, "Deployment") if it["metadata"]["name"] == name]
+    (found,) = [deployment for deployment in of_kind(folder, "Deployment") if deployment["metadata"]["name"] == name]
     (container,) = found["spec"]["template"]["spec"]["containers"]
     limit = container["resources"]["limits"]["memory"]
     assert limit.endswith("Mi") and int(limit[:-2]) << 20 > 1.5 * MOST

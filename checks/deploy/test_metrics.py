@@ -76,11 +76,11 @@ def dashboard(program: str) -> str:
 def test_dashboard(program: str, metrics: Metrics) -> None:
     """Its queries use only metrics and labels that the program exports, and all of the program's own metrics."""
     found = queries(dashboard(program))
-    assert [it for it in found if unknown(it, metrics) or not is_chosen(it)] == []
-    own = {it for it in metrics if it.startswith("osb_")}
-    assert own - {name for it in found for name in asked(it, metrics)} == set()
+    assert [query for query in found if unknown(query, metrics) or not is_chosen(query)] == []
+    own = {metric for metric in metrics if metric.startswith("osb_")}
+    assert own - {name for query in found for name in asked(query, metrics)} == set()
     named = set(re.findall(r"\bosb_\w+", dashboard(program)))
-    assert {re.sub("_(bucket|sum|count)$", "", it) for it in named} <= own
+    assert {re.sub("_(bucket|sum|count)$", "", name) for name in named} <= own
     assert f"../deploy/grafana/{program}.json" in read("docs/operating.md")
 
 
@@ -99,12 +99,12 @@ def test_wrong_queries_are_found(query: str, wrong: set[str], of_broker: Metrics
 
 
 def test_each_dashboard_is_tested() -> None:
-    assert sorted(it.name for it in DASHBOARDS.iterdir()) == ["osb-broker.json", "osb-platform.json"]
+    assert sorted(path.name for path in DASHBOARDS.iterdir()) == ["osb-broker.json", "osb-platform.json"]
     for file in DASHBOARDS.iterdir():
         found = json.loads(file.read_text(encoding="utf-8"))
-        numbers = [it["id"] for it in found["panels"]]
+        numbers = [panel["id"] for panel in found["panels"]]
         assert len(set(numbers)) == len(numbers) > 10
-        assert all(it["datasource"]["uid"] == "${datasource}" for it in found["panels"])
-        places = [(it["gridPos"]["x"], it["gridPos"]["y"]) for it in found["panels"]]
+        assert all(panel["datasource"]["uid"] == "${datasource}" for panel in found["panels"])
+        places = [(panel["gridPos"]["x"], panel["gridPos"]["y"]) for panel in found["panels"]]
         assert places == [(at % 3 * 8, at // 3 * 8) for at in range(len(places))]
         assert found["uid"] == found["title"] == file.stem

@@ -46,6 +46,6 @@ def test_first_look(broker: Path, platform: Path, tmp_path: Path) -> None:
     assert lines[:2] == ["200", "200"]
     assert {"osb_broker_store_up 1", "osb_broker_pending 0", "osb_platform_store_up 1"} <= set(lines)
     assert 'osb_platform_failures_total{event="broker_unreached"} 1' in lines
-    events = [it.split("\t") for it in lines if "\tbroker_unreached\t" in it]
+    events = [line.split("\t") for line in lines if "\tbroker_unreached\t" in line]
     assert len(events) == 1 and "connection refused" in events[0][3]
-    assert [it for it in lines if it.startswith("away\thttp://")] != []
+    assert [line for line in lines if line.startswith("away\thttp://")] != []

@@ -62,7 +62,7 @@ class Broker:
         assert found is not None
         with closing(sqlite3.connect(self.state / "holdings.sqlite")) as store:
             held = {str(row[0]) for row in store.execute(found[1])}
-        exist = {it.name for it in (self.state / "instances").iterdir() if not it.name.startswith(".")}
+        exist = {path.name for path in (self.state / "instances").iterdir() if not path.name.startswith(".")}
         return exist - held, held - exist
 
 
@@ -142,9 +142,9 @@ def test_store_of_the_platform(broker: Path, platform: Path, tmp_path: Path) -> 
             create("since")
             order(platform, tmp_path, "remove", "old", "--wait=30")
         restore(store, saved)
-        assert [state_of(platform, tmp_path, it) for it in ("old", "since")] == ["ready", ""]
+        assert [state_of(platform, tmp_path, moment) for moment in ("old", "since")] == ["ready", ""]
         with running(*worker, health=health, environment=environment(tmp_path)):
             create("since")
             order(platform, tmp_path, "remove", "old", "--wait=30")
-        assert [state_of(platform, tmp_path, it) for it in ("old", "since")] == ["gone", "ready"]
+        assert [state_of(platform, tmp_path, moment) for moment in ("old", "since")] == ["gone", "ready"]
         assert [one.poll("old"), one.poll("since")] == [410, "succeeded"]

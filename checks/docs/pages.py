@@ -19,7 +19,7 @@ def read(page: str) -> str:
 
 def pages() -> list[str]:
     """Every page of Markdown, named from the top of the repository."""
-    return sorted(str(it.relative_to(TOP)) for it in (*TOP.glob("*.md"), *TOP.glob("docs/*.md")))
+    return sorted(str(path.relative_to(TOP)) for path in (*TOP.glob("*.md"), *TOP.glob("docs/*.md")))
 
 
 def prose(page: str) -> str:
@@ -30,13 +30,13 @@ def prose(page: str) -> str:
 def blocks(page: str) -> list[str]:
     """The texts of the page's blocks: first the fenced ones, then the indented ones."""
     indented = _INDENTED.findall(prose(page))
-    return [*_FENCED.findall(read(page)), *(re.sub("^ {4}", "", it, flags=re.MULTILINE) for it in indented)]
+    return [*_FENCED.findall(read(page)), *(re.sub("^ {4}", "", text, flags=re.MULTILINE) for text in indented)]
 
 
 def block(page: str, beginning: str) -> str:
     """The page's block with this text, or else the one that begins with it."""
     there = blocks(page)
-    (found,) = [it for it in there if it == beginning] or [it for it in there if it.startswith(beginning)]
+    (found,) = [text for text in there if text == beginning] or [text for text in there if text.startswith(beginning)]
     return found
 
 
@@ -51,11 +51,11 @@ _COVERED: dict[str, set[str]] = {}
 
 def covers(page: str, *beginnings: str) -> pytest.MarkDecorator:
     """Give a test the texts of these blocks of a page."""
-    texts = [block(page, it) for it in beginnings]
+    texts = [block(page, beginning) for beginning in beginnings]
     _COVERED.setdefault(page, set()).update(texts)
     return pytest.mark.parametrize("texts", [texts], ids=[page])
 
 
 def uncovered(page: str) -> list[str]:
     """The blocks of a page that no test which was imported covers."""
-    return [it for it in blocks(page) if it not in _COVERED.get(page, ())]
+    return [text for text in blocks(page) if text not in _COVERED.get(page, ())]

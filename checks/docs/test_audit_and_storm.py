@@ -48,7 +48,7 @@ NOT_RUN = {
 
 @pytest.mark.parametrize("page", [JOURNAL, AUDIT, STORM])
 def test_each_block_is_run_or_named(page: str) -> None:
-    assert set(uncovered(page)) == {block(page, it) for it in NOT_RUN.get(page, ())}
+    assert set(uncovered(page)) == {block(page, beginning) for beginning in NOT_RUN.get(page, ())}
 
 
 # ---- journals and audits
@@ -107,10 +107,10 @@ def test_journal(texts: list[str], workdir: Workdir, port: int) -> None:
     )
     _, names, printed, failures, holdings, left = out.split("--\n")
     assert len(_NAME.findall(f"{names}{name}")) == 3, names
-    untimed = [[it.rstrip().split("\t")[1:] for it in text.splitlines()] for text in (printed, shown)]
+    untimed = [[line.rstrip().split("\t")[1:] for line in text.splitlines()] for text in (printed, shown)]
     assert untimed[0] == untimed[1]
     assert (failures, left) == ("", "")
-    assert [("ready" in it, "tombstone" in it) for it in holdings.splitlines()] == [(False, True), (True, True)]
+    assert [("ready" in line, "tombstone" in line) for line in holdings.splitlines()] == [(False, True), (True, True)]
 
 
 @covers(JOURNAL, "OSB_BROKER_OPTIONS=", "OSB_PLATFORM_OPTIONS=")
@@ -167,7 +167,7 @@ _FAILED = re.compile(r"^FAIL +[A-Z]+ +(\S+)", re.MULTILINE)
 def test_conform(texts: list[str], workdir: Workdir, port: int) -> None:
     """Each plan fails only what the page says: the synchronous one, which is tried twice, and the asynchronous one."""
     needs("curl")
-    serve, password, first, other, catalogue, own = (here(it, port, workdir) for it in texts)
+    serve, password, first, other, catalogue, own = (here(text, port, workdir) for text in texts)
     other = shorter(other, "--poll-seconds 0.01 || [ $? = 1 ]")
     out = workdir.run(
         f"{serve.strip()} &\n{healthy(port)}{password}{first}{own}echo --\n{other}{catalogue}kill %1; wait $!"
@@ -198,7 +198,7 @@ echo $! >pid
 def test_storm_of_a_broker(texts: list[str], workdir: Workdir, port: int) -> None:
     """osb-broker loses nothing, also if it is killed, and the journals are as the model says."""
     needs("curl")
-    serve, password, kills, own = (here(it, port, workdir) for it in texts)
+    serve, password, kills, own = (here(text, port, workdir) for text in texts)
     serve, times = f"{serve.strip()} --journal journals/broker/", (*SHORT, "--journal journals")
     restart = workdir.top / "restart"
     restart.write_text(RESTART % serve, encoding="utf-8")
@@ -218,7 +218,7 @@ JOURNALING = "OSB_BROKER_PASSWORD=secret ./osb-storm broker --journal journals "
 @covers(STORM, "OSB_BROKER_PASSWORD=secret ./osb-broker serve --journal journals/broker/ ", JOURNALING)
 def test_audit_of_a_storm(texts: list[str], workdir: Workdir, port: int) -> None:
     """The journals of osb-broker and of the storm's platform are as the model says."""
-    serve, storm = (here(it, port, workdir) for it in texts)
+    serve, storm = (here(text, port, workdir) for text in texts)
     run, audit = storm.split("./osb-audit")
     out = workdir.run(f"{serve.strip()} &\n{healthy(port)}{shorter(run, *SHORT)}./osb-audit{audit}kill %1; wait $!\n")
     assert "0 lost, 0 false records, " in out, out
@@ -236,7 +236,7 @@ def test_audit_of_a_storm(texts: list[str], workdir: Workdir, port: int) -> None
 def test_storm_of_a_platform(texts: list[str], workdir: Workdir, port: int) -> None:
     """osb-platform abandons nothing, and is stopped after the storm. The journals are as the model says."""
     folder = str(workdir.folder / "storm-platform")
-    moved_ = [it.replace(":8090", f":{port}").replace("/tmp/storm-platform", folder) for it in texts]
+    moved_ = [text.replace(":8090", f":{port}").replace("/tmp/storm-platform", folder) for text in texts]
     start, work, lists, end, audit = moved_
     times = "--seconds 2", "--late-seconds 1", "--operation-seconds 0.5"
     start = shorter(start, *times, "--seed=1", "--journal journals")

@@ -96,7 +96,7 @@ def test_first_program_in_c(texts: list[str], workdir: Workdir) -> None:
     needs("cc")
     first, build = texts
     workdir.run(build)
-    made = sorted(it.name for it in (workdir.top / "build").iterdir())
+    made = sorted(path.name for path in (workdir.top / "build").iterdir())
     assert made == ["libosb.a", "libosb.so", "libosb.so.0", "osb.pc"]
     assert workdir.run(first) == read("examples/c/first.out")
 
@@ -106,7 +106,7 @@ def test_installed_library(texts: list[str], workdir: Workdir) -> None:
     """Below DESTDIR, with the files that the page lists."""
     workdir.run(f"./libosb build build\n{texts[0]}")
     top = workdir.folder / "installed" / "usr" / "local"
-    found = sorted(str(it.relative_to(top)) for it in top.rglob("*") if it.is_file())
+    found = sorted(str(path.relative_to(top)) for path in top.rglob("*") if path.is_file())
     page = read("docs/c.md").replace("\n", " ")
     assert found == sorted(re.findall(r"`((?:include|lib)/[\w./]+)`", page.partition("with the header: ")[2][:140]))
 
@@ -168,7 +168,7 @@ def served_in_go(build: str, port: int) -> str:
 def test_packages_of_the_example_in_go(texts: list[str]) -> None:
     """They are those of the tools and of the libraries that the example imports, and curl."""
     tools = set(" ".join(TOOLS.values()).split())
-    libraries = {NEEDS[it] for it in ("github.com/mattn/go-sqlite3", "github.com/pires/go-proxyproto")}
+    libraries = {NEEDS[module] for module in ("github.com/mattn/go-sqlite3", "github.com/pires/go-proxyproto")}
     assert packages(texts[0]) == tools | libraries | {"curl"}
 
 
@@ -297,7 +297,7 @@ tail -n +9 examples/unanswered.schedule > february.log
 
 def log_block(command: str) -> str:
     """The beginning of the block of docs/logs.md that has a line which begins with the command."""
-    return next(it for it in blocks("docs/logs.md") if f"\n{command} " in f"\n{it}")
+    return next(block for block in blocks("docs/logs.md") if f"\n{command} " in f"\n{block}")
 
 
 @covers("docs/logs.md", f"{_LOGS}./osb-replay-log replay ")

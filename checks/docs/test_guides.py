@@ -51,9 +51,9 @@ def test_first_start(workdir: Workdir) -> None:
 )
 def test_broker(texts: list[str], workdir: Workdir, port: int) -> None:
     """An instance of each plan is created and deleted, one of them with a binding. No id is used again."""
-    serve, synchronous, before, delete = (moved(it, port) for it in texts)
+    serve, synchronous, before, delete = (moved(text, port) for text in texts)
     poll = "ask $two/last_operation"
-    before, delete = (it.removesuffix(f"{poll}\n") for it in (before, delete))
+    before, delete = (text.removesuffix(f"{poll}\n") for text in (before, delete))
     life = (
         f"{before}until {poll} | grep succeeded; do sleep 0.1; done\n{delete}"
         f"until {poll} | grep -q ' 410 '; do sleep 0.1; done\n{before}"
@@ -90,7 +90,7 @@ def test_backend_of_a_reader(texts: list[str], workdir: Workdir, port: int) -> N
     assert served.count('"token"') == 2 and served.count(f"\n{FIRST}\n") == 1  # what ls lists
     assert served.endswith("\n{}\n")  # the last ls lists nothing
     ids = re.findall(r'"id": "(\S+)"', (workdir.top / "mine.json").read_text())
-    assert len(set(ids)) == 3 and not any(it.startswith("11111111-") for it in ids)
+    assert len(set(ids)) == 3 and not any(guid.startswith("11111111-") for guid in ids)
 
 
 # A Bind of an instance that doesn't exist, and one whose body lacks the ids.
@@ -108,7 +108,7 @@ def test_log(texts: list[str], workdir: Workdir, port: int) -> None:
     """The guide names the members of the lines about requests."""
     workdir.run(f"{moved(texts[0], port).strip()} &\n{healthy(port)}{moved(BINDS, port)}kill %1; wait $!\n")
     lines = [json.loads(line) for line in workdir.errors().splitlines() if line.startswith("{")]
-    found = [set(it) for it in lines if it["event"] == "request" and it["route"] == "bind"]
+    found = [set(line) for line in lines if line["event"] == "request" and line["route"] == "bind"]
     assert len(found) == 2
     row = re.search(r"^\| `request` \| one for each request:(.*)$", read(BROKER), re.MULTILINE)
     assert row is not None
@@ -147,7 +147,7 @@ def test_wrong_arguments_are_found(arguments: str) -> None:
 @pytest.mark.usefixtures("platform")
 def test_options_of_the_broker() -> None:
     """Each option that the guide names is the broker's, or that of a platform which changes its password."""
-    options = set(options_of("".join(help_of("osb-broker", it) for it in ("serve", "try", "rekey"))))
+    options = set(options_of("".join(help_of("osb-broker", command) for command in ("serve", "try", "rekey"))))
     options |= set(options_of(help_of("osb-platform", "broker", "set")))
     named = set(re.findall(r"(?<![\w-])--[a-z][a-z-]*", read(BROKER)))
     assert len(named) > 20

@@ -108,8 +108,8 @@ def machines() -> Iterator[dict[str, Machine]]:
 
 def placed(text: str, machines: dict[str, Machine]) -> str:
     """The text of the page, with the addresses of the two servers."""
-    for name, it in machines.items():
-        text = re.sub(rf"(^|[@\s']){name}(:5432|/)", _address(it.port), text)
+    for name, machine in machines.items():
+        text = re.sub(rf"(^|[@\s']){name}(:5432|/)", _address(machine.port), text)
     return text
 
 
@@ -148,7 +148,7 @@ def test_broker(texts: list[str], workdir: Workdir, port: int, machines: dict[st
     with the roles, databases and passwords of the page.
     """
     of_db, of_shop, right, template, locks, broker_rule, shop_rules, secrets, serve, several, others, rekey = (
-        moved(placed(it, machines), port) for it in texts
+        moved(placed(text, machines), port) for text in texts
     )
     db, shop = machines["db"], machines["shop"]
     db.run(of_db)
@@ -175,7 +175,7 @@ def test_broker(texts: list[str], workdir: Workdir, port: int, machines: dict[st
     sold = "osb_" + str(Id.of_text("my-first")).replace("-", "")
     assert f"\n{sold}\n" in out
     names = "SELECT datname FROM pg_database UNION ALL SELECT rolname FROM pg_roles;"
-    assert [it for it in shop.run(names) if it.startswith("osb_")] == []
+    assert [name for name in shop.run(names) if name.startswith("osb_")] == []
     assert "password authentication failed" in workdir.errors()
     assert "PUBLIC" not in workdir.errors() and limits == ("temp_file_limit" not in workdir.errors())
     assert "permission denied for function pg_advisory_lock" in workdir.errors()
@@ -220,7 +220,7 @@ def test_locks(texts: list[str], tmp_path: Path) -> None:
         (folder,) = shop.run("SHOW data_directory;")
         customer = shop.session(dbname=name, user=name, password="own").cursor()
         customer.execute(take.format(11_000))
-        assert [it.split("|")[1:3] for it in shop.run(query)] == [[name, "idle"]]
+        assert [row.split("|")[1:3] for row in shop.run(query)] == [[name, "idle"]]
         with pytest.raises(Exception, match="out of shared memory"):
             customer.execute(take.format(1_000_000))
         assert shop.is_full()
@@ -240,7 +240,7 @@ def test_platform(texts: list[str], workdir: Workdir, port: int) -> None:
     """A worker creates an instance, under the role and in the database of the page. No other role gets in."""
     needs("pg_virtualenv")
     with started() as db:
-        statements, rule, secrets, run = (placed(it, {"db": db}) for it in texts)
+        statements, rule, secrets, run = (placed(text, {"db": db}) for text in texts)
         db.run(statements)
         db.admit(rule)
         run = run.replace("https://broker.example", f"http://127.0.0.1:{port}")

@@ -14,16 +14,16 @@ CODE = re.compile(r"`[^`]*`")
 
 def anchors(page: str) -> set[str]:
     """The anchors of the headings: lower case, words joined by hyphens, and a number if the name is there already."""
-    words = [re.sub(r"\]\([^)]*\)", "", it).lower() for it in HEADING.findall(prose(page))]
-    names = [re.sub(r"[^\w\- ]", "", it).replace(" ", "-") for it in words]
-    return {f"{it}-{names[:at].count(it)}" if it in names[:at] else it for at, it in enumerate(names)}
+    words = [re.sub(r"\]\([^)]*\)", "", heading).lower() for heading in HEADING.findall(prose(page))]
+    names = [re.sub(r"[^\w\- ]", "", word).replace(" ", "-") for word in words]
+    return {f"{name}-{names[:at].count(name)}" if name in names[:at] else name for at, name in enumerate(names)}
 
 
 def links(page: str) -> list[str]:
     """The links to this repository."""
     text = CODE.sub(lambda code: "" if "](" in code[0] else code[0], prose(page))
-    found = ["".join(it) for it in LINK.findall(text)]
-    return [it for it in found if not re.match("[a-z]+:", it)]
+    found = ["".join(groups) for groups in LINK.findall(text)]
+    return [target for target in found if not re.match("[a-z]+:", target)]
 
 
 def is_broken(page: str, link: str) -> bool:
@@ -36,10 +36,12 @@ def is_broken(page: str, link: str) -> bool:
 
 @pytest.mark.parametrize("page", pages())
 def test_links(page: str) -> None:
-    assert [it for it in links(page) if is_broken(page, it)] == []
+    assert [link for link in links(page) if is_broken(page, link)] == []
 
 
 def test_broken_links_are_found() -> None:
     assert len(links("README.md")) > 10
     wrong = ["absent.md", "#absent", "../../README.md", "/README.md", "../LICENSE#x"]
-    assert [it for it in [*wrong, "#the-storm", "../README.md"] if is_broken("docs/platform-guide.md", it)] == wrong
+    assert [
+        link for link in [*wrong, "#the-storm", "../README.md"] if is_broken("docs/platform-guide.md", link)
+    ] == wrong

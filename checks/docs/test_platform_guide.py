@@ -29,7 +29,7 @@ def curl() -> None:
 
 def begun(port: int) -> str:
     """The commands of the page by which a broker serves and is added, with a key."""
-    serve, key, add = (moved(block(PLATFORM, it), port) for it in (BROKER, KEY, ADD))
+    serve, key, add = (moved(block(PLATFORM, name), port) for name in (BROKER, KEY, ADD))
     return f"{serve.strip()} &\n{healthy(port)}{key}{add}"
 
 
@@ -44,7 +44,7 @@ STOP = "kill $worker; wait $worker\n"
 def cells(out: str, count: int) -> list[list[str]]:
     """The lines with so many columns."""
     lines = [line.split("\t") for line in out.splitlines()]
-    return [it for it in lines if len(it) == count]
+    return [line for line in lines if len(line) == count]
 
 
 @covers(PLATFORM, "apt-get install golang-go ")
@@ -64,7 +64,7 @@ def test_first_steps(texts: list[str], workdir: Workdir, port: int) -> None:
     instance, binding, *listed, credentials = of_life.splitlines()  # and no instance is left
     app = "web-db/web-app"
     assert [instance, binding] == ["web-db", app]
-    assert sorted(it.split("\t")[:2] for it in listed) == [["web-db", "ready"], [app, "ready"]]
+    assert sorted(row.split("\t")[:2] for row in listed) == [["web-db", "ready"], [app, "ready"]]
     printed = json.loads(credentials)
     assert set(printed) == {"credentials"} and set(printed["credentials"]) == {"folder", "token"}
     reported = re.findall(r"^(?:ordered )?web-db.*", workdir.errors(), re.MULTILINE)
@@ -80,7 +80,7 @@ def test_first_steps(texts: list[str], workdir: Workdir, port: int) -> None:
 )
 def test_look(texts: list[str], workdir: Workdir, port: int) -> None:
     """An instance under an id that was made up is bound, seen at the broker, and by its reasons."""
-    create, bind, look, reasons = (moved(it, port) for it in texts)
+    create, bind, look, reasons = (moved(text, port) for text in texts)
     out = workdir.run(
         f"{begun(port)}{started(block(PLATFORM, RUN))}{create}echo one $one\n{bind}{look}"
         f"./osb-platform unbind $app --wait\n./osb-platform remove $one --wait\n{look}{reasons}{STOP}"
@@ -88,9 +88,9 @@ def test_look(texts: list[str], workdir: Workdir, port: int) -> None:
     assert '"credentials":' in out
     found = re.search(r"^one (\S{36})$", out, re.MULTILINE)
     assert found is not None
-    answers = [it.removeprefix("last operation ") for it in out.splitlines() if it.startswith("last operation s")]
+    answers = [line.removeprefix("last operation ") for line in out.splitlines() if line.startswith("last operation s")]
     assert answers == ["status\t200", "state\tsucceeded", "status\t410"]
-    assert [it[6].split()[:2] for it in cells(out, 7)] in ([["poll", "200"]], [["poll", "410"]])
+    assert [row[6].split()[:2] for row in cells(out, 7)] in ([["poll", "200"]], [["poll", "410"]])
     assert f"id\t{found[1]}\nstate\tgone\n" in out and "\nwas\t" in out
 
 
@@ -102,7 +102,7 @@ def test_brokers(texts: list[str], workdir: Workdir, port: int) -> None:
         f"{moved(block(PLATFORM, BROKER), port).strip()} &\n{healthy(port)}(umask 077; echo secret >password)\n{there}"
         "./osb-platform broker show shop\n./osb-platform broker drop shop\n"
     )
-    assert [it[0] for it in cells(out, 5)] == ["shop"]
+    assert [row[0] for row in cells(out, 5)] == ["shop"]
     assert "hold\t900\n" in out and "longest poll\tdefault\n" in out and "plan\tfolder\t" in out
     assert workdir.errors().count("osb-platform") == 0
 
@@ -153,7 +153,7 @@ def test_credentials(texts: list[str], workdir: Workdir, port: int) -> None:
 def test_api_and_page(texts: list[str], workdir: Workdir, port: int, other_port: int, third_port: int) -> None:
     """The API writes an order down and lists it, and the page shows it to its user alone."""
     needs("openssl")
-    given, ask, listed = (moved(it, port, other_port).replace(":8092", f":{third_port}") for it in texts)
+    given, ask, listed = (moved(text, port, other_port).replace(":8092", f":{third_port}") for text in texts)
     secrets, program, options = given.partition("./osb-platform serve")
     page = f"http://127.0.0.1:{other_port}/"
     out = workdir.run(
@@ -173,19 +173,21 @@ def test_api_and_page(texts: list[str], workdir: Workdir, port: int, other_port:
 def test_commands() -> None:
     """The table has each command, and no other."""
     rows = re.findall(r"^\| (`[a-z].*?) \| ", read(PLATFORM).partition("\n### The exit status")[0], re.MULTILINE)
-    named = {it for row in rows for it in re.findall(r"`([a-z]+)", row)}
+    named = {word for row in rows for word in re.findall(r"`([a-z]+)", row)}
     assert named == set(commands_of("osb-platform")) - {"help"}
     inner = set(re.findall(r"`(broker [a-z]+)`", read(PLATFORM).partition("\n### The exit status")[0]))
-    assert inner == {f"broker {it}" for it in commands_of("osb-platform", "broker")}
+    assert inner == {f"broker {command}" for command in commands_of("osb-platform", "broker")}
 
 
 def test_options() -> None:
     """The tables have each option of each command, and no other."""
-    program = {("all", it) for it in options_of(help_of("osb-platform")) if it not in ("--help", "--version")}
-    names = [[it] for it in commands_of("osb-platform") if it != "help"]
-    for name in [*names, *(["broker", it] for it in commands_of("osb-platform", "broker"))]:
+    program = {
+        ("all", option) for option in options_of(help_of("osb-platform")) if option not in ("--help", "--version")
+    }
+    names = [[command] for command in commands_of("osb-platform") if command != "help"]
+    for name in [*names, *(["broker", command] for command in commands_of("osb-platform", "broker"))]:
         own = help_of("osb-platform", *name).partition("\nGlobal Flags:")[0]
-        program |= {(" ".join(name), it) for it in options_of(own) if it != "--help"}
+        program |= {(" ".join(name), option) for option in options_of(own) if option != "--help"}
     guide = {
         (command, option)
         for options, commands in re.findall(r"^\| (`--.*?) \| (all|`[a-z].*?`) \| ", read(PLATFORM), re.MULTILINE)
@@ -198,8 +200,8 @@ def test_options() -> None:
 
 def test_named_options() -> None:
     """Each option that the guide names in its text is one of the program's."""
-    names = [(), *((it,) for it in commands_of("osb-platform")), ("broker", "add"), ("broker", "set")]
-    options = {option for it in names for option in options_of(help_of("osb-platform", *it))}
+    names = [(), *((command,) for command in commands_of("osb-platform")), ("broker", "add"), ("broker", "set")]
+    options = {option for name in names for option in options_of(help_of("osb-platform", *name))}
     front, _, rest = read(PLATFORM).partition("\n## From version 0.2\n")
     text = front + rest.partition("\n## ")[2].partition("\n## The storm\n")[0]
     named = set(re.findall(r"(?<![\w-])--[a-z][a-z-]*", text))
@@ -234,7 +236,7 @@ def test_routes() -> None:
     """The table has each route of the API's description, and no other."""
     described = json.loads(read("go/platform/api/openapi.json"))["paths"]
     verbs = ("get", "post", "put", "delete")
-    program = {(verb.upper(), path) for path, it in described.items() for verb in it if verb in verbs}
+    program = {(verb.upper(), path) for path, verbs_of in described.items() for verb in verbs_of if verb in verbs}
     rows = re.findall(r"^\| ([A-Z, ]+) \| (`/v1.*?`) \| ", read(PLATFORM), re.MULTILINE)
     guide = {
         (verb, path) for verbs, paths in rows for verb in verbs.split(", ") for path in re.findall("`(.*?)`", paths)
@@ -246,9 +248,13 @@ def test_queries_of_lists() -> None:
     """The table has each name that the query of a list may have, and no other."""
     described = json.loads(read("go/platform/api/openapi.json"))
     lists = ("/v1/records", "/v1/instances", "/v1/bindings", "/v1/instances/{id}/bindings")
-    listed = [it["$ref"].split("/")[-1] for path in lists for it in described["paths"][path]["get"]["parameters"]]
-    parameters = [described["components"]["parameters"][it] for it in listed]
-    program = {it["name"] for it in parameters if it["in"] == "query"}
+    listed = [
+        parameter["$ref"].split("/")[-1]
+        for path in lists
+        for parameter in described["paths"][path]["get"]["parameters"]
+    ]
+    parameters = [described["components"]["parameters"][name] for name in listed]
+    program = {parameter["name"] for parameter in parameters if parameter["in"] == "query"}
     table = read(PLATFORM).partition("\n| query | which rows |\n|---|---|\n")[2].partition("\n\n")[0]
     named = [name for row in table.splitlines() for name in re.findall(r"`([a-z]+)=", row.split(" | ")[0])]
     assert len(program) > 10 and sorted(named) == sorted(program)

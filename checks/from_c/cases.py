@@ -17,7 +17,7 @@ from api.generate import CALLS, ENUMS, STRUCTS
 from api.model import Variable
 
 NAMED = {call.name: call for call in CALLS}
-NUMBERS = {f"{enum.name} {it.name}": f"{enum.front}{it.name}" for enum in ENUMS for it in enum.values}
+NUMBERS = {f"{enum.name} {value.name}": f"{enum.front}{value.name}" for enum in ENUMS for value in enum.values}
 GUID = re.compile(rb"[0-9a-f]{8}(?:-[0-9a-f]{4}){3}-[0-9a-f]{12}")
 # A longer text is an array: C99 promises string literals of 4,095 bytes, and CALL makes a literal of the whole call.
 LONGEST = 500
@@ -90,7 +90,7 @@ def number_in(enum: str, word: str) -> str:
 
 
 def text_of(value: bytes) -> str:
-    plain = "".join(chr(it) if 32 <= it < 127 and it not in b'"\\?' else f"\\{it:03o}" for it in value)
+    plain = "".join(chr(code) if 32 <= code < 127 and code not in b'"\\?' else f"\\{code:03o}" for code in value)
     return f'(const uint8_t *)"{plain}"'
 
 
@@ -107,9 +107,12 @@ def literal(kind: str, value: Any, length: int = 0) -> str:
     """The value of this type, as an initializer."""
     if not length and kind not in STRUCTS:
         return plain(kind, value)
-    parts = [str(it) for it in value] if length else halves(value) if kind == "struct osb_id" else []
+    parts = [str(number) for number in value] if length else halves(value) if kind == "struct osb_id" else []
     if not parts:
-        parts = [literal(it.type, (value or {}).get(it.name), it.length) for it in STRUCTS[kind].variables]
+        parts = [
+            literal(variable.type, (value or {}).get(variable.name), variable.length)
+            for variable in STRUCTS[kind].variables
+        ]
     return f"{{{', '.join(parts)}}}"
 
 
@@ -172,8 +175,8 @@ class CaseText:
             return dict.fromkeys(self.cell("serves").decode().split(), True)
         accepts = self.given.get("accepts", b"yes") == b"yes"
         names = ("id", "service", "plan") if own == "asked" else ("id", "service_id", "plan_id")
-        ids = {it.replace("_id", ""): self.given[it] for it in names}
-        has = {f"has_{it}": ids[it] is not None for it in ("service", "plan")} if own == "asked" else {}
+        ids = {member.replace("_id", ""): self.given[member] for member in names}
+        has = {f"has_{name}": ids[name] is not None for name in ("service", "plan")} if own == "asked" else {}
         return {"kind": self.word("kind"), "accepts_incomplete": accepts, **has, **ids}
 
     def argument(self, it: Variable) -> str:
@@ -205,8 +208,12 @@ class CaseText:
         return f"OSB_{self.word(it.name)}" if it.name == "refusal" else self.word(it.name)
 
     def arguments(self) -> list[str]:
-        taken = (it for it in self.call.parameters if not re.search(r"(^|_)(length|bytes|needed|places)$", it.name))
-        return [self.argument(it) for it in taken]
+        taken = (
+            parameter
+            for parameter in self.call.parameters
+            if not re.search(r"(^|_)(length|bytes|needed|places)$", parameter.name)
+        )
+        return [self.argument(parameter) for parameter in taken]
 
     # ---- what the call gives
 
@@ -216,11 +223,11 @@ class CaseText:
             return (self.gives["platform"] or b"") + (self.gives["object"] or b"")
         if self.case.call in LENGTHS and self.gives:
             variables = STRUCTS[f"struct osb_{LENGTHS[self.case.call]}"].variables
-            return b"".join(self.gives[it.name] or b"" for it in variables if it.type == "size_t")
+            return b"".join(self.gives[variable.name] or b"" for variable in variables if variable.type == "size_t")
         return self.gives.get("text")
 
     def plans(self) -> list[list[bytes]]:
-        return [it.split(b" ") for it in (self.gives["plans"] or b"").split(b", ") if it]
+        return [plan.split(b" ") for plan in (self.gives["plans"] or b"").split(b", ") if plan]
 
     def returned(self) -> str:
         """What the call returns."""
@@ -238,9 +245,13 @@ class CaseText:
         """The members of `out` that the call writes, each with its value."""
         gives, call = self.gives, self.case.call
         if call in LENGTHS:
-            lengths = {it: len(text or b"") for it, text in gives.items()}
-            flags = {it: gives.get(it) == b"yes" for it in ("instance_usable", "update_repeatable")}
-            yield LENGTHS[call], {**lengths, **flags, **{f"has_{it}": text is not None for it, text in gives.items()}}
+            lengths = {name: len(text or b"") for name, text in gives.items()}
+            flags = {name: gives.get(name) == b"yes" for name in ("instance_usable", "update_repeatable")}
+            yield LENGTHS[call], {
+                **lengths,
+                **flags,
+                **{f"has_{name}": text is not None for name, text in gives.items()},
+            }
         if call == "read_answer":
             yield "answer", {"status": self.word("status"), "body": self.word("read")}
         if call == "asked_request":
@@ -249,7 +260,7 @@ class CaseText:
         if call.startswith("receive_"):
             ids = {"id": gives["binding" if "binding" in gives else "instance"]}
             ids |= {"service": gives["service"], "plan": gives["plan"]}
-            has = {f"has_{it}": gives[it] is not None for it in ("service", "plan")}
+            has = {f"has_{name}": gives[name] is not None for name in ("service", "plan")}
             asked = {"kind": self.word("kind"), "accepts_incomplete": gives["accepts"] == b"yes", **has, **ids}
             if "is_fetch" in gives:
                 is_fetch = gives["is_fetch"] == b"yes"
@@ -267,7 +278,7 @@ class CaseText:
         if text is not None:
             yield f"is_written({self.text(text)})"
         for name, value in self.values():
-            kind = {it: of for of, it in WRITTEN.items()}.get(name, f"struct osb_{name}")
+            kind = {short: of for of, short in WRITTEN.items()}.get(name, f"struct osb_{name}")
             yield from same(f"out.{name}", kind, value)
         if self.case.call == "originating_identity":
             yield f"out.platform == {len(self.gives['platform'] or b'')}"
@@ -289,18 +300,18 @@ class CaseText:
         taken = ", ".join(self.arguments())
         call = f"{self.call.name}({taken})"
         calls = [
-            f"out.{CHANGED[it.type]} = {self.constant(it.type, literal(it.type, self.value(it.name, it.type)))};"
-            for it in self.call.parameters
-            if it.type in CHANGED and not it.const and it.name in self.given
+            f"out.{CHANGED[of.type]} = {self.constant(of.type, literal(of.type, self.value(of.name, of.type)))};"
+            for of in self.call.parameters
+            if of.type in CHANGED and not of.const and of.name in self.given
         ]
         calls += [f"CALL({self.returned()}, {f'({call}, 0)' if self.call.given == 'void' else call});"]
-        calls += [f"THEN({it});" for it in (self.then() if self.case.status == "DONE" else ())]
+        calls += [f"THEN({value});" for value in (self.then() if self.case.status == "DONE" else ())]
         length = len(self.plans()) if "plans" in self.gives else len(self.joined() or b"")
         if length:
             less = taken.replace("INTO", f"out.text, {length - 1}, &out.needed").replace("PLANS", str(length - 1))
             calls += [f"CALL(OSB_TOO_SMALL, {self.call.name}({less}));", f"THEN(out.needed == {length});"]
         source = f'source = "api/cases.txt, line {self.case.line}";'
-        yield from ("    {", *(f"        {it}" for it in [*self.constants, source, *calls]), "    }")
+        yield from ("    {", *(f"        {line}" for line in [*self.constants, source, *calls]), "    }")
 
 
 def write(to: Path) -> None:
@@ -312,5 +323,5 @@ def write(to: Path) -> None:
         lines += [f"static void case_{call}(void)", "{"]
         lines += [line for case in found for line in CaseText(case).lines()]
         lines += ["}", ""]
-    lines += ["static void call_cases(void)", "{", *(f"    {it}();" for it in functions), "}", ""]
+    lines += ["static void call_cases(void)", "{", *(f"    {function}();" for function in functions), "}", ""]
     to.write_text("\n".join(lines), encoding="ascii")

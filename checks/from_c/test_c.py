@@ -27,7 +27,7 @@ SOURCES = {
     "received": TOP / "examples/c/received.c",
     "suite": HERE / "suite.c",
 }
-EXPORTS = sorted(it.name for it in CALLS)
+EXPORTS = sorted(call.name for call in CALLS)
 # The suite takes the place of these functions of the C library.
 WRAPPED = [f"-Wl,--wrap={name}" for name in ("malloc", "realloc", "free")]
 SANITIZERS = ["-g", "-fsanitize=address,undefined", "-fno-sanitize-recover=all"]
@@ -67,7 +67,7 @@ def check_output(name: str, printed: str) -> None:
         return
     calls = [(line.split()[0], int(line.split()[1])) for line in printed.splitlines()]
     assert sorted({call for call, _ in calls}) == EXPORTS
-    take_memory = {it.name for it in CALLS if "MEMORY" in dict(it.statuses(STATUS))}
+    take_memory = {call.name for call in CALLS if "MEMORY" in dict(call.statuses(STATUS))}
     assert {call for call, allocations in calls if allocations > 0} == take_memory
 
 
@@ -161,8 +161,8 @@ def install(library: Path, root: Path, prefix: str) -> subprocess.CompletedProce
 def test_a_program_links_as_pkg_config_says(library: Path, tmp_path: Path) -> None:
     ended = install(library, tmp_path, "/usr")
     assert (ended.returncode, ended.stderr) == (0, "")
-    files = {str(it.relative_to(tmp_path)) for it in (tmp_path / "usr").rglob("*") if not it.is_dir()}
-    libraries = {f"usr/lib/{it}" for it in ("libosb.a", "libosb.so", "libosb.so.0", "pkgconfig/osb.pc")}
+    files = {str(path.relative_to(tmp_path)) for path in (tmp_path / "usr").rglob("*") if not path.is_dir()}
+    libraries = {f"usr/lib/{name}" for name in ("libosb.a", "libosb.so", "libosb.so.0", "pkgconfig/osb.pc")}
     assert files == libraries | {"usr/include/osb.h"}
     environment = {
         **os.environ,
@@ -184,5 +184,5 @@ def test_install_rejects_the_folder_that_it_would_copy_into(library: Path, tmp_p
         shutil.copy(library / name, own)
     ended = install(own, tmp_path, "/usr")
     assert ended.returncode == 70 and "into itself: build into another folder" in ended.stderr
-    assert {it.name for it in own.rglob("*")} == {"libosb.a", "libosb.so.0"}
+    assert {path.name for path in own.rglob("*")} == {"libosb.a", "libosb.so.0"}
     assert (own / "libosb.a").read_bytes() == (library / "libosb.a").read_bytes()

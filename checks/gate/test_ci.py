@@ -60,7 +60,7 @@ class Runner:
         """The status, and what it and scripts/packages reported themselves."""
         environment = {**os.environ, "PATH": f"{self.top}/bin:{os.environ['PATH']}"}
         ended = ran([self.top / ".ci" / "run"], environment=environment, seconds=60, merged=True)
-        lines = [it for it in ended.stdout.splitlines() if it.startswith(("ci: ", "packages: "))]
+        lines = [line for line in ended.stdout.splitlines() if line.startswith(("ci: ", "packages: "))]
         return ended.returncode, "\n".join(lines)
 
 

@@ -104,7 +104,7 @@ class Repository:
         self.output = ""
         (top / "scripts").mkdir()
         scripts = ("gate.py", "ledger.py", "proofs.py", "must_fail.py", "python.sh", "packages")
-        for name in ("check", "packages.txt", *(f"scripts/{it}" for it in scripts)):
+        for name in ("check", "packages.txt", *(f"scripts/{script}" for script in scripts)):
             shutil.copy2(TOP / name, top / name)
         (top / "crates.txt").write_text(ROWS)
         for row in ROWS.splitlines():
@@ -112,7 +112,7 @@ class Repository:
         self.script("bin/rt", RT)
         self.script("scripts/prebuilt", PREBUILT)
         files = ("osb-replay", "libosb.a", "libosb.so")
-        self.write("prebuilt/pdp11-unix/MANIFEST", "".join(f"{it} 11 22 kit 1\n" for it in files))
+        self.write("prebuilt/pdp11-unix/MANIFEST", "".join(f"{file} 11 22 kit 1\n" for file in files))
         (top / "pytest.ini").write_text("[pytest]\naddopts = -p no:cacheprovider\nmarkers =\n    alone\n    whole\n")
         self.tests("def test_one(): pass")
         (top / "test_alone.py").write_text("import pytest\n\n@pytest.mark.alone\ndef test_clock(): pass\n")
@@ -151,7 +151,7 @@ class Repository:
         ended = ran([self.top / "check", *options], environment=environment, seconds=LONGEST, merged=True)
         self.output = ended.stdout
         *self.report, last = ended.stdout.partition("== all\n")[2].splitlines()
-        return ended.returncode, last, [it for it in self.report if it.startswith(("FAILED: ", "skipped: "))]
+        return ended.returncode, last, [line for line in self.report if line.startswith(("FAILED: ", "skipped: "))]
 
 
 @pytest.fixture
@@ -207,7 +207,7 @@ def test_what_is_not_proved_has_no_line(repository: Repository) -> None:
     assert (status, last) == (1, "5 passed, 1 failed, 0 skipped")
     assert lines == ["FAILED: proofs: not proved: osb_world"]
     ledger = (repository.top / "ledger.txt").read_text().splitlines()
-    assert [it for it in ledger if not it.startswith(("#", "prebuilt/"))] == []
+    assert [line for line in ledger if not line.startswith(("#", "prebuilt/"))] == []
     repository.write("crates/osb_world/src/lib.rt", "fn step() {\n    1\n}\n")
     assert repository.check() == (0, "10 passed, 0 failed, 0 skipped", [])
 
@@ -379,7 +379,7 @@ def test_many_failures_are_not_tried_again(repository: Repository, many: int, tr
     (repository.top / "test_slow.py").write_text(text)
     assert repository.check("--tests")[0] == (0 if tries == 2 else 1)
     assert ("\nFAILED test_slow.py::" in repository.output) == (tries == 1)
-    found = [len(it.read_text()) for it in repository.top.glob("tries-*")]
+    found = [len(path.read_text()) for path in repository.top.glob("tries-*")]
     assert found == [tries] * many
 
 
@@ -409,8 +409,8 @@ def test_units(repository: Repository) -> None:
     busy = f'exec "{sys.executable}" -c "import time\nwhile time.process_time() < .5: pass"'
     repository.script("bin/rt", f"[ $1 != check ] || {busy}\n{RT}")
     repository.check()
-    found = [re.fullmatch(r"units: (.*) \((.*) processor seconds of (.*) each\)", it) for it in repository.report]
-    [(units, seconds, one)] = [map(float, it.groups()) for it in found if it]
+    found = [re.fullmatch(r"units: (.*) \((.*) processor seconds of (.*) each\)", line) for line in repository.report]
+    [(units, seconds, one)] = [map(float, match.groups()) for match in found if match]
     assert 0.5 <= one < 2
     rounded = 0.5 + 0.05 * (units + one)
     assert units * one == pytest.approx(seconds, abs=rounded)
@@ -430,7 +430,7 @@ def test_units(repository: Repository) -> None:
 def test_units_that_cannot_be_measured(repository: Repository, check: str, why: str) -> None:
     repository.script("bin/rt", f"[ $1 != check ] || {{ {check}; exit; }}\n{RT}")
     repository.check()
-    assert [it.partition(" (")[0] for it in repository.report if it.startswith("units")] == [
+    assert [line.partition(" (")[0] for line in repository.report if line.startswith("units")] == [
         f"units: not measured: {why}"
     ]
 
@@ -465,7 +465,7 @@ def test_three(broken): pass
     )
     status, last, lines = repository.check()
     assert (status, last) == (1, "10 passed, 2 failed, 0 skipped")
-    assert sorted(it.rpartition("::")[2] for it in lines) == ["test_three", "test_two"]
+    assert sorted(line.rpartition("::")[2] for line in lines) == ["test_three", "test_two"]
 
 
 @pytest.mark.slow

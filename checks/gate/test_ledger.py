@@ -98,7 +98,7 @@ def test_a_tenth_is_chosen_in_whole_crates(crates: int, mutants: int) -> None:
     for number in range(50):
         chosen = ledger.choose(every, rows, f"commit {number}")
         assert len(every) / 10 <= len(chosen) < len(every) / 10 + 1 + mutants
-        assert {it for it in every if ledger.crate_of(it) in {ledger.crate_of(name) for name in chosen}} == chosen
+        assert {unit for unit in every if ledger.crate_of(unit) in {ledger.crate_of(name) for name in chosen}} == chosen
 
 
 def test_a_crate_is_chosen_with_those_below_it() -> None:
@@ -106,7 +106,7 @@ def test_a_crate_is_chosen_with_those_below_it() -> None:
     every, rows = repository(20, 1, stacked=True)
     chosen = [ledger.choose(every, rows, f"commit {number}") for number in range(400)]
     for names in chosen:
-        highest = max(int(it[5:]) for it in names if not ledger.is_mutant(it))
+        highest = max(int(name[5:]) for name in names if not ledger.is_mutant(name))
         assert names >= {f"crate{n}" for n in range(highest + 1)}
     low, high = (sum(f"crate{n}/0.edit" in names for names in chosen) for n in (1, 19))
     assert low > 3 * high > 0

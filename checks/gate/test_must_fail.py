@@ -157,7 +157,11 @@ def test_groups_have_one_mutant_of_a_function(crate: Path) -> None:
         edit(crate, "four", ("self.first", "1"), ("0..b", "0..a")),
     ]
     groups = must_fail.groups(must_fail.fit(edits, crate))
-    assert [[it.name for it in group] for group in groups] == [["one.edit", "three.edit"], ["two.edit"], ["four.edit"]]
+    assert [[mutant.name for mutant in group] for group in groups] == [
+        ["one.edit", "three.edit"],
+        ["two.edit"],
+        ["four.edit"],
+    ]
 
 
 def test_changes_of_one_file_are_made_together(crate: Path) -> None:
@@ -306,14 +310,14 @@ def test_a_check_of_a_part(tmp_path: Path) -> None:
     """The prover refuses the mutants of osb_device in a check of their functions, and proves these as they stand."""
     if shutil.which("rt") is None:
         pytest.skip("rt isn't installed")
-    row = next(it for it in (TOP / "crates.txt").read_text().splitlines() if it.startswith("osb_device:"))
+    row = next(line for line in (TOP / "crates.txt").read_text().splitlines() if line.startswith("osb_device:"))
     (tmp_path / "crates.txt").write_text(f"{row}\n")
     crate = tmp_path / "crates" / "osb_device"
     for part in ("src", "specs", "proofs"):
         shutil.copytree(TOP / "crates" / "osb_device" / part, crate / part)
     edits = sorted((TOP / "crates" / "osb_device" / "must-fail").glob("*.edit"))
     mutants = list(must_fail.fit(edits, crate))
-    assert [it.name for it in mutants] == [it.name for it in edits]
+    assert [mutant.name for mutant in mutants] == [mutant.name for mutant in edits]
     status, output = must_fail.run(crate, "check", "--jobs", "1", *must_fail.only(mutants))
     assert status == 0, output
-    assert dict(must_fail.try_all(crate, edits)) == {it.name: f"in a check of {len(edits)}" for it in edits}
+    assert dict(must_fail.try_all(crate, edits)) == {mutant.name: f"in a check of {len(edits)}" for mutant in edits}

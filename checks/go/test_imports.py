@@ -24,7 +24,7 @@ WHAT = "serves"
 
 def package(path: str, *imports: str, tests: tuple[str, ...] = (), name: str = "", what: str = WHAT) -> object:
     """A package of go/ that imports these, each as its path below go/ or as a library."""
-    full = (frozenset(it if "." in it else f"pippinterm/{it}" for it in them) for them in (imports, tests))
+    full = (frozenset(path if "." in path else f"pippinterm/{path}" for path in them) for them in (imports, tests))
     return go_packages.Package(path, name or path.rpartition("/")[2], what, *full)
 
 
@@ -56,7 +56,7 @@ def test_packages(library: Path) -> None:
     ],
 )
 def test_mistakes(found: object, mistake: str) -> None:
-    assert [it.startswith(mistake) for it in go_packages.mistakes(by_path(found))] == [True]
+    assert [line.startswith(mistake) for line in go_packages.mistakes(by_path(found))] == [True]
 
 
 @pytest.mark.parametrize(
@@ -74,7 +74,7 @@ def test_no_mistakes(found: object) -> None:
 
 
 def by_path(*these: object) -> dict[str, object]:
-    return {it.path: it for it in these}  # type: ignore[attr-defined]
+    return {package.path: package for package in these}  # type: ignore[attr-defined]
 
 
 def test_section() -> None:

@@ -33,7 +33,7 @@ FURTHER: dict[str, list[str]] = {
 of the storm build the packages with each tag alone. With `pages` a program writes its manual pages.
 """
 
-TAGS = pytest.mark.parametrize("tags", [" ".join(it) for it in FURTHER.values()], ids=list(FURTHER))
+TAGS = pytest.mark.parametrize("tags", [" ".join(tags) for tags in FURTHER.values()], ids=list(FURTHER))
 
 
 def test_tags() -> None:
@@ -70,8 +70,8 @@ def changed_by(tags: str) -> list[str]:
 def packages_with(sources: str, *tags: str) -> list[str]:
     """The packages with a source of this name that needs one of the build tags, or its absence."""
     line = re.compile(rf"^//go:build !?({'|'.join(tags)})$", re.MULTILINE)
-    found = [it for it in (TOP / "go").rglob(sources) if line.search(it.read_text(encoding="utf-8"))]
-    return sorted({f"./{it.parent.relative_to(TOP / 'go')}" for it in found})
+    found = [path for path in (TOP / "go").rglob(sources) if line.search(path.read_text(encoding="utf-8"))]
+    return sorted({f"./{path.parent.relative_to(TOP / 'go')}" for path in found})
 
 
 @pytest.mark.whole
@@ -94,7 +94,7 @@ TIMED = "pippinterm/storm/fault", "pippinterm/platform/client", "pippinterm/inte
 """The packages whose tests are about how long something takes."""
 
 
-LISTED = [f"{ROOT}{it}" for it in PACKAGES]
+LISTED = [f"{ROOT}{package}" for package in PACKAGES]
 """The packages of whose statements a list has those that no test runs."""
 
 
@@ -102,7 +102,7 @@ LISTED = [f"{ROOT}{it}" for it in PACKAGES]
 @pytest.mark.postgres
 def test_tests(packages: Packages) -> None:
     """The tests of each package that no other test has."""
-    these = [it for it in but_osb(packages) if it not in (*LISTED, *BY_THE_CLOCK, *TIMED)]
+    these = [package for package in but_osb(packages) if package not in (*LISTED, *BY_THE_CLOCK, *TIMED)]
     packages.test(*these, race=True)
 
 
@@ -110,13 +110,13 @@ def test_tests(packages: Packages) -> None:
 @pytest.mark.postgres
 def test_tests_that_reach_all(packages: Packages, tmp_path: Path) -> None:
     """The tests of the packages in which each statement is run by a test of the package, or listed with a reason."""
-    reaches_all(packages, tmp_path, *(it for it in LISTED if it != ALONE))
+    reaches_all(packages, tmp_path, *(package for package in LISTED if package != ALONE))
 
 
 def reaches_all(packages: Packages, folder: Path, *these: str) -> None:
     packages.profile(*these, profile=folder / "profile", race=True)
     profile = Profile([(folder / "profile").read_text(encoding="utf-8")], TOP / "go")
-    assert profile.packages == {it.removeprefix(ROOT) for it in these}
+    assert profile.packages == {package.removeprefix(ROOT) for package in these}
     wrong = differences(profile, LIST.read_text(encoding="utf-8"))
     assert wrong == [], "\n".join(["", *wrong])
 
@@ -145,7 +145,7 @@ def test_tests_that_fill_a_server(packages: Packages, tmp_path: Path) -> None:
 
 
 def but_osb(packages: Packages) -> list[str]:
-    return [it for it in packages.all() if it != "pippinterm/osb"]
+    return [package for package in packages.all() if package != "pippinterm/osb"]
 
 
 @pytest.mark.long(120)
@@ -180,7 +180,7 @@ def test_crashes_over_postgresql(packages: Packages, tmp_path: Path) -> None:
 
 def compared(walks: Path) -> int:
     """How many events of a run there are. After each, all is as the proved model says."""
-    steps = [it.partition("  ") for it in walks.read_text(encoding="ascii").splitlines()]
+    steps = [line.partition("  ") for line in walks.read_text(encoding="ascii").splitlines()]
     told = told_by("service_cases")([event for event, _, _ in steps]).splitlines()
     assert len(told) == len(steps)
     for told_line, (event, _, wanted) in zip(told, steps):

@@ -45,7 +45,7 @@ def profiled(folder: Path, ran: dict[str, int], source: str = SOURCE, name: str 
     path = folder / name
     path.parent.mkdir(parents=True, exist_ok=True)
     path.write_text(source, encoding="utf-8")
-    return Profile(["mode: set", *(f"pippinterm/{name}:{it} 1 {count}" for it, count in ran.items())], folder)
+    return Profile(["mode: set", *(f"pippinterm/{name}:{block} 1 {count}" for block, count in ran.items())], folder)
 
 
 def test_statements(tmp_path: Path) -> None:
@@ -71,15 +71,15 @@ def test_moves(tmp_path: Path) -> None:
 def test_new_statements(tmp_path: Path) -> None:
     """A statement that isn't listed is named, also if it is there more often than it is listed."""
     found = profiled(tmp_path, {**BLOCKS, **NEVER})
-    assert [FAILED in it for it in differences(found, LISTED.replace(FAILED, ""))] == [True]
-    found.unreached[next(it for it in found.unreached if str(it) == EMPTY)] += 1
-    assert [EMPTY in it for it in differences(found, LISTED)] == [True]
+    assert [FAILED in difference for difference in differences(found, LISTED.replace(FAILED, ""))] == [True]
+    found.unreached[next(statement for statement in found.unreached if str(statement) == EMPTY)] += 1
+    assert [EMPTY in difference for difference in differences(found, LISTED)] == [True]
 
 
 def test_statements_that_are_run(tmp_path: Path) -> None:
     """A statement that is run by now, or is gone, is named, unless it is run sometimes."""
     found = profiled(tmp_path, {**BLOCKS, **NEVER, "4.16,6.3": 3})
-    assert [EMPTY in it for it in differences(found, LISTED)] == [True]
+    assert [EMPTY in difference for difference in differences(found, LISTED)] == [True]
     assert differences(found, LISTED.replace("Nobody", "sometimes: nobody")) == []
     assert (
         differences(profiled(tmp_path, {"3.43,4.16": 1, **BLOCKS}), LISTED.replace("Nobody", "sometimes: nobody")) == []
@@ -91,7 +91,7 @@ def test_other_packages(tmp_path: Path) -> None:
     found = profiled(tmp_path, {**BLOCKS, **NEVER})
     assert differences(found, f"{LISTED}broker Tie: all of it\n") == []
     other = f"{LISTED}storm/conform Run: all of it\n"
-    assert ["storm/conform" in it for it in differences(found, other)] == [True]
+    assert ["storm/conform" in difference for difference in differences(found, other)] == [True]
 
 
 @pytest.mark.parametrize("text", [FAILED, "# A reason\nno statement", f"# One\n{FAILED}\n# Another\n{FAILED}"])
@@ -104,7 +104,7 @@ def test_list() -> None:
     """The list itself can be read, and each reason has statements."""
     text = LIST.read_text(encoding="utf-8")
     known = reasons(text)
-    assert {it.package for it in known} <= set(PACKAGES)
-    said = [it.removeprefix("# ").strip() for it in text.splitlines() if it.startswith("# ")]
+    assert {statement.package for statement in known} <= set(PACKAGES)
+    said = [line.removeprefix("# ").strip() for line in text.splitlines() if line.startswith("# ")]
     assert sorted(said) == sorted({reason for _, reason in known.values()})
-    assert all(isinstance(it, Statement) for it in known)
+    assert all(isinstance(statement, Statement) for statement in known)

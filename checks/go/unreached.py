@@ -20,10 +20,10 @@ LIST = Path(__file__).resolve().parent / "unreached.txt"
 
 ROOT = "pippinterm/"
 PACKAGES = (
-    *(f"broker{it}" for it in ("", "/journal", "/postgres", "/sqlite")),
-    *(f"broker/backend/{it}" for it in ("command", "folders", "postgres")),
-    *(f"platform{it}" for it in ("", "/journal", "/postgres", "/sqlite", "/vault")),
-    *(f"internal/{it}" for it in ("filelock", "pg", "sqlitefile")),
+    *(f"broker{name}" for name in ("", "/journal", "/postgres", "/sqlite")),
+    *(f"broker/backend/{name}" for name in ("command", "folders", "postgres")),
+    *(f"platform{name}" for name in ("", "/journal", "/postgres", "/sqlite", "/vault")),
+    *(f"internal/{name}" for name in ("filelock", "pg", "sqlitefile")),
 )
 """The broker, the platform, their stores, backends and locks, and the vault."""
 
@@ -57,7 +57,7 @@ class Profile:
         """Reads profiles. The sources are those of all packages."""
         self._sources, self._files = sources, dict[str, list[str]]()
         ran: Counter[str] = Counter()
-        for line in (it for text in texts for it in text.splitlines() if it.startswith(ROOT)):
+        for line in (row for text in texts for row in text.splitlines() if row.startswith(ROOT)):
             place, _, times = line.rpartition(" ")
             ran[place] += int(times)
         blocks: defaultdict[tuple[str, str], list[tuple[str, bool]]] = defaultdict(list)
@@ -87,7 +87,7 @@ def function_of(lines: list[str], first: int) -> str:
     """The function in which a line is, with its type. gofmt begins each function at the begin of a line."""
     for line in reversed(lines[:first]):
         if found := FUNCTION.match(line):
-            return ".".join(it for it in found.groups() if it)
+            return ".".join(group for group in found.groups() if group)
     return "-"
 
 
@@ -97,8 +97,8 @@ def text_of(lines: list[str], first: int, column: int, last: int, end: int) -> s
     inside[-1] = inside[-1][: end - 1]
     before = [inside[0][: column - 1], *reversed(lines[: first - 1])][:2]
     inside[0] = inside[0][column - 1 :]
-    text = " ".join(it for it in map(bare, inside) if it).removeprefix("{").removesuffix("}").strip()
-    return " | ".join([*(it for it in map(bare, reversed(before)) if it), text])
+    text = " ".join(line for line in map(bare, inside) if line).removeprefix("{").removesuffix("}").strip()
+    return " | ".join([*(line for line in map(bare, reversed(before)) if line), text])
 
 
 def bare(line: str) -> str:
@@ -128,22 +128,22 @@ def differences(profile: Profile, text: str) -> list[str]:
     """What is wrong in a list, as to the packages of a profile."""
     known = reasons(text)
     wrong = [
-        f"no test of its package runs this. Write one, or add it to {LIST.name} with a reason: {it}"
-        for it, count in sorted(profile.unreached.items())
-        for _ in range(count - known.get(it, (0, ""))[0])
+        f"no test of its package runs this. Write one, or add it to {LIST.name} with a reason: {statement}"
+        for statement, count in sorted(profile.unreached.items())
+        for _ in range(count - known.get(statement, (0, ""))[0])
     ]
-    for it, (count, reason) in sorted(known.items()):
-        if it.package not in PACKAGES:
-            wrong.append(f"its package isn't looked at. Remove it from {LIST.name}: {it}")
-        elif it.package in profile.packages and not reason.startswith(SOMETIMES):
-            wrong += [f"a test runs this now, or it is gone. Remove it from {LIST.name}: {it}"] * (
-                count - profile.unreached[it]
+    for statement, (count, reason) in sorted(known.items()):
+        if statement.package not in PACKAGES:
+            wrong.append(f"its package isn't looked at. Remove it from {LIST.name}: {statement}")
+        elif statement.package in profile.packages and not reason.startswith(SOMETIMES):
+            wrong += [f"a test runs this now, or it is gone. Remove it from {LIST.name}: {statement}"] * (
+                count - profile.unreached[statement]
             )
     return wrong
 
 
 def main() -> None:
-    profile = Profile([Path(it).read_text(encoding="utf-8") for it in sys.argv[1:]], TOP / "go")
+    profile = Profile([Path(path).read_text(encoding="utf-8") for path in sys.argv[1:]], TOP / "go")
     print(*differences(profile, LIST.read_text(encoding="utf-8")), sep="\n")
 
 

@@ -49,7 +49,7 @@ def _files(crate: str) -> list[Path]:
 
 def errors() -> set[str]:
     """The errors that may say that memory ran out: one of their cases does, or has an error that may."""
-    enums = [it for crate in libraries() for file in _files(crate) for it in ENUM.findall(_text(file))]
+    enums = [name for crate in libraries() for file in _files(crate) for name in ENUM.findall(_text(file))]
     found, before = {"Memory", OF_THE_KIT}, 0
     while before < len(found):
         before = len(found)

@@ -27,9 +27,9 @@ def schedule() -> list[str]:
     number is taken modulo a power of two.
     """
     ids = [guid(number * 7_919 % 65_536 + 1) for number in range(INSTANCES)]
-    created = [f"create {it} {SERVICE} {PLAN} no" for it in ids]
-    delivered = [f"deliver {it} done" for it in ids]
-    return [f"plan {SERVICE} {PLAN} sync", *created, *delivered, *(f"answer {it}" for it in ids[::2]), "restart"]
+    created = [f"create {instance} {SERVICE} {PLAN} no" for instance in ids]
+    delivered = [f"deliver {instance} done" for instance in ids]
+    return [f"plan {SERVICE} {PLAN} sync", *created, *delivered, *(f"answer {id}" for id in ids[::2]), "restart"]
 
 
 def whole(lines: list[str]) -> bytes:
@@ -54,7 +54,7 @@ def test_a_trace_of_33000_instances(replay: Path) -> None:
 def test_99000_plans(replay: Path) -> None:
     """An instance of the last of them is created."""
     plans = [guid(number) for number in range(1, 99_001)]
-    lines = [*(f"plan {SERVICE} {it} sync" for it in plans), f"create {guid(1)} {SERVICE} {plans[-1]} no"]
+    lines = [*(f"plan {SERVICE} {plan} sync" for plan in plans), f"create {guid(1)} {SERVICE} {plans[-1]} no"]
     wanted = by_reference([line.encode() for line in lines], ["--saved"]).report
     assert plans[-1] in wanted
     assert run(replay, "replay", "--saved", given=whole(lines)) == Ran(0, wanted, "")

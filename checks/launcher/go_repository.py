@@ -49,7 +49,7 @@ class GoRepository(Repository):
     def environment(self, has_rt: bool = True) -> dict[str, str]:
         """Without what this run of the tests uses."""
         left_out = (self.variable, "LIBOSB_FOLDER", "GOFLAGS", "CC")
-        return {name: it for name, it in super().environment(has_rt).items() if name not in left_out}
+        return {name: value for name, value in super().environment(has_rt).items() if name not in left_out}
 
     def start(self, *arguments: str) -> subprocess.Popen[str]:
         """The launcher as a process."""

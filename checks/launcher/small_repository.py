@@ -102,7 +102,7 @@ class Repository:
 
     def environment(self, has_rt: bool = True) -> dict[str, str]:
         """With the PATH of this process, on which no rt is but the one that stands for it."""
-        inherited = [it for it in os.environ["PATH"].split(":") if not (Path(it) / "rt").exists()]
+        inherited = [folder for folder in os.environ["PATH"].split(":") if not (Path(folder) / "rt").exists()]
         path = [*([str(self.kit / "bin")] if has_rt else []), str(self.kit), *inherited]
         return {**os.environ, "PATH": ":".join(path)}
 
@@ -113,4 +113,4 @@ class Repository:
     def builds(self) -> list[str]:
         """The crates that were built, in this order."""
         builds = self.kit / "builds"
-        return [it.split()[1] for it in builds.read_text().splitlines()] if builds.exists() else []
+        return [line.split()[1] for line in builds.read_text().splitlines()] if builds.exists() else []

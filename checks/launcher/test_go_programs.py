@@ -171,7 +171,7 @@ def test_running_program_is_not_written_over(repository: GoRepository) -> None:
 
 def test_two_starts_build_once(repository: GoRepository) -> None:
     (repository.kit / "seconds").write_text("1\n")
-    ended = [it.communicate(timeout=60) for it in [repository.start(), repository.start()]]
+    ended = [process.communicate(timeout=60) for process in [repository.start(), repository.start()]]
     assert [out for out, _ in ended] == ["first: \n", "first: \n"]
     assert sorted(reported for _, reported in ended) == [
         builds(repository),

@@ -141,7 +141,7 @@ def start(repository: Repository) -> subprocess.Popen[str]:
 
 def test_two_starts_build_once(repository: Repository) -> None:
     (repository.kit / "seconds").write_text("1\n")
-    ended = [it.communicate(timeout=60) for it in [start(repository), start(repository)]]
+    ended = [process.communicate(timeout=60) for process in [start(repository), start(repository)]]
     assert [out for out, _ in ended] == ["built: \n", "built: \n"]
     assert sum("waiting for another start" in reported for _, reported in ended) == 1
     assert repository.builds() == ["osb_world", "osb_replay"]
@@ -180,14 +180,14 @@ def test_where(repository: Repository) -> None:
     run = repository.run("scripts/where", "--from-source", "replay")
     assert run.stdout == f"{repository.built}/osb-replay\n" and "proving and building" in run.stderr
     run = repository.run("scripts/where", "--from-source", "cases")
-    assert run.stdout == f"{repository.built}\n" and all((repository.built / it).exists() for it in CASES)
+    assert run.stdout == f"{repository.built}\n" and all((repository.built / case).exists() for case in CASES)
     assert repository.run("scripts/where", "program").returncode == 2
 
 
 def test_library_is_copied(repository: Repository) -> None:
     assert repository.run("./libosb", "build", "there", has_rt=False).stderr == ""
     there = repository.folder / "there"
-    texts = {it.name: it.read_text() for it in there.iterdir()}
+    texts = {path.name: path.read_text() for path in there.iterdir()}
     pc = texts.pop("osb.pc")
     assert texts == {"libosb.a": "prebuilt\n", "libosb.so": "prebuilt\n", "libosb.so.0": "prebuilt\n"}
     assert f"libdir={there}\nincludedir={repository.top}/include\n" in pc
@@ -208,7 +208,7 @@ def test_library_is_installed(repository: Repository) -> None:
     repository.run("./libosb", "build", "there")
     to = repository.folder / "usr"
     assert repository.run("./libosb", "install", "there", str(to)).returncode == 0
-    found = sorted(str(it.relative_to(to)) for it in to.rglob("*") if not it.is_dir())
+    found = sorted(str(path.relative_to(to)) for path in to.rglob("*") if not path.is_dir())
     wanted = ["include/osb.h", "lib/libosb.a", "lib/libosb.so", "lib/libosb.so.0", "lib/pkgconfig/osb.pc"]
     assert found == wanted and (to / "lib" / "libosb.so").readlink() == Path("libosb.so.0")
 
@@ -220,13 +220,13 @@ def compare(repository: Repository, *program: str, has_rt: bool = True) -> tuple
     """The status, the last line, and the lines that aren't ok."""
     run = repository.run("scripts/prebuilt", "--compare", *program, has_rt=has_rt)
     *lines, last = run.stdout.splitlines()
-    return run.returncode, last, [it for it in lines if not it.startswith("ok: ")]
+    return run.returncode, last, [line for line in lines if not line.startswith("ok: ")]
 
 
 def test_prebuilt_files_that_differ_from_the_build_fail(repository: Repository) -> None:
     status, last, lines = compare(repository)
     assert (status, last) == (1, "0 passed, 6 failed, 0 skipped")
-    assert all("differ" in it for it in lines)
+    assert all("differ" in line for line in lines)
     given = str(repository.prebuilt)  # what `rt ci` has built is the same, and the library isn't a program
     assert compare(repository, given)[1] == "4 passed, 2 failed, 0 skipped"
     assert compare(repository, has_rt=False)[:2] == (1, "0 passed, 6 failed, 0 skipped")
@@ -248,14 +248,14 @@ def test_stale_prebuilt_files_fail(repository: Repository) -> None:
     rename_source(repository)
     status, last, lines = compare(repository)
     assert (status, last) == (1, "0 passed, 6 failed, 0 skipped")
-    assert all("it was built from other sources. Run make prebuilt" in it for it in lines)
+    assert all("it was built from other sources. Run make prebuilt" in line for line in lines)
 
 
 def fits(repository: Repository) -> tuple[int, str, list[str]]:
     """The status, the last line, and the lines that aren't ok, of a look that builds nothing."""
     run = repository.run("scripts/prebuilt", "--fits")
     *lines, last = run.stdout.splitlines()
-    return run.returncode, last, [it for it in lines if not it.startswith("ok: ")]
+    return run.returncode, last, [line for line in lines if not line.startswith("ok: ")]
 
 
 def test_files_that_fit_are_not_built(repository: Repository) -> None:
@@ -273,7 +273,7 @@ def test_another_kit_skips_the_comparison_by_name(repository: Repository) -> Non
     (repository.kit / "version").write_text("kit 2\n")
     status, last, lines = compare(repository)
     assert (status, last) == (0, "0 passed, 0 failed, 6 skipped")
-    assert [it.partition("prebuilt/")[0] for it in lines] == ["skipped: "] * 6
+    assert [line.partition("prebuilt/")[0] for line in lines] == ["skipped: "] * 6
     assert all(
-        "built by another kit, kit 1, and this one is kit 2. Run make prebuilt under that kit" in it for it in lines
+        "built by another kit, kit 1, and this one is kit 2. Run make prebuilt under that kit" in line for line in lines
     )

@@ -15,7 +15,7 @@ from network.walks import Step
 
 # The number that service_cases has for the first plan.
 FIRST_PLAN = 3
-ENDS = [*(f"end {it}" for it in OUTCOMES), "finish ok", "finish failed", "give-up-waiting"]
+ENDS = [*(f"end {outcome}" for outcome in OUTCOMES), "finish ok", "finish failed", "give-up-waiting"]
 ARRIVALS = [
     f"arrive {kind} {accepts} {plan} {attributes}"
     for kind in KINDS
@@ -23,7 +23,13 @@ ARRIVALS = [
     for plan in (FIRST_PLAN, FIRST_PLAN + 1)
     for attributes in (1, 2)
 ]
-EVENTS = [*ARRIVALS, *(f"put-off {kind}" for kind in KINDS), *ENDS, *(f"work {it}" for it in RESOURCES), "crash-broker"]
+EVENTS = [
+    *ARRIVALS,
+    *(f"put-off {kind}" for kind in KINDS),
+    *ENDS,
+    *(f"work {resource}" for resource in RESOURCES),
+    "crash-broker",
+]
 REPORTS = ["ready", "gone", "leaving", "polled"]
 
 
@@ -45,9 +51,11 @@ class Tally:
     def missing(self) -> set[str]:
         """What never came about, of all that has to."""
         always = {name(line) for line in EVENTS if line.startswith(("arrive", "put-off", "crash"))}
-        wanted = {it for it in PHASES if not self.phases[it]} | {it for it in REPORTS if not self.reports[it]}
+        wanted = {phase for phase in PHASES if not self.phases[phase]} | {
+            report for report in REPORTS if not self.reports[report]
+        }
         wanted |= {name(line) for line in EVENTS if not self.applied[name(line)]}
-        return wanted | {it for it in map(name, EVENTS) if it not in always and not self.skipped[it]}
+        return wanted | {event for event in map(name, EVENTS) if event not in always and not self.skipped[event]}
 
 
 class LoneBroker:
@@ -72,7 +80,7 @@ class LoneBroker:
             return cell._replace(resource=rest) if rest in self.design.changes(cell.held, cell.resource) else None
         if word == "crash-broker":
             return cell
-        found = [it for it in self.design.ends(cell.held, cell.resource) if it[0] == line]
+        found = [end for end in self.design.ends(cell.held, cell.resource) if end[0] == line]
         return ended(cell, found[0][1], found[0][2]) if found else None
 
     def happen(self, line: str) -> None:
@@ -92,14 +100,14 @@ class LoneBroker:
         return Step(f"{self.begun}: {', '.join(step.line for step in self.steps)}", "\n  ".join(told))
 
     def reports(self) -> list[str]:
-        return [it for it in REPORTS if getattr(self.cell, it)]
+        return [report for report in REPORTS if getattr(self.cell, report)]
 
     def told(self) -> str:
         """What there is, and what was reported."""
         row, work, tombstone, attributes = self.cell.held
         words = (row.phase if row else "-", work.kind if work else "-", "tombstone" if tombstone else "-")
-        plans = [f"Some({it.plan + FIRST_PLAN})" if it else "None" for it in (row, work)]
-        reports = ", ".join(f"{it}: {str(getattr(self.cell, it)).lower()}" for it in REPORTS)
+        plans = [f"Some({part.plan + FIRST_PLAN})" if part else "None" for part in (row, work)]
+        reports = ", ".join(f"{report}: {str(getattr(self.cell, report)).lower()}" for report in REPORTS)
         return f"{' '.join(words)}; {' '.join(plans)} {attributes}; {self.cell.resource}; Told {{ {reports} }}"
 
     def likely(self) -> list[str]:

@@ -113,7 +113,7 @@ def of_platform(cell: Ours) -> Iterator[tuple[str, Ours]]:
     if out is None or state is None:
         return
     yield "timeout", cell.without_out("cleaning" if state == "wanted" else state)
-    garbled = {Answer(it.status, "malformed") for it in cell.answers}
+    garbled = {Answer(sound.status, "malformed") for sound in cell.answers}
     for answer in cell.answers | garbled | set(GATEWAY):
         yield f"take {answer}", cell.without_out(model.state_after(state, out.kind, answer))
 
@@ -210,10 +210,10 @@ class Any(NamedTuple):
 
 KINDS = ("provision", "poll", "deprovision")
 REQUESTS = [
-    Request(kind, accepts, plan, it)
+    Request(kind, accepts, plan, attempt)
     for kind in KINDS
     for accepts in (True, False)
-    for plan, it in ((0, 1), (0, 2), (1, 1))
+    for plan, attempt in ((0, 1), (0, 2), (1, 1))
 ]
 
 

@@ -33,8 +33,8 @@ PLAIN = [
     "crash-platform",
     "finish ok",
     "finish failed",
-    *(f"end {it}" for it in OUTCOMES),
-    *(f"work {it}" for it in RESOURCES),
+    *(f"end {outcome}" for outcome in OUTCOMES),
+    *(f"work {kind}" for kind in RESOURCES),
 ]
 NUMBERED = ["arrive", "put-off", "take", "garbled", "gateway"]
 ALWAYS = {"crash-broker", "crash-platform"}
@@ -509,7 +509,7 @@ class Instance:
 
     def more_words(self, given: int) -> list[str]:
         """How much was sent and given, and the answers that were given since there were so many."""
-        answers = [f"{it.attempt}: {it.answer.status} {it.answer.body}" for it in self.given[given:]]
+        answers = [f"{new.attempt}: {new.answer.status} {new.answer.body}" for new in self.given[given:]]
         return [f"{len(self.sent)} sent, {len(self.given)} given", *answers]
 
     def told(self, given: int) -> str:
@@ -526,5 +526,5 @@ class Instance:
 
 
 # The method of each event.
-EVENTS = {it: it.replace("-", "_") for it in (*(event.partition(" ")[0] for event in PLAIN), *NUMBERED)}
+EVENTS = {name: name.replace("-", "_") for name in (*(event.partition(" ")[0] for event in PLAIN), *NUMBERED)}
 EVENTS["work"] = "become"

@@ -40,8 +40,8 @@ def compare(tell: TellEach, steps: list[Step]) -> None:
     """All of these steps leave what the model has after them."""
     told = tell([step.line for step in steps])
     assert len(told) == len(steps)
-    for at, (step, it) in enumerate(zip(steps, told)):
-        assert it == step.wanted, "\n".join(["after", *(before.line for before in steps[: at + 1])])
+    for at, (step, answer) in enumerate(zip(steps, told)):
+        assert answer == step.wanted, "\n".join(["after", *(before.line for before in steps[: at + 1])])
 
 
 def test_lives(tell: TellEach) -> None:

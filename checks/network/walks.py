@@ -34,7 +34,7 @@ def harms(instance: Instance, line: str) -> Iterator[str]:
     provision = arrives and instance.sent[int(number) - 1].kind == "provision"
     works = instance.held.work is not None
     is_taken = word == "take" and instance.out is not None and int(number) < len(instance.given)
-    refused = any(it.answer.status in (400, 422) and it.answer.body == "error" for it in instance.given)
+    refused = any(given.answer.status in (400, 422) and given.answer.body == "error" for given in instance.given)
     came = [
         provision and instance.held.tombstone and not refused,
         provision and instance.held.tombstone and refused,
@@ -44,7 +44,7 @@ def harms(instance: Instance, line: str) -> Iterator[str]:
         word == "end" and works and instance.worker is None,
         is_taken and instance.given[int(number)].attempt != instance.attempt,
     ]
-    return (harm for harm, it in zip(HARMS, came) if it)
+    return (harm for harm, is_so in zip(HARMS, came) if is_so)
 
 
 @dataclass
@@ -72,7 +72,7 @@ class Tally:
             "harms that the design prevents": (HARMS, self.harms),
             "states after three rounds": (SETTLED, self.settled),
         }
-        found = {what: {it for it in names if not counts[it]} for what, (names, counts) in wanted.items()}
+        found = {what: {word for word in names if not counts[word]} for what, (names, counts) in wanted.items()}
         return {what: names for what, names in found.items() if names}
 
 

@@ -125,7 +125,7 @@ def _words(number: int, line: bytes) -> list[str]:
         raise _BadWord("LineTooLong")
     if not line.isascii():
         raise _BadWord("NotAscii")
-    words = [it for it in re.split("[ \t]", line.removesuffix(b"\r").decode()) if it]
+    words = [word for word in re.split("[ \t]", line.removesuffix(b"\r").decode()) if word]
     return [] if not words or words[0].startswith("#") else words
 
 

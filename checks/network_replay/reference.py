@@ -89,7 +89,7 @@ class Service:
         """Three rounds without a fault of the instance, then of each binding. Nothing if the platform has no rules."""
         if not self.tied.rules.platform:
             return
-        for life in (self.tied.instance, *(self.tied.bindings[self.places[it]] for it in sorted(self.places))):
+        for life in (self.tied.instance, *(self.tied.bindings[self.places[place]] for place in sorted(self.places))):
             for _ in range(3):
                 self.tied.allow()
                 life.round()

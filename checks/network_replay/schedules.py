@@ -153,7 +153,9 @@ def faulty(draw: random.Random) -> bytes:
 def schedule(seed: int) -> bytes:
     """A schedule of at most 150 events. One in eight has a fault."""
     draw = random.Random(seed)
-    spelled_lines = [respelled(draw, it) if draw.random() < 0.05 else it for it in events(draw, draw.randint(1, 150))]
+    spelled_lines = [
+        respelled(draw, line) if draw.random() < 0.05 else line for line in events(draw, draw.randint(1, 150))
+    ]
     lines = [line.encode() for line in spelled_lines]
     if draw.random() < 0.125:
         lines.insert(draw.randint(0, len(lines)), faulty(draw))

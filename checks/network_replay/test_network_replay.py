@@ -63,7 +63,7 @@ def with_ids(text: str) -> str:
     """The text with ids in place of L, B and M; an order of an instance gets a service and a plan."""
     words = {"L": ID, "B": f"{ID}/{guid(3)}", "M": OTHER}
     lines = [[words.get(word, word) for word in line.split()] for line in text.split(";")]
-    orders = [[*it[:2], guid(8), guid(9), *it[2:]] if it[0] == "instance" else it for it in lines]
+    orders = [[*line[:2], guid(8), guid(9), *line[2:]] if line[0] == "instance" else line for line in lines]
     return "".join(f"{' '.join(line)}\n" for line in orders)
 
 
@@ -164,7 +164,7 @@ def test_program_on_random_schedules(replay: Path, first: int) -> None:
         if differences(replay, text, instance):
             lines = shortest(text.splitlines(True), lambda it: bool(differences(replay, b"".join(it), instance)))
             found = differences(replay, b"".join(lines), instance)
-            pytest.fail("\n".join([f"seed {seed}:", *(it.decode().rstrip() for it in lines), *found]))
+            pytest.fail("\n".join([f"seed {seed}:", *(line.decode().rstrip() for line in lines), *found]))
 
 
 def differences(program: Path, text: bytes, instance: str) -> list[str]:
@@ -176,7 +176,11 @@ def differences(program: Path, text: bytes, instance: str) -> list[str]:
         tuple(traced): trace(text, instance),
     }
     ran = {options: run(program, "network", *options, given=text) for options in wanted}
-    return [f"{options}: {ran[options]}, not {it}" for options, it in wanted.items() if ran[options] != Ran(*it)]
+    return [
+        f"{options}: {ran[options]}, not {expected}"
+        for options, expected in wanted.items()
+        if ran[options] != Ran(*expected)
+    ]
 
 
 class TestDifference:
@@ -190,4 +194,4 @@ class TestDifference:
         with pytest.raises(pytest.fail.Exception) as failed:
             test_program_on_random_schedules(program, 0)
         seed, line, *found = str(failed.value).splitlines()
-        assert seed.startswith("seed ") and line.startswith("send ") and all(it.startswith("(") for it in found)
+        assert seed.startswith("seed ") and line.startswith("send ") and all(line.startswith("(") for line in found)

@@ -42,7 +42,7 @@ def pictures(tab: Browser, url: str, folder: Path, name: str) -> list[str]:
             tab.picture(picture)
             if _size(picture) != (width, height):
                 wrong.append(f"the picture {picture} has another size")
-            wrong += [f"{scheme}, {width}: {it}" for it in measured(tab)]
+            wrong += [f"{scheme}, {width}: {finding}" for finding in measured(tab)]
     wrong += tab.complaints
     tab.complaints.clear()
     return wrong

@@ -27,7 +27,7 @@ def test_silent_connections(storm: ShownStore) -> None:
         ]
         began = time.monotonic()
         assert get(storm.url).status == 200
-        assert all(it.recv(1) == b"" for it in silent)
+        assert all(connection.recv(1) == b"" for connection in silent)
         assert time.monotonic() - began < 25.0
 
 
@@ -37,7 +37,7 @@ def test_foreign_host(storm: ShownStore, name: str) -> None:
     for target in ("/", "/?state=ready", f"/instance/{stores.longest_life(storm.store, 'ready')}"):
         got = get(storm.url, target, name)
         assert got.status in ((421,) if name else (400, 421))
-        assert not any(it in got.text for it in ("shop", "shelf", "shut", "ready", "osb-platform", "worker-1"))
+        assert not any(word in got.text for word in ("shop", "shelf", "shut", "ready", "osb-platform", "worker-1"))
 
 
 def test_headers(storm: ShownStore) -> None:

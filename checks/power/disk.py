@@ -20,7 +20,7 @@ _PATH = f"{os.environ.get('PATH', '')}:/usr/sbin:/sbin"
 
 
 def _run(*line: str | Path) -> None:
-    subprocess.run([str(it) for it in line], check=True, capture_output=True, env={**os.environ, "PATH": _PATH})
+    subprocess.run([str(word) for word in line], check=True, capture_output=True, env={**os.environ, "PATH": _PATH})
 
 
 @contextlib.contextmanager

@@ -85,7 +85,7 @@ def test_power_cut(broker: Path, tmp_path: Path) -> None:
             stop.set()
             for customer in customers:
                 customer.join(60)
-            assert [it.error for it in customers] == [None] * CUSTOMERS
+            assert [buyer.error for buyer in customers] == [None] * CUSTOMERS
         for known, cut in cuts:
             with made.after(cut) as top:
                 check(broker, top / "state", known)
@@ -130,9 +130,9 @@ def holdings(state: Path) -> dict[str, tuple[Holding, str | None]]:
 def existing(state: Path) -> dict[str, str]:
     """The folders and the bindings that exist, with the token of each binding."""
     top = state / "instances"
-    found = {it.name: "" for it in top.iterdir() if not it.name.startswith(".")}
+    found = {path.name: "" for path in top.iterdir() if not path.name.startswith(".")}
     assert all(str(Id.of(name)) == name for name in found)
-    assert not [it for it in top.iterdir() if it.name.startswith(".part")]
+    assert not [path for path in top.iterdir() if path.name.startswith(".part")]
     for file in (top / ".bindings").iterdir():
         found[file.name] = json.loads(file.read_text())["token"]
     return found

@@ -127,13 +127,15 @@ def _child(process: subprocess.Popen[str]) -> int | None:
 
 
 def _proxies() -> dict[str, str]:
-    return {name: it for name, it in os.environ.items() if name.lower() in ("http_proxy", "https_proxy", "no_proxy")}
+    return {
+        name: value for name, value in os.environ.items() if name.lower() in ("http_proxy", "https_proxy", "no_proxy")
+    }
 
 
 def _group() -> Path:
     """A new group of the control groups, version 2, for what systemd starts."""
-    mounts = [it.split() for it in Path("/proc/self/mounts").read_text().splitlines()]
-    tops = [it[1] for it in mounts if it[2] == "cgroup2"]
+    mounts = [line.split() for line in Path("/proc/self/mounts").read_text().splitlines()]
+    tops = [mount[1] for mount in mounts if mount[2] == "cgroup2"]
     if not tops:
         pytest.skip("systemd doesn't run here: there are no control groups of version 2")
     group = Path(tops[0]) / f"osb-test-{os.getpid()}"

@@ -57,8 +57,8 @@ def test_references(layout: Path, version: str) -> None:
         (layer,) = manifest["layers"]
         name = entry["annotations"]["org.opencontainers.image.ref.name"]
         found[name] = config["config"]["User"], config["config"]["Entrypoint"], layer["digest"]
-    assert len({it[2] for it in found.values()}) == 1
-    assert {name: it[:2] for name, it in found.items()} == {
+    assert len({row[2] for row in found.values()}) == 1
+    assert {name: row[:2] for name, row in found.items()} == {
         name: (f"{NOBODY}:{NOBODY}", [f"/usr/bin/{name}"]) for name in ("osb-broker", "osb-platform")
     }
 
@@ -67,11 +67,11 @@ def test_files(layout: Path, tmp_path: Path) -> None:
     """The static programs, without a shell or any other program; and the authorities of TLS."""
     unpack(layout, "osb-platform", tmp_path / "bundle")
     top = tmp_path / "bundle" / "rootfs"
-    programs = [str(it.relative_to(top)) for it in top.rglob("*") if it.is_file() and it.stat().st_mode & 0o111]
+    programs = [str(path.relative_to(top)) for path in top.rglob("*") if path.is_file() and path.stat().st_mode & 0o111]
     assert sorted(programs) == ["usr/bin/osb-broker", "usr/bin/osb-platform"]
     assert (top / "etc/ssl/certs/ca-certificates.crt").read_text().count("BEGIN CERTIFICATE") > 100
-    writable = [it for it in top.rglob("*") if it.stat().st_uid == NOBODY or it.stat().st_mode & 0o002]
-    assert sorted(str(it.relative_to(top)) for it in writable) == ["tmp", "var/lib/osb"]
+    writable = [path for path in top.rglob("*") if path.stat().st_uid == NOBODY or path.stat().st_mode & 0o002]
+    assert sorted(str(path.relative_to(top)) for path in writable) == ["tmp", "var/lib/osb"]
 
 
 def test_program_serves_as_nobody(layout: Path, tmp_path: Path) -> None:
@@ -83,7 +83,7 @@ def test_program_serves_as_nobody(layout: Path, tmp_path: Path) -> None:
     user = process["user"]
     assert (user["uid"], user["gid"], process["cwd"]) == (NOBODY, NOBODY, "/var/lib/osb")
     line = [f"--userspec={user['uid']}:{user['gid']}", str(top), *arguments]
-    given = {**dict(it.split("=", 1) for it in process["env"]), "OSB_BROKER_PASSWORD": "secret"}
+    given = {**dict(variable.split("=", 1) for variable in process["env"]), "OSB_BROKER_PASSWORD": "secret"}
     chroot = shutil.which("chroot", path=f"{os.environ['PATH']}:/usr/sbin")
     assert chroot is not None
     started = subprocess.Popen([chroot, *line], env=given, stderr=subprocess.PIPE, text=True)

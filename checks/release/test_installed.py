@@ -56,7 +56,7 @@ def older(package: Path, folder: Path) -> Path:
 def files(debian: Fresh) -> set[str]:
     """What is in it, but for what its own programs write."""
     found = debian.run(f"find {' '.join(PLACES)} -xdev").splitlines()
-    return {it for it in found if not NOT_OURS.search(it)}
+    return {line for line in found if not NOT_OURS.search(line)}
 
 
 @pytest.fixture
@@ -87,7 +87,7 @@ def test_package(dist: Path, version: str, debian: Fresh, tmp_path: Path) -> Non
         update_from_02(debian, new)
         purge(debian)
     after = files(debian)
-    left = sorted(it for it in after - before if not STATE.search(it))
+    left = sorted(path for path in after - before if not STATE.search(path))
     assert left == []
     assert before - after == set()
     for state in ("/osb-broker/holdings.sqlite", "/osb-broker/instances", "/osb-platform/instances.sqlite"):
@@ -123,14 +123,14 @@ with socket.socket() as it:
 
 def check_replay(debian: Fresh) -> None:
     """Both programs replay, the one in Python also from another folder with a module of the same name."""
-    plan, service, instance = (f"00000000-0000-0000-0000-00000000000{it}" for it in (1, 2, 3))
+    plan, service, instance = (f"00000000-0000-0000-0000-00000000000{number}" for number in (1, 2, 3))
     lines = (
         f"plan {service} {plan} sync",
         f"create {instance} {service} {plan} no",
         f"deliver {instance} done",
         f"answer {instance}",
     )
-    events = "".join(f"{it}\\n" for it in lines)
+    events = "".join(f"{line}\\n" for line in lines)
     wanted = f"{instance} ready ready\napplied 3\nskipped 0\n"
     write = f"cd /tmp && printf '{events}' >log && mkdir -p osb_replay_log"
     assert debian.run(f"{write} && osb-replay replay <log") == wanted
@@ -196,7 +196,7 @@ def check_without_systemd(debian: Fresh) -> None:
     """By the page's commands, both programs start by hand, and the first instance is created and deleted. The state is
     below /tmp here: /var/lib has that of the services.
     """
-    starts, *uses = (commands(it).replace("/var/", "/tmp/var/") for it in (BY_HAND, *FIRST_INSTANCE))
+    starts, *uses = (commands(beginning).replace("/var/", "/tmp/var/") for beginning in (BY_HAND, *FIRST_INSTANCE))
     printed = debian.run(
         f"""{LOOPBACK}
         mkdir -p /tmp/var/log /tmp/var/lib
@@ -218,7 +218,7 @@ def assert_first_instance(printed: str) -> None:
     """What the commands of FIRST_INSTANCE print."""
     instance, binding, credentials, *listed = printed.splitlines()
     assert (instance, binding) == ("first", "first/app") and json.loads(credentials)
-    assert [it.split("\t")[:2] for it in listed] == [["first", "ready"], ["first/app", "ready"]]
+    assert [row.split("\t")[:2] for row in listed] == [["first", "ready"], ["first/app", "ready"]]
 
 
 def command_line(debian: Fresh, name: str) -> str:
@@ -262,7 +262,7 @@ def check_services(debian: Fresh) -> str:
 
 def check_first_instance(debian: Fresh) -> None:
     """In one shell, the page's first instance and its binding are created and deleted."""
-    assert_first_instance(debian.run("".join(commands(it) for it in FIRST_INSTANCE)))
+    assert_first_instance(debian.run("".join(commands(beginning) for beginning in FIRST_INSTANCE)))
     assert instances(debian) == set()
 
 
@@ -297,7 +297,7 @@ def check_crash(debian: Fresh) -> None:
 def waits(debian: Fresh, unit: str, **wanted: str) -> None:
     """Waits until the properties of a unit are these."""
     waiting.until(
-        lambda: {it: debian.run(f"systemctl show -P {it} {unit}").strip() for it in wanted} == wanted, seconds=120
+        lambda: {key: debian.run(f"systemctl show -P {key} {unit}").strip() for key in wanted} == wanted, seconds=120
     )
 
 
@@ -310,12 +310,12 @@ def reload(debian: Fresh) -> None:
 
 def properties(debian: Fresh, unit: str) -> dict[str, str]:
     shown = debian.run(f"systemctl show {unit} -p ActiveState,SubState,Type,MainPID,NRestarts")
-    return dict(it.split("=", 1) for it in shown.splitlines())
+    return dict(line.split("=", 1) for line in shown.splitlines())
 
 
 def update(debian: Fresh, package: str, version: str, instance: str) -> None:
     """Both services are started again over the state that was there, and go on."""
-    before = {it: properties(debian, it)["MainPID"] for it in ("osb-broker", "osb-platform")}
+    before = {program: properties(debian, program)["MainPID"] for program in ("osb-broker", "osb-platform")}
     debian.run(f"{INSTALL} {package}")
     assert debian.run("dpkg-query -W -f '${Version}' osb") == version
     for unit, number in before.items():
@@ -336,7 +336,7 @@ def poll(debian: Fresh, instance: str) -> str:
 
 def states(debian: Fresh) -> dict[str, str]:
     """The state of each instance of the platform."""
-    return dict(it.split("\t")[:2] for it in debian.run(client("list")).splitlines())
+    return dict(line.split("\t")[:2] for line in debian.run(client("list")).splitlines())
 
 
 def purge(debian: Fresh) -> None:
@@ -366,8 +366,8 @@ def update_from_02(debian: Fresh, package: str) -> None:
 def commands_from_02() -> list[str]:
     """The blocks of docs/install.md, "From version 0.2", for root."""
     section = read(PAGE).partition("### From version 0.2\n")[2].partition("## ")[0]
-    found = [it for it in blocks(PAGE) if f"\n\n{indent(it, '    ')}\n" in section]
-    return [it.replace("sudo ", "") for it in found]
+    found = [text for text in blocks(PAGE) if f"\n\n{indent(text, '    ')}\n" in section]
+    return [text.replace("sudo ", "") for text in found]
 
 
 def check_state_of_02(debian: Fresh) -> None:
@@ -380,8 +380,8 @@ def check_state_of_02(debian: Fresh) -> None:
 
 def check_convergence(debian: Fresh) -> None:
     """The pending deletion and the pending creation succeed, and so does one more deletion."""
-    wanted = {it: "gone" for it in (old_state.AT_ONCE, old_state.GONE)}
-    wanted |= {it: "ready" for it in (old_state.LATER, old_state.ORDERED)}
+    wanted = {id: "gone" for id in (old_state.AT_ONCE, old_state.GONE)}
+    wanted |= {id: "ready" for id in (old_state.LATER, old_state.ORDERED)}
     with contextlib.suppress(AssertionError):
         waiting.until(lambda: states(debian) == wanted)
     assert states(debian) == wanted, debian.run("journalctl -o cat -n 50")

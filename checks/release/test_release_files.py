@@ -31,7 +31,7 @@ def run(*line: str | Path, **variables: str) -> str:
 
 
 def sums(folder: Path) -> dict[str, str]:
-    return {it.name: hashlib.sha256(it.read_bytes()).hexdigest() for it in sorted(folder.iterdir())}
+    return {path.name: hashlib.sha256(path.read_bytes()).hexdigest() for path in sorted(folder.iterdir())}
 
 
 def unpacked(archive: Path, into: Path) -> Path:
@@ -49,7 +49,7 @@ def unpacked_deb(package: Path, into: Path) -> Path:
 
 def manifest() -> dict[str, str]:
     """The SHA-256 of each prebuilt file."""
-    rows = (it.split() for it in read("prebuilt/x86_64-linux/MANIFEST").splitlines() if not it.startswith("#"))
+    rows = (line.split() for line in read("prebuilt/x86_64-linux/MANIFEST").splitlines() if not line.startswith("#"))
     return {row[0]: row[1] for row in rows}
 
 
@@ -87,9 +87,9 @@ def test_names_and_checksums(dist: Path, version: str) -> None:
         f"osb-{version}.oci.tar",
         f"osb-{version}.spdx.json",
     }
-    assert {it.name for it in dist.iterdir()} == names | {"SHA256SUMS"}
+    assert {path.name for path in dist.iterdir()} == names | {"SHA256SUMS"}
     checked = subprocess.run(["sha256sum", "-c", "SHA256SUMS"], cwd=dist, capture_output=True, text=True)
-    assert checked.returncode == 0 and {it.split(":")[0] for it in checked.stdout.splitlines()} == names
+    assert checked.returncode == 0 and {line.split(":")[0] for line in checked.stdout.splitlines()} == names
 
 
 @pytest.mark.long(15)
@@ -99,7 +99,7 @@ def test_packages_satisfy_lintian(dist: Path) -> None:
     line = ["lintian", "--allow-root", "--fail-on", "error,warning", "--display-info"]
     line += sorted(map(str, dist.glob("*.deb")))
     ran = subprocess.run(line, capture_output=True, text=True, timeout=300)
-    others = [it for it in ran.stdout.splitlines() if not it.startswith("I: ")]
+    others = [reported for reported in ran.stdout.splitlines() if not reported.startswith("I: ")]
     assert (ran.returncode, others) == (0, []), ran.stdout + ran.stderr
     assert "unused-override" not in ran.stdout and "mismatched-override" not in ran.stdout
 
@@ -114,18 +114,18 @@ def test_files_of_the_package(dist: Path, version: str, tmp_path: Path) -> None:
     for program in ("osb-broker", "osb-platform", "osb-storm"):
         assert run(top / "usr/bin" / program, "--version") == f"{program} version {version} (libosb {version})\n"
         commands = re.findall(r"^  ([a-z]+) +[A-Z]", run(top / "usr/bin" / program, "--help"), re.MULTILINE)
-        pages = {it.name for it in (top / "usr/share/man/man1").glob(f"{program}*.gz")}
-        listed = [it for it in commands if it not in ("help", "completion")]
-        assert len(listed) > 3 and {f"{program}-{it}.1.gz" for it in listed} <= pages
+        pages = {path.name for path in (top / "usr/share/man/man1").glob(f"{program}*.gz")}
+        listed = [command for command in commands if command not in ("help", "completion")]
+        assert len(listed) > 3 and {f"{program}-{command}.1.gz" for command in listed} <= pages
         guides = re.findall(r"docs/[a-z-]+\.md", run(top / "usr/bin" / program, "--help"))
-        assert guides and all((top / "usr/share/doc/osb" / it).is_file() for it in guides)
+        assert guides and all((top / "usr/share/doc/osb" / guide).is_file() for guide in guides)
     for file in (top / "etc/osb", top / "lib/systemd/system/osb-broker.service"):
         assert file.exists()
 
 
 def test_manual_pages_have_no_place_of_this_machine(dist: Path, version: str, tmp_path: Path) -> None:
     top = unpacked_deb(dist / f"osb_{version}_amd64.deb", tmp_path / "osb")
-    pages = {it.name: gzip.decompress(it.read_bytes()).decode() for it in (top / "usr/share/man/man1").iterdir()}
+    pages = {path.name: gzip.decompress(path.read_bytes()).decode() for path in (top / "usr/share/man/man1").iterdir()}
     assert len(pages) > 15
     assert [name for name, text in pages.items() if str(TOP) in text or str(Path.home()) in text] == []
     assert "~/.local/state/osb-broker" in pages["osb-broker-serve.1.gz"]
@@ -143,13 +143,15 @@ def options(text: str) -> set[str]:
 def test_manual_page_of_a_help(name: str, commands: str, replay: Path) -> None:
     """The page has each option and each exit status of the help, and no other. groff has nothing to warn of."""
     program = replay if name == "osb-replay" else TOP / name
-    lines: list[list[str]] = [[], *([it] for it in commands.split())]
+    lines: list[list[str]] = [[], *([command] for command in commands.split())]
     texts = [run(program, *line, "--help", OSB_REPLAY=str(replay)) for line in lines]
     made = pages.page(name, pages.help_of(name, replay), "0.0.0", "January 1970")
     page = made.replace(r"\-", "-").replace("\\", "")
     assert options("".join(texts)) == options(page)
     statuses = re.findall(r"^  (\d+)  ", texts[0].partition("Exit status:")[2], re.MULTILINE)
-    assert re.findall(r"^\.B (\d+)$", page, re.MULTILINE) == [it.strip() for it in statuses] and len(statuses) > 5
+    assert (
+        re.findall(r"^\.B (\d+)$", page, re.MULTILINE) == [status.strip() for status in statuses] and len(statuses) > 5
+    )
     if shutil.which("groff"):  # lintian needs it
         ran = subprocess.run(["groff", "-man", "-Tutf8", "-ww"], input=made, capture_output=True, text=True)
         assert (ran.returncode, ran.stderr) == (0, "")
@@ -200,10 +202,10 @@ def test_wheel(dist: Path, version: str, tmp_path: Path) -> None:
         "print(record.state, request.kind, osb.version(), osb._lib.lib._name)\n"
     )
     named = ("LIBOSB", "PYTHONPATH", "LD_LIBRARY_PATH")
-    environment = {name: it for name, it in os.environ.items() if name not in named}
+    environment = {name: value for name, value in os.environ.items() if name not in named}
     ran = subprocess.run([python, "-c", script], capture_output=True, text=True, env=environment, cwd=tmp_path)
     (place,) = (tmp_path / "venv").glob("lib/python3*/site-packages/osb/libosb.so.0")
-    number = sum(int(it) * factor for it, factor in zip(version.split("."), (10000, 100, 1)))
+    number = sum(int(number) * factor for number, factor in zip(version.split("."), (10000, 100, 1)))
     assert ran.stdout == f"wanted provision {number} {place}\n", ran.stderr
 
 
@@ -223,7 +225,7 @@ JOURNALS = "examples/journals"
 
 def own(folder: Path, *line: str, status: int = 0) -> str:
     """What a program prints in a folder, if its environment names nothing of this checkout."""
-    kept = {it: os.environ[it] for it in ("PATH", "HOME")}
+    kept = {name: os.environ[name] for name in ("PATH", "HOME")}
     ran = subprocess.run(line, cwd=folder, env=kept, stdin=subprocess.DEVNULL, capture_output=True, text=True)
     assert (ran.returncode, ran.stderr) == (status, ""), ran
     return ran.stdout
@@ -236,7 +238,7 @@ def test_tarball(dist: Path, version: str, tmp_path: Path) -> None:
     top = unpacked(dist / f"osb-{version}-linux-amd64.tar.gz", tmp_path) / f"osb-{version}"
     programs, in_python = {"osb-broker", "osb-platform", "osb-storm"}, {"osb-audit", "osb-replay-log"}
     others = {"LICENSE", "README.md", "THIRD-PARTY", "osb-replay", "share"}
-    assert {it.name for it in top.iterdir()} == others | programs | in_python
+    assert {path.name for path in top.iterdir()} == others | programs | in_python
     assert digest(top / "osb-replay") == manifest()["osb-replay"]
     for name in in_python:
         (tmp_path / name).symlink_to(top / name)
@@ -268,7 +270,7 @@ def test_bill_has_the_required_fields(dist: Path, version: str) -> None:
     assert found["name"] and re.fullmatch(r"https://\S+[^#]", found["documentNamespace"])
     assert re.fullmatch(r"\d{4}-\d\d-\d\dT\d\d:\d\d:\d\dZ", found["creationInfo"]["created"])
     creators = found["creationInfo"]["creators"]
-    assert creators and all(re.match("(Person|Organization|Tool): ", it) for it in creators)
+    assert creators and all(re.match("(Person|Organization|Tool): ", creator) for creator in creators)
     ids = ["SPDXRef-DOCUMENT"]
     for package in found["packages"]:
         ids.append(package["SPDXID"])
@@ -277,29 +279,29 @@ def test_bill_has_the_required_fields(dist: Path, version: str) -> None:
     for file in found["files"]:
         ids.append(file["SPDXID"])
         assert file["fileName"].startswith("./")
-        assert "SHA1" in {it["algorithm"] for it in file["checksums"]}
-    assert len(set(ids)) == len(ids) and all(re.fullmatch("SPDXRef-[a-zA-Z0-9.-]+", it) for it in ids)
-    named = {it[side] for it in found["relationships"] for side in ("spdxElementId", "relatedSpdxElement")}
+        assert "SHA1" in {checksum["algorithm"] for checksum in file["checksums"]}
+    assert len(set(ids)) == len(ids) and all(re.fullmatch("SPDXRef-[a-zA-Z0-9.-]+", element) for element in ids)
+    named = {relation[side] for relation in found["relationships"] for side in ("spdxElementId", "relatedSpdxElement")}
     assert named == set(ids)
-    assert [it for it in found["relationships"] if it["relationshipType"] == "DESCRIBES"]
+    assert [relationship for relationship in found["relationships"] if relationship["relationshipType"] == "DESCRIBES"]
 
 
 def test_bill_has_what_is_linked(dist: Path, version: str) -> None:
     """The packages of go.toolchain, Go, libc and sqlite with their installed versions; and the kit of MANIFEST."""
     found = bill(dist, version)
-    packages = {it["name"]: it for it in found["packages"]}
+    packages = {package["name"]: package for package in found["packages"]}
     for name in ("golang-github-lib-pq-dev", "golang-github-spf13-cobra-dev", "libsqlite3-dev", "libc6-dev"):
         installed = run("dpkg-query", "-W", "-f", "${Version}", name)
         assert packages[name]["versionInfo"] == installed
         (reference,) = packages[name]["externalRefs"]
         assert reference["referenceLocator"].startswith(f"pkg:deb/debian/{name}@")
-    assert [it for it in packages if re.fullmatch(r"golang-1\.\d+-src", it)]
+    assert [package for package in packages if re.fullmatch(r"golang-1\.\d+-src", package)]
     assert packages["libsqlite3-dev"]["licenseConcluded"] == "blessing"
     assert packages["golang-github-lib-pq-dev"]["licenseConcluded"] == "MIT"
     assert f"{packages['rattle-kit']['versionInfo']}\n" in read("prebuilt/x86_64-linux/MANIFEST")
     for file in found["files"]:
-        sha256 = {it["algorithm"]: it["checksumValue"] for it in file["checksums"]}["SHA256"]
+        sha256 = {checksum["algorithm"]: checksum["checksumValue"] for checksum in file["checksums"]}["SHA256"]
         assert sha256 == digest(dist / file["fileName"])
-    assert {it["fileName"].removeprefix("./") for it in found["files"]} == {
-        it.name for it in dist.iterdir() if it.suffix != ".json" and it.name != "SHA256SUMS"
+    assert {entry["fileName"].removeprefix("./") for entry in found["files"]} == {
+        path.name for path in dist.iterdir() if path.suffix != ".json" and path.name != "SHA256SUMS"
     }

@@ -21,7 +21,7 @@ from waiting import until
 pytestmark = pytest.mark.slow
 
 UNITS = sorted((TOP / "release" / "systemd").glob("*.service"))
-each = pytest.mark.parametrize("unit", UNITS, ids=[it.name for it in UNITS])
+each = pytest.mark.parametrize("unit", UNITS, ids=[unit.name for unit in UNITS])
 
 
 def analyze(*line: str | Path) -> subprocess.CompletedProcess[str]:
@@ -47,7 +47,7 @@ def test_secrets_are_credentials(unit: Path) -> None:
 
 
 def test_there_is_a_unit_for_each_program() -> None:
-    assert [it.stem for it in UNITS] == ["osb-broker", "osb-platform"]
+    assert [unit.stem for unit in UNITS] == ["osb-broker", "osb-platform"]
 
 
 class Supervisor:
@@ -56,7 +56,7 @@ class Supervisor:
     def __init__(self, unit: Path, program: Path, options: str, state: Path) -> None:
         rules = dict(re.findall(r"^(Restart\w*|\w*ExitStatus|ExecStart)=(.*)$", unit.read_text(), re.MULTILINE))
         assert rules.pop("Restart") == "on-failure"  # which starts it again after any other status than 0, or a signal
-        self._prevent = {int(it) for it in rules.pop("RestartPreventExitStatus").split()}
+        self._prevent = {int(status) for status in rules.pop("RestartPreventExitStatus").split()}
         line = rules.pop("ExecStart").replace("/usr/bin/osb-broker", str(program))
         assert set(rules) == {"RestartSec"}, rules  # no rule that this class doesn't know
         secret = state / "password"
@@ -138,5 +138,5 @@ def test_a_mistake_is_not_started_again(broker: Path, tmp_path: Path, options: s
 
 def test_both_units_have_the_same_rules() -> None:
     """What is started again is the same for both programs."""
-    rules = [re.findall(r"^(?:Restart|StartLimit|SuccessExit).*$", it.read_text(), re.MULTILINE) for it in UNITS]
+    rules = [re.findall(r"^(?:Restart|StartLimit|SuccessExit).*$", unit.read_text(), re.MULTILINE) for unit in UNITS]
     assert rules[0] == rules[1] and len(rules[0]) == 4

@@ -80,7 +80,7 @@ def test_table_reads_no_input(replay: Path, tmp_path: Path) -> None:
 def test_help(replay: Path, arguments: str, line: str) -> None:
     ran = run(replay, *arguments.split())
     assert (ran.status, ran.err) == (0, "")
-    assert any(it.startswith(line) for it in ran.out.splitlines())
+    assert any(printed.startswith(line) for printed in ran.out.splitlines())
 
 
 @pytest.mark.parametrize("command", ["", "replay", "trace", "network", "table"])
@@ -148,7 +148,7 @@ def rejected(reason: str, more: str = "For more information, try '--help'.") -> 
 
 
 @pytest.mark.parametrize(
-    ("arguments", "reason", "usage"), REJECTED, ids=[" ".join(it[0]) or repr(it[0]) for it in REJECTED]
+    ("arguments", "reason", "usage"), REJECTED, ids=[" ".join(case[0]) or repr(case[0]) for case in REJECTED]
 )
 def test_rejected(replay: Path, arguments: list[str], reason: str, usage: str) -> None:
     assert run(replay, *arguments, given=SCHEDULE) == rejected(f"{reason}\n\nUsage: {usage}")

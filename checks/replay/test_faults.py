@@ -53,7 +53,7 @@ def test_fault(replay: Path, name: str, text: str) -> None:
     assert run(replay, "replay", given=whole(text)) == fault(1, name)
 
 
-@pytest.mark.parametrize(("line", "name", "text"), AT_ONCE, ids=[f"line {it[0]}: {it[1]}" for it in AT_ONCE])
+@pytest.mark.parametrize(("line", "name", "text"), AT_ONCE, ids=[f"line {case[0]}: {case[1]}" for case in AT_ONCE])
 def test_at_once(replay: Path, line: int, name: str, text: str) -> None:
     """The input stays open behind the byte that shows the fault, so a program that reads on never ends."""
     there, here = os.pipe()

@@ -30,8 +30,8 @@ def test_more_than_16_bits_can_count(replay: Path, is_rising: bool) -> None:
     numbers = range(1, 70_001) if is_rising else [number * 1237 % 70_001 for number in range(1, 70_001)]
     instances = [f"{number:08}-0000-0000-0000-000000000000" for number in numbers]
     delivered = instances[65_536:]
-    created = [f"create {it} S P no" for it in instances]
-    text = lines("; ".join(["plan S P sync", *created, *(f"deliver {it} done" for it in delivered)]))
+    created = [f"create {instance} S P no" for instance in instances]
+    text = lines("; ".join(["plan S P sync", *created, *(f"deliver {instance} done" for instance in delivered)]))
     phases = dict.fromkeys(instances, "none") | dict.fromkeys(delivered, "ready")
-    ends = [f"{it} wanted {phase}" for it, phase in sorted(phases.items())]
+    ends = [f"{instance} wanted {phase}" for instance, phase in sorted(phases.items())]
     assert run(replay, "replay", given=text) == Ran(0, report(ends, 74_464, 0), "")

@@ -102,8 +102,8 @@ def sixteen() -> Case:
     list of messages is full.
     """
     ids = [f"00000000-0000-0000-0000-{number:012}" for number in (*range(16, 8, -1), *range(1, 9))]
-    text = lines(PLANS) + "".join(lines(f"create {it} S P no") for it in ids) + f"timeout {ids[0]}\nrestart\n"
-    ends = [f"{it} cleaning none" for it in sorted(ids)]
+    text = lines(PLANS) + "".join(lines(f"create {id} S P no") for id in ids) + f"timeout {ids[0]}\nrestart\n"
+    ends = [f"{instance} cleaning none" for instance in sorted(ids)]
     return Case("sixteen instances", ["replay"], text.encode(), Ran(0, report(ends, 18, 0), ""))
 
 
@@ -280,7 +280,7 @@ def check_traced_allocations(refuser: Refuser, clean: Trial, expected: Ran) -> i
     return written
 
 
-@pytest.mark.parametrize("it", TRACES, ids=[it.case.name for it in TRACES])
+@pytest.mark.parametrize("it", TRACES, ids=[example.case.name for example in TRACES])
 def test_trace(refusing: Refusing, it: Trace) -> None:
     case = it.case
     refuser = refusing(*case.arguments, given=case.given)

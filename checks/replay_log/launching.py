@@ -101,7 +101,7 @@ def fails(ran: Ran, status: int, message: str) -> None:
 
 def states(pid: int) -> list[str]:
     """The states of the processes of a session, without those that have ended and wait for their parent."""
-    return [it for it in ran(["ps", "-o", "stat=", "-s", pid]).stdout.split() if not it.startswith("Z")]
+    return [state for state in ran(["ps", "-o", "stat=", "-s", pid]).stdout.split() if not state.startswith("Z")]
 
 
 def is_running(pid: int) -> bool:

@@ -59,15 +59,17 @@ class Log(NamedTuple):
     def needed(self) -> int:
         """The fewest lines that a part may have at most: those of one instance, with all plans and restarts."""
         words = [line.split() for line in self.lines if len(line) <= 512]
-        all_have = sum(it[0] in (b"plan", b"restart") for it in words if it)
-        named = Counter(it[1].lower() for it in words if len(it) > 1 and it[0] in _EVENTS and len(it[1]) == 36)
+        all_have = sum(word[0] in (b"plan", b"restart") for word in words if word)
+        named = Counter(
+            word[1].lower() for word in words if len(word) > 1 and word[0] in _EVENTS and len(word[1]) == 36
+        )
         return all_have + max(named.values(), default=0)
 
 
 def names(many: int, step: int) -> list[str]:
     """So many ids: small ones in turn, or any."""
     digits = [f"{number * step % 2**128:032x}" for number in range(1, many + 1)]
-    return ["-".join((it[:8], it[8:12], it[12:16], it[16:20], it[20:])) for it in digits]
+    return ["-".join((digit[:8], digit[8:12], digit[12:16], digit[16:20], digit[20:])) for digit in digits]
 
 
 # Steps from one id to the next; the others go through all ids in no order.

@@ -21,13 +21,13 @@ ESCAPED = r"\x1b]0;title\x07\x1b[31m\x9b1m\u202e\xff" + "." * 13
 
 def replayed(launcher: Launcher, *arguments: str | Path) -> Ran:
     told = launcher.run("replay", "--engine", "processes", "--room", str(launcher.room), *map(str, arguments))
-    assert all(it.isprintable() or it == "\n" for it in told.err)
+    assert all(letter.isprintable() or letter == "\n" for letter in told.err)
     return told
 
 
 def test_an_instance_with_escapes(launcher: Launcher, tmp_path: Path) -> None:
     log = tmp_path / "log"
-    log.write_bytes("".join(f"{it}\n" for it in HEAD).encode() + 100 * (b"send " + ESCAPES + b"\n"))
+    log.write_bytes("".join(f"{line}\n" for line in HEAD).encode() + 100 * (b"send " + ESCAPES + b"\n"))
     told = replayed(launcher, "--part-lines", "50", log)
     fails(told, 1, f"osb-replay-log: instance {ESCAPED} has 100 events: with 0 restarts and ")
     assert told.err.count("\n") == 1
@@ -53,7 +53,7 @@ def test_an_argument_with_escapes(launcher: Launcher, logs: Logs) -> None:
 def test_parts_with_escapes(launcher: Launcher, tmp_path: Path) -> None:
     """What another engine leaves beside the parts."""
     parts, log = tmp_path / "parts", tmp_path / "log"
-    log.write_text("".join(f"{it}\n" for it in HEAD) + 3 * f"send {ONE}\n")
+    log.write_text("".join(f"{line}\n" for line in HEAD) + 3 * f"send {ONE}\n")
     split = ["--engine", "processes", "--part-lines", "20"]
     assert launcher.run("split", *split, "--parts", str(parts), str(log)) == Ran(0, "", "")
     line = ESCAPES + b" ready none\n"
@@ -70,7 +70,7 @@ def bomb(tmp_path: Path) -> str:
     """A gzip log of some kilobytes, of which the spool has 6 MB."""
     log = tmp_path / "bomb.gz"
     lines = (f"send {ONE[:-6]}{number:06x}".encode() + b" " * 400 + b"\n" for number in range(13_000))
-    log.write_bytes(gzip.compress("".join(f"{it}\n" for it in HEAD).encode() + b"".join(lines)))
+    log.write_bytes(gzip.compress("".join(f"{line}\n" for line in HEAD).encode() + b"".join(lines)))
     assert log.stat().st_size < 200_000
     return str(log)
 
@@ -96,7 +96,7 @@ def test_a_gzip_file_that_holds_far_more_than_its_size(
     """It isn't read to its end, whether an event has come before or not."""
     log = tmp_path / "log.gz"
     with gzip.open(log, "wb") as file:
-        file.writelines(f"{it}\n".encode() for it in HEAD)
+        file.writelines(f"{line}\n".encode() for line in HEAD)
         file.write(b"" if is_head else f"send {ONE}\n".encode())
         for _ in range(128):
             file.write(byte * (1 << 20))

@@ -22,9 +22,9 @@ PACKAGES = {"gofmt": "golang-go"}
 @pytest.mark.long(20)
 @pytest.mark.parametrize("target", NEEDED)
 def test_make(target: str, library: Path) -> None:
-    missing = [it for it in NEEDED[target] if not shutil.which(it)]
+    missing = [program for program in NEEDED[target] if not shutil.which(program)]
     if missing:
-        packages = " ".join(PACKAGES.get(it, it) for it in missing)
+        packages = " ".join(PACKAGES.get(program, program) for program in missing)
         pytest.skip(f"{', '.join(missing)}: not installed (Debian: {packages})")
     ran = subprocess.run(["make", "-s", target], cwd=TOP, stdout=subprocess.PIPE, stderr=subprocess.STDOUT, text=True)
     assert ran.returncode == 0, ran.stdout

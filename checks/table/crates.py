@@ -37,7 +37,7 @@ MEMBER = re.compile(r"^\s*(?:pub(?:\(crate\))? )?(\w+): ([^,{}]+),$", re.MULTILI
 def _sources() -> str:
     """The whole text of the crates, without comments."""
     files = [file for crate in CRATES for file in sorted((TOP / "crates" / crate / "src").rglob("*.rt"))]
-    return re.sub(r"^\s*//.*$", "", "\n".join(it.read_text(encoding="utf-8") for it in files), flags=re.MULTILINE)
+    return re.sub(r"^\s*//.*$", "", "\n".join(file.read_text(encoding="utf-8") for file in files), flags=re.MULTILINE)
 
 
 TEXT = _sources()
@@ -72,10 +72,10 @@ def exports() -> dict[str, str]:
     """Each export: what it gives and takes, and the statuses of its contract, in their order."""
     found = {}
     for name, taken, given, contract in EXPORT.findall(TEXT):
-        kinds = [it.split(":", 1)[1].strip() for it in taken.split(",") if it.strip()]
+        kinds = [parameter.split(":", 1)[1].strip() for parameter in taken.split(",") if parameter.strip()]
         parameters = ", ".join(part for kind in kinds for part in _parameter(kind))
         statuses = re.search(r"ensures statuses .*?\[\]", contract, re.DOTALL)
-        names = [upper(it) for it in re.findall(r"Status\.(\w+)", statuses[0] if statuses else "")]
+        names = [upper(name) for name in re.findall(r"Status\.(\w+)", statuses[0] if statuses else "")]
         found[name] = f"{c_type(given)} ({parameters}): {', '.join(names)}"
     assert TEXT.count("no_mangle") == len(found), "some export has a form that isn't read here"
     return found
@@ -115,11 +115,11 @@ def numbers() -> dict[str, int]:
     taken = [(_name(path), number) for number, path in re.findall(rf"\b(\d+) => (?:Some\()+({PATH})\)+,", TEXT)]
     for name, function in NONE_IN.items():
         taken += [
-            (name, it[0] or it[1]) for it in re.findall(r"None => (\d+),|(\d+) => Some\(None\),", _body(function))
+            (name, pair[0] or pair[1]) for pair in re.findall(r"None => (\d+),|(\d+) => Some\(None\),", _body(function))
         ]
     for name, constant in NONE_AS.items():
-        taken += [(name, it) for it in re.findall(rf"\b{constant}: u8 = (\d+);", TEXT)]
-    taken += [("VERSION", it) for it in re.findall(r"^    (\d+)$", _body("osb_version"), re.MULTILINE)]
+        taken += [(name, number) for number in re.findall(rf"\b{constant}: u8 = (\d+);", TEXT)]
+    taken += [("VERSION", number) for number in re.findall(r"^    (\d+)$", _body("osb_version"), re.MULTILINE)]
     for name, number in given + taken:
         assert found.setdefault(f"OSB_{name}", int(number)) == int(number), f"OSB_{name} has two numbers in the crates"
     return found

@@ -31,15 +31,18 @@ def test_the_generated_files_are_current() -> None:
 
 
 def test_the_crates_have_the_numbers() -> None:
-    enums = [it for it in INTERFACE if isinstance(it, Enum)]
-    table = {f"{enum.front}{it.name}": it.number for enum in enums for it in enum.values}
+    enums = [part for part in INTERFACE if isinstance(part, Enum)]
+    table = {f"{enum.front}{value.name}": value.number for enum in enums for value in enum.values}
     table["OSB_VERSION"] = VERSION[0] * 10000 + VERSION[1] * 100 + VERSION[2]
     compare(table, crates.numbers())
 
 
 def test_the_crates_have_the_structs() -> None:
     """Each member, in its place, so that the struct of C has the layout of `#[repr(C)]`."""
-    table = {name: "; ".join(f"{it.c_type} {it.name}" for it in struct.variables) for name, struct in STRUCTS.items()}
+    table = {
+        name: "; ".join(f"{variable.c_type} {variable.name}" for variable in struct.variables)
+        for name, struct in STRUCTS.items()
+    }
     compare(table, crates.structs())
 
 
@@ -47,20 +50,20 @@ def test_the_crates_have_the_calls() -> None:
     """What each gives and takes, and the statuses of its contract, in their order."""
     table = {}
     for call in CALLS:
-        parameters = ", ".join(it.c_type for it in call.parameters)
+        parameters = ", ".join(parameter.c_type for parameter in call.parameters)
         table[call.name] = f"{call.given} ({parameters}): {', '.join(name for name, _ in call.statuses(STATUS))}"
     compare(table, crates.exports())
 
 
 def test_each_number_has_one_meaning() -> None:
-    for enum in (it for it in INTERFACE if isinstance(it, Enum)):
-        for column in zip(*((it.number, it.name, it.means) for it in enum.values)):
+    for enum in (part for part in INTERFACE if isinstance(part, Enum)):
+        for column in zip(*((value.number, value.name, value.means) for value in enum.values)):
             assert len(column) == len(set(column)), enum.name
-    assert not {it.number for it in STATUS.values} & set(REMOVED), "a status that was removed had this number"
+    assert not {value.number for value in STATUS.values} & set(REMOVED), "a status that was removed had this number"
 
 
 def test_no_call_has_the_name_of_one_that_is_gone() -> None:
-    assert not {it.name for it in CALLS} & set(REMOVED_CALLS)
+    assert not {call.name for call in CALLS} & set(REMOVED_CALLS)
 
 
 @pytest.mark.parametrize(
@@ -69,5 +72,5 @@ def test_no_call_has_the_name_of_one_that_is_gone() -> None:
     ids=["go", "python"],
 )
 def test_each_package_calls_each_export(folder: str, call: str) -> None:
-    sources = "".join(it.read_text(encoding="utf-8") for it in (TOP / folder).glob("*.*") if it.is_file())
-    assert set(re.findall(call, sources)) == {it.name for it in CALLS}
+    sources = "".join(path.read_text(encoding="utf-8") for path in (TOP / folder).glob("*.*") if path.is_file())
+    assert set(re.findall(call, sources)) == {exported.name for exported in CALLS}

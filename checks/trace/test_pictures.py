@@ -62,7 +62,7 @@ def test_picture_of_each_event() -> None:
             ran = run(PICTURE, given=one)
             assert (ran.status, ran.err) == (0, ""), (seed, instance)
             events = [line.split("\t") for line in one.splitlines()[1:]]
-            assert ran.out.count('class="skipped"') == 1 + sum(it[2] == "skipped" for it in events)
+            assert ran.out.count('class="skipped"') == 1 + sum(event[2] == "skipped" for event in events)
             assert ran.out.count('class="number"') == len(events)
 
 

@@ -137,7 +137,7 @@ def asked(it: wire.Asked) -> str:
 
 def form(pairs: list[tuple[str, str]]) -> str:
     """A query: a space as `+`, and all but ASCII letters, digits and `*-._` as escapes."""
-    return "&".join(f"{name}={urllib.parse.quote_plus(it, safe='*').replace('~', '%7E')}" for name, it in pairs)
+    return "&".join(f"{name}={urllib.parse.quote_plus(value, safe='*').replace('~', '%7E')}" for name, value in pairs)
 
 
 def named(kind: str, instance: str, service: str, plan: str) -> list[str]:
@@ -224,15 +224,15 @@ def shown(modes: dict[tuple[int, int], str]) -> Modes:
 
 
 def plans(found: list[Plan]) -> Modes:
-    return [(str(it.service), str(it.plan), "async" if it.is_asynchronous else "sync") for it in found]
+    return [(str(plan.service), str(plan.plan), "async" if plan.is_asynchronous else "sync") for plan in found]
 
 
 def document(letters: str, of: bytes) -> Modes:
-    return shown(model.judge(of, {LETTERS[it] for it in letters if it in LETTERS}))
+    return shown(model.judge(of, {LETTERS[letter] for letter in letters if letter in LETTERS}))
 
 
 def checked(letters: str, of: bytes) -> Modes:
-    wire.check_catalogue(of, Endpoints(**{LETTERS[it]: True for it in letters if it in LETTERS}))
+    wire.check_catalogue(of, Endpoints(**{LETTERS[letter]: True for letter in letters if letter in LETTERS}))
     return plans(wire.catalogue_plans(of))
 
 

@@ -33,7 +33,7 @@ def some(line: st.SearchStrategy[str]) -> Lines:
 def changed(calls: list[str], wholes: st.SearchStrategy[bytes], of: bytes) -> Lines:
     """Lines of one of these calls, with the variants of a text."""
     return st.builds(
-        lambda call, whole, seed: [f"{call} {hexed(it)}" for it in variants(whole, of, seed, AT_ONCE)],
+        lambda call, whole, seed: [f"{call} {hexed(variant)}" for variant in variants(whole, of, seed, AT_ONCE)],
         st.sampled_from(calls),
         wholes,
         SEEDS,
@@ -48,9 +48,9 @@ def changed_request(asked: texts.Asked, seed: int, prefix: str) -> list[str]:
     method, target, body, longest = asked
     if prefix != "-":
         target = target.replace(b"/v2", b"/broker/v2", 1)
-    pairs = [(it, body) for it in variants(target, IN_TARGET, seed, AT_ONCE)]
+    pairs = [(variant, body) for variant in variants(target, IN_TARGET, seed, AT_ONCE)]
     if body and seed % 2 == 0:
-        pairs = [(target, it) for it in variants(body, IN_PROVISION, seed, AT_ONCE)]
+        pairs = [(target, variant) for variant in variants(body, IN_PROVISION, seed, AT_ONCE)]
     return [f"request {prefix} {longest} {method} {hexed(one)} {hexed(other)}" for one, other in pairs]
 
 
@@ -158,7 +158,7 @@ def documents(draw: st.DrawFn) -> bytes:
     for at in range(draw(st.sampled_from([1, 1, 2, 3, 0]))):
         service = draw(entries(False, draw(st.sampled_from([f"s{at}"] * 8 + ["s0"]))))
         many = draw(st.sampled_from([1, 1, 2, 2, 3, 0]))
-        service["plans"] = [draw(entries(True, draw(st.sampled_from([f"p{it}"] * 8 + ["p0"])))) for it in range(many)]
+        service["plans"] = [draw(entries(True, draw(st.sampled_from([f"p{at}"] * 8 + ["p0"])))) for at in range(many)]
         if draw(st.integers(0, 30)) == 30:
             service["plans"] = draw(st.sampled_from([{}, "x", [1]]))
         services.append(service)

@@ -57,9 +57,9 @@ def is_sound(value: Any, deep: int = 0) -> bool:
     if isinstance(value, str):
         return not any(0xD800 <= ord(c) < 0xE000 for c in value)
     if isinstance(value, list):
-        return deep < DEEPEST and all(is_sound(it, deep + 1) for it in value)
+        return deep < DEEPEST and all(is_sound(element, deep + 1) for element in value)
     if isinstance(value, Pairs):
-        return deep < DEEPEST and all(is_sound(name) and is_sound(it, deep + 1) for name, it in value.pairs)
+        return deep < DEEPEST and all(is_sound(name) and is_sound(pair, deep + 1) for name, pair in value.pairs)
     return True
 
 
@@ -173,7 +173,7 @@ def place_at(path: bytes) -> tuple[list[bytes], bool] | None:
 
 def behind(prefix: bytes, path: bytes) -> list[bytes]:
     """What stands behind the prefix: in the path as it stands, and in the plain path."""
-    return [it[len(prefix) :] for it in (path, plain(path)) if it.startswith(prefix)]
+    return [spelling[len(prefix) :] for spelling in (path, plain(path)) if spelling.startswith(prefix)]
 
 
 # By the method, and whether the last operation is asked for.
@@ -296,7 +296,7 @@ def compact(value: Any) -> str:
     if isinstance(value, NumberText):
         return str(value)
     if isinstance(value, list):
-        return "[" + ",".join(compact(it) for it in value) + "]"
+        return "[" + ",".join(compact(element) for element in value) + "]"
     if isinstance(value, Pairs):
         return "{" + ",".join(f"{json.dumps(k, ensure_ascii=False)}:{compact(v)}" for k, v in value.pairs) + "}"
     return json.dumps(value, ensure_ascii=False)
@@ -305,9 +305,9 @@ def compact(value: Any) -> str:
 def ascending(value: Any) -> Any:
     """The value with each object's members in ascending order of names. If a name stands twice, the last counts."""
     if isinstance(value, list):
-        return [ascending(it) for it in value]
+        return [ascending(element) for element in value]
     if isinstance(value, Pairs):
-        return Pairs(sorted((name, ascending(it)) for name, it in dict(value.pairs).items()))
+        return Pairs(sorted((name, ascending(inner)) for name, inner in dict(value.pairs).items()))
     return value
 
 
@@ -331,7 +331,7 @@ PARTS = ("service_id", "plan_id", "parameters", "context", "maintenance_info")
 def others(body: bytes) -> str | None:
     """The object of the members that have no text of their own."""
     pairs = object_in(body)
-    return None if pairs is None else compact(Pairs([it for it in pairs if it[0] not in PARTS]))
+    return None if pairs is None else compact(Pairs([element for element in pairs if element[0] not in PARTS]))
 
 
 def digest_of(value: Any) -> bytes:
@@ -392,7 +392,7 @@ def details(body: bytes) -> Details:
         text_at(found, "dashboard_url"),
         operation if operation is not None and len(operation) <= 10_000 else None,
         member(body, "metadata"),
-        *(it if isinstance(it, bool) else None for it in flags),
+        *(flag if isinstance(flag, bool) else None for flag in flags),
     )
 
 
@@ -444,7 +444,7 @@ def served(document: bytes) -> bytes:
     object = object_in(document)
     if object is None:
         raise Refused("NOT_AN_OBJECT")
-    kept = [it for it in object if it[0] != "x-osb-tombstones"]
+    kept = [pair for pair in object if pair[0] != "x-osb-tombstones"]
     return compact(Pairs([("x-osb-tombstones", True), *kept])).encode()
 
 
@@ -452,7 +452,7 @@ def listed(of: dict[str, Any], name: str, fault: str) -> list[dict[str, Any]]:
     found = of.get(name)
     if not isinstance(found, list):
         raise Refused(fault)
-    return [dict(it.pairs) if isinstance(it, Pairs) else {} for it in found]
+    return [dict(entry.pairs) if isinstance(entry, Pairs) else {} for entry in found]
 
 
 def plan_mode(plan: dict[str, Any]) -> str:
@@ -529,7 +529,7 @@ def judge(document: bytes, serves: set[str]) -> dict[tuple[int, int], str]:
             judge_own(plan, plan_names)
             judge_flags(plan, ["bindable", "plan_updateable"], serves)
     all_plans = [plan for service in services for plan in listed(service, "plans", "")]
-    for texts in ({it["id"] for it in services}, {it["id"] for it in all_plans}):
+    for texts in ({offer["id"] for offer in services}, {offer["id"] for offer in all_plans}):
         if len({number_of(text) for text in texts}) < len(texts):
             raise Refused("SAME_NUMBER")
     return modes

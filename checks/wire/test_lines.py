@@ -22,7 +22,7 @@ TIMES = 100 if ANEW else 10 if WHOLE else 1
 
 CALLS = {"instances": wire.cases.CALLS, "bindings": binding_wire.cases.CALLS}
 TEXTS = {"instances": wire.cases.TEXT, "bindings": binding_wire.cases.TEXT}
-LINES = [pytest.param("instances", *it, id=what) for what, it in wire.lines.LINES.items()]
+LINES = [pytest.param("instances", *case, id=what) for what, case in wire.lines.LINES.items()]
 LINES += [
     pytest.param("bindings", lines, TIMES * count, id=f"of bindings: {what}", marks=pytest.mark.long(20))
     for what, (lines, count) in binding_wire.lines.LINES.items()

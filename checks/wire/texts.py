@@ -137,7 +137,7 @@ def nested(values: st.SearchStrategy[str]) -> st.SearchStrategy[str]:
 
 
 VALUE = st.recursive(st.sampled_from(VALUES), nested, max_leaves=6)
-SOUND_VALUE = st.recursive(st.sampled_from([it for it in VALUES if it not in ODD]), nested, max_leaves=6)
+SOUND_VALUE = st.recursive(st.sampled_from([value for value in VALUES if value not in ODD]), nested, max_leaves=6)
 OBJECT = objects(VALUE)
 WHOLE_BODY = st.one_of(OBJECT, OBJECT, OBJECT, VALUE).map(str.encode)
 MARK = st.sampled_from([b""] * 30 + [BYTE_ORDER_MARK])
@@ -154,7 +154,7 @@ BODY = st.builds(
 
 def cased(number: int, mask: int) -> str:
     """A GUID, of which the digits that the mask has are capitals."""
-    digits = "".join(it.upper() if mask >> at & 1 else it for at, it in enumerate(f"{number:032x}"))
+    digits = "".join(digit.upper() if mask >> at & 1 else digit for at, digit in enumerate(f"{number:032x}"))
     return "-".join((digits[:8], digits[8:12], digits[12:16], digits[16:20], digits[20:]))
 
 
@@ -206,7 +206,9 @@ def parameters(draw: st.DrawFn, name: str) -> list[str]:
 
 @st.composite
 def queries(draw: st.DrawFn) -> str:
-    made = [it for name in ("service_id", "plan_id", "accepts_incomplete") for it in draw(parameters(name))]
+    made = [
+        parameter for name in ("service_id", "plan_id", "accepts_incomplete") for parameter in draw(parameters(name))
+    ]
     made += draw(st.lists(FURTHER, max_size=2))
     return draw(st.sampled_from(["&"] * 20 + ["&&", ";"])).join(draw(st.permutations(made)))
 

@@ -126,7 +126,7 @@ class BrokerSide:
 
     def _close(self, visit: Visit) -> None:
         visit.is_resolved = True
-        self.open = [it for it in self.open if it is not visit]
+        self.open = [other for other in self.open if other is not visit]
 
     def _answered(self, line: Line) -> None:
         visit = self._visit(line)
@@ -197,8 +197,8 @@ class BrokerSide:
             self._change_at_once(line, life, visit, after)
         life.held, life.held_text, life.terms, life.held_line = after, line.of["after"], terms, line
         self.calls.go_on(line, life)
-        for it in list(self.open):
-            self._resolve(it, line)
+        for other in list(self.open):
+            self._resolve(other, line)
 
     def _check_chain(self, line: Line, life: Life) -> None:
         if line.of["before"] == life.held_text:
@@ -304,7 +304,7 @@ class BrokerSide:
             raise differs(line, "no end of the pending work leaves this", "another row", self._words(line))
         waits = self.known.visits[life.worker] if life.worker else None
         said = visit.said if visit is not None and visit is waits and not visit.is_failed else None
-        outcome, answer = next((it for it in found if it[1] == said), found[0])
+        outcome, answer = next((end for end in found if end[1] == said), found[0])
         wanted = ((ANSWER, shown(said)),) if said is not None else ()
         credentials = self._credentials(line, life, after)
         self.calls.settle(line, life, rules.left(life.held.work, outcome))

@@ -59,7 +59,7 @@ class _Call:
         """
         numbers = (found.credentials, 0) if self.name == "credentials" else None
         were = [*self.since, *self.perhaps] if is_idle else self.since
-        return any(it.resource == found.resource and (not numbers or it.credentials in numbers) for it in were)
+        return any(seen.resource == found.resource and (not numbers or seen.credentials in numbers) for seen in were)
 
 
 @dataclass
@@ -207,8 +207,8 @@ class Calls:
         run = self.runs.get(worker_of(line))
         if run is None or run.found is None or run.found.resource != resource or resource == life.resource:
             return
-        others = [it for it in self.changes.get(life.key, [])[run.looked :] if it.worker != worker_of(line)]
-        if others and all(it.since is None or it.since < run.ended for it in others):
+        others = [change for change in self.changes.get(life.key, [])[run.looked :] if change.worker != worker_of(line)]
+        if others and all(other.since is None or other.since < run.ended for other in others):
             self._become(line, life, run.found)
 
     def go_on(self, line: Line, life: Life) -> None:
@@ -230,7 +230,7 @@ def _found(line: Line, life: Life, begun: _Call | None) -> Seen:
     if call != "look":
         return Seen(_ENDS.get(call, "whole"), life.number_of(line.of.get("credentials", "")))
     since = begun.since if begun is not None else []
-    for it in (Seen(life.resource, life.credentials), *reversed(since)):
-        if it.resource == line.of["found"]:
-            return it
+    for seen in (Seen(life.resource, life.credentials), *reversed(since)):
+        if seen.resource == line.of["found"]:
+            return seen
     return Seen(line.of["found"], life.known if line.of["found"] == "whole" else 0)

@@ -70,13 +70,13 @@ def _audit(asked: argparse.Namespace) -> int:
     with ExitStack() as stack:
         folder = new_room(stack, words.PROGRAM, asked.room)
         os.chdir("/")  # workers look for modules in their current folder, before Python 3.11
-        size = sum(it.size for it in logs)
+        size = sum(log.size for log in logs)
         engine = stack.enter_context(closing(_engine(asked.jobs, size)))
         chunk = max(min(_CHUNK, size // (2 * asked.jobs)), 1 << 16)
         stack.callback(progress.end)
         with signals.raised():
             try:
-                names = {it.path: name for it, name in logs.items()}
+                names = {log.path: name for log, name in logs.items()}
                 its = work.Work(list(logs), names, program, Room(folder), chunk, progress, until)
                 found = work.audit(its, engine)
             except OSError as error:
@@ -92,7 +92,7 @@ def _logs(journals: list[str]) -> tuple[dict[Log, str], int | None]:
     from osb_audit.work import files_in
 
     began, logs = time.time(), files_in(journals)
-    if all(os.stat(it.path).st_mtime < began - _LIVE for it in logs):
+    if all(os.stat(log.path).st_mtime < began - _LIVE for log in logs):
         return logs, None
     time.sleep(_REST)
     return files_in(journals), int(began * 1e6)

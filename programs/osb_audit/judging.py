@@ -100,13 +100,13 @@ class _Batch:
     def judged(self) -> Iterator[tuple[Story, Difference | None]]:
         """Each story with its first difference, if it has one."""
         trace = self._trace() if self.size else iter(())
-        for it in self.stories:
-            lines = [next(trace) for _ in it.events]
-            yield it, _difference(it, lines)
+        for story_ in self.stories:
+            lines = [next(trace) for _ in story_.events]
+            yield story_, _difference(story_, lines)
 
     def _trace(self) -> Iterator[str]:
         """The lines of the trace, behind the header."""
-        schedule = "".join(f"{event.text}\n" for it in self.stories for event in it.events).encode()
+        schedule = "".join(f"{event.text}\n" for story_ in self.stories for event in story_.events).encode()
         report = self.bucket.room.begin()
         fault = self.bucket.program.run([schedule], report)
         if fault is not None:
@@ -206,7 +206,7 @@ class _Judge:
         if kept:
             found = story(instance, kept, self.bucket.settings, self.bucket.doubts, without)
         if len(kept) < len(lines) and (found.stop is None or not found.stop.is_difference):
-            first = min((it for it in lines if it not in set(kept)), key=lambda it: it.time)
+            first = min((line for line in lines if line not in set(kept)), key=lambda it: it.time)
             found = found._replace(stop=Stop(first.position, False, why), disagreements=[])
         if len(found.events) > MOST:
             stop = Stop(found.events[MOST].position, False, TOO_MANY)
@@ -225,7 +225,7 @@ class _Judge:
                 its.differences.append(difference)
             elif found.stop is not None:
                 its.unjudged.append((found.instance, found.stop.position, found.stop.why, not found.events))
-            its.disagreements += [(found.instance, it) for it in found.disagreements]
+            its.disagreements += [(found.instance, disagreement) for disagreement in found.disagreements]
         self.doubtful.clear()
 
     def _without(self, found: Story, difference: Difference | None) -> Story | None:
@@ -233,8 +233,10 @@ class _Judge:
         then. A change that differs by itself stays: its process has made it, whether it was committed or not.
         """
         lines = self.doubtful[found.instance]
-        end = next((it.time for it in lines if difference is not None and it.position == difference.position), NEVER)
-        for without in _choices([it for it, time in found.unshown.items() if time < end]):
+        end = next(
+            (line.time for line in lines if difference is not None and line.position == difference.position), NEVER
+        )
+        for without in _choices([change for change, time in found.unshown.items() if time < end]):
             batch = _Batch(self.bucket)
             batch.add(self._told(found.instance, lines, without))
             ((other, differs),) = batch.judged()
@@ -281,12 +283,12 @@ def _read_position(text: bytes) -> tuple[Position, bytes]:
 
 def _before_gaps(lines: list[Line], known: Sequence[Gap]) -> tuple[list[Line], str]:
     """The lines of an instance that come before the first gap in its life, and why there is one."""
-    first, last = min(it.time for it in lines), max(it.time for it in lines)
-    gaps = [it for it in known if first <= it.end and last > it.begin]
+    first, last = min(line.time for line in lines), max(line.time for line in lines)
+    gaps = [gap for gap in known if first <= gap.end and last > gap.begin]
     if not gaps:
         return lines, ""
     gap = min(gaps)
-    return [it for it in lines if it.time <= gap.begin], gap.why
+    return [line for line in lines if line.time <= gap.begin], gap.why
 
 
 # ---- what the lines of others show
@@ -305,7 +307,7 @@ def look(looking: Looking) -> dict[Change, bool]:
     found: dict[Change, bool] = {}
     for texts in _texts(bucket, looking.instances).values():
         try:
-            lines = [read(*_read_position(it)) for it in texts]
+            lines = [read(*_read_position(text)) for text in texts]
         except BadLine:
             continue  # whoever judges the instance reports that
         found.update(shown(_before_gaps(lines, bucket.gaps)[0], bucket.doubts))

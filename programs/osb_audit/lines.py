@@ -126,7 +126,7 @@ _EVENTS = {
 }
 """The members of each event that an audit knows. Without those with an exclamation mark, nothing can be said of it."""
 MEMBERS: Mapping[tuple[str, str], Mapping[str, _Value]] = {
-    event: {it: _TYPES.get(it, _TEXT) for it in (names.replace("!", "") + _OF_LIFE).split()}
+    event: {name: _TYPES.get(name, _TEXT) for name in (names.replace("!", "") + _OF_LIFE).split()}
     for event, names in _EVENTS.items()
 }
 NEEDED = {event: tuple(re.findall(r"(\w+)!", names)) for event, names in _EVENTS.items()}
@@ -182,9 +182,9 @@ def read(position: Position, text: bytes) -> Line:
         needed += ("found",)
     elif (side, event) == ("platform", "answered") and "lost" not in members:
         needed += ("status",)
-    for it in needed:
-        if it not in members:
-            raise BadLine(f"{event} of a {side} has no {it}")
+    for name in needed:
+        if name not in members:
+            raise BadLine(f"{event} of a {side} has no {name}")
     return Line(position, members)
 
 
@@ -196,9 +196,9 @@ def plain(text: bytes) -> bytes | None:
         members = json.loads(text)
     except (ValueError, RecursionError):
         return None
-    if not isinstance(members, dict) or any(it not in members for it in _FIRST):
+    if not isinstance(members, dict) or any(name not in members for name in _FIRST):
         return None
-    first = {it: members[it] for it in (*_FIRST, "instance") if it in members}
+    first = {name: members[name] for name in (*_FIRST, "instance") if name in members}
     return json.dumps({**first, **members}, separators=(",", ":")).encode()
 
 

@@ -28,8 +28,8 @@ def _differs(line: Line, why: str, model: tuple[object, ...], journal: tuple[obj
     return differs(
         line,
         why,
-        ", ".join(f"{word} {it}" for word, it, _ in wrong),
-        ", ".join(f"{word} {it}" for word, _, it in wrong),
+        ", ".join(f"{word} {got}" for word, got, _ in wrong),
+        ", ".join(f"{word} {wanted}" for word, _, wanted in wrong),
     )
 
 

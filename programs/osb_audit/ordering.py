@@ -32,9 +32,11 @@ def ordered(lines: Iterable[Line], doubts: Doubts, without: Collection[Change] =
     """
     left, undone = _left(lines)
     uncommitted = _uncommitted(left, undone, doubts, without)
-    counted = [it for it in left if it not in uncommitted]
-    unsure = (it for it in _last(counted) if it.change not in undone and doubts.get(it.change, True) is None)
-    return Counted(_postponed(_chained(counted), undone), [it for it in unsure if it.of["before"] != it.of["after"]])
+    counted = [line for line in left if line not in uncommitted]
+    unsure = (line for line in _last(counted) if line.change not in undone and doubts.get(line.change, True) is None)
+    return Counted(
+        _postponed(_chained(counted), undone), [line for line in unsure if line.of["before"] != line.of["after"]]
+    )
 
 
 def _last(lines: Sequence[Line]) -> Iterator[Line]:
@@ -54,7 +56,7 @@ def shown(lines: Iterable[Line], doubts: Doubts) -> Iterator[tuple[Change, bool]
     left, undone = _left(lines)
     uncommitted = _uncommitted(left, undone, doubts, ())
     following: dict[Row, Line] = {}
-    for line in reversed([it for it in left if it.event == "changed"]):
+    for line in reversed([line for line in left if line.event == "changed"]):
         row, is_lost = row_of(line), line in uncommitted
         if line.change in doubts and line.change not in undone and line.of["before"] != line.of["after"]:
             it = following.get(row)
@@ -69,9 +71,11 @@ def shown(lines: Iterable[Line], doubts: Doubts) -> Iterator[tuple[Change, bool]
 def _left(lines: Iterable[Line]) -> tuple[list[Line], frozenset[Change]]:
     """The lines by their times, without the changes that were surely undone, and the changes that others undo."""
     found = sorted(lines, key=lambda it: (it.time, it.position))
-    undone = {it.change: bool(it.of.get("doubtful")) for it in found if it.event == "undone"}
+    undone = {line.change: bool(line.of.get("doubtful")) for line in found if line.event == "undone"}
     left = [
-        it for it in found if it.event != "undone" and not (it.event == "changed" and undone.get(it.change) is False)
+        line
+        for line in found
+        if line.event != "undone" and not (line.event == "changed" and undone.get(line.change) is False)
     ]
     return left, frozenset(undone)
 
@@ -84,15 +88,16 @@ def _uncommitted(
     for line in lines:
         if line.event != "arrived":  # a request that has only arrived doesn't show that a change before it is committed
             last[line.process, row_of(line)] = line
-    seen = {it for line in lines if line.event == "answered" and "saw" in line.of for it in _seen(line)}
-    changes = [it for it in lines if it.event == "changed"]
-    known = {it for it in changes if it.change not in undone and doubts.get(it.change) is not None}
+    seen = {pair for line in lines if line.event == "answered" and "saw" in line.of for pair in _seen(line)}
+    changes = [line for line in lines if line.event == "changed"]
+    known = {line for line in changes if line.change not in undone and doubts.get(line.change) is not None}
     unsure = {
-        it
-        for it in changes
-        if it not in known and (it.change in undone or it.change in doubts or last[it.process, row_of(it)] is it)
+        line
+        for line in changes
+        if line not in known
+        and (line.change in undone or line.change in doubts or last[line.process, row_of(line)] is line)
     }
-    found = {it for it in changes if it.change in without or it in known and not doubts[it.change]}
+    found = {line for line in changes if line.change in without or line in known and not doubts[line.change]}
     following: dict[Row, Line] = {}  # the next change of each row that counts
     for line in reversed(changes):
         row = row_of(line)
@@ -100,20 +105,24 @@ def _uncommitted(
             found.add(line)
         elif line not in found:
             following[row] = line
-    found |= _overtaken([it for it in changes if it not in found], doubts)
-    return found | _made_before([it for it in changes if it not in found], unsure)
+    found |= _overtaken([line for line in changes if line not in found], doubts)
+    return found | _made_before([line for line in changes if line not in found], unsure)
 
 
 def _overtaken(changes: Sequence[Line], doubts: Doubts) -> set[Line]:
     """The last changes of killed platforms that have found what another change has found, too. Each record of a row is
     another one, so that the other was committed shows that these weren't.
     """
-    found = {it for it in changes if it.side == "platform" and doubts.get(it.change, True) is None}
+    found = {line for line in changes if line.side == "platform" and doubts.get(line.change, True) is None}
     if not found:
         return found
-    others = {(row_of(it), it.of["before"]) for it in changes if it not in found and it.of["before"] != it.of["after"]}
-    latest = {row_of(it): it for it in changes}
-    return {it for it in found if latest[row_of(it)] is it and (row_of(it), it.of["before"]) in others}
+    others = {
+        (row_of(line), line.of["before"])
+        for line in changes
+        if line not in found and line.of["before"] != line.of["after"]
+    }
+    latest = {row_of(line): line for line in changes}
+    return {line for line in found if latest[row_of(line)] is line and (row_of(line), line.of["before"]) in others}
 
 
 def _is_lost(line: Line, following: Line | None, is_doubtful: bool, seen: set[tuple[Row, str]]) -> bool:
@@ -130,7 +139,7 @@ def _made_before(changes: Sequence[Line], unsure: set[Line]) -> set[Line]:
     isn't one of them.
     """
     texts: dict[Row, str] = {}
-    latest = {row_of(it): it for it in changes}
+    latest = {row_of(line): line for line in changes}
     found: set[Line] = set()
     for line in changes:
         row, after = row_of(line), line.of["after"]
@@ -161,19 +170,24 @@ def _chained(lines: list[Line]) -> list[Line]:
             earlier = _fitting(lines[at + 1 :], line, texts[row_of(line)], done)
             if earlier is not None:
                 until = lines.index(earlier) + 1
-                for it in lines[at + 1 : until]:
-                    if it.process == earlier.process and it not in done:
-                        take(it)
+                for other in lines[at + 1 : until]:
+                    if other.process == earlier.process and other not in done:
+                        take(other)
         take(line)
     return found
 
 
 def _fitting(lines: Iterable[Line], line: Line, text: str, done: set[Line]) -> Line | None:
     """The first change of the same row by another process that has found this."""
-    for it in lines:
-        if it.event == "changed" and it not in done and row_of(it) == row_of(line) and it.process != line.process:
-            if it.of["before"] == text:
-                return it
+    for other in lines:
+        if (
+            other.event == "changed"
+            and other not in done
+            and row_of(other) == row_of(line)
+            and other.process != line.process
+        ):
+            if other.of["before"] == text:
+                return other
     return None
 
 
@@ -197,9 +211,9 @@ def _postponed(lines: list[Line], undone: frozenset[Change]) -> list[Line]:
             begun = arrived[line.visit]
             for row, saw in _seen(line):
                 late = _unseen(lines, changes.get(row, []), arrived, begun, at, saw)
-                known = [lines[it] for it in late if lines[it].change not in undone]
-                if not any(_is_committed(it, lines[begun]) for it in known):
-                    moves.update((it, max(moves.get(it, 0), begun)) for it in late)
+                known = [lines[number] for number in late if lines[number].change not in undone]
+                if not any(_is_committed(line, lines[begun]) for line in known):
+                    moves.update((number, max(moves.get(number, 0), begun)) for number in late)
     return list(_moved(lines, moves)) if moves else lines
 
 
@@ -222,7 +236,7 @@ def _unseen(
     behind = bisect(changes, begun)
     if behind == 0 or lines[changes[behind - 1]].of["after"] == saw:
         return ()
-    if any(lines[it].of["after"] == saw for it in changes[behind : bisect(changes, end)]):
+    if any(lines[number].of["after"] == saw for number in changes[behind : bisect(changes, end)]):
         return ()
     for first in range(behind - 1, -1, -1):
         at = changes[first]
@@ -245,15 +259,15 @@ def _is_over(lines: Sequence[Line], arrived: Mapping[tuple[str, int], int], at: 
     """
     change = lines[at]
     row = row_of(change)
-    for it in lines[at + 1 : end]:
-        if it.visit is None or it.process != change.process:
+    for line in lines[at + 1 : end]:
+        if line.visit is None or line.process != change.process:
             continue
-        if it.visit == change.visit:
+        if line.visit == change.visit:
             return True
-        if arrived.get(it.visit, -1) > at:
-            if it.event == "changed" and row_of(it) == row:
+        if arrived.get(line.visit, -1) > at:
+            if line.event == "changed" and row_of(line) == row:
                 return True
-            if it.event == "answered" and "saw" in it.of and (row, change.of["after"]) in _seen(it):
+            if line.event == "answered" and "saw" in line.of and (row, change.of["after"]) in _seen(line):
                 return True
     return False
 

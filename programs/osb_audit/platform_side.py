@@ -141,7 +141,7 @@ class PlatformSide:
         life.sender = line.process if after.out != "-" else ""
 
     def _has_abandoned(self) -> bool:
-        return any(it.is_abandoned for it in self.known.lives.values() if it.is_binding)
+        return any(life.is_abandoned for life in self.known.lives.values() if life.is_binding)
 
     # ---- answers
 
@@ -150,8 +150,8 @@ class PlatformSide:
         attempt = line.of.get("attempt", life.record.attempt)
         requests = self.known.requests.get((life.key, attempt), [])
         fetches = self.known.fetches.get(life.key, ())[-1:]
-        self._check_heard(line, [*requests, *(it for it in fetches if self.polls[it] == attempt)])
-        heard = [self.known.heard[it] for it in requests if it in self.known.heard]
+        self._check_heard(line, [*requests, *(fetch for fetch in fetches if self.polls[fetch] == attempt)])
+        heard = [self.known.heard[request] for request in requests if request in self.known.heard]
         said = _said(heard[-1]) if heard else None
         timed_out = rules.stepped(life.record, "timeout")
         event = self._event(line, life, attempt, said, after)
@@ -164,9 +164,9 @@ class PlatformSide:
 
     def _check_heard(self, line: Line, requests: Sequence[str]) -> None:
         """A process takes an answer, or a timeout, once its exchange is over."""
-        for it in requests:
-            answer = self.known.answers.get(it)
-            if answer is not None and answer.process == line.process and it not in self.known.heard:
+        for request in requests:
+            answer = self.known.answers.get(request)
+            if answer is not None and answer.process == line.process and request not in self.known.heard:
                 raise differs(line, NOT_COME, "-", _words(answer))
 
     def _effect(self, life: Life, said: Said | None) -> Recorded | None:
@@ -183,10 +183,10 @@ class PlatformSide:
             return self._unheard(line, life, attempt, after)
         if life.is_binding and (life.record.state, life.record.out, said) == ("polling", "poll", (200, "succeeded")):
             return self._fetched(life, attempt, said)
-        given = [it.position for it in life.given.get(attempt, ()) if it.said == said]
+        given = [answer.position for answer in life.given.get(attempt, ()) if answer.said == said]
         if given:
             return f"take {given[-1]}"
-        status = [it.position for it in life.given.get(attempt, ()) if it.said[0] == said[0]]
+        status = [answer.position for answer in life.given.get(attempt, ()) if answer.said[0] == said[0]]
         if said[1] == "malformed" and status:
             return f"garble {status[-1]}"
         if 500 <= said[0] <= 599:
@@ -215,8 +215,8 @@ class PlatformSide:
         """The answer to a Poll counts together with that to the Fetch that followed it."""
         fetches = self.known.fetches.get(life.key, [])
         heard = self.known.heard.get(fetches[-1]) if fetches else None
-        polls = [it.position for it in life.given.get(attempt, ()) if it.said == said]
-        positions = [at for at, it in enumerate(life.fetched) if self.known.visits[it].request in fetches[-1:]]
+        polls = [answer.position for answer in life.given.get(attempt, ()) if answer.said == said]
+        positions = [at for at, visit in enumerate(life.fetched) if self.known.visits[visit].request in fetches[-1:]]
         if heard is None or heard.of.get("status") != 200 or "lost" in heard.of or not polls or not positions:
             return "timeout"
         return f"take-fetched {polls[-1]} {positions[-1]}"
@@ -224,12 +224,14 @@ class PlatformSide:
     def _not_given(self, line: Line, life: Life, attempt: int, said: Said) -> str:
         """No broker has given this answer to this request."""
         requests = self.known.requests[life.key, attempt]
-        visits = [it for it in self.known.visits.values() if it.request in requests]
+        visits = [visit for visit in self.known.visits.values() if visit.request in requests]
         if not visits:
             raise unjudged(line, "the platform took an answer to a request that no journal of a broker has")
-        if any(it.may_conflict and it.said == said for it in visits):
+        if any(visit.may_conflict and visit.said == said for visit in visits):
             raise unjudged(line, "the platform took a 409 that isn't judged: the broker's journal has no attributes")
-        answers = ", ".join(shown(it.said) for it in visits if it.said and not self.known.is_altered(it)) or "-"
+        answers = (
+            ", ".join(shown(visit.said) for visit in visits if visit.said and not self.known.is_altered(visit)) or "-"
+        )
         raise differs(line, "the platform took an answer that no broker has given", answers, shown(said))
 
 

@@ -37,10 +37,10 @@ class Report:
         usual one.
         """
         self._found, self._allowed = found, allowed
-        self.instances = sum(it.instances for it in found.judged)
-        self.events = sum(it.events for it in found.judged)
+        self.instances = sum(judged.instances for judged in found.judged)
+        self.events = sum(judged.events for judged in found.judged)
         self.differences = found.differences
-        self.disagreements = sorted(it for judged in found.judged for it in judged.disagreements)
+        self.disagreements = sorted(disagreement for judged in found.judged for disagreement in judged.disagreements)
         self.unjudged = list(_unjudged(found))
         self.notes: Counter[str] = Counter()
         for judged in found.judged:
@@ -50,7 +50,7 @@ class Report:
         """The exit status."""
         if self.differences or self.disagreements:
             return DIFFERENT
-        if self.instances == sum(it.whole for it in self.unjudged):
+        if self.instances == sum(reason.whole for reason in self.unjudged):
             return UNUSABLE
         if self._allowed is None:
             return DIFFERENT if self._left * 100 > USUAL * self.instances else 0
@@ -61,7 +61,7 @@ class Report:
         """How many instances weren't judged to their end. If --unjudged isn't given, those don't count that were judged
         until the audit began.
         """
-        return sum(it.instances for it in self.unjudged if self._allowed is not None or it.why != RECENT)
+        return sum(reason.instances for reason in self.unjudged if self._allowed is not None or reason.why != RECENT)
 
     # ---- text
 
@@ -70,8 +70,8 @@ class Report:
         return "".join(f"{line}\n" for line in self._lines())
 
     def _lines(self) -> Iterator[str]:
-        for it in self.differences:
-            yield from self._of(it)
+        for difference in self.differences:
+            yield from self._of(difference)
         if self.disagreements:
             yield "At the end, the sides disagree:"
             yield from (f"  {why}" for _, why in self.disagreements)
@@ -138,9 +138,9 @@ class Report:
         report = {
             "instances": self.instances,
             "events": self.events,
-            "differences": [self._object(it) for it in self.differences],
+            "differences": [self._object(difference) for difference in self.differences],
             "disagreements": [{"instance": instance, "why": why} for instance, why in self.disagreements],
-            "unjudged": [self._reason(it) for it in self.unjudged],
+            "unjudged": [self._reason(reason) for reason in self.unjudged],
             "notes": dict(sorted(self.notes.items())),
             "remarks": list(self._remarks()),
             "torn": found.torn,
@@ -167,7 +167,7 @@ def _unjudged(found: Audited) -> Iterator[Unjudged]:
             by_reason.setdefault(why, []).append((position, instance, is_whole))
     for why, its in sorted(by_reason.items()):
         position, instance, _ = min(its)
-        yield Unjudged(why, len(its), sum(it[2] for it in its), position, instance)
+        yield Unjudged(why, len(its), sum(found[2] for found in its), position, instance)
 
 
 def _many(count: int, what: str) -> str:

@@ -27,11 +27,11 @@ NO_ATTRIBUTES = "0" * 64
 _OTHERS = bytes([1] * 32)
 """The digest of other attributes than those of what is held, which stand here as none."""
 _ID, _SERVICE, _PLAN, _OTHER = Id(0, 1), Id(0, 2), Id(0, 3), Id(0, 4)
-_KINDS = {str(it): it for it in Kind}
+_KINDS = {str(kind): kind for kind in Kind}
 _MODES = {"sync": Mode.SYNC, "async": Mode.ASYNC, "none": None}
-_PHASES = {str(it): it for it in Phase}
-_STATES = {str(it): it for it in State}
-_BODIES = {str(it): it for it in Body}
+_PHASES = {str(phase): phase for phase in Phase}
+_STATES = {str(state): state for state in State}
+_BODIES = {str(body): body for body in Body}
 ENDS = {
     "done": Outcome.DONE,
     "before": Outcome.BEFORE,
@@ -102,7 +102,7 @@ def held_in(text: str) -> tuple[Held, Terms]:
             work["accepts_incomplete"] if work else False,
             members["tombstone"],
         )
-        of_row, of_work = (_plan_in(it) if it else None for it in (row, work))
+        of_row, of_work = (_plan_in(part) if part else None for part in (row, work))
         terms = Terms(of_row or of_work, members["attributes"], of_work, work["id"] if work else "")
         _check(held.accepts.__class__ is held.tombstone.__class__ is bool)
         _check(terms.attributes.__class__ is terms.work_id.__class__ is str)
@@ -114,7 +114,7 @@ def held_in(text: str) -> tuple[Held, Terms]:
 def _plan_in(part: dict[str, str]) -> Plan:
     """The plan in a text."""
     found = part["service"], part["plan"]
-    _check(all(it in GUIDS for it in found))
+    _check(all(word in GUIDS for word in found))
     return found
 
 

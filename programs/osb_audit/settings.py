@@ -31,13 +31,13 @@ class Settings(NamedTuple):
 def settings_in(text: bytes) -> Settings:
     """Reads the line `started` of a broker. Raises `BadLine`."""
     members = members_of(text)
-    check({it: value for it, value in members.items() if value is not None}, OF_STARTED, "started of a broker")
+    check({name: value for name, value in members.items() if value is not None}, OF_STARTED, "started of a broker")
     plans = {}
-    for it in members.get("plans") or ():
-        if not isinstance(it, dict) or any(name not in it for name in ("service_number", "plan_number")):
+    for plan in members.get("plans") or ():
+        if not isinstance(plan, dict) or any(name not in plan for name in ("service_number", "plan_number")):
             raise BadLine("a plan in started of a broker has no service_number or no plan_number")
-        check(it, OF_SOLD, "a plan in started of a broker")
-        sold = Sold(it.get("mode", "none"), it.get("binding", "none"), it.get("retrievable", False))
-        plans[it["service_number"], it["plan_number"]] = sold
+        check(plan, OF_SOLD, "a plan in started of a broker")
+        sold = Sold(plan.get("mode", "none"), plan.get("binding", "none"), plan.get("retrievable", False))
+        plans[plan["service_number"], plan["plan_number"]] = sold
     lost = members.get("locks_can_be_lost")
     return Settings(members.get("first_poll") or False, plans, True if lost is None else lost)

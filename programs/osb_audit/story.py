@@ -40,4 +40,4 @@ def story(
             stop = Stop(line.position, True, str(error), "a text of the library", "another one")
         if stop is not None:
             break
-    return known.story(stop)._replace(unshown={it.change: it.time for it in unshown})
+    return known.story(stop)._replace(unshown={claim.change: claim.time for claim in unshown})

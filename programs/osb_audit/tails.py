@@ -94,7 +94,7 @@ class Tail:
             self.claims = []
         if following.shows_others:
             self.others = []
-        self.claims += [it._replace(run=it.run + self.run) for it in following.claims]
+        self.claims += [claim._replace(run=claim.run + self.run) for claim in following.claims]
         self.others += following.others
         self.run += following.run
 
@@ -108,11 +108,11 @@ def _row(text: bytes, instance: bytes) -> bytes:
 def joined(tails: Iterable[Tail]) -> list[Tail]:
     """Those of each process at the end of its journal."""
     found: dict[str, Tail] = {}
-    for it in sorted(tails, key=lambda it: it.first):
-        if it.process in found:
-            found[it.process].join(it)
+    for tail in sorted(tails, key=lambda it: it.first):
+        if tail.process in found:
+            found[tail.process].join(tail)
         else:
-            found[it.process] = it
+            found[tail.process] = tail
     return list(found.values())
 
 
@@ -124,23 +124,23 @@ def doubts(tails: Iterable[Tail], shown: Mapping[Change, bool]) -> dict[Change, 
     """
     found: dict[Change, bool | None] = {}
     for tail in tails:
-        found.update((it, None) for it in _changes(tail.process, (*tail.claims, *tail.others)))
-        for run in {it.run for it in tail.claims}:
-            claims = _changes(tail.process, [it for it in tail.claims if it.run == run])
+        found.update((change, None) for change in _changes(tail.process, (*tail.claims, *tail.others)))
+        for run in {claim.run for claim in tail.claims}:
+            claims = _changes(tail.process, [claim for claim in tail.claims if claim.run == run])
             found.update(_in_order(list(claims), shown))
     return found
 
 
 def _changes(process: str, left: Iterable[Left]) -> Iterator[Change]:
-    for it in left:
-        number = it.number
+    for change in left:
+        number = change.number
         if number is not None:
             yield process, number
 
 
 def _in_order(claims: Sequence[Change], shown: Mapping[Change, bool]) -> Iterator[tuple[Change, bool | None]]:
-    committed = max((at for at, it in enumerate(claims) if shown.get(it)), default=-1)
+    committed = max((at for at, claim in enumerate(claims) if shown.get(claim)), default=-1)
     is_lost = False
-    for at, it in enumerate(claims):
-        is_lost = is_lost or at > committed and it in shown
-        yield it, at <= committed or (False if is_lost else None)
+    for at, claim in enumerate(claims):
+        is_lost = is_lost or at > committed and claim in shown
+        yield claim, at <= committed or (False if is_lost else None)

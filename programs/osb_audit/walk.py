@@ -72,8 +72,10 @@ class Known:
     def next_change(self, line: Line) -> Line | None:
         """The next change of the record of the same life, or None if there is none."""
         behind = iter(self.lines)
-        any(it is line for it in behind)
-        changes = (it for it in behind if (it.side, it.event, it.key) == ("platform", "changed", line.key))
+        any(other is line for other in behind)
+        changes = (
+            other for other in behind if (other.side, other.event, other.key) == ("platform", "changed", line.key)
+        )
         return next(changes, None)
 
     # ---- requests
@@ -111,12 +113,12 @@ class Known:
     @property
     def is_bound(self) -> bool:
         """Whether one of the bindings is held."""
-        return any(it.held.is_held for it in self.lives.values() if it.is_binding)
+        return any(life.held.is_held for life in self.lives.values() if life.is_binding)
 
     @property
     def is_bound_by_others(self) -> bool:
         """Whether a binding of another client is held, which the model doesn't have."""
-        return any(it.held.is_held for it in self.lives.values() if it.is_others)
+        return any(life.held.is_held for life in self.lives.values() if life.is_others)
 
     def sold(self, plan: Plan | None) -> Sold:
         """How a plan is sold."""
@@ -160,12 +162,12 @@ class Known:
         found = []
         for key, life in sorted(self.lives.items()):
             if not (life.is_abandoned or self._is_foreign(key)):
-                found += [f"{life.name}: {it}" for it in _disagreements(life)]
+                found += [f"{life.name}: {disagreement}" for disagreement in _disagreements(life)]
         return found
 
     def _is_foreign(self, key: str) -> bool:
         """Whether somebody has asked for it whose journal isn't there."""
-        return any(it.key == key and it.request not in self.sent for it in self.visits.values())
+        return any(visit.key == key and visit.request not in self.sent for visit in self.visits.values())
 
     def story(self, stop: Stop | None) -> Story:
         """What the lines have come to."""
@@ -193,12 +195,12 @@ def _disagreements(life: Life) -> list[str]:
 
 def settings_of(lines: Sequence[Line], known: Mapping[str, Settings]) -> Settings | str:
     """Those of the broker of an instance, or why they aren't known."""
-    processes = {it.process for it in lines if it.side == "broker"}
-    missing = sorted(it for it in processes if it not in known)
+    processes = {line.process for line in lines if line.side == "broker"}
+    missing = sorted(process for process in processes if process not in known)
     if missing:
         return "the journal of a broker has no line `started`"
-    found = [known[it] for it in sorted(processes)] or list(known.values())[:1]
-    if any((it.first_poll, it.plans) != (found[0].first_poll, found[0].plans) for it in found):
+    found = [known[process] for process in sorted(processes)] or list(known.values())[:1]
+    if any((settings.first_poll, settings.plans) != (found[0].first_poll, found[0].plans) for settings in found):
         return "the broker was restarted with other plans or another rule of the first Poll"
-    lost = any(it.locks_can_be_lost for it in found)
+    lost = any(settings.locks_can_be_lost for settings in found)
     return found[0]._replace(locks_can_be_lost=lost) if found else "no journal of a broker was given"

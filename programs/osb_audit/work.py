@@ -56,17 +56,19 @@ class Audited(NamedTuple):
     @property
     def differences(self) -> list[Difference]:
         """Those of all instances, by their ids."""
-        return sorted((it for judged in self.judged for it in judged.differences), key=lambda it: it.instance)
+        return sorted(
+            (difference for judged in self.judged for difference in judged.differences), key=lambda it: it.instance
+        )
 
 
 class Positions:
     """Which line of which file a line of a stretch is."""
 
     def __init__(self, body: Sequence[Stretch], splits: Sequence[Split], names: Mapping[str, str]) -> None:
-        self._files = [names[it.log.path] for it in body]
-        before = [0, *accumulate(it.lines for it in splits)]
-        firsts = {it.log.path: at for at, it in reversed(list(enumerate(body)))}
-        self._before = [before[at] - before[firsts[it.log.path]] for at, it in enumerate(body)]
+        self._files = [names[stretch.log.path] for stretch in body]
+        before = [0, *accumulate(split_.lines for split_ in splits)]
+        firsts = {stretch.log.path: at for at, stretch in reversed(list(enumerate(body)))}
+        self._before = [before[at] - before[firsts[stretch.log.path]] for at, stretch in enumerate(body)]
 
     def locate(self, position: Position) -> tuple[str, int]:
         """The file, and the number of the line in it."""
@@ -92,7 +94,7 @@ def _journals_in(folder: str) -> list[str]:
     if names:
         return names
     why = f"{folder}: no file in it ends with .jsonl or .jsonl.gz"
-    below = " ".join(shlex.quote(it) for it in folders if _has_journals(it))
+    below = " ".join(shlex.quote(below) for below in folders if _has_journals(below))
     if below:
         raise Unreplayed(UNUSABLE, f"{why}. Name its folders: {PROGRAM} {below}")
     raise Unreplayed(UNUSABLE, f"{why}: name the folder of --journal")
@@ -105,8 +107,8 @@ def _scanned(folder: str) -> tuple[list[str], list[str]]:
             found_here = sorted(entries, key=lambda it: it.path)
     except OSError as error:
         raise Unreplayed(UNUSABLE, f"{folder}: it can't be read: {reason(error)}") from error
-    journals = [it.path for it in found_here if it.is_file() and _is_journal(it.name)]
-    return journals, [it.path for it in found_here if it.is_dir()]
+    journals = [entry.path for entry in found_here if entry.is_file() and _is_journal(entry.name)]
+    return journals, [entry.path for entry in found_here if entry.is_dir()]
 
 
 def _has_journals(folder: str) -> bool:
@@ -125,27 +127,29 @@ def _is_journal(name: str) -> bool:
 def audit(work: Work, engine: Engine) -> Audited:
     """Has the journals split and each instance judged. Raises `Unreplayed` if a journal can't be used."""
     body = [stretch for log in work.logs for stretch in stretches(log, 0, work.chunk)]
-    many = max(1, min(_MOST_BUCKETS, -(-sum(_size(it) for it in work.logs) // _BUCKET)))
+    many = max(1, min(_MOST_BUCKETS, -(-sum(_size(log) for log in work.logs) // _BUCKET)))
     splits = _split(work, engine, body, many)
     positions = Positions(body, splits, work.names)
     _check(body, splits, positions)
     _check_copies(splits, positions)
-    headings = [it for split_ in splits for it in split_.headings]
+    headings = [heading for split_ in splits for heading in split_.headings]
     settings = _settings(splits, positions)
     gaps = tuple(_gaps(headings, work.until))
-    counts = tuple(it.pieces for it in splits)
+    counts = tuple(split_.pieces for split_ in splits)
     buckets = [Bucket(work.room, number, counts, work.program, settings, gaps) for number in range(many)]
     doubts = _doubts(engine, splits, buckets)
-    given = (it._replace(doubts=doubts) for it in buckets)
-    judged = _judge(work, engine, given, sum(it.events for it in splits), positions)
-    torn = ["{}:{}".format(*positions.locate(Position(it.number, line))) for it in splits for line in it.torn]
-    return Audited(judged, _processes(headings), sum(it.missing for it in headings), torn, positions)
+    given = (bucket._replace(doubts=doubts) for bucket in buckets)
+    judged = _judge(work, engine, given, sum(split_.events for split_ in splits), positions)
+    torn = [
+        "{}:{}".format(*positions.locate(Position(split_.number, line))) for split_ in splits for line in split_.torn
+    ]
+    return Audited(judged, _processes(headings), sum(heading.missing for heading in headings), torn, positions)
 
 
 def _gaps(headings: Sequence[Heading], until: int | None) -> Iterator[Gap]:
-    for it in headings:
-        if it.event == "lost":
-            yield Gap(it.before, it.time, LOST)
+    for heading in headings:
+        if heading.event == "lost":
+            yield Gap(heading.before, heading.time, LOST)
     if until is not None:
         yield Gap(until, NEVER, RECENT)
 
@@ -157,18 +161,19 @@ def _size(log: Log) -> int:
 def _split(work: Work, engine: Engine, body: Sequence[Stretch], many: int) -> list[Split]:
     given = (Splitting(work.room, number, stretch, many, work.chunk) for number, stretch in enumerate(body))
     work.progress.begin()
-    splits = []
-    for it in engine.each(split, given):
-        splits.append(it)
-        work.progress.tell("split", sum(it.lines for it in splits), sum(it.lines for it in splits), False)
+    splits, lines = [], 0
+    for split_ in engine.each(split, given):
+        splits.append(split_)
+        lines += split_.lines
+        work.progress.tell("split", lines, lines, False)
     return sorted(splits, key=lambda it: it.number)
 
 
 def _check(body: Sequence[Stretch], splits: Sequence[Split], positions: Positions) -> None:
     """Raises `Unreplayed` at the first line that is no line of a journal."""
-    for it in splits:
-        if it.bad is not None:
-            raise unusable(positions, Position(it.number, it.bad[0]), it.bad[1])
+    for split_ in splits:
+        if split_.bad is not None:
+            raise unusable(positions, Position(split_.number, split_.bad[0]), split_.bad[1])
     for one, other, stretch, following in zip(splits, splits[1:], body, body[1:]):
         is_within = stretch.log == following.log and other.lines > 0
         if is_within and one.ends_torn and not other.begins_anew:
@@ -181,9 +186,11 @@ def _check_copies(splits: Sequence[Split], positions: Positions) -> None:
     """
     seen: dict[tuple[str, int], Position] = {}
     for split_ in splits:
-        for it in split_.headings:
-            position = Position(split_.number, it.line)
-            first = seen.setdefault((it.process, it.time), position) if it.event == "started" else position
+        for heading in split_.headings:
+            position = Position(split_.number, heading.line)
+            first = (
+                seen.setdefault((heading.process, heading.time), position) if heading.event == "started" else position
+            )
             if first != position:
                 (one, line), (other, again) = positions.locate(first), positions.locate(position)
                 why = "one is a copy of the other. Name each journal once"
@@ -201,31 +208,31 @@ def unusable(positions: Positions, position: Position, why: str) -> Unreplayed:
 def _settings(splits: Sequence[Split], positions: Positions) -> dict[str, Settings]:
     settings: dict[str, Settings] = {}
     for split_ in splits:
-        for it in split_.headings:
-            if (it.side, it.event) == ("broker", "started"):
+        for heading in split_.headings:
+            if (heading.side, heading.event) == ("broker", "started"):
                 try:
-                    settings[it.process] = settings_in(it.text)
+                    settings[heading.process] = settings_in(heading.text)
                 except BadLine as error:
-                    raise unusable(positions, Position(split_.number, it.line), str(error)) from error
+                    raise unusable(positions, Position(split_.number, heading.line), str(error)) from error
     return settings
 
 
 def _processes(headings: Sequence[Heading]) -> Counter[str]:
-    return Counter(side for side, _ in {(it.side, it.process) for it in headings})
+    return Counter(side for side, _ in {(heading.side, heading.process) for heading in headings})
 
 
 def _doubts(engine: Engine, splits: Sequence[Split], buckets: Sequence[Bucket]) -> tails.Doubts:
     """The changes of which no line of their process shows that they were committed, and what the lines of others show
     of them. Only claims show something of each other.
     """
-    left = tails.joined(tail for it in splits for tail in it.tails.values())
+    left = tails.joined(tail for split_ in splits for tail in split_.tails.values())
     unknown = tails.doubts(left, {})
     shown: dict[tails.Change, bool] = {}
     instances: dict[int, set[str]] = {}
     for tail in left:
         if len(tail.claims) > 1:
-            for it in tail.claims:
-                instances.setdefault(crc32(it.instance) % len(buckets), set()).add(it.instance.decode())
+            for claim in tail.claims:
+                instances.setdefault(crc32(claim.instance) % len(buckets), set()).add(claim.instance.decode())
     given = (Looking(buckets[at]._replace(doubts=unknown), frozenset(its)) for at, its in instances.items())
     for seen in engine.each(look, given):
         shown.update(seen)
@@ -236,10 +243,10 @@ def _judge(work: Work, engine: Engine, buckets: Iterator[Bucket], lines: int, po
     judged: list[Judged] = []
     done = 0
     work.progress.begin()
-    for it in engine.each(judge, buckets):
-        if it.bad is not None:
-            raise unusable(positions, *it.bad)
-        judged.append(it)
-        done += it.lines
+    for result in engine.each(judge, buckets):
+        if result.bad is not None:
+            raise unusable(positions, *result.bad)
+        judged.append(result)
+        done += result.lines
         work.progress.tell("judged", done, lines, True)
     return judged

@@ -21,7 +21,7 @@ from osb_replay_log.schedulers import Scheduler
 _SECONDS, _SECONDS_TO_REACH = 30, 10
 _HERE = "127.0.0.1"
 """Nobody elsewhere reaches the scheduler and the workers."""
-_NO_PAGES: dict[str, list[str]] = {f"distributed.{it}.http.routes": [] for it in ("scheduler", "worker")}
+_NO_PAGES: dict[str, list[str]] = {f"distributed.{role}.http.routes": [] for role in ("scheduler", "worker")}
 """Settings without which every account of this machine can read what a scheduler and its workers tell of themselves."""
 _TIMEOUTS = (TimeoutError, asyncio.TimeoutError)  # one, from Python 3.11 on
 
@@ -123,8 +123,8 @@ class Dask:
             while True:
                 with signals.held():
                     threads = max(sum(self._client.nthreads().values()), self._own)
-                    for it in islice(waiting, max(threads + 1 - len(running), 0)):
-                        running.add(self._client.submit(task, it, pure=False))
+                    for argument in islice(waiting, max(threads + 1 - len(running), 0)):
+                        running.add(self._client.submit(task, argument, pure=False))
                     if not running:
                         return
                     done = self._first(running)
@@ -151,10 +151,10 @@ class Dask:
         """Ends the scheduler and the workers that were started here. A signal that comes meanwhile waits for it."""
         with signals.held():
             is_own = self._cluster is not None
-            for it in (self._client, self._cluster):
-                if it is not None:
+            for part in (self._client, self._cluster):
+                if part is not None:
                     with contextlib.suppress(Exception):  # what can't be told to end is killed
-                        it.close(timeout=_SECONDS_TO_REACH)
+                        part.close(timeout=_SECONDS_TO_REACH)
             self._client = self._cluster = None
             if is_own:
                 _kill_all()

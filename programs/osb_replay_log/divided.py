@@ -60,7 +60,7 @@ def write(folder: str, logs: tuple[Log, ...], outcome: Outcome) -> Divided:
     new = Path(folder, f"{_NAME}.new")
     about = {
         "events": events,
-        "logs": [{"gzip": it.is_gzip, "path": it.path, "size": it.size} for it in logs],
+        "logs": [{"gzip": log.is_gzip, "path": log.path, "size": log.size} for log in logs],
         "plans": divided.plans,
         "restarts": divided.restarts,
         "version": 1,
@@ -82,8 +82,8 @@ def read(folder: str) -> Divided:
         about = json.loads(path.read_bytes())
         if about["version"] != 1:
             raise ValueError("it is of another version")
-        logs = tuple(Log(_a(str, it["path"]), _a(int, it["size"]), _a(bool, it["gzip"])) for it in about["logs"])
-        events = tuple(_a(int, it) for it in about["events"])
+        logs = tuple(Log(_a(str, log["path"]), _a(int, log["size"]), _a(bool, log["gzip"])) for log in about["logs"])
+        events = tuple(_a(int, event) for event in about["events"])
         return Divided(folder, logs, _a(int, about["plans"]), _a(int, about["restarts"]), events)
     except (ValueError, KeyError, TypeError, RecursionError) as error:
         raise Unreplayed(UNREAD, f"{path}: it isn't what 'split' writes: {reason(error)}") from error
@@ -113,7 +113,7 @@ def report(divided: Divided, number: int) -> Report:
 
 def faults(divided: Divided) -> list[Faulty]:
     """The faults that the parts' replays have told. Where there is one, the log has to be as it was."""
-    told = [it for it in (_fault(divided, number) for number in range(1, divided.parts + 1)) if it is not None]
+    told = [fault for fault in (_fault(divided, number) for number in range(1, divided.parts + 1)) if fault is not None]
     for log in divided.logs if told else ():
         if found(log.path) != log:
             raise Unreplayed(UNREAD, f"{log.path}: it has changed since it was split")

@@ -29,7 +29,7 @@ def shown(text: str) -> str:
     A log and the names of files have what others have written. So their control characters, those that change the
     direction of a text, and line feeds don't reach the terminal.
     """
-    return "".join(it if it.isprintable() else it.encode("unicode_escape").decode() for it in text)
+    return "".join(letter if letter.isprintable() else letter.encode("unicode_escape").decode() for letter in text)
 
 
 def reason(error: object) -> str:

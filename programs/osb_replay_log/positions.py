@@ -14,22 +14,24 @@ Judge = Callable[[bytes], Optional[str]]
 
 def first_fault(logs: Sequence[Log], found: Sequence[Faulty], judge: Judge, chunk: int) -> Unreplayed:
     """The log's first fault: one of those that parts have told, or that of the first odd line."""
-    wanted: dict[bytes, tuple[int, str]] = {it.name: (it.nth, it.fault) for it in found}
+    wanted: dict[bytes, tuple[int, str]] = {faulty.name: (faulty.nth, faulty.fault) for faulty in found}
     counts = dict.fromkeys(wanted, 0)
     is_behind = False
-    for it in numbered(logs, chunk):
-        name = name_in(it.text)
-        is_behind = is_behind or not is_head(it.text)
+    for line in numbered(logs, chunk):
+        name = name_in(line.text)
+        is_behind = is_behind or not is_head(line.text)
         fault: str | None = None
         if name is None:
-            if is_behind and kind_of(it.text) in (Kind.ODD, Kind.PLAN):
-                fault = judge(it.text[: LONGEST + 1])
+            if is_behind and kind_of(line.text) in (Kind.ODD, Kind.PLAN):
+                fault = judge(line.text[: LONGEST + 1])
                 if fault is None:
-                    return Unreplayed(UNABLE, f"{logs[it.log].path}: line {it.line}: osb-replay finds no fault in it")
+                    return Unreplayed(
+                        UNABLE, f"{logs[line.log].path}: line {line.line}: osb-replay finds no fault in it"
+                    )
         elif name in wanted:
             counts[name] += 1
             if counts[name] == wanted[name][0]:
                 fault = wanted[name][1]
         if fault is not None:
-            return Unreplayed(FAULTY, f"{logs[it.log].path}: line {it.line}: {fault}")
+            return Unreplayed(FAULTY, f"{logs[line.log].path}: line {line.line}: {fault}")
     return Unreplayed(UNABLE, "a part has a fault that isn't in the log: the log has changed during the replay")

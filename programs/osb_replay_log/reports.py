@@ -150,7 +150,7 @@ def _ascending(last: bytes, block: Sequence[bytes], reports: Sequence[Report]) -
     """The last id of a block of lines. One that is there twice, or stands behind a greater one, is refused."""
     ids = [line.partition(b" ")[0] for line in block]
     if ids[0] <= last or len(set(ids)) < len(ids):
-        twice = ids[0] if ids[0] <= last else next(it for it, other in zip(ids, ids[1:]) if it == other)
+        twice = ids[0] if ids[0] <= last else next(id for id, other in zip(ids, ids[1:]) if id == other)
         raise Unreplayed(
             UNREAD,
             f"{_last_with(twice, reports)}: it isn't of this log, or another report isn't: "
@@ -160,10 +160,10 @@ def _ascending(last: bytes, block: Sequence[bytes], reports: Sequence[Report]) -
 
 
 def _last_with(name: bytes, reports: Sequence[Report]) -> str:
-    for it in reversed(reports):
-        for block in merged([it.lines], b"\n"):
+    for report in reversed(reports):
+        for block in merged([report.lines], b"\n"):
             if any(line.partition(b" ")[0] == name for line in block):
-                return it.lines.path
+                return report.lines.path
     return "a report"
 
 
@@ -171,14 +171,14 @@ def write(reports: Sequence[Report], restarts: int, is_saved: bool, room: Room, 
     """Writes the report of the whole. Each part has all restarts in it, which are counted once. If merging many reports
     needs more than the room may have, nothing is written.
     """
-    lines = stepped([it.lines for it in reports], b"\n", room)
-    members = stepped([it.members for it in reports], b"},", room) if is_saved else []
+    lines = stepped([report.lines for report in reports], b"\n", room)
+    members = stepped([report.members for report in reports], b"},", room) if is_saved else []
     last = b""
     for block in merged(lines, b"\n"):
         last = _ascending(last, block, reports)
         out.write(b"\n".join(block) + b"\n")
-    applied = sum(it.applied for it in reports) - restarts * (len(reports) - 1)
-    out.write(b"applied %d\nskipped %d\n" % (applied, sum(it.skipped for it in reports)))
+    applied = sum(report.applied for report in reports) - restarts * (len(reports) - 1)
+    out.write(b"applied %d\nskipped %d\n" % (applied, sum(report.skipped for report in reports)))
     if is_saved:
         end = b"}"
         out.write(_RECORD)

@@ -49,12 +49,12 @@ def _sizes(folder: str) -> dict[int, int]:
     """The sizes of all files below the folder, each once even if a worker renames it meanwhile."""
     found: dict[int, int] = {}
     with contextlib.suppress(FileNotFoundError), os.scandir(folder) as entries:
-        for it in entries:
+        for entry in entries:
             with contextlib.suppress(FileNotFoundError):
-                if it.is_dir(follow_symlinks=False):
-                    found.update(_sizes(it.path))
+                if entry.is_dir(follow_symlinks=False):
+                    found.update(_sizes(entry.path))
                 else:
-                    found[it.inode()] = it.stat(follow_symlinks=False).st_size
+                    found[entry.inode()] = entry.stat(follow_symlinks=False).st_size
     return found
 
 

@@ -50,7 +50,9 @@ def do(work: Work, engine: Engine, is_replayed: bool) -> Outcome:
     many, estimate = estimated(body, work.most)
     parted = _part(work, engine, len(head.plans), body, many, estimate)
     done = _finish(work, engine, len(head.plans), parted, many, is_replayed)
-    return Outcome([file for it in done for file in it.files], len(head.plans), sum(it.restarts for it in parted))
+    return Outcome(
+        [file for bucket in done for file in bucket.files], len(head.plans), sum(split.restarts for split in parted)
+    )
 
 
 def judge(program: Program, line: bytes) -> str | None:
@@ -63,19 +65,23 @@ def estimated(body: Sequence[Stretch], most: int) -> tuple[int, int]:
     """The number of buckets, so that a bucket is about half a part, and how many lines a bucket may have."""
     if not body:
         return 1, 1
-    found: list[bytes] = [line for it in _samples(body) for line in next(lines_of(it, _FEW), [])]
+    found: list[bytes] = [line for sample in _samples(body) for line in next(lines_of(sample, _FEW), [])]
     text = b"\n".join(found) + b"\n"
     gain, length = len(text) / len(zlib.compress(text)), len(text) / max(len(found), 1)
-    size = sum(it.log.size * gain if it.log.is_gzip else it.end - it.begin for it in body)
+    size = sum(stretch.log.size * gain if stretch.log.is_gzip else stretch.end - stretch.begin for stretch in body)
     lines = int(size / length) + 1
     return max(1, min(_MOST_BUCKETS, -(-2 * lines // most))), lines
 
 
 def _samples(body: Sequence[Stretch]) -> Iterator[Stretch]:
     """Some bytes of some stretches: of a gzip file's, those at its beginning."""
-    for it in body[:: -(-len(body) // _SAMPLES)]:
-        middle = it.begin if it.log.is_gzip else it.begin + max(0, it.end - it.begin - _FEW) // 2
-        yield it._replace(begin=middle, end=min(it.end, middle + _FEW), is_whole=middle == it.begin and it.is_whole)
+    for stretch in body[:: -(-len(body) // _SAMPLES)]:
+        middle = (
+            stretch.begin if stretch.log.is_gzip else stretch.begin + max(0, stretch.end - stretch.begin - _FEW) // 2
+        )
+        yield stretch._replace(
+            begin=middle, end=min(stretch.end, middle + _FEW), is_whole=middle == stretch.begin and stretch.is_whole
+        )
 
 
 def _judge_head(work: Work, head: Head) -> None:
@@ -105,12 +111,12 @@ def _part(work: Work, engine: Engine, plans: int, body: Sequence[Stretch], many:
             until = min(until, number + 1)
         lines, restarts = lines + parted.lines, restarts + parted.restarts
         work.progress.tell("split", lines, max(lines, estimate), False)
-    return _counted(work, plans, [it for it in found[:until] if it is not None])
+    return _counted(work, plans, [split for split in found[:until] if split is not None])
 
 
 def _counted(work: Work, plans: int, parted: list[Parted]) -> list[Parted]:
     """The same, unless there are too many restarts."""
-    restarts = sum(it.restarts for it in parted)
+    restarts = sum(split.restarts for split in parted)
     if restarts + plans > work.most:
         raise Unreplayed(
             FAULTY,
@@ -128,8 +134,8 @@ def _finish(
     work: Work, engine: Engine, plans: int, parted: Sequence[Parted], many: int, is_replayed: bool
 ) -> list[Done]:
     """What came of each bucket. Where one has a fault, or an odd line was met, the log's first fault is raised."""
-    events, restarts = sum(it.events for it in parted), sum(it.restarts for it in parted)
-    counts = tuple(it.pieces for it in parted)
+    events, restarts = sum(split.events for split in parted), sum(split.restarts for split in parted)
+    counts = tuple(split.pieces for split in parted)
     program = work.program if is_replayed else None
     given = (
         Bucket(work.room, number, counts, plans, restarts, work.most, not events and not number, program)
@@ -138,20 +144,20 @@ def _finish(
     done: list[Done] = []
     replayed = 0
     work.progress.begin()
-    for it in engine.each(finish, given):
-        done.append(it)
-        replayed += it.events
+    for bucket in engine.each(finish, given):
+        done.append(bucket)
+        replayed += bucket.events
         work.progress.tell("replayed" if is_replayed else "written", replayed, events, True)
-    for it in done:
-        if it.large is not None:
-            name = it.large.name.decode(errors="backslashreplace")
+    for bucket in done:
+        if bucket.large is not None:
+            name = bucket.large.name.decode(errors="backslashreplace")
             raise Unreplayed(
                 FAULTY,
-                f"instance {name} has {it.large.lines} events: with {restarts} restarts and "
+                f"instance {name} has {bucket.large.lines} events: with {restarts} restarts and "
                 f"{plans} plans, that is more than the {work.most} lines of a part",
             )
-    faulty = [fault for it in done for fault in it.faulty]
-    if faulty or any(it.is_odd for it in parted):
+    faulty = [fault for bucket in done for fault in bucket.faulty]
+    if faulty or any(split.is_odd for split in parted):
         raise fault_of(work.logs, faulty, work.program, work.chunk)
     return done
 

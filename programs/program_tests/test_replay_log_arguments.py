@@ -84,7 +84,7 @@ def files(tmp_path_factory: pytest.TempPathFactory) -> Path:
 
 
 def options(*paths: Path) -> list[str]:
-    return [str(it) for pair in zip(OPTIONS, paths) for it in pair]
+    return [str(word) for pair in zip(OPTIONS, paths) for word in pair]
 
 
 def test_a_scheduler_with_tls(files: Path, monkeypatch: pytest.MonkeyPatch) -> None:
@@ -93,7 +93,7 @@ def test_a_scheduler_with_tls(files: Path, monkeypatch: pytest.MonkeyPatch) -> N
     expected = Scheduler("tls://10.0.0.1:8786", Tls(*map(str, paths)))
     assert named("--scheduler", "tls://10.0.0.1:8786", *options(*paths)) == expected
     monkeypatch.chdir(files)
-    assert named("--scheduler", "tls://10.0.0.1:8786", *options(*(Path(it.name) for it in paths))) == expected
+    assert named("--scheduler", "tls://10.0.0.1:8786", *options(*(Path(path.name) for path in paths))) == expected
 
 
 @pytest.mark.parametrize(

@@ -171,4 +171,4 @@ class ProgressTest(unittest.TestCase):
         self.assertEqual([bar(*case).count("#") for case in cases], [0, 0, 19, 20, 20, 0])
 
     def test_clock(self) -> None:
-        self.assertEqual([clock(it) for it in (0.4, 59.6, 61, 3661)], ["0:00", "1:00", "1:01", "1:01:01"])
+        self.assertEqual([clock(seconds) for seconds in (0.4, 59.6, 61, 3661)], ["0:00", "1:00", "1:01", "1:01:01"])

@@ -37,7 +37,7 @@ def file(tmp_path: Path) -> Callable[[bytes], str]:
 
 def read(path: str, chunk: int) -> list[bytes]:
     (log,) = from_paths([path])
-    return [line for it in stretches(log, 0, chunk) for lines in lines_of(it, chunk) for line in lines]
+    return [line for stretch in stretches(log, 0, chunk) for lines in lines_of(stretch, chunk) for line in lines]
 
 
 @pytest.mark.parametrize("pack", [bytes, gzip.compress])
@@ -102,7 +102,7 @@ def test_ends(tmp_path: Path) -> None:
 def report_of(path: Path, rows: dict[str, str], has_record: bool, counts: str = COUNTS) -> str:
     text = "".join(f"{name} {state} none\n" for name, state in sorted(rows.items())) + counts
     if has_record:
-        members = (f'"{name}":{{"plan":"p","service":"s","state":"{it}"}}' for name, it in sorted(rows.items()))
+        members = (f'"{name}":{{"plan":"p","service":"s","state":"{state}"}}' for name, state in sorted(rows.items()))
         text += f'{{"instances":{{{",".join(members)}}},"version":2}}\n'
     path.write_text(text, encoding="utf-8")
     return str(path)
@@ -118,7 +118,7 @@ def test_many_reports_are_merged_in_steps(tmp_path: Path, has_record: bool) -> N
         parts[chance.randrange(450)][name] = state
     paths = [report_of(tmp_path / str(at), part, has_record) for at, part in enumerate(parts)]
     out = io.BytesIO()
-    reports.write([reports.report_in(it) for it in paths], 3, has_record, Room(str(tmp_path)), out)
+    reports.write([reports.report_in(path) for path in paths], 3, has_record, Room(str(tmp_path)), out)
     counts = f"applied {5 * 450 - 3 * 449}\nskipped {2 * 450}\n"
     assert out.getvalue() == Path(report_of(tmp_path / "whole", rows, has_record, counts)).read_bytes()
 

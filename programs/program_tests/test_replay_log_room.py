@@ -21,7 +21,7 @@ CHUNK = 1 << 16
 
 
 def size(room: Path) -> int:
-    return sum(it.stat().st_size for it in room.rglob("*") if it.is_file())
+    return sum(path.stat().st_size for path in room.rglob("*") if path.is_file())
 
 
 def is_full(done: Callable[[], object]) -> None:
@@ -46,9 +46,9 @@ def test_a_spool_file_that_does_not_fit(tmp_path: Path) -> None:
     """It isn't written."""
     room = Room(str(tmp_path), 2000)
     spool.write(room, room.piece(0, 0), [[b"x" * 1000], []])
-    before = {it.name: it.stat().st_size for it in tmp_path.iterdir()}
+    before = {path.name: path.stat().st_size for path in tmp_path.iterdir()}
     is_full(lambda: spool.write(room, room.piece(0, 1), [[b"x" * 1000], []]))
-    assert {it.name: it.stat().st_size for it in tmp_path.iterdir()} == before
+    assert {path.name: path.stat().st_size for path in tmp_path.iterdir()} == before
 
 
 @pytest.mark.parametrize("limit", [100_000, 1_000_000])
@@ -118,7 +118,7 @@ def test_merging_that_does_not_fit(tmp_path: Path, has_record: bool) -> None:
         record = f'{{"instances":{{"{path.name}":{{"plan":"p"}}}},"version":2}}\n' if has_record else ""
         path.write_text(f"{path.name} ready none\napplied 1\nskipped 0\n{record}", encoding="utf-8")
     (tmp_path / "room").mkdir()
-    found = [reports.report_in(str(it)) for it in paths]
+    found = [reports.report_in(str(file)) for file in paths]
     out = io.BytesIO()
     lines = 450 * len("000 ready none\n")
     limit = lines + 100 if has_record else lines - 100

@@ -124,7 +124,7 @@ def id_of(text: bytes) -> Id:
 
 
 def plans(found: list[osb.Plan]) -> str:
-    return ", ".join(f"{it.service} {it.plan} {'async' if it.is_asynchronous else 'sync'}" for it in found)
+    return ", ".join(f"{plan.service} {plan.plan} {'async' if plan.is_asynchronous else 'sync'}" for plan in found)
 
 
 def error(body: bytes) -> str:
@@ -349,7 +349,7 @@ def wanted(case: Case) -> list[Any]:
         if name in ("id", "service_id", "plan_id") and value is not None:
             value = str(id_of(value)).encode()
         if name == "plans" and value:
-            rows = [it.split(b" ") for it in value.split(b", ")]
+            rows = [plan.split(b" ") for plan in value.split(b", ")]
             value = ", ".join(f"{id_of(of)} {id_of(plan)} {mode.decode()}" for of, plan, mode in rows).encode()
         values.append(value)
     return values

@@ -305,7 +305,7 @@ def test_long_headers() -> None:
 def test_a_catalogue_of_2000_plans() -> None:
     ids = [Id.of(str(plan["id"])) for plan in PLANS]
     is_asynchronous = [bool(plan["x-osb-asynchronous"]) for plan in PLANS]
-    assert wire.catalogue_plans(CATALOGUE) == [Plan(SERVICE, *it) for it in zip(ids, is_asynchronous)]
+    assert wire.catalogue_plans(CATALOGUE) == [Plan(SERVICE, *offer) for offer in zip(ids, is_asynchronous)]
     wire.check_catalogue(CATALOGUE, Endpoints(bindings=True, fetching_bindings=True))
     assert wire.plan_version(CATALOGUE, SERVICE, ids[-1]) == "1.0.2000"
     document = json.loads(CATALOGUE)

@@ -30,7 +30,7 @@ def plans_of(call: Callable[..., int], document: bytes) -> list[Plan]:
     while (status := call(document, len(document), buffer, len(buffer), needed)) == Status.TOO_SMALL:
         buffer = (CPlan * needed.value)()
     check(status)
-    return [plan_from(it) for it in buffer[: needed.value]]
+    return [plan_from(plan) for plan in buffer[: needed.value]]
 
 
 def check_catalogue(document: bytes, serves: Endpoints = Endpoints()) -> None:
