@@ -170,12 +170,12 @@ def crossing(is_written: bool) -> list[Struct]:
     ]
 
 
-def go_value(it: Variable, value: str, is_to_c: bool) -> str:
+def go_value(part: Variable, value: str, is_to_c: bool) -> str:
     """The value of a member, or of one element of it, in the other language."""
-    _, _, own = it.type.partition(" osb_")
-    if it.type in STRUCTS:
+    _, _, own = part.type.partition(" osb_")
+    if part.type in STRUCTS:
         return f"{value}.c()" if is_to_c else f"{camel(own, True)}Of({value})"
-    return f"C.{it.plain}({value})" if is_to_c else f"{camel(own) if own else it.type.replace('_t', '')}({value})"
+    return f"C.{part.plain}({value})" if is_to_c else f"{camel(own) if own else part.type.replace('_t', '')}({value})"
 
 
 def go_struct(struct: Struct, is_to_c: bool) -> list[str]:

@@ -64,6 +64,6 @@ def printed(
     line: Sequence[object], folder: Path | None = None, environment: Mapping[str, str] | None = None, given: str = ""
 ) -> str:
     """Runs a command that must succeed, and returns what it prints."""
-    it = ran(line, folder, environment, given, seconds=1800)
-    assert it.returncode == 0, f"status {it.returncode}: {line}\n{it.stdout}{it.stderr}"
-    return it.stdout
+    done = ran(line, folder, environment, given, seconds=1800)
+    assert done.returncode == 0, f"status {done.returncode}: {line}\n{done.stdout}{done.stderr}"
+    return done.stdout

@@ -211,10 +211,10 @@ def created(broker: Path, platform: Path, folder: Path, *options: str, of: str =
     """Has the platform create an instance at the broker."""
     at, (service, plan) = free_address(), of.split()
     with serving(broker, folder, at, *options):
-        it = Platform(platform, folder, at)
-        it.once()  # it asks for the catalogue
-        assert it.create("--service", service, "--plan", plan) == 0
-        it.once()
+        shop = Platform(platform, folder, at)
+        shop.once()  # it asks for the catalogue
+        assert shop.create("--service", service, "--plan", plan) == 0
+        shop.once()
 
 
 def assert_found(ran: Ran, slip: Slip | None) -> None:
@@ -243,11 +243,11 @@ def test_planted_stale_answers(audit: Audit, platform: Path, tmp_path: Path) -> 
     """The first Poll of a deletion is answered as the last one of the creation."""
     at = free_address()
     with serving(built(STALE, tmp_path, file="broker/journal/store.go"), tmp_path, at):
-        it = Platform(platform, tmp_path, at)
-        it.once()  # it asks for the catalogue
-        with it.working():
-            assert it.create("--plan", "by-worker", "--id", "one", "--wait=60") == 0
-            assert it.remove("one", "--wait=60") == 0
+        shop = Platform(platform, tmp_path, at)
+        shop.once()  # it asks for the catalogue
+        with shop.working():
+            assert shop.create("--plan", "by-worker", "--id", "one", "--wait=60") == 0
+            assert shop.remove("one", "--wait=60") == 0
     assert_found(audit(tmp_path / "journals"), STALE)
 
 

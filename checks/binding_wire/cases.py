@@ -15,17 +15,17 @@ APP = "This Service supports generation of credentials through binding an applic
 
 
 def request(prefix: str, longest: int, method: str, target: bytes, body: bytes) -> list[str | None]:
-    it = model.received(method, prefix.encode(), target, body, longest)
-    return [it.asked(), *it.ids, it.service, it.plan, *(member(it.body, name) for name in model.PARTS)]
+    read = model.received(method, prefix.encode(), target, body, longest)
+    return [read.asked(), *read.ids, read.service, read.plan, *(member(read.body, name) for name in model.PARTS)]
 
 
 def received(prefix: str, longest: int, method: str, target: bytes, body: bytes) -> list[str | None]:
-    it = binding_wire.receive_binding_request(method, target, body, longest, prefix)
-    kind, _, others = asked(it.asked.asked).partition(" ")
-    if it.asked.is_fetch:
+    read = binding_wire.receive_binding_request(method, target, body, longest, prefix)
+    kind, _, others = asked(read.asked.asked).partition(" ")
+    if read.asked.is_fetch:
         kind, others = "fetch", others.rpartition(" ")[0] + " -"
-    texts = it.instance, it.binding, it.service, it.plan
-    return [f"{kind} {it.asked.instance} {others}", *texts, *vars(it.parts).values()]
+    texts = read.instance, read.binding, read.service, read.plan
+    return [f"{kind} {read.asked.instance} {others}", *texts, *vars(read.parts).values()]
 
 
 def named(kind: str, instance: str, binding: str, service: str, plan: str) -> list[str]:

@@ -51,9 +51,9 @@ def longest(rest: str, shape: str) -> str:
 def sent(address: str, requests: list[tuple[str, str, str, dict[str, str]]]) -> collections.Counter[int]:
     """How often each status is answered, if all requests are sent at once: method, target, body, headers."""
 
-    def send(it: tuple[str, str, str, dict[str, str]]) -> int:
+    def send(request: tuple[str, str, str, dict[str, str]]) -> int:
         with contextlib.closing(http.client.HTTPConnection(address, timeout=300)) as connection:
-            connection.request(*it)
+            connection.request(*request)
             with connection.getresponse() as answer:
                 answer.read()
                 return answer.status

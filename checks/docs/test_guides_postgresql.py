@@ -45,9 +45,9 @@ class Machine:
 
     def shell(self, commands: str, folder: Path) -> str:
         """Run commands of a shell as a superuser who may connect everywhere, and return what they print."""
-        it = ran(["bash", "-c", f"set -eu\n{commands}"], folder, self._environment, merged=True)
-        assert it.returncode == 0, it.stdout
-        return it.stdout
+        done = ran(["bash", "-c", f"set -eu\n{commands}"], folder, self._environment, merged=True)
+        assert done.returncode == 0, done.stdout
+        return done.stdout
 
     def session(self, **settings: str) -> Any:
         """A session, of the superuser if no other user is given. Each statement is committed."""

@@ -35,20 +35,20 @@ Value = dict[str, Any]
 
 
 def record_of(cell: bytes) -> Value:
-    it = api.cases.record(cell)
-    return {"service": SERVICE, "plan": PLANS["sync"], "attempt": it.attempt, "state": it.state, "out": it.out}
+    held = api.cases.record(cell)
+    return {"service": SERVICE, "plan": PLANS["sync"], "attempt": held.attempt, "state": held.state, "out": held.out}
 
 
-def request_of(it: api.cases.Request) -> Value:
-    return {**it._asdict(), "service": SERVICE}
+def request_of(request: api.cases.Request) -> Value:
+    return {**request._asdict(), "service": SERVICE}
 
 
 def holding_of(cell: bytes) -> Value:
     """What doesn't count in it is zeroes."""
-    it = api.cases.holding(cell)
-    row = {"service": SERVICE, "plan": it.row[1], "phase": it.row[0]} if it.row else {}
-    flags = {"has_row": bool(it.row), "has_work": bool(it.work), "has_tombstone": it.has_tombstone}
-    return {"row": row, "work": request_of(it.work) if it.work else {}, **flags, "attributes": it.attributes}
+    held = api.cases.holding(cell)
+    row = {"service": SERVICE, "plan": held.row[1], "phase": held.row[0]} if held.row else {}
+    flags = {"has_row": bool(held.row), "has_work": bool(held.work), "has_tombstone": held.has_tombstone}
+    return {"row": row, "work": request_of(held.work) if held.work else {}, **flags, "attributes": held.attributes}
 
 
 def answer_of(cell: bytes) -> Value:
@@ -179,39 +179,39 @@ class CaseText:
         has = {f"has_{name}": ids[name] is not None for name in ("service", "plan")} if own == "asked" else {}
         return {"kind": self.word("kind"), "accepts_incomplete": accepts, **has, **ids}
 
-    def argument(self, it: Variable) -> str:
+    def argument(self, param: Variable) -> str:
         """What the call is given for a parameter. The length of a text stands beside it."""
-        if it.name == "buffer":
+        if param.name == "buffer":
             return "INTO"
-        if it.name == "plans":
+        if param.name == "plans":
             return "out.plans, PLANS, &out.needed"
-        if it.name in ("digest", "platform"):
-            return f"{'&' * (it.name == 'platform')}out.{it.name}"
-        if it.name == "attributes":
-            return self.constant("uint8_t", literal("uint8_t", api.cases.digest(self.given[it.name]), 32), "[32]")
-        if it.plain == "uint8_t" and it.pointer:
-            return self.text(self.cell(it.name))
-        if it.pointer and not it.const:
-            return f"&out.{WRITTEN.get(it.type) or it.type.replace('struct osb_', '')}"
-        if it.type == "struct osb_id":
-            held = f"held_{it.name}"
-            return self.constant(it.type, literal(it.type, self.cell(held if held in self.given else it.name)))
-        if it.type in STRUCTS:
-            return "&" * it.pointer + self.constant(it.type, literal(it.type, self.value(it.name, it.type)))
-        if it.type == "bool":
-            counts = {"has_held": "held_service"}.get(it.name, it.name.replace("has_", ""))
-            return flag(self.given[counts] is not None if it.name.startswith("has_") else self.given[it.name])
-        if it.name in ("kind", "state", "mode", "outcome"):
-            return number_in(it.name, self.word(it.name))
-        if it.type == "uint64_t":
-            return f"UINT64_C({self.word(it.name)})"
-        return f"OSB_{self.word(it.name)}" if it.name == "refusal" else self.word(it.name)
+        if param.name in ("digest", "platform"):
+            return f"{'&' * (param.name == 'platform')}out.{param.name}"
+        if param.name == "attributes":
+            return self.constant("uint8_t", literal("uint8_t", api.cases.digest(self.given[param.name]), 32), "[32]")
+        if param.plain == "uint8_t" and param.pointer:
+            return self.text(self.cell(param.name))
+        if param.pointer and not param.const:
+            return f"&out.{WRITTEN.get(param.type) or param.type.replace('struct osb_', '')}"
+        if param.type == "struct osb_id":
+            held = f"held_{param.name}"
+            return self.constant(param.type, literal(param.type, self.cell(held if held in self.given else param.name)))
+        if param.type in STRUCTS:
+            return "&" * param.pointer + self.constant(
+                param.type, literal(param.type, self.value(param.name, param.type))
+            )
+        if param.type == "bool":
+            counts = {"has_held": "held_service"}.get(param.name, param.name.replace("has_", ""))
+            return flag(self.given[counts] is not None if param.name.startswith("has_") else self.given[param.name])
+        if param.name in ("kind", "state", "mode", "outcome"):
+            return number_in(param.name, self.word(param.name))
+        if param.type == "uint64_t":
+            return f"UINT64_C({self.word(param.name)})"
+        return f"OSB_{self.word(param.name)}" if param.name == "refusal" else self.word(param.name)
 
     def arguments(self) -> list[str]:
         taken = (
-            parameter
-            for parameter in self.call.parameters
-            if not re.search(r"(^|_)(length|bytes|needed|places)$", parameter.name)
+            param for param in self.call.parameters if not re.search(r"(^|_)(length|bytes|needed|places)$", param.name)
         )
         return [self.argument(parameter) for parameter in taken]
 

@@ -41,9 +41,9 @@ every_program = pytest.mark.parametrize("name", SOURCES)
 def run(command: str | Path, *words: str | Path, environment: dict[str, str] | None = None) -> str:
     """Runs a command at the top of the repository. It must succeed and write nothing to standard error."""
     needs(str(command))
-    it = ran([command, *words], TOP, environment)
-    assert (it.returncode, it.stderr) == (0, ""), f"{command} {words} printed {it.stdout}"
-    return it.stdout
+    done = ran([command, *words], TOP, environment)
+    assert (done.returncode, done.stderr) == (0, ""), f"{command} {words} printed {done.stdout}"
+    return done.stdout
 
 
 def with_cases(folder: Path) -> list[str]:

@@ -34,8 +34,8 @@ def test_packages(library: Path) -> None:
     needs(*TOOLS)
     needs_packages(tests=True)
     environment = {**os.environ, "LIBOSB_FOLDER": str(library)}
-    it = ran([SCRIPT, "--check"], environment=environment, merged=True)
-    assert (it.returncode, it.stdout) == (0, "")
+    done = ran([SCRIPT, "--check"], environment=environment, merged=True)
+    assert (done.returncode, done.stdout) == (0, "")
 
 
 @pytest.mark.parametrize(

@@ -24,9 +24,9 @@ SKIPPED = re.compile(r"^\s*--- SKIP: (\S+)", re.MULTILINE)
 
 def run(line: list[str], folder: Path, **environment: str) -> str:
     """Runs a command that must succeed and report nothing on standard error, and returns what it printed."""
-    it = ran(line, folder, {**os.environ, **environment}, seconds=1800)
-    assert (it.returncode, it.stderr) == (0, ""), f"status {it.returncode}: {line}\n{it.stdout}{it.stderr}"
-    return it.stdout
+    done = ran(line, folder, {**os.environ, **environment}, seconds=1800)
+    assert (done.returncode, done.stderr) == (0, ""), f"status {done.returncode}: {line}\n{done.stdout}{done.stderr}"
+    return done.stdout
 
 
 class Go:
@@ -129,9 +129,9 @@ class Packages:
 
     def _run(self, *line: str, **environment: str) -> str:
         given = {**os.environ, "LIBOSB_FOLDER": str(self._library), **environment}
-        it = ran([TOP / "scripts" / "go", *line], environment=given, seconds=3600, merged=True)
-        assert it.returncode == 0, f"status {it.returncode}: {line}\n{it.stdout}"
-        return it.stdout
+        done = ran([TOP / "scripts" / "go", *line], environment=given, seconds=3600, merged=True)
+        assert done.returncode == 0, f"status {done.returncode}: {line}\n{done.stdout}"
+        return done.stdout
 
 
 def _flags(tags: str, race: bool) -> str:

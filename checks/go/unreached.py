@@ -118,9 +118,11 @@ def reasons(text: str) -> dict[Statement, tuple[int, str]]:
         elif line.strip() and not line.startswith("##"):
             parts = re.fullmatch(r"(\S+) (\S+): (.+)", line)
             assert parts is not None and reason, f"{LIST.name}:{number}: no statement, or none with a reason: {line}"
-            it = Statement(*parts.groups())
-            assert found.get(it, (0, reason))[1] == reason, f"{LIST.name}:{number}: it has two reasons: {it}"
-            found[it] = found.get(it, (0, reason))[0] + 1, reason
+            statement = Statement(*parts.groups())
+            assert (
+                found.get(statement, (0, reason))[1] == reason
+            ), f"{LIST.name}:{number}: it has two reasons: {statement}"
+            found[statement] = found.get(statement, (0, reason))[0] + 1, reason
     return found
 
 

@@ -41,9 +41,9 @@ def many(begun: str, events: list[str]) -> str:
     count, _, order = begun.partition(" ")
     instances = {str(number): instance_of(order) for number in range(1, int(count) + 1)}
     for event in events:
-        number, _, it = event.partition(" ")
+        number, _, happening = event.partition(" ")
         if number in instances:
-            instances[number].happen(it)
+            instances[number].happen(happening)
     return "\n  ".join(f"{number}: {instance.told(0)}" for number, instance in instances.items())
 
 

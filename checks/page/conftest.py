@@ -33,8 +33,8 @@ def fixture_of(kind: str) -> Callable[..., Iterator[ShownStore]]:
 
         store = tmp_path_factory.mktemp(kind) / "instances.sqlite"
         getattr(stores, kind)(store)
-        with shown(store) as it:
-            yield it
+        with shown(store) as page:
+            yield page
 
     return made
 

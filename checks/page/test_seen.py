@@ -79,7 +79,7 @@ def test_after_the_program(tab: Browser, tmp_path: Path, library: Path, platform
     """After the program has ended, the page says so."""
     store = tmp_path / "instances.sqlite"
     stores.storm(store)
-    with shown(store) as it:
+    with shown(store) as page:
         tab.size(*looks.SIZES[0])
-        tab.open(it.url)
+        tab.open(page.url)
     assert looks.alone(tab) == []

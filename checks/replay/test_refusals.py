@@ -93,8 +93,8 @@ class Case(NamedTuple):
     expected: Ran
 
 
-def of_worked(it: WorkedExample) -> Case:
-    return Case(it.name, ["replay", *it.options], it.schedule, Ran(0, it.report, ""))
+def of_worked(example: WorkedExample) -> Case:
+    return Case(example.name, ["replay", *example.options], example.schedule, Ran(0, example.report, ""))
 
 
 def sixteen() -> Case:
@@ -280,15 +280,15 @@ def check_traced_allocations(refuser: Refuser, clean: Trial, expected: Ran) -> i
     return written
 
 
-@pytest.mark.parametrize("it", TRACES, ids=[example.case.name for example in TRACES])
-def test_trace(refusing: Refusing, it: Trace) -> None:
-    case = it.case
+@pytest.mark.parametrize("trace", TRACES, ids=[example.case.name for example in TRACES])
+def test_trace(refusing: Refusing, trace: Trace) -> None:
+    case = trace.case
     refuser = refusing(*case.arguments, given=case.given)
     clean = refuser.run()
     assert clean.ran == case.expected
     assert clean.counts.largest_read <= 4096
     assert clean.counts.allocations > clean.counts.early_allocations
-    assert check_traced_allocations(refuser, clean, case.expected) >= it.least
+    assert check_traced_allocations(refuser, clean, case.expected) >= trace.least
     check_reads(refuser, clean, case.expected, {}, writes=True)
     check_writes(refuser, clean, case.expected, {})
     for cut in CUT:

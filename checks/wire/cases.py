@@ -120,19 +120,19 @@ def body_of(word: str) -> Body:
 
 
 def request(prefix: str, longest: int, method: str, target: bytes, body: bytes) -> list[str | None]:
-    it = model.received(method, prefix.encode(), target, body, longest)
-    parts = [model.member(it.body, name) for name in ("parameters", "context", "maintenance_info")]
-    return [it.asked(), *it.ids, it.service, it.plan, *parts, model.others(it.body)]
+    read = model.received(method, prefix.encode(), target, body, longest)
+    parts = [model.member(read.body, name) for name in ("parameters", "context", "maintenance_info")]
+    return [read.asked(), *read.ids, read.service, read.plan, *parts, model.others(read.body)]
 
 
 def received(prefix: str, longest: int, method: str, target: bytes, body: bytes) -> list[str | None]:
-    it = wire.receive_request(method, target, body, longest, prefix)
-    return [asked(it.asked), it.instance, it.service, it.plan, *vars(it.parts).values()]
+    read = wire.receive_request(method, target, body, longest, prefix)
+    return [asked(read.asked), read.instance, read.service, read.plan, *vars(read.parts).values()]
 
 
-def asked(it: wire.Asked) -> str:
-    ids = " ".join("-" if id is None else str(id) for id in (it.id, it.service, it.plan))
-    return f"{it.kind} {ids} {str(it.accepts_incomplete).lower()}"
+def asked(request: wire.Asked) -> str:
+    ids = " ".join("-" if id is None else str(id) for id in (request.id, request.service, request.plan))
+    return f"{request.kind} {ids} {str(request.accepts_incomplete).lower()}"
 
 
 def form(pairs: list[tuple[str, str]]) -> str:

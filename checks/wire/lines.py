@@ -21,8 +21,8 @@ ANY_TEXT = st.characters(blacklist_categories=["Cs"])
 Lines = st.SearchStrategy[list[str]]
 
 
-def hexed(it: bytes | str) -> str:
-    return f"hex:{(it.encode() if isinstance(it, str) else it).hex()}"
+def hexed(text: bytes | str) -> str:
+    return f"hex:{(text.encode() if isinstance(text, str) else text).hex()}"
 
 
 def some(line: st.SearchStrategy[str]) -> Lines:

@@ -39,10 +39,10 @@ pytestmark = [pytest.mark.slow, pytest.mark.usefixtures("library")]
 
 def read_request(asked: Asked) -> str:
     try:
-        it = wire.receive_request(asked.method, asked.target, asked.body, asked.longest)
+        read = wire.receive_request(asked.method, asked.target, asked.body, asked.longest)
     except osb.Refusal as refusal:
         return f"{refusal.http_status} {json.loads(refusal.body)['description']}"
-    return asked_of(it.asked)
+    return asked_of(read.asked)
 
 
 @examples(1000)

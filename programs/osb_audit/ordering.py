@@ -59,10 +59,12 @@ def shown(lines: Iterable[Line], doubts: Doubts) -> Iterator[tuple[Change, bool]
     for line in reversed([line for line in left if line.event == "changed"]):
         row, is_lost = row_of(line), line in uncommitted
         if line.change in doubts and line.change not in undone and line.of["before"] != line.of["after"]:
-            it = following.get(row)
-            if it is not None and it.of["before"] == line.of["after"] and not is_lost:
+            follower = following.get(row)
+            if follower is not None and follower.of["before"] == line.of["after"] and not is_lost:
                 yield line.change, True
-            elif is_lost and (it is None or it.change not in doubts and it.of["before"] == line.of["before"]):
+            elif is_lost and (
+                follower is None or follower.change not in doubts and follower.of["before"] == line.of["before"]
+            ):
                 yield line.change, False
         if not is_lost:
             following[row] = line

@@ -92,18 +92,18 @@ class Report:
             f"{_many(len(self.differences), 'difference')}"
         )
 
-    def _of(self, it: Difference) -> Iterator[str]:
-        path, line = self._found.positions.locate(it.position)
-        yield f"Difference: instance {it.instance}"
+    def _of(self, difference: Difference) -> Iterator[str]:
+        path, line = self._found.positions.locate(difference.position)
+        yield f"Difference: instance {difference.instance}"
         yield f"  {shown(path)}, line {line}"
-        yield f"  {it.why}"
-        if it.event:
-            yield f"  event    {it.event}"
-        yield f"  model    {it.model}"
-        yield f"  journal  {it.journal}"
+        yield f"  {difference.why}"
+        if difference.event:
+            yield f"  event    {difference.event}"
+        yield f"  model    {difference.model}"
+        yield f"  journal  {difference.journal}"
         yield "  The trace up to there:"
         yield "\t".join(COLUMNS)
-        yield from it.trace
+        yield from difference.trace
         yield ""
 
     def _of_files(self) -> Iterator[str]:
@@ -149,15 +149,26 @@ class Report:
         }
         return json.dumps(report, indent=1) + "\n"
 
-    def _object(self, it: Difference) -> dict[str, Any]:
-        path, line = self._found.positions.locate(it.position)
-        entry = {"instance": it.instance, "file": path, "line": line, "event": it.event, "why": it.why}
-        return {**entry, "model": it.model, "journal": it.journal, "trace": ["\t".join(COLUMNS), *it.trace]}
+    def _object(self, difference: Difference) -> dict[str, Any]:
+        path, line = self._found.positions.locate(difference.position)
+        entry = {
+            "instance": difference.instance,
+            "file": path,
+            "line": line,
+            "event": difference.event,
+            "why": difference.why,
+        }
+        return {
+            **entry,
+            "model": difference.model,
+            "journal": difference.journal,
+            "trace": ["\t".join(COLUMNS), *difference.trace],
+        }
 
-    def _reason(self, it: Unjudged) -> dict[str, Any]:
-        path, line = self._found.positions.locate(it.first)
-        first = {"instance": it.instance, "file": path, "line": line}
-        return {"why": it.why, "instances": it.instances, "whole": it.whole, "first": first}
+    def _reason(self, unjudged: Unjudged) -> dict[str, Any]:
+        path, line = self._found.positions.locate(unjudged.first)
+        first = {"instance": unjudged.instance, "file": path, "line": line}
+        return {"why": unjudged.why, "instances": unjudged.instances, "whole": unjudged.whole, "first": first}
 
 
 def _unjudged(found: Audited) -> Iterator[Unjudged]:

@@ -90,18 +90,18 @@ def named(enum: Any, word: str) -> Any:
 
 
 def record_of(cell: bytes) -> Record:
-    it = api.cases.record(cell)
-    return Record(SERVICE, SYNC, it.attempt, named(State, it.state), named(Kind, it.out))
+    record = api.cases.record(cell)
+    return Record(SERVICE, SYNC, record.attempt, named(State, record.state), named(Kind, record.out))
 
 
-def request_of(it: api.cases.Request) -> Request:
-    return Request(named(Kind, it.kind), it.accepts_incomplete, id_of(it.id), SERVICE, id_of(it.plan))
+def request_of(of: api.cases.Request) -> Request:
+    return Request(named(Kind, of.kind), of.accepts_incomplete, id_of(of.id), SERVICE, id_of(of.plan))
 
 
 def holding_of(cell: bytes) -> Holding:
-    it = api.cases.holding(cell)
-    row = osb.BrokerRow(SERVICE, id_of(it.row[1]), named(osb.Phase, it.row[0])) if it.row else None
-    return Holding(row, request_of(it.work) if it.work else None, it.has_tombstone, it.attributes)
+    holding = api.cases.holding(cell)
+    row = osb.BrokerRow(SERVICE, id_of(holding.row[1]), named(osb.Phase, holding.row[0])) if holding.row else None
+    return Holding(row, request_of(holding.work) if holding.work else None, holding.has_tombstone, holding.attributes)
 
 
 def answer_of(cell: bytes) -> Answer:
@@ -152,24 +152,24 @@ def receiving(of: Given) -> tuple[str, bytes, bytes, int, str]:
     return (of.text("method"), of.bytes("target"), of.bytes("body"), of.number("longest_body"), of.text("prefix"))
 
 
-def asked(it: wire.Asked, id: str, service: str | None, plan: str | None) -> list[Any]:
+def asked(request: wire.Asked, id: str, service: str | None, plan: str | None) -> list[Any]:
     """The kind, and whether the operation may be asynchronous. The numbers of the ids are those of their texts."""
     numbers = [None if text is None else id_of(text.encode()) for text in (id, service, plan)]
-    assert [it.id, it.service, it.plan] == numbers
-    return [it.kind, it.accepts_incomplete]
+    assert [request.id, request.service, request.plan] == numbers
+    return [request.kind, request.accepts_incomplete]
 
 
 def receive_request(of: Given) -> list[Any]:
-    it = wire.receive_request(*receiving(of))
-    found = asked(it.asked, it.instance, it.service, it.plan)
-    return [*found, it.instance, it.service, it.plan, *vars(it.parts).values()]
+    read = wire.receive_request(*receiving(of))
+    found = asked(read.asked, read.instance, read.service, read.plan)
+    return [*found, read.instance, read.service, read.plan, *vars(read.parts).values()]
 
 
 def asked_request(of: Given) -> list[Any]:
     held = of.id_if("held_service"), of.id_if("held_plan")
-    it = wire.Asked(of.kind(), of.flag("accepts"), of.id("id"), of.id_if("service"), of.id_if("plan"))
-    made = it.request((held[0], held[1]) if held[0] and held[1] else None)
-    assert (made.kind, made.accepts_incomplete, made.id) == (it.kind, it.accepts_incomplete, it.id)
+    request = wire.Asked(of.kind(), of.flag("accepts"), of.id("id"), of.id_if("service"), of.id_if("plan"))
+    made = request.request((held[0], held[1]) if held[0] and held[1] else None)
+    assert (made.kind, made.accepts_incomplete, made.id) == (request.kind, request.accepts_incomplete, request.id)
     return [made.service, made.plan]
 
 
@@ -220,11 +220,11 @@ def write_binding_body(of: Given) -> bytes:
 
 
 def receive_binding_request(of: Given) -> list[Any]:
-    it = binding_wire.receive_binding_request(*receiving(of))
-    assert it.asked.instance == id_of(it.instance.encode())
-    found = asked(it.asked.asked, it.binding, it.service, it.plan)
-    texts = it.instance, it.binding, it.service, it.plan
-    return [it.asked.is_fetch, *found, *texts, *vars(it.parts).values()]
+    read = binding_wire.receive_binding_request(*receiving(of))
+    assert read.asked.instance == id_of(read.instance.encode())
+    found = asked(read.asked.asked, read.binding, read.service, read.plan)
+    texts = read.instance, read.binding, read.service, read.plan
+    return [read.asked.is_fetch, *found, *texts, *vars(read.parts).values()]
 
 
 def read_binding(of: Given) -> list[Any] | None:
