@@ -479,9 +479,7 @@ DISAGREE = {
     ),
     "ready without a row": (
         CREATED + "B arrive 2 r1 provision; B change 2 tombstone",
-        [
-            f"{INSTANCE}: the platform records ready, and the broker has the row none, pending -",
-        ],
+        [f"{INSTANCE}: the platform records ready, and the broker has the row none, pending -"],
     ),
     "gone with a row and a resource": (
         PENDING + "B create; B change 1 ready; P lose r1; P take 1 gone/1",

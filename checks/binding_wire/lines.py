@@ -11,10 +11,7 @@ from wire.texts import IN_BODY, IN_PROVISION, SOUND_VALUE, STATUSES, WHOLE_BODY,
 
 APPS = st.sampled_from(['{"app_guid":"a"}', '{"app_guid":""}', '{"app_guid":1}', '{"route":"r"}', '"a"', "[]"])
 IN_BINDS = members(
-    ["bind_resource", "parameters", "context", "predecessor_binding_id", "app_guid", "vendor"],
-    SOUND_VALUE | APPS,
-    1,
-    5,
+    ["bind_resource", "parameters", "context", "predecessor_binding_id", "app_guid", "vendor"], SOUND_VALUE | APPS, 1, 5
 )
 # The ids of the services and of the plans of a catalogue.
 SERVICES, PLANS = ["s", "t"], ["p", "q", "r"]

@@ -203,9 +203,7 @@ KINDS: dict[str, Schema] = {
         resources=several(TEXT),
         images=several(fields("name newTag", name=TEXT, newName=TEXT, newTag=TEXT)),
         configMapGenerator=several(fields("name", name=NAME, literals=several(TEXT), files=several(TEXT))),
-        patches=several(
-            fields("target patch", target=fields("kind name", kind=TEXT, name=NAME), patch=TEXT),
-        ),
+        patches=several(fields("target patch", target=fields("kind name", kind=TEXT, name=NAME), patch=TEXT)),
     ),
 }
 

@@ -24,11 +24,7 @@ FEW_SEEDS = 16
 RACE_SEEDS = 60
 """So many runs with the race detector."""
 
-FURTHER: dict[str, list[str]] = {
-    "plain": [],
-    "both": ["crashpoints", "storm"],
-    "pages": ["pages"],
-}
+FURTHER: dict[str, list[str]] = {"plain": [], "both": ["crashpoints", "storm"], "pages": ["pages"]}
 """Combinations of the build tags that change the packages. Each source is in one of them. The tests of crash points and
 of the storm build the packages with each tag alone. With `pages` a program writes its manual pages.
 """

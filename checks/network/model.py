@@ -214,11 +214,7 @@ def is_due(mode: str, row: Row | None, request: Request) -> bool:
 
 # ---- what a broker holds, request by request
 
-BUSY = {
-    "provision": error(503),
-    "deprovision": error(422, "ConcurrencyError"),
-    "poll": Answer(200, "in-progress"),
-}
+BUSY = {"provision": error(503), "deprovision": error(422, "ConcurrencyError"), "poll": Answer(200, "in-progress")}
 
 
 def conflicts(held: Held, request: Request) -> bool:

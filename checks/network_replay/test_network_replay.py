@@ -170,11 +170,7 @@ def test_program_on_random_schedules(replay: Path, first: int) -> None:
 def differences(program: Path, text: bytes, instance: str) -> list[str]:
     """What the program does otherwise than the reference, with each option."""
     traced = ["--trace", "--instance", instance] if instance else ["--trace"]
-    wanted = {
-        (): report(text),
-        ("--settle",): report(text, settle=True),
-        tuple(traced): trace(text, instance),
-    }
+    wanted = {(): report(text), ("--settle",): report(text, settle=True), tuple(traced): trace(text, instance)}
     ran = {options: run(program, "network", *options, given=text) for options in wanted}
     return [
         f"{options}: {ran[options]}, not {expected}"

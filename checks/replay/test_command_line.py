@@ -198,9 +198,7 @@ def test_instance_is_missing(replay: Path) -> None:
 
 
 @pytest.mark.parametrize(
-    "arguments",
-    [b"replay\xff", b"replay --settle\xc3", b"table \xed\xa0\x80", b"--help \xff"],
-    ids=ascii,
+    "arguments", [b"replay\xff", b"replay --settle\xc3", b"table \xed\xa0\x80", b"--help \xff"], ids=ascii
 )
 def test_not_utf8(replay: Path, arguments: bytes) -> None:
     expected = rejected("a word of the command line isn't UTF-8", "For more information, try 'osb-replay --help'.")

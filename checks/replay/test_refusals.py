@@ -297,16 +297,7 @@ def test_trace(refusing: Refusing, trace: Trace) -> None:
 
 # ---- arguments that read no schedule
 
-UNREAD = [
-    "table",
-    "--help",
-    "replay --help",
-    "trace --help",
-    "",
-    "bogus",
-    "replay --setle",
-    "trace --instance 1",
-]
+UNREAD = ["table", "--help", "replay --help", "trace --help", "", "bogus", "replay --setle", "trace --instance 1"]
 
 
 @pytest.mark.parametrize("arguments", UNREAD, ids=lambda it: it or "none")

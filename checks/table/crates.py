@@ -8,13 +8,7 @@ TOP = Path(__file__).resolve().parents[2]
 CRATES = ("osb_c_types", "osb_c", "osb_c_instance", "osb_c_binding", "osb_c_wire", "osb_c_binding_wire")
 
 # How the names of an enum's numbers begin in C, if not with the name of the enum.
-FRONTS = {
-    "Status": "",
-    "LastState": "BODY_",
-    "ErrorCode": "BODY_",
-    "HoldingPhase": "PHASE_",
-    "WorkOutcome": "OUTCOME_",
-}
+FRONTS = {"Status": "", "LastState": "BODY_", "ErrorCode": "BODY_", "HoldingPhase": "PHASE_", "WorkOutcome": "OUTCOME_"}
 NAMES = {
     "ErrorCode::Other": "BODY_OTHER_ERROR",
     "Rejection::BadRequest": "OUTCOME_REFUSED_400",

@@ -81,15 +81,7 @@ CONFLICTS = changed(
 
 SAID = st.sampled_from(['"No quota is left."', '"\\u00e9\\n"', "true", "false", '{"labels":{"b":1.0,"a":"é"}}'])
 SAYING = members(
-    [
-        "description",
-        "error",
-        "dashboard_url",
-        "operation",
-        "metadata",
-        "instance_usable",
-        "update_repeatable",
-    ],
+    ["description", "error", "dashboard_url", "operation", "metadata", "instance_usable", "update_repeatable"],
     SAID | SAID | SOUND_VALUE,
     3,
     9,
@@ -99,8 +91,7 @@ WORDS = ["error"] * 4 + ["AsyncRequired", "ConcurrencyError", "failed", "failed"
 
 
 DESCRIPTIONS = st.one_of(
-    st.text(ANY_TEXT, max_size=30),
-    st.builds(str.__mul__, st.sampled_from("aé\U0001f600\n"), st.integers(990, 1010)),
+    st.text(ANY_TEXT, max_size=30), st.builds(str.__mul__, st.sampled_from("aé\U0001f600\n"), st.integers(990, 1010))
 )
 ANSWERS = some(
     st.builds(

@@ -141,12 +141,7 @@ SOUND_VALUE = st.recursive(st.sampled_from([value for value in VALUES if value n
 OBJECT = objects(VALUE)
 WHOLE_BODY = st.one_of(OBJECT, OBJECT, OBJECT, VALUE).map(str.encode)
 MARK = st.sampled_from([b""] * 30 + [BYTE_ORDER_MARK])
-BODY = st.builds(
-    lambda mark, whole, changes: bytes(mark + edited(whole, changes)),
-    MARK,
-    WHOLE_BODY,
-    edits(IN_BODY),
-)
+BODY = st.builds(lambda mark, whole, changes: bytes(mark + edited(whole, changes)), MARK, WHOLE_BODY, edits(IN_BODY))
 
 
 # ---- requests

@@ -92,12 +92,7 @@ def test_blanks_around_a_text_of_one_instance_change_nothing() -> None:
 
 def test_the_largest_numbers_are_written() -> None:
     record = Record(LARGEST, LARGEST, 2**64 - 1, State.CLEANING_POLLING, Kind.POLL)
-    wanted = {
-        "attempt": 2**64 - 1,
-        "out": "poll",
-        "plan": LARGEST_GUID,
-        "service": LARGEST_GUID,
-    }
+    wanted = {"attempt": 2**64 - 1, "out": "poll", "plan": LARGEST_GUID, "service": LARGEST_GUID}
     assert (
         record.to_text()
         == record.to_binding_text()
@@ -122,12 +117,7 @@ def test_17_further_members_of_a_body_are_written() -> None:
     body = wire.write_named_body(Kind.PROVISION, names, "organization", "space", json.dumps(further))
     written = json.loads(body)
     assert {name: written.pop(name) for name in further} == further
-    assert sorted(written) == [
-        "organization_guid",
-        "plan_id",
-        "service_id",
-        "space_guid",
-    ]
+    assert sorted(written) == ["organization_guid", "plan_id", "service_id", "space_guid"]
 
 
 @pytest.mark.parametrize("depth", [126, 127, 128])
@@ -148,12 +138,7 @@ def test_further_members_that_nest_too_deep_are_refused(depth: int) -> None:
 
 
 def test_long_details_of_an_answer_are_read() -> None:
-    named = {
-        "description": LONG,
-        "error": LONG,
-        "dashboard_url": LONG,
-        "operation": OPERATION,
-    }
+    named = {"description": LONG, "error": LONG, "dashboard_url": LONG, "operation": OPERATION}
     metadata = {"labels": {"long": LONG}}
     body = compact({**named, "metadata": metadata, **MEMBERS})
     wanted = wire.Details(LONG, LONG, LONG, OPERATION, compact(metadata).decode())
@@ -183,11 +168,7 @@ def test_long_texts_go_into_a_target() -> None:
     target = wire.write_named_target(asked, LONG_NAMES, LONG, prefix)
     path, _, query = target.partition("?")
     assert path == f"{prefix}/v2/service_instances/{escaped}/last_operation"
-    ids = {
-        "service_id": [LONGEST_ID],
-        "plan_id": [LONGEST_ID],
-        "accepts_incomplete": ["true"],
-    }
+    ids = {"service_id": [LONGEST_ID], "plan_id": [LONGEST_ID], "accepts_incomplete": ["true"]}
     assert parse_qs(query) == ids | {"operation": [LONG]}
     target = binding_wire.write_binding_target(asked, asked.id, LONG_BINDING, LONG, prefix)
     path, _, query = target.partition("?")
@@ -213,42 +194,19 @@ def test_long_members_go_into_a_body() -> None:
 
 def test_a_long_provision_is_read() -> None:
     of_space = {"organization_guid": LONG, "space_guid": LONG}
-    parts = {
-        "context": {"long": LONG},
-        "parameters": {"long": LONG},
-        "maintenance_info": {"version": LONG},
-    }
-    body = compact(
-        {
-            **MEMBERS,
-            **parts,
-            **of_space,
-            "service_id": LONGEST_ID,
-            "plan_id": LONGEST_ID,
-        }
-    )
+    parts = {"context": {"long": LONG}, "parameters": {"long": LONG}, "maintenance_info": {"version": LONG}}
+    body = compact({**MEMBERS, **parts, **of_space, "service_id": LONGEST_ID, "plan_id": LONGEST_ID})
     target = f"/v2/service_instances/{quote(LONGEST_ID, safe='')}?other={quote(LONG)}".encode()
     received = wire.receive_request("PUT", target, body, len(body))
-    assert (received.asked.kind, received.asked.service) == (
-        Kind.PROVISION,
-        Id.of_text(LONGEST_ID),
-    )
-    assert (received.instance, received.service, received.plan) == (
-        LONGEST_ID,
-        LONGEST_ID,
-        LONGEST_ID,
-    )
+    assert (received.asked.kind, received.asked.service) == (Kind.PROVISION, Id.of_text(LONGEST_ID))
+    assert (received.instance, received.service, received.plan) == (LONGEST_ID, LONGEST_ID, LONGEST_ID)
     assert received.parts.context == received.parts.parameters == compact({"long": LONG}).decode()
     assert status_of(lambda: wire.maintenance_conflict(LONG, body)) is None
     assert status_of(lambda: wire.maintenance_conflict(LONG[1:], body)) == Status.REFUSED_MAINTENANCE
 
 
 def test_a_long_bind_is_read() -> None:
-    parts = {
-        "context": {"long": LONG},
-        "parameters": {"long": LONG},
-        "bind_resource": {"app_guid": LONG},
-    }
+    parts = {"context": {"long": LONG}, "parameters": {"long": LONG}, "bind_resource": {"app_guid": LONG}}
     body = compact({**MEMBERS, **parts, "service_id": LONGEST_ID, "plan_id": LONGEST_ID})
     escaped = quote(LONGEST_ID, safe="")
     target = f"/v2/service_instances/{escaped}/service_bindings/{escaped}?other={quote(LONG)}".encode()
@@ -268,11 +226,7 @@ def test_a_query_of_many_parameters_is_read(method: str, kind: Kind) -> None:
     last = "/last_operation" if kind == Kind.POLL else ""
     target = f"/v2/service_instances/{ONE}{last}{query}".encode()
     received = wire.receive_request(method, target, b"", 0)
-    assert (received.asked.kind, received.asked.service, received.asked.plan) == (
-        kind,
-        SERVICE,
-        SYNC,
-    )
+    assert (received.asked.kind, received.asked.service, received.asked.plan) == (kind, SERVICE, SYNC)
     assert (received.service, received.plan) == (str(SERVICE), str(SYNC))
     target = f"/v2/service_instances/{ONE}/service_bindings/{TWO}{last}{query}".encode()
     binding = binding_wire.receive_binding_request(method, target, b"", 0)

@@ -19,15 +19,11 @@ def test_version() -> None:
 
 
 @pytest.mark.parametrize(
-    ("name", "said"),
-    [("/nowhere/libosb.so", "libosb isn't found"), ("libc.so.6", "of another version")],
+    ("name", "said"), [("/nowhere/libosb.so", "libosb isn't found"), ("libc.so.6", "of another version")]
 )
 def test_no_library(name: str, said: str) -> None:
     """What can't be loaded, or is another library, is an ImportError that says so."""
-    line, environment = [sys.executable, "-c", "import osb"], {
-        **os.environ,
-        "LIBOSB": name,
-    }
+    line, environment = [sys.executable, "-c", "import osb"], {**os.environ, "LIBOSB": name}
     ran = subprocess.run(line, env=environment, text=True, capture_output=True)
     assert ran.returncode == 1
     last = ran.stderr.splitlines()[-1]

@@ -42,8 +42,7 @@ def test_new_ids() -> None:
 
 
 @pytest.mark.parametrize(
-    ("value", "name"),
-    [(State.READY, "ready"), (Phase.DELETE_FAILED, "delete-failed"), (Status.NOT_UTF8, "not-utf8")],
+    ("value", "name"), [(State.READY, "ready"), (Phase.DELETE_FAILED, "delete-failed"), (Status.NOT_UTF8, "not-utf8")]
 )
 def test_names_are_shown(value: State | Phase | Status, name: str) -> None:
     """By `print` and in f-strings, alike in every Python."""
@@ -52,11 +51,7 @@ def test_names_are_shown(value: State | Phase | Status, name: str) -> None:
 
 def test_numbers_are_shown() -> None:
     """A number is what it was."""
-    assert (int(State.READY), State(2), f"{State.READY.value:02}") == (
-        2,
-        State.READY,
-        "02",
-    )
+    assert (int(State.READY), State(2), f"{State.READY.value:02}") == (2, State.READY, "02")
     assert Status.BUSY.meaning == "a request is in flight"
 
 
@@ -74,10 +69,7 @@ def test_each_member_of_a_struct_crosses() -> None:
     ):
         for name, _ in made._fields_:
             place = getattr(type(made), name)
-            assert any(bytes(made)[place.offset : place.offset + place.size]), (
-                made,
-                name,
-            )
+            assert any(bytes(made)[place.offset : place.offset + place.size]), (made, name)
 
 
 def test_attempt_of_a_record() -> None:

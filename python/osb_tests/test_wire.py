@@ -47,10 +47,7 @@ def test_what_is_written_is_received(kind: Kind, accepts: bool) -> None:
         target = wire.write_named_target(asked, names, None, "/a").encode()
         body = wire.write_named_body(kind, names, "an organization", "a space")
         received = wire.receive_request(wire.write_method(kind), target, body, 1000, "/a")
-        assert (received.asked.request(None), received.instance) == (
-            asked,
-            names.instance,
-        )
+        assert (received.asked.request(None), received.instance) == (asked, names.instance)
 
 
 @pytest.mark.parametrize("kind", Kind)
@@ -61,12 +58,7 @@ def test_what_is_written_of_a_binding_is_received(kind: Kind) -> None:
     target = binding_wire.write_binding_target(asked, instance, names, None, "/a").encode()
     body = binding_wire.write_binding_body(kind, names)
     received = binding_wire.receive_binding_request(wire.write_method(kind), target, body, 1000, "/a")
-    texts = (
-        received.instance,
-        received.binding,
-        received.service or "",
-        received.plan or "",
-    )
+    texts = (received.instance, received.binding, received.service or "", received.plan or "")
     assert binding_wire.BindingNames(*texts) == names
     assert (received.asked.is_fetch, received.asked.instance) == (False, instance)
     assert received.asked.asked.request(None) == asked

@@ -50,12 +50,7 @@ class Holding:
         return bool(lib.osb_holding_fits(_to(self), mode_to(mode)))
 
     def begin(
-        self,
-        mode: Mode | None,
-        request: Request,
-        *,
-        first_poll: bool = False,
-        attributes: bytes = NO_ATTRIBUTES,
+        self, mode: Mode | None, request: Request, *, first_poll: bool = False, attributes: bytes = NO_ATTRIBUTES
     ) -> tuple[Holding, Answer | Work]:
         """Begins with a request to this instance: gives the answer to send, or the work that is due and pending.
 
