@@ -28,8 +28,8 @@ def _differs(line: Line, why: str, model: tuple[object, ...], journal: tuple[obj
     return differs(
         line,
         why,
-        ", ".join(f"{word} {got}" for word, got, _ in wrong),
-        ", ".join(f"{word} {wanted}" for word, _, wanted in wrong),
+        ", ".join(f"{word} {wanted}" for word, wanted, _ in wrong),
+        ", ".join(f"{word} {found}" for word, _, found in wrong),
     )
 
 
