@@ -18,11 +18,10 @@ Test = TypeVar("Test", bound=Callable[..., None])
 _TIMES = int(os.environ.get("OSB_EXAMPLES", "0"))
 
 
-def examples(count: int, steps: int = 50) -> settings:
-    """The settings of a test with so many examples. A state machine takes so many steps in each at most."""
+def examples(count: int) -> settings:
+    """The settings of a test with so many examples."""
     return settings(
         max_examples=count * max(_TIMES, 1),
-        stateful_step_count=steps,
         derandomize=_TIMES == 0,
         database=None,
         deadline=None,

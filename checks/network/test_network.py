@@ -8,23 +8,19 @@ OSB_EXAMPLES=10 compares ten times as many events, drawn at random (checks/gener
 
 from __future__ import annotations
 
-from collections.abc import Callable
-
 import pytest
 from crate_programs import told_by
 from generated import examples
 from hypothesis import given
 from hypothesis import strategies as st
-from hypothesis.stateful import RuleBasedStateMachine, initialize, precondition, rule, run_state_machine_as_test
 from network import cases, shipped
 from network.alone import LoneBroker
 from network.alone import Tally as LoneTally
 from network.cases import TellEach, at_once, in_a_line
-from network.model import MODES, OUTCOMES, RESOURCES, is_made
 from network.walks import Step, Tally, Walk, any_event, likely
 
-# hypothesis gives it no type.
-run_machine: Callable[..., object] = run_state_machine_as_test
+# What never applies: numbers of requests that are never sent, as large as they get.
+UNSENT = [f"{word} {number}" for word in ("arrive", "put-off") for number in (2**32, 2**64 - 1)]
 
 
 @pytest.fixture(params=["libosb", "osb_network"])
@@ -58,89 +54,6 @@ def test_at_once() -> None:
     compare_at_once([in_a_line(line) for line in at_once()])
 
 
-class Events(RuleBasedStateMachine):
-    """Any events, in any order. `back` counts requests and answers from the latest."""
-
-    def __init__(self, tell: TellEach) -> None:
-        super().__init__()
-        self.tell = tell
-        self.walk = Walk(Tally(), "-", False, False)
-
-    @initialize(mode=st.sampled_from(MODES), accepts=st.booleans(), first_poll=st.booleans())
-    def order(self, mode: str, accepts: bool, first_poll: bool) -> None:
-        self.walk = Walk(Tally(), mode, accepts, first_poll)
-
-    @precondition(lambda self: self.walk.instance.state is None)
-    @rule()
-    def create(self) -> None:
-        self.walk.happen("create")
-
-    @rule(event=st.sampled_from(["send", "timeout", "expire", "retry", "remove", "create"]))
-    def platform(self, event: str) -> None:
-        self.walk.happen(event)
-
-    @precondition(lambda self: self.walk.instance.out is None and self.walk.instance.state is not None)
-    @rule()
-    def send(self) -> None:
-        self.walk.happen("send")
-
-    @precondition(lambda self: bool(self.walk.instance.sent))
-    @rule(word=st.sampled_from(["arrive", "arrive", "put-off"]), back=st.integers(0, 4))
-    def arrive(self, word: str, back: int) -> None:
-        self.walk.happen(f"{word} {max(len(self.walk.instance.sent) - back, 0)}")
-
-    @rule(word=st.sampled_from(["arrive", "put-off"]), number=st.sampled_from([0, 2**32, 2**64 - 1]))
-    def arrive_unsent(self, word: str, number: int) -> None:
-        self.walk.happen(f"{word} {number}")
-
-    @precondition(lambda self: bool(self.walk.instance.given))
-    @rule(word=st.sampled_from(["take", "garbled"]), back=st.integers(0, 3))
-    def take(self, word: str, back: int) -> None:
-        self.walk.happen(f"{word} {max(len(self.walk.instance.given) - 1 - back, 0)}")
-
-    @rule(word=st.sampled_from(["take", "garbled"]), beyond=st.integers(0, 1))
-    def take_none(self, word: str, beyond: int) -> None:
-        self.walk.happen(f"{word} {len(self.walk.instance.given) + beyond}")
-
-    @rule(status=st.sampled_from([500, 503, 599, 0, 404, 499, 600, 65535]))
-    def gateway(self, status: int) -> None:
-        self.walk.happen(f"gateway {status}")
-
-    @precondition(lambda self: is_made(self.walk.instance.held) is not None)
-    @rule(outcome=st.sampled_from(["ok", "failed"]))
-    def finish(self, outcome: str) -> None:
-        self.walk.happen(f"finish {outcome}")
-
-    @precondition(lambda self: self.walk.instance.held.work is not None)
-    @rule(outcome=st.sampled_from(OUTCOMES))
-    def end(self, outcome: str) -> None:
-        self.walk.happen(f"end {outcome}")
-
-    @precondition(lambda self: is_made(self.walk.instance.held) is not None)
-    @rule(resource=st.sampled_from(RESOURCES))
-    def work(self, resource: str) -> None:
-        self.walk.happen(f"work {resource}")
-
-    @rule(
-        event=st.sampled_from(
-            ["crash-broker", "crash-platform", "end-unknown", "finish ok", "end done", "work part", "give-up-waiting"]
-        )
-    )
-    def broker(self, event: str) -> None:
-        self.walk.happen(event)
-
-    @rule()
-    def settle(self) -> None:
-        self.walk.happen("settle")
-
-    def teardown(self) -> None:
-        compare(self.tell, self.walk.steps)
-
-
-def test_events(tell: TellEach) -> None:
-    run_machine(lambda: Events(tell), settings=examples(100, steps=40))
-
-
 # Most Provisions accept an asynchronous operation.
 ACCEPTS = [True] * 6 + [False]
 
@@ -153,7 +66,10 @@ def walks(draw: st.DrawFn, seen: Tally) -> Walk:
     many = draw(st.integers(1, 250))
     picks = iter(draw(st.binary(min_size=2 * many, max_size=2 * many)))
     for which, at in zip(picks, picks):
-        events = ["settle"] if which >= 252 else (any_event if which >= 224 else likely)(walk.instance)
+        if which >= 252:
+            events = ["settle"]
+        else:
+            events = UNSENT + any_event(walk.instance) if which >= 224 else likely(walk.instance)
         walk.happen(events[at % len(events)])
         if walk.instance.state == "gone" and which % 12 == 11:
             break
