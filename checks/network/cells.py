@@ -7,7 +7,7 @@ from __future__ import annotations
 
 from collections import deque
 from collections.abc import Callable, Iterable, Iterator
-from typing import Generic, NamedTuple, TypeVar
+from typing import NamedTuple, TypeVar
 
 from network import model
 from network.model import Answer, Held, Request, error
@@ -259,17 +259,12 @@ def wrong_in_any(design: Design, cell: Any) -> str | None:
 Cell = TypeVar("Cell")
 
 
-class Exploration(Generic[Cell]):
-    """All cells, and the shortest way to a wrong one."""
-
-    def __init__(self, cells: list[Cell], wrong: str | None) -> None:
-        self.cells, self.wrong = cells, wrong
-
-
 def explore(
     start: Cell, steps: Callable[[Cell], Iterable[tuple[str, Cell]]], wrong: Callable[[Cell], str | None]
-) -> Exploration[Cell]:
-    """Steps every cell that can come about, or stops at the first wrong one."""
+) -> tuple[list[Cell], str | None]:
+    """Steps every cell that can come about, or stops at the first wrong one. Returns the cells, and the shortest way to
+    the wrong one.
+    """
     came: dict[Cell, tuple[Cell, str] | None] = {start: None}
     todo = deque([start])
     while todo:
@@ -281,9 +276,9 @@ def explore(
             while at is not None:
                 way.append(f"{at[1]}, after {at[0]}")
                 at = came[at[0]]
-            return Exploration(list(came), "\n".join(reversed(way)))
+            return list(came), "\n".join(reversed(way))
         for event, after in steps(cell):
             if after not in came:
                 came[after] = (cell, event)
                 todo.append(after)
-    return Exploration(list(came), None)
+    return list(came), None
