@@ -7,22 +7,7 @@ from typing import Iterator
 LONGEST = 512
 """The bytes that a line has at most, without its line feed."""
 
-EVENTS = frozenset(
-    (
-        b"create",
-        b"remove",
-        b"send",
-        b"deliver",
-        b"repeat",
-        b"lose",
-        b"garble",
-        b"gateway",
-        b"answer",
-        b"timeout",
-        b"expire",
-        b"finish",
-    )
-)
+EVENTS = frozenset(b"create remove send deliver repeat lose garble gateway answer timeout expire finish".split())
 """The first words of an event of an instance."""
 
 ID_SIZE = 36

@@ -6,6 +6,7 @@ import os
 import re
 import shutil
 import subprocess
+from contextlib import suppress
 from functools import lru_cache
 from pathlib import Path
 from typing import IO, Iterable, NamedTuple
@@ -77,15 +78,10 @@ def _with_its_caller() -> list[str]:
     """
     words = [shutil.which("setpriv") or "", "--pdeathsig", "KILL"]
     try:
-        is_there = (
-            subprocess.run(
-                [*words, "true"], stdin=subprocess.DEVNULL, stderr=subprocess.DEVNULL, check=False
-            ).returncode
-            == 0
-        )
-    except OSError:
-        is_there = False
-    return words if is_there else []
+        subprocess.run([*words, "true"], stdin=subprocess.DEVNULL, stderr=subprocess.DEVNULL, check=True)
+    except (OSError, subprocess.CalledProcessError):
+        return []
+    return words
 
 
 def _can_be_run(path: str) -> None:
@@ -104,16 +100,12 @@ def _not_run(path: str, error: OSError) -> Unreplayed:
 
 def _give(stdin: IO[bytes], given: Iterable[bytes]) -> None:
     """It reads no further than to a fault."""
-    try:
+    with suppress(BrokenPipeError):
         for piece in given:
             stdin.write(piece)
         stdin.flush()
-    except BrokenPipeError:
-        pass
-    try:
+    with suppress(BrokenPipeError):
         stdin.close()
-    except BrokenPipeError:
-        pass
 
 
 def built() -> str:

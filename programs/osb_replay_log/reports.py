@@ -180,11 +180,10 @@ def write(reports: Sequence[Report], restarts: int, is_saved: bool, room: Room, 
     applied = sum(report.applied for report in reports) - restarts * (len(reports) - 1)
     out.write(b"applied %d\nskipped %d\n" % (applied, sum(report.skipped for report in reports)))
     if is_saved:
-        end = b"}"
         out.write(_RECORD)
         separator = b""
         for block in merged(members, b"},"):
             out.write(separator + b"},".join(block))
             separator = b"},"
-        out.write((end if separator else b"") + _RECORD_END + b"\n")
+        out.write((b"}" if separator else b"") + _RECORD_END + b"\n")
     out.flush()
