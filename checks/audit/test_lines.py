@@ -94,20 +94,15 @@ def test_texts_of_other_types(name: str) -> None:
             continue
         with pytest.raises(NoText):
             recorded_in(json.dumps({**record, member: wrong}))
-    others: list[dict[str, Any]] = [{**holding, "row": {**row, member: wrong}} for member in row]
+    others: list[dict[str, Any]] = [{**holding, "row": {**row, key: wrong}} for key in row]
     others += [
-        {**holding, "work": {**work, name: wrong}} for name in work if not (name == "id" and isinstance(wrong, str))
+        {**holding, "work": {**work, key: wrong}} for key in work if not (key == "id" and isinstance(wrong, str))
     ]
-    others += [{**holding, name: wrong} for name in holding if not (name == "attributes" and isinstance(wrong, str))]
+    others += [{**holding, key: wrong} for key in holding if not (key == "attributes" and isinstance(wrong, str))]
     for other in others:
         if other["tombstone"] is True or other["row"] is None or other["work"] is None:
             continue  # these are texts of other holdings
-        if (
-            name == "a truth"
-            and other["work"] == work
-            and other["row"] == row
-            and other["attributes"] == holding["attributes"]
-        ):
+        if name == "a truth" and other == holding:
             continue  # of `accepts_incomplete`
         with pytest.raises(NoText):
             held_in(json.dumps(other))

@@ -211,27 +211,25 @@ MANIFEST = fields(
     "version applications",
     version={"const": 1},
     applications=several(
-        {
-            **fields(
-                "name buildpacks command instances services health-check-type",
-                name=NAME,
-                buildpacks=several(TEXT),
-                stack=TEXT,
-                command=TEXT,
-                instances=COUNT,
-                memory={"type": "string", "pattern": "^[0-9]+[MG]$"},
-                disk_quota={"type": "string", "pattern": "^[0-9]+[MG]$"},
-                timeout=COUNT,
-                routes=several(fields("route", route=TEXT)),
-                services=several(NAME),
-                env=TEXTS,
-                **{
-                    "health-check-type": one_of("http", "port", "process"),
-                    "health-check-http-endpoint": TEXT,
-                    "readiness-health-check-type": one_of("http", "port", "process"),
-                    "readiness-health-check-http-endpoint": TEXT,
-                },
-            )
-        }
+        fields(
+            "name buildpacks command instances services health-check-type",
+            name=NAME,
+            buildpacks=several(TEXT),
+            stack=TEXT,
+            command=TEXT,
+            instances=COUNT,
+            memory={"type": "string", "pattern": "^[0-9]+[MG]$"},
+            disk_quota={"type": "string", "pattern": "^[0-9]+[MG]$"},
+            timeout=COUNT,
+            routes=several(fields("route", route=TEXT)),
+            services=several(NAME),
+            env=TEXTS,
+            **{
+                "health-check-type": one_of("http", "port", "process"),
+                "health-check-http-endpoint": TEXT,
+                "readiness-health-check-type": one_of("http", "port", "process"),
+                "readiness-health-check-http-endpoint": TEXT,
+            },
+        )
     ),
 )

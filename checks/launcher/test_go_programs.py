@@ -48,39 +48,27 @@ def test_built_once(repository: GoRepository) -> None:
     assert not list(repository.program.parent.glob("*.new.*"))
 
 
-def change_main(repository: GoRepository) -> None:
-    edit_keeping_time_and_length(repository.main, "other")
-
-
-def change_catalogue(repository: GoRepository) -> None:
-    (repository.main.parent / "catalogue.json").write_text("{ }")
-
-
-def rename_source(repository: GoRepository) -> None:
-    file = repository.main.parent / "catalogue.json"
-    file.rename(file.with_name("other.json"))
-
-
-def change_header(repository: GoRepository) -> None:
-    with open(repository.top / "include" / "osb.h", "a") as header:
-        header.write("\n")
-
-
 def change_library(repository: GoRepository) -> None:
     (repository.prebuilt / "libosb.a").write_text("another\n")
     repository.record_prebuilt()
 
 
-def damage_program(repository: GoRepository) -> None:
-    repository.program.chmod(0o644)
+CHANGES: dict[str, Callable[[GoRepository], object]] = {
+    "a source": lambda repository: edit_keeping_time_and_length(repository.main, "other"),
+    "a file beside it": lambda repository: repository.main.with_name("catalogue.json").write_text("{ }"),
+    "the name of a file": lambda repository: repository.main.with_name("catalogue.json").rename(
+        repository.main.with_name("other.json")
+    ),
+    "the header": lambda repository: repository.write("include/osb.h", "another\n"),
+    "the library": change_library,
+    "the program": lambda repository: repository.program.chmod(0o644),
+}
 
 
-@pytest.mark.parametrize(
-    "change", [change_main, change_catalogue, rename_source, change_header, change_library, damage_program]
-)
-def test_built_again(repository: GoRepository, change: Callable[[GoRepository], None]) -> None:
+@pytest.mark.parametrize("what", CHANGES)
+def test_built_again(repository: GoRepository, what: str) -> None:
     serve(repository)
-    change(repository)
+    CHANGES[what](repository)
     assert serve(repository) == (9, says(repository.main.read_text()), builds(repository))
     assert serve(repository)[2] == ""
     assert len(repository.go_builds()) == 2

@@ -87,26 +87,15 @@ def test_from_source(repository: Repository) -> None:
     assert (status, out) == (9, BUILT) and "osb-replay is damaged" in reported
 
 
-def damage(repository: Repository) -> None:
-    with open(repository.prebuilt / "osb-replay", "a") as program:
-        program.write("# More.\n")
-
-
-def remove_manifest(repository: Repository) -> None:
-    (repository.prebuilt / "MANIFEST").unlink()
-
-
 @pytest.mark.parametrize(
-    ("change", "report"),
+    ("file", "report"),
     [
-        (damage, "osb-replay is damaged: its SHA-256 isn't the one in MANIFEST"),
-        (remove_manifest, "MANIFEST can't be read, or has no line for osb-replay"),
+        ("osb-replay", "osb-replay is damaged: its SHA-256 isn't the one in MANIFEST"),
+        ("MANIFEST", "MANIFEST can't be read, or has no line for osb-replay"),
     ],
 )
-def test_unusable_prebuilt_file_is_reported_and_not_used(
-    repository: Repository, change: Callable[[Repository], None], report: str
-) -> None:
-    change(repository)
+def test_unusable_prebuilt_file_is_reported_and_not_used(repository: Repository, file: str, report: str) -> None:
+    (repository.prebuilt / file).write_text("# Nothing.\n")
     status, out, reported = replay(repository, has_rt=False)
     assert (status, out) == (70, "") and report in reported
     for _ in range(2):  # reported each time
@@ -216,9 +205,11 @@ def test_library_is_installed(repository: Repository) -> None:
 # ---- The prebuilt files, written and compared
 
 
-def compare(repository: Repository, *program: str, has_rt: bool = True) -> tuple[int, str, list[str]]:
+def compare(
+    repository: Repository, *program: str, how: str = "--compare", has_rt: bool = True
+) -> tuple[int, str, list[str]]:
     """The status, the last line, and the lines that aren't ok."""
-    run = repository.run("scripts/prebuilt", "--compare", *program, has_rt=has_rt)
+    run = repository.run("scripts/prebuilt", how, *program, has_rt=has_rt)
     *lines, last = run.stdout.splitlines()
     return run.returncode, last, [line for line in lines if not line.startswith("ok: ")]
 
@@ -252,10 +243,8 @@ def test_stale_prebuilt_files_fail(repository: Repository) -> None:
 
 
 def fits(repository: Repository) -> tuple[int, str, list[str]]:
-    """The status, the last line, and the lines that aren't ok, of a look that builds nothing."""
-    run = repository.run("scripts/prebuilt", "--fits")
-    *lines, last = run.stdout.splitlines()
-    return run.returncode, last, [line for line in lines if not line.startswith("ok: ")]
+    """The same of a look that builds nothing."""
+    return compare(repository, how="--fits")
 
 
 def test_files_that_fit_are_not_built(repository: Repository) -> None:
