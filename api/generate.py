@@ -146,9 +146,8 @@ def go_enum(enum: Enum) -> list[str]:
     kind, article = camel(enum.name), "An" if enum.name[0] in "aeiou" else "A"
     names, following = [], 0
     for value in enum.values:
-        names += [
-            ("" if value.number == following else f"{value.number}: ") + f'"{value.name.lower().replace("_", "-")}",'
-        ]
+        number = "" if value.number == following else f"{value.number}: "
+        names.append(f'{number}"{value.name.lower().replace("_", "-")}",')
         following = value.number + 1
     return [
         *["", *wrapped(f"{article} {kind} is {enum.what}. {enum.go}", "// ", "// "), f"type {kind} uint8"],

@@ -79,10 +79,9 @@ class Tree:
 
     def _size(self) -> int:
         """In KiB, as dpkg-gencontrol counts: each file is rounded up, and all else is 1."""
-        found = [path for path in self.folder.rglob("*")]
-        return sum(
-            math.ceil(path.stat().st_size / 1024) if path.is_file() and not path.is_symlink() else 1 for path in found
-        )
+        found = list(self.folder.rglob("*"))
+        files = [path for path in found if path.is_file() and not path.is_symlink()]
+        return sum(math.ceil(path.stat().st_size / 1024) for path in files) + len(found) - len(files)
 
 
 def maintainer() -> str:

@@ -113,11 +113,9 @@ def packages() -> Packages:
         ]
         environment = {**os.environ, "GOFLAGS": f"-tags={tags}"}
         listed = subprocess.run(line, check=True, stdout=subprocess.PIPE, text=True, env=environment).stdout
-        for package_ in map(package, objects(listed)):
-            before = found.get(package_.path, package_)
-            found[package_.path] = package_._replace(
-                imports=package_.imports | before.imports, tests=package_.tests | before.tests
-            )
+        for now in map(package, objects(listed)):
+            before = found.get(now.path, now)
+            found[now.path] = now._replace(imports=now.imports | before.imports, tests=now.tests | before.tests)
     return found
 
 
@@ -180,9 +178,8 @@ def picture(of: Packages) -> Iterator[str]:
     yield "```mermaid"
     yield "flowchart TD"
     for folder in FOLDERS:
-        below = [
-            package_.path.removeprefix(f"{folder}/") for package_ in in_folder(of, folder) if package_.path != folder
-        ]
+        paths = [package_.path for package_ in in_folder(of, folder)]
+        below = [path.removeprefix(f"{folder}/") for path in paths if path != folder]
         lines = [", ".join(below[at : at + 4]) for at in range(0, len(below), 4)]
         yield f'    {folder}["{"<br/>".join([f"<b>{folder}</b>", *lines])}"]'
     for folder in FOLDERS:

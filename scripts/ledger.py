@@ -102,7 +102,7 @@ def lines_now(top: Path, kit: str) -> dict[str, Line]:
     def digest(name: str) -> str:
         if name not in digests:
             line, uses = rows[name]
-            parts = [ground, line, *(digest(name) for name in uses), *files_of(top / "crates" / name)]
+            parts = [ground, line, *(digest(use) for use in uses), *files_of(top / "crates" / name)]
             digests[name] = digest_of(parts)
         return digests[name]
 

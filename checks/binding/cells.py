@@ -54,7 +54,7 @@ BINDINGS = [*INSTANCES, Order("async", accepts=False), Order("-"), Order("async"
 ORDERS = [*product(INSTANCES, BINDINGS), (Order("async", accepts=False), BINDINGS[0]), (Order("-"), BINDINGS[0])]
 # Two numbers stand for all credentials: they are only compared.
 CONTENTS = (1, 2)
-AT_REST = (None, "ready", "gone", "unsettled")
+AT_REST = {None, "ready", "gone", "unsettled"}
 
 
 # ---- one life
@@ -110,13 +110,8 @@ def of_credentials(cell: Cell, life: Binding) -> Cell:
     """The cell with the credentials, numbered as they come."""
     fetched = life.fetched if life.state in ("wanted", "polling") else []
     names = {0: 0}
-    for number in (
-        life.recorded,
-        life.row,
-        life.credentials,
-        *sorted(answer[2] for answer in cell.answers),
-        *sorted(fetched),
-    ):
+    given = sorted(answer[2] for answer in cell.answers)
+    for number in (life.recorded, life.row, life.credentials, *given, *sorted(fetched)):
         names.setdefault(number, len(names))
     return cell._replace(
         answers=frozenset((kind, answer, names[number]) for kind, answer, number in cell.answers),
@@ -142,10 +137,8 @@ def takes(life: Life) -> Iterator[str]:
         yield f"take {place}"
         yield f"garbled {place}"
         if isinstance(life, Binding) and life.needs_fetch(answer):
-            yield from (
-                f"take-fetched {place} {number}"
-                for number in {answer: at for at, answer in enumerate(life.fetched)}.values()
-            )
+            last = {answer: at for at, answer in enumerate(life.fetched)}
+            yield from (f"take-fetched {place} {at}" for at in last.values())
 
 
 def events(life: Life, contents: Collection[int]) -> Iterator[str]:
@@ -303,11 +296,9 @@ class World:
         return (instance, *(self.bindings.round(number, allowed, removing) for number in numbers[1:]))
 
     def rests(self, numbers: Numbers, removing: bool) -> bool:
-        states = [
-            self.instances.lives[numbers[0]].state,
-            *(self.bindings.lives[number].state for number in numbers[1:]),
-        ]
-        return all(last in ((None, "gone") if removing else AT_REST) for last in states)
+        instance, *bindings = numbers
+        states = {self.instances.lives[instance].state, *(self.bindings.lives[number].state for number in bindings)}
+        return states <= ({None, "gone"} if removing else AT_REST)
 
     def rounds(self, came: Collection[Numbers], removing: bool = False) -> tuple[int, Numbers | None]:
         """The most rounds that any takes until nothing is due; and the first of those that never get there."""

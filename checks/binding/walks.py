@@ -91,12 +91,9 @@ def settle(tied: BoundInstance) -> None:
 
 def remove(tied: BoundInstance) -> None:
     """Five rounds are enough."""
-    for life, removing in (
-        (tied.instance, False),
-        *((binding, True) for binding in tied.bindings),
-        (tied.instance, True),
-    ):
-        three_rounds(tied, life, removing)
+    three_rounds(tied, tied.instance, False)
+    for life in (*tied.bindings, tied.instance):
+        three_rounds(tied, life, True)
 
 
 ROUNDS = {"settle": settle, "remove": remove}
@@ -149,9 +146,8 @@ class Walk:
 
     def is_over(self) -> bool:
         """Whether nothing is recorded any more but what is gone."""
-        return self.tied.instance.state == "gone" and all(
-            binding.state in (None, "gone") for binding in self.tied.bindings
-        )
+        states = {binding.state for binding in self.tied.bindings}
+        return self.tied.instance.state == "gone" and states <= {None, "gone"}
 
     # ---- what is drawn
 
@@ -174,11 +170,9 @@ class Walk:
         if life.state is None and not life.allowed.create:
             return ["create"]
         found = [event for event in likely(life) if not disturbs(life, event) or self.draw.random() < 0.2]
-        return (
-            [self.of_binding(life, event) for event in found] + self.more_of(life)
-            if isinstance(life, Binding)
-            else found
-        )
+        if isinstance(life, Binding):
+            return [self.of_binding(life, event) for event in found] + self.more_of(life)
+        return found
 
     def more_of(self, life: Binding) -> list[str]:
         """The events that only a binding has, as far as they are likely to apply."""

@@ -39,9 +39,8 @@ def kustomization(folder: str) -> Value:
 
 def objects(folder: str) -> list[Value]:
     """The objects that the kustomization of the folder lists, in files of the folder."""
-    return [
-        document for name in kustomization(folder)["resources"] for document in documents(KUBERNETES / folder / name)
-    ]
+    names = kustomization(folder)["resources"]
+    return [document for name in names for document in documents(KUBERNETES / folder / name)]
 
 
 def of_kind(folder: str, kind: str) -> list[Value]:

@@ -100,12 +100,9 @@ def test_all_files_are_listed(folder: str) -> None:
 def test_images(folder: str) -> None:
     """Each image has a tag; the program's is this version, under the name of the program."""
     images = {image["name"]: image for image in kustomization(folder)["images"]}
-    used = [
-        container["image"]
-        for w in workloads(folder)
-        for container in (*pod(w)["initContainers"], *pod(w)["containers"])
-    ]
-    assert set(used) == set(images) == {folder, "busybox"}
+    pods = [pod(workload) for workload in workloads(folder)]
+    used = {container["image"] for spec in pods for container in (*spec["initContainers"], *spec["containers"])}
+    assert used == set(images) == {folder, "busybox"}
     assert {program(workload)["image"] for workload in workloads(folder)} == {folder}
     header = read("include/osb.h")
     numbers = [re.search(rf"#define OSB_VERSION_{part} (\d+)", header) for part in ("MAJOR", "MINOR", "PATCH")]
@@ -175,9 +172,8 @@ def test_init_script(folder: str, workload: Value, tmp_path: Path) -> None:
         (secrets / path).write_text(f"{path}\n", encoding="utf-8")
     script = init["args"][0].replace("/run/osb", str(run)).replace("/secrets/", f"{secrets}/")
     subprocess.run([*init["command"], script], check=True)
-    assert {file.name: file.stat().st_mode & 0o777 for file in run.iterdir()} == {
-        name: 0o600 for name in copies(workload)
-    }
+    modes = {file.name: file.stat().st_mode & 0o777 for file in run.iterdir()}
+    assert modes == dict.fromkeys(copies(workload), 0o600)
     servers = {"osb-broker": "store/pgpass\nsold/pgpass\n", "osb-platform": "store/pgpass\n"}
     assert (run / "pgpass").read_text(encoding="utf-8") == servers[folder]
 
@@ -250,9 +246,8 @@ def test_configuration(folder: str) -> None:
             if reference:
                 assert reference["name"] == made["name"]
                 used.add(reference["key"])
-        assert {volume["configMap"]["name"] for volume in pod(workload)["volumes"] if "configMap" in volume} <= {
-            made["name"]
-        }
+        maps = [volume["configMap"]["name"] for volume in pod(workload)["volumes"] if "configMap" in volume]
+        assert set(maps) <= {made["name"]}
         given = re.findall(r"\$\((\w+)\)", " ".join(program(workload)["args"]))
         assert set(given) <= {variable["name"] for variable in program(workload)["env"]}
     assert used == set(literals(folder))
@@ -294,11 +289,7 @@ def test_ports(folder: str, workload: Value) -> None:
         assert option(container, LISTENS[port["name"]]) == f"0.0.0.0:{port['containerPort']}"
     probes = {name: container[name]["httpGet"] for name in ("readinessProbe", "livenessProbe", "startupProbe")}
     assert {probe["port"] for probe in probes.values()} == {"health"}
-    assert [probes[name]["path"] for name in ("readinessProbe", "livenessProbe", "startupProbe")] == [
-        "/readyz",
-        "/healthz",
-        "/healthz",
-    ]
+    assert [probe["path"] for probe in probes.values()] == ["/readyz", "/healthz", "/healthz"]
 
 
 @each_program

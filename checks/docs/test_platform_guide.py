@@ -181,9 +181,8 @@ def test_commands() -> None:
 
 def test_options() -> None:
     """The tables have each option of each command, and no other."""
-    program = {
-        ("all", option) for option in options_of(help_of("osb-platform")) if option not in ("--help", "--version")
-    }
+    general = set(options_of(help_of("osb-platform"))) - {"--help", "--version"}
+    program = {("all", option) for option in general}
     names = [[command] for command in commands_of("osb-platform") if command != "help"]
     for name in [*names, *(["broker", command] for command in commands_of("osb-platform", "broker"))]:
         own = help_of("osb-platform", *name).partition("\nGlobal Flags:")[0]
@@ -248,12 +247,8 @@ def test_queries_of_lists() -> None:
     """The table has each name that the query of a list may have, and no other."""
     described = json.loads(read("go/platform/api/openapi.json"))
     lists = ("/v1/records", "/v1/instances", "/v1/bindings", "/v1/instances/{id}/bindings")
-    listed = [
-        parameter["$ref"].split("/")[-1]
-        for path in lists
-        for parameter in described["paths"][path]["get"]["parameters"]
-    ]
-    parameters = [described["components"]["parameters"][name] for name in listed]
+    references = [given["$ref"] for path in lists for given in described["paths"][path]["get"]["parameters"]]
+    parameters = [described["components"]["parameters"][reference.split("/")[-1]] for reference in references]
     program = {parameter["name"] for parameter in parameters if parameter["in"] == "query"}
     table = read(PLATFORM).partition("\n| query | which rows |\n|---|---|\n")[2].partition("\n\n")[0]
     named = [name for row in table.splitlines() for name in re.findall(r"`([a-z]+)=", row.split(" | ")[0])]

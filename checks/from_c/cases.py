@@ -109,10 +109,7 @@ def literal(kind: str, value: Any, length: int = 0) -> str:
         return plain(kind, value)
     parts = [str(number) for number in value] if length else halves(value) if kind == "struct osb_id" else []
     if not parts:
-        parts = [
-            literal(variable.type, (value or {}).get(variable.name), variable.length)
-            for variable in STRUCTS[kind].variables
-        ]
+        parts = [literal(of.type, (value or {}).get(of.name), of.length) for of in STRUCTS[kind].variables]
     return f"{{{', '.join(parts)}}}"
 
 
@@ -247,11 +244,8 @@ class CaseText:
         if call in LENGTHS:
             lengths = {name: len(text or b"") for name, text in gives.items()}
             flags = {name: gives.get(name) == b"yes" for name in ("instance_usable", "update_repeatable")}
-            yield LENGTHS[call], {
-                **lengths,
-                **flags,
-                **{f"has_{name}": text is not None for name, text in gives.items()},
-            }
+            has = {f"has_{name}": text is not None for name, text in gives.items()}
+            yield LENGTHS[call], {**lengths, **flags, **has}
         if call == "read_answer":
             yield "answer", {"status": self.word("status"), "body": self.word("read")}
         if call == "asked_request":

@@ -23,13 +23,7 @@ ARRIVALS = [
     for plan in (FIRST_PLAN, FIRST_PLAN + 1)
     for attributes in (1, 2)
 ]
-EVENTS = [
-    *ARRIVALS,
-    *(f"put-off {kind}" for kind in KINDS),
-    *ENDS,
-    *(f"work {resource}" for resource in RESOURCES),
-    "crash-broker",
-]
+EVENTS = [*ARRIVALS, *(f"put-off {kind}" for kind in KINDS), *ENDS, *(f"work {to}" for to in RESOURCES), "crash-broker"]
 REPORTS = ["ready", "gone", "leaving", "polled"]
 
 
@@ -51,9 +45,8 @@ class Tally:
     def missing(self) -> set[str]:
         """What never came about, of all that has to."""
         always = {name(line) for line in EVENTS if line.startswith(("arrive", "put-off", "crash"))}
-        wanted = {phase for phase in PHASES if not self.phases[phase]} | {
-            report for report in REPORTS if not self.reports[report]
-        }
+        wanted = {phase for phase in PHASES if not self.phases[phase]}
+        wanted |= {report for report in REPORTS if not self.reports[report]}
         wanted |= {name(line) for line in EVENTS if not self.applied[name(line)]}
         return wanted | {event for event in map(name, EVENTS) if event not in always and not self.skipped[event]}
 

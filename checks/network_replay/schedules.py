@@ -153,10 +153,8 @@ def faulty(draw: random.Random) -> bytes:
 def schedule(seed: int) -> bytes:
     """A schedule of at most 150 events. One in eight has a fault."""
     draw = random.Random(seed)
-    spelled_lines = [
-        respelled(draw, line) if draw.random() < 0.05 else line for line in events(draw, draw.randint(1, 150))
-    ]
-    lines = [line.encode() for line in spelled_lines]
+    many = draw.randint(1, 150)
+    lines = [(respelled(draw, line) if draw.random() < 0.05 else line).encode() for line in events(draw, many)]
     if draw.random() < 0.125:
         lines.insert(draw.randint(0, len(lines)), faulty(draw))
     return b"\n".join(lines) + draw.choice([b"\n", b""])

@@ -127,9 +127,8 @@ def _child(process: subprocess.Popen[str]) -> int | None:
 
 
 def _proxies() -> dict[str, str]:
-    return {
-        name: value for name, value in os.environ.items() if name.lower() in ("http_proxy", "https_proxy", "no_proxy")
-    }
+    proxies = "http_proxy", "https_proxy", "no_proxy"
+    return {name: value for name, value in os.environ.items() if name.lower() in proxies}
 
 
 def _group() -> Path:

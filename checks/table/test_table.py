@@ -39,10 +39,7 @@ def test_the_crates_have_the_numbers() -> None:
 
 def test_the_crates_have_the_structs() -> None:
     """Each member, in its place, so that the struct of C has the layout of `#[repr(C)]`."""
-    table = {
-        name: "; ".join(f"{variable.c_type} {variable.name}" for variable in struct.variables)
-        for name, struct in STRUCTS.items()
-    }
+    table = {name: "; ".join(f"{of.c_type} {of.name}" for of in struct.variables) for name, struct in STRUCTS.items()}
     compare(table, crates.structs())
 
 

@@ -201,9 +201,7 @@ def parameters(draw: st.DrawFn, name: str) -> list[str]:
 
 @st.composite
 def queries(draw: st.DrawFn) -> str:
-    made = [
-        parameter for name in ("service_id", "plan_id", "accepts_incomplete") for parameter in draw(parameters(name))
-    ]
+    made = [part for name in ("service_id", "plan_id", "accepts_incomplete") for part in draw(parameters(name))]
     made += draw(st.lists(FURTHER, max_size=2))
     return draw(st.sampled_from(["&"] * 20 + ["&&", ";"])).join(draw(st.permutations(made)))
 

@@ -167,11 +167,8 @@ class Calls:
     def _end(self, line: Line, life: Life, call: _Call | None) -> None:
         if line.of.get("result") != "done":
             return  # the next look finds what is left
-        now, found, run = (
-            Seen(life.resource, life.credentials),
-            _found(line, life, call),
-            self.runs.get(worker_of(line)),
-        )
+        now, found = Seen(life.resource, life.credentials), _found(line, life, call)
+        run = self.runs.get(worker_of(line))
         is_new = now == Seen("whole") and found.resource == "whole"  # its credentials weren't known
         is_known = found == now or call is not None and not is_new and call.has_found(found, _is_idle(life))
         if run is not None and line.of["call"] == "look":

@@ -34,9 +34,8 @@ def ordered(lines: Iterable[Line], doubts: Doubts, without: Collection[Change] =
     uncommitted = _uncommitted(left, undone, doubts, without)
     counted = [line for line in left if line not in uncommitted]
     unsure = (line for line in _last(counted) if line.change not in undone and doubts.get(line.change, True) is None)
-    return Counted(
-        _postponed(_chained(counted), undone), [line for line in unsure if line.of["before"] != line.of["after"]]
-    )
+    unshown = [line for line in unsure if line.of["before"] != line.of["after"]]
+    return Counted(_postponed(_chained(counted), undone), unshown)
 
 
 def _last(lines: Sequence[Line]) -> Iterator[Line]:
@@ -182,14 +181,9 @@ def _chained(lines: list[Line]) -> list[Line]:
 def _fitting(lines: Iterable[Line], line: Line, text: str, done: set[Line]) -> Line | None:
     """The first change of the same row by another process that has found this."""
     for other in lines:
-        if (
-            other.event == "changed"
-            and other not in done
-            and row_of(other) == row_of(line)
-            and other.process != line.process
-        ):
-            if other.of["before"] == text:
-                return other
+        is_of_row = other.event == "changed" and row_of(other) == row_of(line)
+        if is_of_row and other not in done and other.process != line.process and other.of["before"] == text:
+            return other
     return None
 
 

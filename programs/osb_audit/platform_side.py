@@ -229,10 +229,10 @@ class PlatformSide:
             raise unjudged(line, "the platform took an answer to a request that no journal of a broker has")
         if any(visit.may_conflict and visit.said == said for visit in visits):
             raise unjudged(line, "the platform took a 409 that isn't judged: the broker's journal has no attributes")
-        answers = (
-            ", ".join(shown(visit.said) for visit in visits if visit.said and not self.known.is_altered(visit)) or "-"
+        given = [shown(visit.said) for visit in visits if visit.said and not self.known.is_altered(visit)]
+        raise differs(
+            line, "the platform took an answer that no broker has given", ", ".join(given) or "-", shown(said)
         )
-        raise differs(line, "the platform took an answer that no broker has given", answers, shown(said))
 
 
 def _check_state(line: Line) -> None:

@@ -151,19 +151,9 @@ class Report:
 
     def _object(self, difference: Difference) -> dict[str, Any]:
         path, line = self._found.positions.locate(difference.position)
-        entry = {
-            "instance": difference.instance,
-            "file": path,
-            "line": line,
-            "event": difference.event,
-            "why": difference.why,
-        }
-        return {
-            **entry,
-            "model": difference.model,
-            "journal": difference.journal,
-            "trace": ["\t".join(COLUMNS), *difference.trace],
-        }
+        parts = {name: getattr(difference, name) for name in ("event", "why", "model", "journal")}
+        trace = ["\t".join(COLUMNS), *difference.trace]
+        return {"instance": difference.instance, "file": path, "line": line, **parts, "trace": trace}
 
     def _reason(self, unjudged: Unjudged) -> dict[str, Any]:
         path, line = self._found.positions.locate(unjudged.first)

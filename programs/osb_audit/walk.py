@@ -73,10 +73,8 @@ class Known:
         """The next change of the record of the same life, or None if there is none."""
         behind = iter(self.lines)
         any(other is line for other in behind)
-        changes = (
-            other for other in behind if (other.side, other.event, other.key) == ("platform", "changed", line.key)
-        )
-        return next(changes, None)
+        row = "platform", "changed", line.key
+        return next((other for other in behind if (other.side, other.event, other.key) == row), None)
 
     # ---- requests
 

@@ -140,9 +140,8 @@ def audit(work: Work, engine: Engine) -> Audited:
     doubts = _doubts(engine, splits, buckets)
     given = (bucket._replace(doubts=doubts) for bucket in buckets)
     judged = _judge(work, engine, given, sum(split_.events for split_ in splits), positions)
-    torn = [
-        "{}:{}".format(*positions.locate(Position(split_.number, line))) for split_ in splits for line in split_.torn
-    ]
+    places = [Position(split_.number, line) for split_ in splits for line in split_.torn]
+    torn = ["{}:{}".format(*positions.locate(place)) for place in places]
     return Audited(judged, _processes(headings), sum(heading.missing for heading in headings), torn, positions)
 
 

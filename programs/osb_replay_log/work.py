@@ -50,9 +50,8 @@ def do(work: Work, engine: Engine, is_replayed: bool) -> Outcome:
     many, estimate = estimated(body, work.most)
     parted = _part(work, engine, len(head.plans), body, many, estimate)
     done = _finish(work, engine, len(head.plans), parted, many, is_replayed)
-    return Outcome(
-        [file for bucket in done for file in bucket.files], len(head.plans), sum(split.restarts for split in parted)
-    )
+    files = [file for bucket in done for file in bucket.files]
+    return Outcome(files, len(head.plans), sum(split.restarts for split in parted))
 
 
 def judge(program: Program, line: bytes) -> str | None:
@@ -76,12 +75,9 @@ def estimated(body: Sequence[Stretch], most: int) -> tuple[int, int]:
 def _samples(body: Sequence[Stretch]) -> Iterator[Stretch]:
     """Some bytes of some stretches: of a gzip file's, those at its beginning."""
     for stretch in body[:: -(-len(body) // _SAMPLES)]:
-        middle = (
-            stretch.begin if stretch.log.is_gzip else stretch.begin + max(0, stretch.end - stretch.begin - _FEW) // 2
-        )
-        yield stretch._replace(
-            begin=middle, end=min(stretch.end, middle + _FEW), is_whole=middle == stretch.begin and stretch.is_whole
-        )
+        begin, end = stretch.begin, stretch.end
+        middle = begin if stretch.log.is_gzip else begin + max(0, end - begin - _FEW) // 2
+        yield stretch._replace(begin=middle, end=min(end, middle + _FEW), is_whole=middle == begin and stretch.is_whole)
 
 
 def _judge_head(work: Work, head: Head) -> None:
