@@ -77,34 +77,25 @@ NOTHING = Ran(0, report([], 0, 0), "")
 LARGEST = (b"#" * 512 + b"\n") * 100_000
 
 
-def test_empty(replay: Path) -> None:
-    assert run(replay, "replay") == NOTHING
+WHOLE = {
+    "nothing": (b"", NOTHING),
+    "carriage returns": ((EXAMPLES / "first.schedule").read_bytes().replace(b"\n", b"\r\n"), FIRST),
+    "a binary file": (b"\177ELF\002\001\001\000\000\000\003\000\076\000", fault(1, "UnknownWord")),
+    "not ASCII in a comment": (b"# \303", fault(1, "NotAscii")),
+    "the largest": (LARGEST, NOTHING),
+}
 
 
-def test_carriage_returns(replay: Path) -> None:
-    text = (EXAMPLES / "first.schedule").read_bytes().replace(b"\n", b"\r\n")
-    assert run(replay, "replay", given=text) == FIRST
+@pytest.mark.parametrize(("given", "expected"), WHOLE.values(), ids=WHOLE)
+def test_whole_input(replay: Path, given: bytes, expected: Ran) -> None:
+    assert run(replay, "replay", given=given) == expected
 
 
-def test_binary_file(replay: Path) -> None:
-    elf = b"\177ELF\002\001\001\000\000\000\003\000\076\000"
-    assert run(replay, "replay", given=elf) == fault(1, "UnknownWord")
-
-
-def test_not_ascii_in_a_comment(replay: Path) -> None:
-    assert run(replay, "replay", given=b"# \303") == fault(1, "NotAscii")
-
-
-def test_51_megabytes_in_one_line(replay: Path) -> None:
-    assert run(replay, "replay", given=b"#" * len(LARGEST)) == fault(1, "LineTooLong")
-
-
-def test_51_megabytes_of_empty_lines(replay: Path) -> None:
-    assert run(replay, "replay", given=b"\n" * len(LARGEST)) == fault(100_001, "TooManyLines")
-
-
-def test_largest(replay: Path) -> None:
-    assert run(replay, "replay", given=LARGEST) == NOTHING
+@pytest.mark.parametrize(
+    ("byte", "expected"), [(b"#", fault(1, "LineTooLong")), (b"\n", fault(100_001, "TooManyLines"))]
+)
+def test_51_megabytes_of_one_byte(replay: Path, byte: bytes, expected: Ran) -> None:
+    assert run(replay, "replay", given=byte * len(LARGEST)) == expected
 
 
 def test_what_follows_is_not_read(replay: Path, tmp_path: Path) -> None:

@@ -280,15 +280,15 @@ def check_traced_allocations(refuser: Refuser, clean: Trial, expected: Ran) -> i
     return written
 
 
-@pytest.mark.parametrize("trace", TRACES, ids=[example.case.name for example in TRACES])
-def test_trace(refusing: Refusing, trace: Trace) -> None:
-    case = trace.case
+@pytest.mark.parametrize("example", TRACES, ids=[example.case.name for example in TRACES])
+def test_trace(refusing: Refusing, example: Trace) -> None:
+    case = example.case
     refuser = refusing(*case.arguments, given=case.given)
     clean = refuser.run()
     assert clean.ran == case.expected
     assert clean.counts.largest_read <= 4096
     assert clean.counts.allocations > clean.counts.early_allocations
-    assert check_traced_allocations(refuser, clean, case.expected) >= trace.least
+    assert check_traced_allocations(refuser, clean, case.expected) >= example.least
     check_reads(refuser, clean, case.expected, {}, writes=True)
     check_writes(refuser, clean, case.expected, {})
     for cut in CUT:
