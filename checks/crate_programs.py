@@ -28,7 +28,6 @@ def folder() -> Path:
 
 
 def program_of(crate: str) -> Path:
-    """The built program of the crate."""
     return folder() / crate
 
 

@@ -82,7 +82,6 @@ class Cell(NamedTuple):
 
 
 def cell_of(life: Life) -> Cell:
-    """The cell of a life."""
     out = life.attempt if life.out else 0
     any_attempt = "attempts" in life.without
     sent, passed = life.sent, life.passed

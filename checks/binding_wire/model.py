@@ -39,7 +39,6 @@ def received(method: str, prefix: bytes, target: bytes, body: bytes, longest: in
 
 
 def object_of(body: bytes) -> bytes | None:
-    """A body that is an object."""
     return None if model.members(body) is None else body
 
 

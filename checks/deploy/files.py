@@ -21,7 +21,6 @@ Value = dict[str, Any]
 
 
 def documents(file: Path) -> list[Value]:
-    """The documents of a file of YAML."""
     return [document for document in yaml.safe_load_all(file.read_text(encoding="utf-8")) if document is not None]
 
 
@@ -32,7 +31,6 @@ def faults(value: object, schema: Value) -> list[str]:
 
 
 def kustomization(folder: str) -> Value:
-    """The kustomization of a folder."""
     (only,) = documents(KUBERNETES / folder / "kustomization.yaml")
     return only
 

@@ -42,7 +42,6 @@ def listed(program: str, page: str = "docs/operating.md") -> Metrics:
 
 
 def queries(dashboard: str) -> list[str]:
-    """The queries of a dashboard."""
     return [target["expr"] for panel in json.loads(dashboard)["panels"] for target in panel["targets"]]
 
 

@@ -148,7 +148,6 @@ def test_options(folder: str, workload: Value, tmp_path: Path) -> None:
 
 @pytest.mark.slow
 def test_catalogue(broker: Path, tmp_path: Path) -> None:
-    """The broker serves the catalogue."""
     file = KUBERNETES / "osb-broker" / "catalogue.json"
     given = [str(broker), "serve", "--state", str(tmp_path), "--listen", "127.0.0.1:0", "--catalog", str(file)]
     serving = subprocess.Popen(given, env={"OSB_BROKER_PASSWORD": "secret"}, stderr=subprocess.PIPE, text=True)

@@ -113,7 +113,6 @@ def storm(path: Path) -> None:
 
 
 def _lived(life: _Life, state: str, steps: list[Answer | None], chance: Random) -> _Life:
-    """A life up to a state."""
     at = life.since + chance.uniform(0.05, 9.0)
     if state == "withdrawn":
         life.come(state, at)

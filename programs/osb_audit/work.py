@@ -89,7 +89,6 @@ def files_in(paths: Sequence[str]) -> dict[Log, str]:
 
 
 def _journals_in(folder: str) -> list[str]:
-    """The journals in a folder."""
     names, folders = _scanned(folder)
     if names:
         return names
