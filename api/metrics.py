@@ -64,14 +64,29 @@ class Panel:
 SOURCE = {"type": "prometheus", "uid": "${datasource}"}
 JOBS = 'job=~"$job"'
 
+# ---- what both programs have
+
+
+def store(side: str) -> Panel:
+    about = "0: the store can't be read. See docs/operating.md: the database is away."
+    return Panel("Store", about, "short", (f"min by (instance) (osb_{side}_store_up{{}})", "{{instance}}"))
+
+
+def lines_lost(side: str) -> Panel:
+    about = "Of the log, because nobody has read them; of the journal, because they could not be written."
+    log = f"sum by (instance) (increase(osb_{side}_log_lines_dropped_total{{}}[rate]))"
+    journal = f"sum by (instance) (increase(osb_{side}_journal_lines_lost_total{{}}[rate]))"
+    queries = (log, "{{instance}}"), (journal, "{{instance}}, journal")
+    return Panel("Lines that were dropped or lost", about, "short", *queries)
+
+
+SHARE_OPEN = ("process_open_fds{} / process_max_fds{}", "{{instance}}")
+OPEN_FILES = Panel("Open files", "Share of the limit.", "percentunit", SHARE_OPEN, limit=0.8)
+MEMORY = Panel("Memory", "Resident, by process.", "bytes", ("process_resident_memory_bytes{}", "{{instance}}"))
+
 PANELS = {
     "osb-broker": [
-        Panel(
-            "Store",
-            "0: the store can't be read. See docs/operating.md: the database is away.",
-            "short",
-            ("min by (instance) (osb_broker_store_up{})", "{{instance}}"),
-        ),
+        store("broker"),
         Panel(
             "Oldest unfinished",
             "Work that doesn't end. Look if it is over 900 seconds.",
@@ -145,32 +160,15 @@ PANELS = {
             ("osb_broker_connections{}", "{{instance}}"),
             limit=640,
         ),
-        Panel(
-            "Open files",
-            "Share of the limit.",
-            "percentunit",
-            ("process_open_fds{} / process_max_fds{}", "{{instance}}"),
-            limit=0.8,
-        ),
-        Panel(
-            "Memory",
-            "Resident, by process.",
-            "bytes",
-            ("process_resident_memory_bytes{}", "{{instance}}"),
-        ),
+        OPEN_FILES,
+        MEMORY,
         Panel(
             "Tombstones",
             "Ids that are never used again.",
             "short",
             ("max(osb_broker_tombstones{})", "tombstones"),
         ),
-        Panel(
-            "Lines that were dropped or lost",
-            "Of the log, because nobody has read them; of the journal, because they could not be written.",
-            "short",
-            ("sum by (instance) (increase(osb_broker_log_lines_dropped_total{}[rate]))", "{{instance}}"),
-            ("sum by (instance) (increase(osb_broker_journal_lines_lost_total{}[rate]))", "{{instance}}, journal"),
-        ),
+        lines_lost("broker"),
         Panel(
             "Changes in a commit",
             "On average, with SQLite.",
@@ -182,12 +180,7 @@ PANELS = {
         ),
     ],
     "osb-platform": [
-        Panel(
-            "Store",
-            "0: the store can't be read. See docs/operating.md: the database is away.",
-            "short",
-            ("min by (instance) (osb_platform_store_up{})", "{{instance}}"),
-        ),
+        store("platform"),
         Panel(
             "Oldest due",
             "For how long the oldest order is due that isn't carried out. Look if it is over 300 seconds.",
@@ -271,26 +264,9 @@ PANELS = {
             "short",
             ("sum by (result) (increase(osb_platform_orphans_total{}[rate]))", "{{result}}"),
         ),
-        Panel(
-            "Open files",
-            "Share of the limit.",
-            "percentunit",
-            ("process_open_fds{} / process_max_fds{}", "{{instance}}"),
-            limit=0.8,
-        ),
-        Panel(
-            "Memory",
-            "Resident, by process.",
-            "bytes",
-            ("process_resident_memory_bytes{}", "{{instance}}"),
-        ),
-        Panel(
-            "Lines that were dropped or lost",
-            "Of the log, because nobody has read them; of the journal, because they could not be written.",
-            "short",
-            ("sum by (instance) (increase(osb_platform_log_lines_dropped_total{}[rate]))", "{{instance}}"),
-            ("sum by (instance) (increase(osb_platform_journal_lines_lost_total{}[rate]))", "{{instance}}, journal"),
-        ),
+        OPEN_FILES,
+        MEMORY,
+        lines_lost("platform"),
     ],
 }
 
