@@ -93,7 +93,7 @@ def _journals_in(folder: str) -> list[str]:
     if names:
         return names
     why = f"{folder}: no file in it ends with .jsonl or .jsonl.gz"
-    below = " ".join(shlex.quote(below) for below in folders if _has_journals(below))
+    below = " ".join(shlex.quote(inner) for inner in folders if _has_journals(inner))
     if below:
         raise Unreplayed(UNUSABLE, f"{why}. Name its folders: {PROGRAM} {below}")
     raise Unreplayed(UNUSABLE, f"{why}: name the folder of --journal")
