@@ -528,7 +528,7 @@ func TestHangingCommands(t *testing.T) {
 			t.Run(fmt.Sprint(name, second), func(t *testing.T) {
 				t.Parallel()
 				m, config := configForModel(t, false, mistakes{})
-				config.Commands, config.Time = m.commands(), 30*time.Second
+				config.Commands, config.Time = m.commands(), 10*time.Minute // it goes on until the signal
 				flag := filepath.Join(t.TempDir(), "hang")
 				change(&config.Commands, "! test -e "+flag)
 				storm := openStorm(t, config)
