@@ -39,13 +39,13 @@ class Slip(NamedTuple):
     journal: str
 
 
-END = "\treturn s.end(ctx, key, fence, work, done)\n"
+END = "\treturn s.end(ctx, key, due.entry.Worker, done)\n"
 BEGIN = "\t\tnext, given, err = s.begin(snapshot, visit)\n"
 SLIPS = {
     "an answer before the commit": Slip(
         END,
         """
-        time.AfterFunc(time.Hour, func() { _, _ = s.end(ctx, key, fence, work, done) })
+        time.AfterFunc(time.Hour, func() { _, _ = s.end(ctx, key, due.entry.Worker, done) })
         _, answer, err := due.entry.Holding.End(mode, done.outcome)
         return Response{Answer: answer}, err
         """,
@@ -82,10 +82,11 @@ SLIPS = {
     "end twice": Slip(
         END,
         """
-        if response, err = s.end(ctx, key, fence, work, done); err != nil {
+        response, err := s.end(ctx, key, due.entry.Worker, done)
+        if err != nil {
             return response, err
         }
-        return response, s.change(ctx, key, fence, func(Snapshot) (*Entry, error) {
+        return response, s.change(ctx, key, func(Snapshot) (*Entry, error) {
             due.entry.Holding, _, err = due.entry.Holding.End(mode, osb.OutcomeBefore)
             return &due.entry, err
         })

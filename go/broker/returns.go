@@ -40,7 +40,7 @@ func (r Rules) enter(snapshot Snapshot, visit Visit) (found Snapshot, returned *
 	if !visit.Key.IsBinding {
 		life++
 	}
-	snapshot.Entry, snapshot.EndedAgo = Entry{Life: life}, 0
+	snapshot.Entry, snapshot.EndedAgo = Entry{Life: life, Worker: snapshot.Worker}, 0
 	return snapshot, returned
 }
 
@@ -67,7 +67,7 @@ func (h Snapshot) inLife(key Key) Snapshot {
 		return h
 	}
 	if !h.Holding.IsHeld() {
-		h.Entry, h.EndedAgo = Entry{}, 0
+		h.Entry, h.EndedAgo = Entry{Worker: h.Worker}, 0
 	}
 	h.Life = h.Instance.Life
 	return h

@@ -21,9 +21,9 @@ type clockStore struct {
 	turn        sync.Mutex
 	ahead       time.Duration
 	isWild      bool // whether it has a time for what has no tombstone, too
-	afterRead   func(broker.Key)
 	beforeStep  func(broker.Key)
-	afterStep   func() error // an error of which ends the transaction
+	once        func(broker.Key) // before the next change
+	afterStep   func() error     // an error of which ends the transaction
 	afterCommit func() error
 }
 
@@ -44,18 +44,18 @@ func (c *clockStore) set(ahead time.Duration) {
 
 func (c *clockStore) Read(ctx context.Context, key broker.Key) (broker.Snapshot, error) {
 	snapshot, err := c.Store.Read(ctx, key)
-	if hook := c.afterRead; hook != nil {
-		c.afterRead = nil
-		hook(key)
-	}
 	return c.at(snapshot), err
 }
 
-func (c *clockStore) Change(ctx context.Context, key broker.Key, fence int64, step broker.Step) error {
+func (c *clockStore) Change(ctx context.Context, key broker.Key, step broker.Step) error {
+	if hook := c.once; hook != nil {
+		c.once = nil
+		hook(key)
+	}
 	if c.beforeStep != nil {
 		c.beforeStep(key)
 	}
-	err := c.Store.Change(ctx, key, fence, func(snapshot broker.Snapshot) (*broker.Entry, error) {
+	err := c.Store.Change(ctx, key, func(snapshot broker.Snapshot) (*broker.Entry, error) {
 		next, err := step(c.at(snapshot))
 		if err == nil && c.afterStep != nil {
 			err = c.afterStep()
@@ -348,7 +348,7 @@ func TestABindingOfAnEarlierVersion(t *testing.T) {
 	key := broker.BindingKey(keyOf("i").Instance, keyOf("b").Instance)
 	l, bound := boundTwice(t)
 	l.expect(t, 201, "PUT", bound, bodyOf(now, ""))
-	err := l.store.Change(context.Background(), key, 0, func(snapshot broker.Snapshot) (*broker.Entry, error) {
+	err := l.store.Change(context.Background(), key, func(snapshot broker.Snapshot) (*broker.Entry, error) {
 		snapshot.Life = 0
 		return &snapshot.Entry, nil
 	})
@@ -378,8 +378,8 @@ func TestALateWorkerOfTheOldLife(t *testing.T) {
 			t.Error(err)
 		}
 	}
-	if given, err := old.Handle(ctx, provision(now)); !errors.Is(err, broker.ErrLostLock) {
-		t.Errorf("got %+v, %v, want %v", given, err, broker.ErrLostLock)
+	if given, err := old.Handle(ctx, provision(now)); !errors.Is(err, broker.ErrLostWork) {
+		t.Errorf("got %+v, %v, want %v", given, err, broker.ErrLostWork)
 	}
 	if entry := l.entry(t, key); !l.isPending(t, key) || entry.Life != 1 {
 		t.Errorf("got %+v, want pending work in life 1", entry)
@@ -421,7 +421,7 @@ func TestALateEndOfWaiting(t *testing.T) {
 	l := newLives(t, newShelf(calm), rules)
 	l.expect(t, 202, "PUT", one+query, bodyOf(later, ""))
 	l.since(t, key, time.Hour)
-	l.clock.afterRead = func(broker.Key) {
+	l.clock.once = func(broker.Key) {
 		l.expect(t, 200, "DELETE", one+names(later)+"&accepts_incomplete=true", "")
 		l.clock.set(time.Hour)
 		l.expect(t, 202, "PUT", one+query, bodyOf(later, ""))
@@ -541,8 +541,7 @@ func (n *notingBackend) Create(ctx context.Context, request broker.Request) erro
 	return n.shelf.Create(ctx, request)
 }
 
-// A worker of the old life that lost its lock before it wrote down its fence creates nothing by the request of the old
-// life.
+// A worker of the old life that lost its lock before it took the key over creates nothing by the request of the old life.
 func TestALateOperationOfTheOldLife(t *testing.T) {
 	ctx, one, key := context.Background(), instances+"i", keyOf("i")
 	backend := &notingBackend{shelf: newShelf(calm)}
@@ -553,16 +552,14 @@ func TestALateOperationOfTheOldLife(t *testing.T) {
 		diff.NoError(t, l.TakeUp(ctx, key), "")
 	}
 	l.expect(t, 202, "PUT", one+query, bodyOf(later, `,"parameters":{"life":0}`))
-	l.clock.afterRead = func(broker.Key) {
+	l.clock.once = func(broker.Key) {
 		takeUp()
 		l.expect(t, 202, "DELETE", one+names(later)+"&accepts_incomplete=true", "")
 		takeUp()
 		l.clock.set(time.Hour)
 		l.expect(t, 202, "PUT", one+query, bodyOf(later, `,"parameters":{"life":1}`))
 	}
-	if err := old.TakeUp(ctx, key); err != nil && !errors.Is(err, broker.ErrLostWork) {
-		t.Error(err)
-	}
+	check(t, old.TakeUp(ctx, key))
 	takeUp()
 	l.expect(t, 200, "GET", one+"/last_operation", "")
 	for life, request := range backend.created {
@@ -575,7 +572,7 @@ func TestALateOperationOfTheOldLife(t *testing.T) {
 	}
 }
 
-// A worker that lost its lock before it wrote down its fence does nothing if the operation has ended.
+// A worker that lost its lock before it took the key over does nothing if the operation has ended.
 func TestAnOperationThatHasEnded(t *testing.T) {
 	ctx, one, key := context.Background(), instances+"i", keyOf("i")
 	backend := &notingBackend{shelf: newShelf(calm)}
@@ -583,10 +580,10 @@ func TestAnOperationThatHasEnded(t *testing.T) {
 	l.Service = l.service(t, backend, losableLocks{newMemoryLocks()}, anHour)
 	l.expect(t, 202, "PUT", one+query, bodyOf(later, ""))
 	other := l.service(t, backend, losableLocks{newMemoryLocks()}, anHour)
-	l.clock.afterRead = func(broker.Key) {
+	l.clock.once = func(broker.Key) {
 		diff.NoError(t, other.TakeUp(ctx, key), "")
 	}
-	diff.ErrorIs(t, l.TakeUp(ctx, key), broker.ErrLostWork, "")
+	check(t, l.TakeUp(ctx, key))
 	row, _ := l.holding(t, key).Row()
 	if row.Phase != osb.PhaseReady || backend.there(key) != broker.Whole || len(backend.created) != 1 {
 		t.Errorf("got it %v, %d creations and %+v, want it whole, 1 and a row that is ready", backend.there(key),

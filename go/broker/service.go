@@ -2,10 +2,10 @@
 // What becomes of an instance or a binding is decided by the proved library (package osb). Here is the order in which
 // it is written, worked and answered.
 //
-// A request goes these ways (docs/instance.md, docs/binding.md). In one transaction its work becomes pending, or it is
-// answered. The work is done, outside of any transaction, under the lock of its key. In a second transaction the work
-// ends. Then the answer is sent. Whatever fails on the way ends the request: what was committed until then stays, and
-// the Sweeper goes on with it.
+// A request goes these ways (docs/instance.md, docs/binding.md). In one transaction it is answered, or, under the lock of
+// its key, its work becomes pending with the number of its worker. The work is done, outside of any transaction, under
+// the same lock. In a second transaction the work ends, if the row still has the worker's number. Then the answer is
+// sent. Whatever fails on the way ends the request: what was committed until then stays, and the Sweeper goes on with it.
 package broker
 
 import (
@@ -89,9 +89,9 @@ type Response struct {
 
 // Handle carries a request out, with the work that it means, and returns the answer to send.
 //
-// The lock is taken first if it is free: then nobody else can have done the work between its record and its beginning,
-// and it needn't be read once more. If it isn't free, the store answers without it, most often that work is pending.
-// If the locks are away, the store answers what needs no work, and all else fails.
+// The lock is taken first if it is free. If it isn't, the store answers without it, most often that work is pending. If
+// work is due, nothing is written, and the request waits for the lock. If the locks are away, the store answers what
+// needs no work, and all else fails.
 func (s *Service) Handle(ctx context.Context, visit Visit) (Response, error) {
 	if visit.IsFetch {
 		return s.fetch(ctx, visit)
@@ -110,23 +110,17 @@ func (s *Service) Handle(ctx context.Context, visit Visit) (Response, error) {
 			lock.Unlock()
 		}
 	}()
-	for {
-		begun, err := s.record(ctx, visit, away)
-		if err != nil || begun.work == osb.WorkNone {
-			return begun.answered, err
+	begun, err := s.record(ctx, visit, lock != nil, away)
+	if err == nil && begun.work != osb.WorkNone && lock == nil {
+		if lock, err = s.lock(ctx, visit.Key); err != nil {
+			return Response{}, err
 		}
-		isSure := lock != nil && !s.locks.CanBeLost()
-		if lock == nil {
-			if lock, err = s.lock(ctx, visit.Key); err != nil {
-				return Response{}, err
-			}
-		}
-		response, err := s.do(ctx, lock, visit.Key, begun.pending, isSure)
-		if !errors.Is(err, errDoneBefore) {
-			return response, err
-		}
-		// Whoever had the lock before has done this work: it is as if the request arrived again.
+		begun, err = s.record(ctx, visit, true, nil)
 	}
+	if err != nil || begun.work == osb.WorkNone {
+		return begun.answered, err
+	}
+	return s.do(ctx, lock, visit.Key, begun.pending)
 }
 
 // tryLock takes the lock of a key if it is free. The observer gets the failure.
@@ -142,8 +136,7 @@ func (s *Service) tryLock(ctx context.Context, key Key) (Lock, error) {
 // that never ends.
 const longestWait = 10 * time.Second
 
-// lock waits for the lock of a key. If somebody else has it for too long, the work stays pending. If the locks
-// fail, the observer gets the failure.
+// lock waits for the lock of a key, and not for too long. If the locks fail, the observer gets the failure.
 func (s *Service) lock(ctx context.Context, key Key) (Lock, error) {
 	within, cancel := context.WithTimeout(ctx, longestWait)
 	defer cancel()
@@ -157,9 +150,6 @@ func (s *Service) lock(ctx context.Context, key Key) (Lock, error) {
 	s.observer.OnCallFailure("lock")
 	return nil, err
 }
-
-// errDoneBefore reports that somebody else has done the work, before this worker began.
-var errDoneBefore = fmt.Errorf("%w, and was done before", ErrLostWork)
 
 // poll answers a Poll that changes nothing, which waits for nobody.
 func (s *Service) poll(ctx context.Context, visit Visit) (response Response, isDone bool, err error) {
@@ -230,14 +220,20 @@ func (p pendingEntry) requestOf(key Key) (Request, error) {
 	return requestOf(key, rowOf(p.entry.Holding), p.entry.Request)
 }
 
-// record is the first transaction of a request: it is answered, or its work becomes pending. If away isn't nil, work
-// can't be done now: then nothing is written if work is due, and the error is away.
-func (s *Service) record(ctx context.Context, visit Visit, away error) (given beginning, err error) {
+// record is the first transaction of a request: it is answered, or, if the lock of its key is held, its work becomes
+// pending under the number of a new worker. Without the lock, nothing is written if work is due. If the locks are away,
+// the error says so then.
+func (s *Service) record(ctx context.Context, visit Visit, isLocked bool, away error) (given beginning, err error) {
 	point := ""
-	err = s.change(ctx, visit.Key, 0, func(snapshot Snapshot) (next *Entry, err error) {
+	err = s.change(ctx, visit.Key, func(snapshot Snapshot) (next *Entry, err error) {
 		next, given, err = s.begin(snapshot, visit)
-		if err == nil && away != nil && given.work != osb.WorkNone {
-			return nil, away
+		if err == nil && given.work != osb.WorkNone {
+			if !isLocked {
+				given = beginning{work: given.work}
+				return nil, away
+			}
+			next.Worker = newNumber()
+			given.pending.entry.Worker = next.Worker
 		}
 		if point = ""; err == nil && next != nil {
 			if point = "begin"; given.work == osb.WorkNone {
@@ -256,39 +252,21 @@ func (s *Service) record(ctx context.Context, visit Visit, away error) (given be
 	return given, err
 }
 
-// do does pending work under the lock, and ends it. If isSure is true, nobody else can have done it
-// since the entry was written. Otherwise it is read once more.
+// do does pending work under the lock, and ends it. The entry was written under that lock, with the worker's number.
 //
-// Errors: errDoneBefore, and then nothing was done; those of the store and the backend.
-func (s *Service) do(ctx context.Context, lock Lock, key Key, due pendingEntry, isSure bool) (response Response, err error) {
-	work, isPending := due.entry.Holding.Work()
-	if !isPending {
-		return response, ErrLostWork
-	}
-	fence, err := s.fence(ctx, key)
-	if err != nil {
-		return response, err
-	}
-	if !isSure {
-		snapshot, err := s.read(ctx, key)
-		if err != nil {
-			return response, err
-		}
-		if now, isPending := snapshot.Holding.Work(); !isPending || now != work {
-			return response, errDoneBefore
-		}
-		due = pendingEntry{entry: snapshot.Entry}
-	}
+// Errors: those of the store and the backend.
+func (s *Service) do(ctx context.Context, lock Lock, key Key, due pendingEntry) (Response, error) {
 	request, err := due.requestOf(key)
 	if err != nil {
-		return response, err
+		return Response{}, err
 	}
+	work, _ := due.entry.Holding.Work()
 	mode := s.catalogue.mode(key.IsBinding, planIDs{work.Service, work.Plan})
 	done, err := s.worker.do(lock.Context(ctx), osb.WorkOf(work.Kind, mode), request)
 	if err != nil {
-		return response, err
+		return Response{}, err
 	}
-	return s.end(ctx, key, fence, work, done)
+	return s.end(ctx, key, due.entry.Worker, done)
 }
 
 // rowOf is the row, or the one that the pending work would make.
@@ -301,16 +279,15 @@ func rowOf(holding osb.Holding) osb.BrokerRow {
 	return row
 }
 
-// end is the second transaction of a request: its work ends.
-func (s *Service) end(
-	ctx context.Context, key Key, fence int64, pending osb.Request, done result,
-) (response Response, err error) {
-	err = s.change(ctx, key, fence, func(snapshot Snapshot) (*Entry, error) {
-		if recorded, isPending := snapshot.Holding.Work(); !isPending || recorded != pending {
+// end is the second transaction of a request: its work ends, if the row has the number of its worker.
+func (s *Service) end(ctx context.Context, key Key, worker osb.ID, done result) (response Response, err error) {
+	err = s.change(ctx, key, func(snapshot Snapshot) (*Entry, error) {
+		if snapshot.Worker != worker {
 			return nil, ErrLostWork
 		}
 		crash.At("end-next")
 		entry := snapshot.Entry
+		pending, _ := entry.Holding.Work()
 		mode := s.catalogue.mode(key.IsBinding, planIDs{pending.Service, pending.Plan})
 		holding, answer, err := snapshot.Holding.End(mode, done.outcome)
 		if err != nil {
@@ -335,7 +312,7 @@ func (s *Service) end(
 func (e *Entry) noteEnd(key Key, done result) {
 	row, isHeld := e.Holding.Row()
 	if !e.Holding.IsHeld() {
-		*e = Entry{Holding: e.Holding, Life: e.Life}
+		*e = Entry{Holding: e.Holding, Life: e.Life, Worker: e.Worker}
 		return
 	}
 	e.Since = time.Time{}
@@ -348,17 +325,9 @@ func (e *Entry) noteEnd(key Key, done result) {
 	}
 }
 
-// fence is the number under which the worker of a key writes, and 0 if no lock can be lost.
-func (s *Service) fence(ctx context.Context, key Key) (int64, error) {
-	if !s.locks.CanBeLost() {
-		return 0, nil
-	}
-	return s.store.Fence(ctx, key)
-}
-
 // change is one transaction over what is held, if it fits.
-func (s *Service) change(ctx context.Context, key Key, fence int64, step Step) error {
-	return s.store.Change(ctx, key, fence, func(snapshot Snapshot) (*Entry, error) {
+func (s *Service) change(ctx context.Context, key Key, step Step) error {
+	return s.store.Change(ctx, key, func(snapshot Snapshot) (*Entry, error) {
 		snapshot = snapshot.inLife(key)
 		if !s.catalogue.fits(key, snapshot.Holding) {
 			return nil, ErrMisfit
@@ -475,7 +444,7 @@ func (e *Entry) noteBeginning(visit Visit) (*Request, error) {
 	e.Since = now()
 	switch {
 	case !e.Holding.IsHeld(): // only a tombstone
-		*e = Entry{Holding: e.Holding, Life: e.Life}
+		*e = Entry{Holding: e.Holding, Life: e.Life, Worker: e.Worker}
 	case visit.Asked.Kind == osb.KindProvision:
 		e.Request, e.Binding, e.Description = visit.Request, nil, ""
 		return visit.Creation, nil

@@ -160,7 +160,7 @@ func TestBindingOfAnUnreadableInstance(t *testing.T) {
 			t.Fatalf("got %+v, %v, want 201", given, err)
 		}
 	}
-	err := b.store.Change(ctx, one, 0, func(snapshot broker.Snapshot) (*broker.Entry, error) {
+	err := b.store.Change(ctx, one, func(snapshot broker.Snapshot) (*broker.Entry, error) {
 		snapshot.Request = []byte("{")
 		return &snapshot.Entry, nil
 	})
@@ -180,7 +180,7 @@ type losableLocks struct{ *memoryLocks }
 
 func (losableLocks) CanBeLost() bool { return true }
 
-// An overtakenBackend does its work. Then, once, a second worker takes the lock, and with it the fence.
+// An overtakenBackend does its work. Then, once, a second worker takes the key over.
 type overtakenBackend struct {
 	*shelf
 	overtake func(broker.Key)
@@ -208,9 +208,10 @@ func newOvertaken(t *testing.T) (*bench, *overtakenBackend) {
 	backend := &overtakenBackend{shelf: newShelf(calm)}
 	b := newBench(t, backend, losableLocks{newMemoryLocks()})
 	backend.overtake = func(key broker.Key) {
-		if _, err := b.store.Fence(context.Background(), key); err != nil {
-			t.Error(err)
-		}
+		diff.NoError(t, b.store.Change(context.Background(), key, func(snapshot broker.Snapshot) (*broker.Entry, error) {
+			snapshot.Worker = id("ff")
+			return &snapshot.Entry, nil
+		}), "the second worker")
 	}
 	return b, backend
 }
@@ -257,8 +258,8 @@ func TestLostLockOfPendingWork(t *testing.T) {
 				diff.Value(b.Handle(ctx, before))(t)
 			}
 			backend.overtake = overtake
-			if given, err := b.Handle(ctx, test.asked); !errors.Is(err, broker.ErrLostLock) {
-				t.Fatalf("got %+v, %v, want %v", given, err, broker.ErrLostLock)
+			if given, err := b.Handle(ctx, test.asked); !errors.Is(err, broker.ErrLostWork) {
+				t.Fatalf("got %+v, %v, want %v", given, err, broker.ErrLostWork)
 			}
 			if !b.isPending(t, key) {
 				t.Error("got the work ended, want it pending")
@@ -287,8 +288,8 @@ func TestLostLockOfAnOperation(t *testing.T) {
 			t.Fatalf("got %+v, %v, want 202", given, err)
 		}
 		before := b.holding(t, key)
-		if err := b.TakeUp(ctx, key); !errors.Is(err, broker.ErrLostLock) {
-			t.Fatalf("the lock was lost: got %v, want %v", err, broker.ErrLostLock)
+		if err := b.TakeUp(ctx, key); !errors.Is(err, broker.ErrLostWork) {
+			t.Fatalf("the lock was lost: got %v, want %v", err, broker.ErrLostWork)
 		}
 		row, _ := before.Row()
 		if after := b.holding(t, key); after != before || row.Phase != test.runs {
@@ -326,11 +327,11 @@ func (l *breakingStore) Read(ctx context.Context, key broker.Key) (broker.Snapsh
 	return l.Store.Read(ctx, key)
 }
 
-func (l *breakingStore) Change(ctx context.Context, key broker.Key, fence int64, step broker.Step) error {
+func (l *breakingStore) Change(ctx context.Context, key broker.Key, step broker.Step) error {
 	if l.left--; l.left < 0 {
 		return l.err
 	}
-	return l.Store.Change(ctx, key, fence, step)
+	return l.Store.Change(ctx, key, step)
 }
 
 // While the store is away, requests are answered with 503, and with 500 if it fails otherwise, also after the work was
@@ -388,7 +389,7 @@ func TestStoreThatIsAway(t *testing.T) {
 // since has the work of a key begin so long ago.
 func (b *bench) since(t *testing.T, key broker.Key, ago time.Duration) {
 	t.Helper()
-	err := b.store.Change(context.Background(), key, 0, func(snapshot broker.Snapshot) (*broker.Entry, error) {
+	err := b.store.Change(context.Background(), key, func(snapshot broker.Snapshot) (*broker.Entry, error) {
 		snapshot.Since = time.Now().Add(-ago)
 		return &snapshot.Entry, nil
 	})
@@ -400,11 +401,15 @@ func TestWorkOfAnotherKey(t *testing.T) {
 	ctx, backend := context.Background(), &blind{shelf: newShelf(calm)}
 	b := newBench(t, backend, newMemoryLocks())
 	entry := b.entry(t, b.leave(t, backend, "i"))
-	err := b.store.Change(ctx, keyOf("j"), 0, func(broker.Snapshot) (*broker.Entry, error) { return &entry, nil })
+	err := b.store.Change(ctx, keyOf("j"), func(broker.Snapshot) (*broker.Entry, error) { return &entry, nil })
 	check(t, err)
 	if err := b.TakeUp(ctx, keyOf("j")); !errors.Is(err, broker.ErrMisfit) || len(backend.things) > 0 {
 		t.Errorf("got %v and %v, want %v and nothing", err, backend.things, broker.ErrMisfit)
 	}
+	poll := visitOf(osb.Asked{Kind: osb.KindPoll}, now)
+	poll.Key, poll.Asked.ID = keyOf("j"), keyOf("j").Instance
+	given, err := b.Handle(ctx, poll)
+	diff.ErrorIs(t, err, broker.ErrMisfit, "the Poll: got %+v", given)
 }
 
 // A lock that somebody else has is reported once the work began long ago, and only while there is work.
@@ -479,56 +484,53 @@ func TestFailuresThatEndWellAreReported(t *testing.T) {
 	}
 }
 
-// A racingStore has somebody else end the work once, after it was recorded and before its worker goes on.
+// A racingStore has something happen once, after the first change was committed.
 type racingStore struct {
 	broker.Store
-	end func(broker.Key)
+	then func(broker.Key)
 }
 
-func (r *racingStore) Fence(ctx context.Context, key broker.Key) (int64, error) {
-	if end := r.end; end != nil {
-		r.end = nil
-		end(key)
+func (r *racingStore) Change(ctx context.Context, key broker.Key, step broker.Step) error {
+	err := r.Store.Change(ctx, key, step)
+	if then := r.then; then != nil {
+		r.then = nil
+		then(key)
 	}
-	return r.Store.Fence(ctx, key)
+	return err
 }
 
-// Somebody else may end the work of a worker whose lock can be lost before it begins. The request is then answered by
-// what is held.
-func TestWorkThatWasDoneBeforeIsAnswered(t *testing.T) {
-	backend := newShelf(calm)
-	b := newBench(t, backend, losableLocks{newMemoryLocks()})
-	store := &racingStore{Store: b.store, end: func(key broker.Key) {
-		diff.NoError(t, b.TakeUp(context.Background(), key), "")
-	}}
-	service := broker.NewService(catalogueFor(t, catalogue), store, backend, losableLocks{newMemoryLocks()},
-		broker.Rules{}, b.observed)
-	given, err := service.Handle(context.Background(), provision(now))
-	if err != nil || given.Answer != (osb.Answer{Status: 200, Body: osb.BodyEmpty}) {
-		t.Errorf("got %+v and the error %v, want 200 and an empty body", given, err)
-	}
-}
-
-// Nor is the work done of a worker whose lock can be lost if other work is pending by then: that of a deletion, which
-// nobody knows how it ended.
-func TestWorkThatIsNotPendingAnyMore(t *testing.T) {
-	b := newBench(t, newShelf(calm), losableLocks{newMemoryLocks()})
-	deletes := broker.NewService(catalogueFor(t, catalogue), b.store,
-		&scriptedBackend{failure: errScripted, blindness: errScripted}, losableLocks{newMemoryLocks()}, broker.Rules{}, b.observed)
-	store := &racingStore{Store: b.store, end: func(key broker.Key) {
-		if err := b.TakeUp(context.Background(), key); err != nil {
-			t.Error(err)
-		}
-		if given, err := deletes.Handle(context.Background(), deprovision(now)); err == nil || !b.isPending(t, key) {
-			t.Errorf("the deletion: got %+v, %v, want it pending", given, err)
-		}
-	}}
-	backend := &scriptedBackend{}
-	service := broker.NewService(catalogueFor(t, catalogue), store, backend, losableLocks{newMemoryLocks()},
-		broker.Rules{}, b.observed)
-	given, err := service.Handle(context.Background(), provision(now))
-	if strings.Contains(strings.Join(backend.calls, " "), "create") {
-		t.Errorf("got %+v, %v, and the calls %v, want no creation", given, err, backend.calls)
+// A worker that lost its lock once its work was pending ends nothing and answers nothing if another worker has taken the
+// work over, also if other work is pending by then.
+func TestWorkThatWasTakenOver(t *testing.T) {
+	ctx := context.Background()
+	for _, test := range []struct {
+		name string
+		then []broker.Visit
+	}{
+		{"and ended", nil},
+		{"and ended, and a deletion is pending", []broker.Visit{deprovision(now)}},
+	} {
+		t.Run(test.name, func(t *testing.T) {
+			b := newBench(t, newShelf(calm), losableLocks{newMemoryLocks()})
+			blind := broker.NewService(catalogueFor(t, catalogue), b.store,
+				&scriptedBackend{failure: errScripted, blindness: errScripted}, losableLocks{newMemoryLocks()},
+				broker.Rules{}, b.observed)
+			store := &racingStore{Store: b.store, then: func(key broker.Key) {
+				diff.NoError(t, b.TakeUp(ctx, key), "the other worker")
+				for _, visit := range test.then {
+					given, err := blind.Handle(ctx, visit)
+					diff.ErrorIs(t, err, broker.ErrNobodyKnows, "the deletion: got %+v", given)
+				}
+			}}
+			late := broker.NewService(catalogueFor(t, catalogue), store, newShelf(calm), losableLocks{newMemoryLocks()},
+				broker.Rules{}, b.observed)
+			given, err := late.Handle(ctx, provision(now))
+			diff.ErrorIs(t, err, broker.ErrLostWork, "got %+v", given)
+			row, _ := b.holding(t, keyOf("i")).Row()
+			if isPending := b.isPending(t, keyOf("i")); row.Phase != osb.PhaseReady || isPending != (test.then != nil) {
+				t.Errorf("got %+v and pending %v, want what the others have left", row, isPending)
+			}
+		})
 	}
 }
 
@@ -563,7 +565,7 @@ func (l *takenLocks) Lock(ctx context.Context, _ broker.Key) (broker.Lock, error
 	return nil, context.DeadlineExceeded
 }
 
-// A request waits for a lock for 10 seconds at most. Then its work stays pending, and nothing is done.
+// A request waits for a lock for 10 seconds at most. Then nothing is written, and nothing is done.
 func TestARequestWaitsTenSecondsForALock(t *testing.T) {
 	shelf, locks := newShelf(calm), &takenLocks{}
 	b := newBench(t, shelf, locks)
@@ -574,9 +576,10 @@ func TestARequestWaitsTenSecondsForALock(t *testing.T) {
 	if len(locks.waits) != 1 || locks.waits[0] <= 0 || locks.waits[0] > 10*time.Second {
 		t.Errorf("got a wait of %v, want at most 10 s", locks.waits)
 	}
-	if isPending, there := b.isPending(t, create.Key), shelf.there(create.Key); !isPending || there != broker.None {
-		t.Errorf("got it pending %v, and %v, want it pending and nothing there", isPending, there)
+	if there := shelf.there(create.Key); there != broker.None {
+		t.Errorf("got %v there, want nothing", there)
 	}
+	diff.Check(t, b.entry(t, create.Key), broker.Entry{}, "what is held")
 }
 
 // Locks that are left are taken at first, and free for whoever waits.

@@ -29,6 +29,10 @@ type Entry struct {
 	// Life is how many lives of the instance have ended before this one: 0 unless its id has returned
 	// (Rules.IDsReturnAfter). Of a binding it is the Life of its instance when the entry was written.
 	Life int64
+	// Worker is the number of the latest worker of the key, which no other worker has, or the zero ID if there was
+	// none. A worker writes it in the transaction with which its work begins, and writes the end of its work only if it
+	// still stands there.
+	Worker osb.ID
 }
 
 // IsUnfinished reports whether somebody has to go on: work is pending, or the row is making, deleting or waiting.
@@ -72,13 +76,7 @@ type Store interface {
 	// was committed outlives a power cut. It may call step more than once; the last call counts. Two things are locked
 	// until the transaction ends: the row itself, and for a binding the row of its instance. So no binding begins while
 	// an instance's Change runs, nor the other way round.
-	//
-	// If fence isn't zero, Change fails with ErrLostLock unless fence is the last that Fence returned for the key.
-	Change(ctx context.Context, key Key, fence int64, step Step) error
-
-	// Fence writes down a new worker of a key, and returns its number, which isn't zero. It is called if the Locks can
-	// be lost while the work goes on.
-	Fence(ctx context.Context, key Key) (int64, error)
+	Change(ctx context.Context, key Key, step Step) error
 
 	// UnfinishedKeys returns the keys whose Entry is unfinished.
 	UnfinishedKeys(ctx context.Context) ([]Key, error)
@@ -114,7 +112,7 @@ type Locks interface {
 	// TryLock returns nil if somebody else has the lock.
 	TryLock(ctx context.Context, key Key) (Lock, error)
 	// CanBeLost reports whether a lock may end while its worker goes on, as that of a session does if the server ends
-	// it.
+	// it. A journal says so.
 	CanBeLost() bool
 }
 
@@ -128,10 +126,8 @@ type Lock interface {
 var (
 	// ErrMisfit reports that what is held isn't possible at its plan. Nothing was changed, and an operator has to look.
 	ErrMisfit = errors.New("what is held can't come about at its plan")
-	// ErrLostWork reports that the work isn't pending any more: somebody else has ended it.
-	ErrLostWork = errors.New("the work isn't pending any more")
-	// ErrLostLock reports that somebody else has the lock now. Nothing was written.
-	ErrLostLock = errors.New("the lock was lost")
+	// ErrLostWork reports that another worker has the key now, since the lock was lost. Nothing was written.
+	ErrLostWork = errors.New("the lock was lost, and another worker has taken the work over")
 	// ErrNobodyKnows reports that nobody knows how the work went. It stays pending, and is tried again.
 	ErrNobodyKnows = errors.New("nobody knows how the work went")
 	// ErrAway reports that the store or the Locks can't be used now, for example because their server has stopped. They
@@ -268,11 +264,15 @@ func newName(isTied bool) string {
 	if !isTied {
 		return Untied
 	}
-	var id osb.ID
-	if _, err := rand.Read(id[:]); err != nil {
+	return newNumber().String()
+}
+
+// newNumber returns a number that nothing else has: 128 random bits.
+func newNumber() (number osb.ID) {
+	if _, err := rand.Read(number[:]); err != nil {
 		panic(err) // the kernel has no random bytes
 	}
-	return id.String()
+	return number
 }
 
 func tieTo(ctx context.Context, backend TiedBackend, name string, isUsed bool) error {

@@ -48,18 +48,11 @@ func (s *failingStore) Read(ctx context.Context, key broker.Key) (broker.Snapsho
 	return s.Store.Read(ctx, key)
 }
 
-func (s *failingStore) Change(ctx context.Context, key broker.Key, fence int64, step broker.Step) error {
+func (s *failingStore) Change(ctx context.Context, key broker.Key, step broker.Step) error {
 	if err := s.fails("Change"); err != nil {
 		return err
 	}
-	return s.Store.Change(ctx, key, fence, step)
-}
-
-func (s *failingStore) Fence(ctx context.Context, key broker.Key) (int64, error) {
-	if err := s.fails("Fence"); err != nil {
-		return 0, err
-	}
-	return s.Store.Fence(ctx, key)
+	return s.Store.Change(ctx, key, step)
 }
 
 func (s *failingStore) HeldBindings(ctx context.Context, instance osb.ID) ([]osb.ID, error) {
@@ -288,7 +281,7 @@ func (g ground) fill(store broker.NamedStore) {
 	g.t.Helper()
 	key := keyOf("i")
 	request := osb.Request{Kind: osb.KindProvision, ID: key.Instance, Service: id("a0"), Plan: id("c1")}
-	g.check(store.Change(context.Background(), key, 0, func(broker.Snapshot) (*broker.Entry, error) {
+	g.check(store.Change(context.Background(), key, func(broker.Snapshot) (*broker.Entry, error) {
 		holding, _, err := osb.Holding{}.Begin(osb.ModeSync, request, osb.Rules{})
 		return &broker.Entry{Holding: holding}, err
 	}))

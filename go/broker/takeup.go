@@ -57,34 +57,76 @@ func (s *Service) takeUp(ctx context.Context, key Key) (backendResult, error) {
 		return backendUnused, s.stillTaken(ctx, key)
 	}
 	defer lock.Unlock()
-	snapshot, err := s.read(ctx, key)
+	taken, err := s.takeOver(ctx, key)
 	if err != nil {
 		return backendUnused, err
 	}
 	done := backendUnused
-	if _, isPending := snapshot.Holding.Work(); isPending {
-		if done, err = s.endPending(ctx, lock, key, snapshot); err != nil {
+	if _, isPending := taken.Holding.Work(); isPending {
+		if done, err = s.endPending(ctx, lock, key, taken); err != nil {
 			return done, err
 		}
-		if snapshot, err = s.read(ctx, key); err != nil {
+		if taken, err = s.takeOver(ctx, key); err != nil {
 			return done, err
 		}
 	}
-	row, isHeld := snapshot.Holding.Row()
-	switch {
-	case !isHeld:
-		return done, nil
-	case row.Phase == osb.PhaseMaking || row.Phase == osb.PhaseDeleting:
-		return s.operate(ctx, lock, key, snapshot)
-	case row.Phase == osb.PhaseWaiting && time.Since(snapshot.Since) >= s.rules.WaitForPoll:
-		return done, s.giveUpWaiting(ctx, key)
+	if taken.isOperating() {
+		return s.operate(ctx, lock, key, taken)
 	}
 	return done, nil
 }
 
+// takeOver is the first transaction of a take-up: pending work, or the operation that runs, gets the number of a new
+// worker. A creation that had no first Poll in time ends: it has failed, and nothing of it was made. It returns the
+// entry then, or the zero Entry if there is nothing to do any more.
+func (s *Service) takeOver(ctx context.Context, key Key) (taken Entry, err error) {
+	var late *Failure
+	err = s.change(ctx, key, func(snapshot Snapshot) (next *Entry, err error) {
+		taken, late = Entry{}, nil
+		entry := snapshot.Entry
+		row, isHeld := entry.Holding.Row()
+		_, isPending := entry.Holding.Work()
+		switch {
+		case isPending || entry.isOperating():
+			entry.Worker = newNumber()
+			crash.At("take-over-next")
+		case isHeld && row.Phase == osb.PhaseWaiting && time.Since(entry.Since) >= s.rules.WaitForPoll:
+			crash.At("wait-next")
+			request, _ := requestOf(key, row, entry.Request) // for the log alone
+			if entry.Holding, err = entry.Holding.GiveUpWaiting(); err != nil {
+				return nil, err
+			}
+			entry.noteEnd(key, result{description: noPoll})
+			late = &Failure{
+				Event: "creation_timed_out", RequestID: request.RequestID, Key: key, IsNamed: true, Err: errNoPoll,
+			}
+		default:
+			return nil, nil
+		}
+		taken = entry
+		return &entry, nil
+	})
+	switch {
+	case err != nil:
+		return Entry{}, err
+	case late != nil:
+		crash.At("wait-written")
+		s.observer.OnFailure(*late)
+	case taken.IsUnfinished():
+		crash.At("take-over-written")
+	}
+	return taken, nil
+}
+
+// isOperating reports whether an operation runs that somebody has to go on with.
+func (e Entry) isOperating() bool {
+	row, isHeld := e.Holding.Row()
+	return isHeld && (row.Phase == osb.PhaseMaking || row.Phase == osb.PhaseDeleting)
+}
+
 // endPending does the pending work of a key under its lock.
-func (s *Service) endPending(ctx context.Context, lock Lock, key Key, snapshot Snapshot) (backendResult, error) {
-	response, err := s.do(ctx, lock, key, pendingEntry{entry: snapshot.Entry}, !s.locks.CanBeLost())
+func (s *Service) endPending(ctx context.Context, lock Lock, key Key, taken Entry) (backendResult, error) {
+	response, err := s.do(ctx, lock, key, pendingEntry{entry: taken})
 	if err != nil {
 		return backendResultOf(err), err
 	}
@@ -110,16 +152,9 @@ func (s *Service) stillTaken(ctx context.Context, key Key) error {
 }
 
 // operate goes on with the operation that runs, and ends it.
-func (s *Service) operate(ctx context.Context, lock Lock, key Key, snapshot Snapshot) (backendResult, error) {
-	fence, err := s.fence(ctx, key)
-	if err != nil {
-		return backendUnused, err
-	}
-	if snapshot, err = s.sure(ctx, key, snapshot); err != nil {
-		return backendUnused, err
-	}
-	row, _ := snapshot.Holding.Row()
-	request, err := requestOf(key, row, snapshot.Request)
+func (s *Service) operate(ctx context.Context, lock Lock, key Key, taken Entry) (backendResult, error) {
+	row, _ := taken.Holding.Row()
+	request, err := requestOf(key, row, taken.Request)
 	if err != nil {
 		return backendUnused, err
 	}
@@ -127,7 +162,7 @@ func (s *Service) operate(ctx context.Context, lock Lock, key Key, snapshot Snap
 	if err != nil {
 		return backendResultOf(err), err
 	}
-	if err := s.finish(ctx, key, fence, row, done); err != nil {
+	if err := s.finish(ctx, key, taken.Worker, done); err != nil {
 		return backendUnused, err
 	}
 	s.observer.OnEnd(key, done.isDone())
@@ -137,10 +172,10 @@ func (s *Service) operate(ctx context.Context, lock Lock, key Key, snapshot Snap
 	return backendSucceeded, nil
 }
 
-// finish ends the operation of a row.
-func (s *Service) finish(ctx context.Context, key Key, fence int64, row osb.BrokerRow, done result) error {
-	err := s.change(ctx, key, fence, func(snapshot Snapshot) (*Entry, error) {
-		if now, isHeld := snapshot.Holding.Row(); !isHeld || now != row {
+// finish ends the operation of a row, if the row has the number of its worker.
+func (s *Service) finish(ctx context.Context, key Key, worker osb.ID, done result) error {
+	err := s.change(ctx, key, func(snapshot Snapshot) (*Entry, error) {
+		if snapshot.Worker != worker {
 			return nil, ErrLostWork
 		}
 		crash.At("finish-next")
@@ -155,54 +190,6 @@ func (s *Service) finish(ctx context.Context, key Key, fence int64, row osb.Brok
 	})
 	if err == nil {
 		crash.At("finish-written")
-	}
-	return err
-}
-
-// sure is what is held of an operation that runs. If the lock can be lost, that is read once more after the fence is
-// written: meanwhile somebody else may have ended the operation, and the life whose request was read.
-//
-// Errors: ErrLostWork if another operation runs or none; those of the store.
-func (s *Service) sure(ctx context.Context, key Key, before Snapshot) (Snapshot, error) {
-	if !s.locks.CanBeLost() {
-		return before, nil
-	}
-	row, _ := before.Holding.Row()
-	snapshot, err := s.read(ctx, key)
-	if now, isHeld := snapshot.Holding.Row(); err == nil && (!isHeld || now != row) {
-		err = ErrLostWork
-	}
-	return snapshot, err
-}
-
-// giveUpWaiting ends a creation that had no first Poll in time: it has failed, and nothing of it was made.
-func (s *Service) giveUpWaiting(ctx context.Context, key Key) error {
-	var late *Failure
-	err := s.change(ctx, key, 0, func(snapshot Snapshot) (*Entry, error) {
-		late = nil
-		row, isHeld := snapshot.Holding.Row()
-		if !isHeld || row.Phase != osb.PhaseWaiting || time.Since(snapshot.Since) < s.rules.WaitForPoll {
-			return nil, nil // the Poll has arrived meanwhile, or the row is that of another life
-		}
-		request, _ := requestOf(key, row, snapshot.Request) // for the log alone
-		crash.At("wait-next")
-		holding, err := snapshot.Holding.GiveUpWaiting()
-		if err != nil {
-			return nil, err
-		}
-		entry := snapshot.Entry
-		entry.Holding = holding
-		entry.noteEnd(key, result{description: noPoll})
-		late = &Failure{
-			Event: "creation_timed_out", RequestID: request.RequestID, Key: key, IsNamed: true, Err: errNoPoll,
-		}
-		return &entry, nil
-	})
-	if err == nil {
-		crash.At("wait-written")
-	}
-	if err == nil && late != nil {
-		s.observer.OnFailure(*late)
 	}
 	return err
 }

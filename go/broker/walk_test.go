@@ -227,22 +227,14 @@ func (w *walk) noteBeginning(visit *visit, key broker.Key) {
 	}
 }
 
-// noteEnd is called once the work of a life has ended, with the request that has done it, or nil. In the model the
-// request that waits is answered. If another process has done its work meanwhile, it is in truth as if that request
-// arrived again: so that answer is lost.
+// noteEnd is called once the work of a life has ended, with the request that has done it, or nil. It is the work of the
+// request that waits for its end, or of one whose process has died.
 func (w *walk) noteEnd(visit *visit, course *course) {
-	waits := course.waits
-	if waits == nil {
-		if visit != nil {
-			w.world.t.Fatalf("seed %d: request %d of %v: got the end of others' work, want its own only", w.world.seed,
-				visit.attempt, visit.of)
-		}
-		return
+	if visit != course.waits {
+		w.world.t.Fatalf("seed %d: got the end of the work of %+v by %+v, want only its own", w.world.seed, course.waits, visit)
 	}
-	w.gives(waits)
-	if waits != visit {
-		waits.isGiven = false
-		w.world.overtaken++
+	if visit != nil {
+		w.gives(visit)
 	}
 	course.waits = nil
 }

@@ -723,8 +723,8 @@ type reportingStore struct {
 	written func(broker.Entry)
 }
 
-func (r *reportingStore) Change(ctx context.Context, key broker.Key, fence int64, step broker.Step) error {
-	return r.Store.Change(ctx, key, fence, func(snapshot broker.Snapshot) (*broker.Entry, error) {
+func (r *reportingStore) Change(ctx context.Context, key broker.Key, step broker.Step) error {
+	return r.Store.Change(ctx, key, func(snapshot broker.Snapshot) (*broker.Entry, error) {
 		next, err := step(snapshot)
 		if err == nil && next != nil && key.IsBinding {
 			r.written(*next)

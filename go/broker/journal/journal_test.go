@@ -442,7 +442,7 @@ func TestUndoneOnce(t *testing.T) {
 	to := New(s.writer, func(error) bool { return true })
 	s.store.tries = 2
 	calls := 0
-	err := to.Store(s.store).Change(context.Background(), broker.Key{}, 0, func(broker.Snapshot) (*broker.Entry, error) {
+	err := to.Store(s.store).Change(context.Background(), broker.Key{}, func(broker.Snapshot) (*broker.Entry, error) {
 		if calls++; calls == 2 {
 			return nil, errFull
 		}
@@ -488,7 +488,7 @@ func TestCommitted(t *testing.T) {
 		diff.Equal(t, s.last().Committed, want, "")
 	}
 	change := func(store broker.Store, life int64) error {
-		return store.Change(context.Background(), broker.Key{}, 0,
+		return store.Change(context.Background(), broker.Key{},
 			func(broker.Snapshot) (*broker.Entry, error) { return &broker.Entry{Life: life}, nil })
 	}
 	store, another := to.Store(s.store), to.Store(&memory{entries: map[broker.Key]broker.Entry{}})
@@ -514,7 +514,7 @@ func TestCommitted(t *testing.T) {
 func TestNoChange(t *testing.T) {
 	s := newTestBroker(t)
 	store := New(s.writer, nil).Store(s.store)
-	check(t, store.Change(context.Background(), broker.Key{}, 0, func(snapshot broker.Snapshot) (*broker.Entry, error) {
+	check(t, store.Change(context.Background(), broker.Key{}, func(snapshot broker.Snapshot) (*broker.Entry, error) {
 		snapshot.Entry.Description = "another"
 		return &snapshot.Entry, nil
 	}))
@@ -528,7 +528,7 @@ func TestLives(t *testing.T) {
 	s := newTestBroker(t)
 	store := New(s.writer, nil).Store(s.store)
 	for _, life := range []int64{1, 1, 2} {
-		check(t, store.Change(context.Background(), broker.Key{}, 0, func(broker.Snapshot) (*broker.Entry, error) {
+		check(t, store.Change(context.Background(), broker.Key{}, func(broker.Snapshot) (*broker.Entry, error) {
 			return &broker.Entry{Life: life}, nil
 		}))
 	}

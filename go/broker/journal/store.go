@@ -29,7 +29,7 @@ func (s store) Read(ctx context.Context, key broker.Key) (broker.Snapshot, error
 }
 
 // Change writes down the change that is about to be committed. If it isn't, or nobody knows, that follows.
-func (s store) Change(ctx context.Context, key broker.Key, fence int64, step broker.Step) error {
+func (s store) Change(ctx context.Context, key broker.Key, step broker.Step) error {
 	number := int64(0) // of the change that may be committed
 	undo := func(isDoubtful bool) {
 		if number != 0 {
@@ -38,7 +38,7 @@ func (s store) Change(ctx context.Context, key broker.Key, fence int64, step bro
 		}
 		number = 0
 	}
-	err := s.Store.Change(ctx, key, fence, func(snapshot broker.Snapshot) (*broker.Entry, error) {
+	err := s.Store.Change(ctx, key, func(snapshot broker.Snapshot) (*broker.Entry, error) {
 		undo(false) // the step is called again once its transaction was rolled back
 		visitIn(ctx).sees(key, snapshot)
 		next, err := step(snapshot)

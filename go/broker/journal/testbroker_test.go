@@ -74,7 +74,7 @@ func (m *memory) Read(_ context.Context, key broker.Key) (broker.Snapshot, error
 	return m.snapshot(key), nil
 }
 
-func (m *memory) Change(_ context.Context, key broker.Key, _ int64, step broker.Step) error {
+func (m *memory) Change(_ context.Context, key broker.Key, step broker.Step) error {
 	m.turn.Lock()
 	defer m.turn.Unlock()
 	next, err := step(m.snapshot(key))

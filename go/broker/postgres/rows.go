@@ -2,9 +2,7 @@ package postgres
 
 import (
 	"context"
-	"crypto/rand"
 	"database/sql"
-	"encoding/binary"
 	"encoding/json"
 	"errors"
 	"fmt"
@@ -19,6 +17,7 @@ import (
 // A row has the columns of an entry. All are NULL if there is no row.
 type row struct {
 	holding, request, object, description sql.NullString
+	worker                                sql.NullString
 	since                                 sql.NullTime
 	life                                  sql.NullInt64
 	endedAgo                              sql.NullFloat64 // in seconds
@@ -26,7 +25,9 @@ type row struct {
 
 // into are the variables to scan the columns into.
 func (r *row) into(more ...any) []any {
-	return append([]any{&r.holding, &r.request, &r.object, &r.description, &r.since, &r.life, &r.endedAgo}, more...)
+	return append([]any{
+		&r.holding, &r.request, &r.object, &r.description, &r.since, &r.life, &r.worker, &r.endedAgo,
+	}, more...)
 }
 
 // entry is what the row has, or the zero Entry if there is no row.
@@ -43,7 +44,10 @@ func (r *row) entry(key broker.Key) (entry broker.Entry, err error) {
 		entry.Since = r.since.Time.UTC()
 	}
 	entry.Life = r.life.Int64
-	return entry, nil
+	if r.worker.Valid {
+		err = entry.Worker.Scan(r.worker.String)
+	}
+	return entry, err
 }
 
 // snapshot is what the row has, and how long ago its tombstone was written.
@@ -96,6 +100,10 @@ func raw(text sql.NullString) json.RawMessage {
 // orNull is JSON as a column has it.
 func orNull(text json.RawMessage) sql.NullString {
 	return sql.NullString{String: storable(string(text)), Valid: text != nil}
+}
+
+func numberOrNull(number osb.ID) sql.NullString {
+	return sql.NullString{String: number.String(), Valid: number != osb.ID{}}
 }
 
 func timeOrNull(at time.Time) sql.NullTime { return sql.NullTime{Time: at.UTC(), Valid: !at.IsZero()} }
@@ -277,27 +285,23 @@ func either(first, second error) error {
 }
 
 // Change is one transaction over the row of a key, as broker.Store says. The locks are always taken in one order: the
-// worker of the key, the row of the instance (for a binding FOR SHARE), the row of the binding. So no two changes wait
-// for each other.
+// row of the instance (for a binding FOR SHARE), the row of the binding. So no two changes wait for each other.
 //
 // If the row of an instance is missing, it is inserted, also by the Change of a binding: otherwise there would be no
 // row to lock, and a Change of the instance could run beside. Another transaction that inserts the same row waits until
 // this one ends. So no Change of an instance runs beside one of its bindings, whether the instance has a row or not. If
 // step writes nothing, the inserted row is rolled back. A row that was inserted for a binding has the zero Holding.
 //
-// Errors: broker.ErrLostLock, those of step, the context's and the server's; and ErrUnknownCommit if nobody
-// knows whether the change is written. After any other error it isn't. A panic of step is an error. If the server can't
-// be used now, the error is broker.ErrAway too.
-func (s *Store) Change(ctx context.Context, key broker.Key, fence int64, step broker.Step) error {
+// Errors: those of step, the context's and the server's; and ErrUnknownCommit if nobody knows whether the change is
+// written. After any other error it isn't. A panic of step is an error. If the server can't be used now, the error is
+// broker.ErrAway too.
+func (s *Store) Change(ctx context.Context, key broker.Key, step broker.Step) error {
 	statements, err := s.preparedFor(ctx)
 	if err != nil {
 		return away(err)
 	}
 	return s.transaction(ctx, &key, func(tx *sql.Tx) (bool, error) {
 		it := change{ctx: ctx, tx: tx, statements: statements, key: key}
-		if err := it.check(fence); err != nil {
-			return false, err
-		}
 		snapshot, err := it.lock()
 		if err != nil {
 			return false, err
@@ -320,20 +324,6 @@ type change struct {
 
 // statement is the statement of a text in the transaction.
 func (c change) statement(text string) *sql.Stmt { return c.tx.StmtContext(c.ctx, c.statements[text]) }
-
-// check fails unless the fence is the last of the key. It stays so until the transaction ends.
-func (c change) check(fence int64) error {
-	if fence == 0 {
-		return nil
-	}
-	var worker int64
-	text := of(c.key, checkWorker, checkBindingWorker)
-	err := c.statement(text).QueryRowContext(c.ctx, keyParameters(c.key)...).Scan(&worker)
-	if errors.Is(err, sql.ErrNoRows) || err == nil && worker != fence {
-		return fmt.Errorf("%w: %v", broker.ErrLostLock, c.key)
-	}
-	return err
-}
 
 // lock reads what is held, and locks it.
 func (c change) lock() (snapshot broker.Snapshot, err error) {
@@ -398,7 +388,7 @@ func (c change) write(entry broker.Entry) error {
 	}
 	arguments := []any{
 		text, entry.IsUnfinished(), orNull(entry.Request), storable(entry.Description), timeOrNull(entry.Since),
-		entry.Life, entry.Holding.HasTombstone(), c.key.Instance,
+		entry.Life, entry.Holding.HasTombstone(), numberOrNull(entry.Worker), c.key.Instance,
 	}
 	if c.key.IsBinding {
 		arguments = append(arguments, entry.Holding.IsHeld(), orNull(entry.Binding), c.key.Binding)
@@ -415,22 +405,4 @@ func (c change) write(entry broker.Entry) error {
 
 func errRowGone(key broker.Key) error {
 	return fmt.Errorf("the row of %v is gone. Never delete rows of the store", key)
-}
-
-// Fence writes down a new worker of a key, and returns its number. It waits for the Change that the worker before is
-// writing. A crash of the server forgets all workers, and no later number is an earlier one: numbers are random.
-func (s *Store) Fence(ctx context.Context, key broker.Key) (int64, error) {
-	var random [8]byte
-	if _, err := rand.Read(random[:]); err != nil {
-		return 0, err
-	}
-	worker := int64(binary.BigEndian.Uint64(random[:])>>1) | 1
-	err := s.callReading(ctx, func(ctx context.Context, statements statementSet) error {
-		_, err := statements[of(key, putWorker, putBindingWorker)].ExecContext(ctx, append(keyParameters(key), worker)...)
-		return err
-	})
-	if err != nil {
-		return 0, err
-	}
-	return worker, nil
 }

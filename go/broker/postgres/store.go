@@ -1,5 +1,5 @@
 // Package postgres keeps what a broker holds in a database of PostgreSQL, for any number of brokers on any number of
-// machines. It reads and extends the tables of version 0.2.
+// machines. It reads and extends the tables of versions 0.2 and 0.3.
 //
 // A change is a transaction of READ COMMITTED with explicit row locks. A row that is missing is inserted, so that it
 // can be locked, and is rolled back with the transaction unless something is written.
@@ -187,9 +187,9 @@ func (s *Store) tellRetry(key *broker.Key, err error) {
 
 // The statements of reads and changes, which the server parses and plans once for each session.
 const (
-	findInstance = "SELECT holding, request, NULL, description, since, life, " + endedAgo +
+	findInstance = "SELECT holding, request, NULL, description, since, life, worker, " + endedAgo +
 		" FROM osb_holdings WHERE id = $1"
-	findBinding = "SELECT holding, request, object, description, since, life, " + endedAgo +
+	findBinding = "SELECT holding, request, object, description, since, life, worker, " + endedAgo +
 		" FROM osb_bindings WHERE instance = $1 AND binding = $2"
 	// How many seconds ago the tombstone was written. A statement that waits for a row takes the time at which it began
 	// to wait.
@@ -200,23 +200,17 @@ const (
 	insertBinding  = "INSERT INTO osb_bindings (instance, binding, holding, held, unfinished) " +
 		"VALUES ($1, $2, $3, false, false) ON CONFLICT DO NOTHING"
 	writeInstance = "UPDATE osb_holdings SET holding = $1, unfinished = $2, request = $3, description = $4, " +
-		"since = $5, life = $6, " + ended + " WHERE id = $8"
+		"since = $5, life = $6, " + ended + ", worker = $8 WHERE id = $9"
 	writeBinding = "UPDATE osb_bindings SET holding = $1, unfinished = $2, request = $3, description = $4, since = $5, " +
-		"life = $6, " + ended + ", held = $9, object = $10 WHERE instance = $8 AND binding = $11"
+		"life = $6, " + ended + ", worker = $8, held = $10, object = $11 WHERE instance = $9 AND binding = $12"
 	ended = "ended = CASE WHEN $7::boolean THEN clock_timestamp() END"
-
-	checkWorker        = "SELECT worker FROM osb_workers WHERE id = $1 FOR SHARE"
-	checkBindingWorker = "SELECT worker FROM osb_binding_workers WHERE instance = $1 AND binding = $2 FOR SHARE"
-	putWorker          = "INSERT INTO osb_workers VALUES ($1, $2) ON CONFLICT (id) DO UPDATE SET worker = excluded.worker"
-	putBindingWorker   = "INSERT INTO osb_binding_workers VALUES ($1, $2, $3) ON CONFLICT (instance, binding) " +
-		"DO UPDATE SET worker = excluded.worker"
 
 	anyBinding = "SELECT EXISTS (SELECT FROM osb_bindings WHERE instance = $1 AND held)"
 	// One statement reads a binding and its instance, so both are of the same moment.
 	readBinding = `
-SELECT b.holding, b.request, b.object, b.description, b.since, b.life,
+SELECT b.holding, b.request, b.object, b.description, b.since, b.life, b.worker,
     extract(epoch FROM statement_timestamp() - b.ended),
-    i.holding, i.request, NULL, i.description, i.since, i.life, NULL
+    i.holding, i.request, NULL, i.description, i.since, i.life, i.worker, NULL
 FROM (SELECT $1::uuid AS instance, $2::uuid AS binding) AS k
 LEFT JOIN osb_bindings AS b ON b.instance = k.instance AND b.binding = k.binding
 LEFT JOIN osb_holdings AS i ON i.id = k.instance
@@ -226,7 +220,7 @@ LEFT JOIN osb_holdings AS i ON i.id = k.instance
 var texts = []string{
 	findInstance, findInstance + forUpdate, findInstance + forShare, findBinding + forUpdate,
 	insertInstance, insertBinding, writeInstance, writeBinding,
-	checkWorker, checkBindingWorker, putWorker, putBindingWorker, anyBinding, readBinding,
+	anyBinding, readBinding,
 }
 
 // A statementSet has the prepared statement of each text.
@@ -296,14 +290,12 @@ func of(key broker.Key, instance, binding string) string {
 
 // The tables. Version 0.2 had osb_holdings with its first three columns, osb_workers and osb_store. The column ended
 // has the time at which the tombstone was written. A tombstone of an earlier version gets the time of now. That reads
-// all rows, so no statement may be too long for it.
-//
-// The tables of workers are UNLOGGED: a crash of the server empties them. It ends the sessions that hold the locks too.
+// all rows, so no statement may be too long for it. Version 0.3 had the numbers of workers in tables of their own. A
+// broker of 0.3 that still runs begins and ends no work without them.
 const tables = `
 SET LOCAL statement_timeout = 0;
 CREATE TABLE IF NOT EXISTS osb_holdings (id uuid PRIMARY KEY, holding text NOT NULL, unfinished boolean NOT NULL);
 CREATE INDEX IF NOT EXISTS osb_unfinished_holdings ON osb_holdings (id) WHERE unfinished;
-CREATE UNLOGGED TABLE IF NOT EXISTS osb_workers (id uuid PRIMARY KEY, worker bigint NOT NULL);
 CREATE TABLE IF NOT EXISTS osb_store (one boolean PRIMARY KEY DEFAULT true CHECK (one), name text NOT NULL,
     is_tied boolean NOT NULL DEFAULT false);
 ALTER TABLE osb_holdings ADD COLUMN IF NOT EXISTS request text,
@@ -313,12 +305,11 @@ CREATE TABLE IF NOT EXISTS osb_bindings (instance uuid NOT NULL, binding uuid NO
     description text NOT NULL DEFAULT '', since timestamptz, PRIMARY KEY (instance, binding));
 CREATE INDEX IF NOT EXISTS osb_held_bindings ON osb_bindings (instance) WHERE held;
 CREATE INDEX IF NOT EXISTS osb_unfinished_bindings ON osb_bindings (instance, binding) WHERE unfinished;
-CREATE UNLOGGED TABLE IF NOT EXISTS osb_binding_workers (instance uuid NOT NULL, binding uuid NOT NULL,
-    worker bigint NOT NULL, PRIMARY KEY (instance, binding));
 ALTER TABLE osb_holdings ADD COLUMN IF NOT EXISTS life bigint NOT NULL DEFAULT 0,
-    ADD COLUMN IF NOT EXISTS ended timestamptz;
+    ADD COLUMN IF NOT EXISTS ended timestamptz, ADD COLUMN IF NOT EXISTS worker uuid;
 ALTER TABLE osb_bindings ADD COLUMN IF NOT EXISTS life bigint NOT NULL DEFAULT 0,
-    ADD COLUMN IF NOT EXISTS ended timestamptz;
+    ADD COLUMN IF NOT EXISTS ended timestamptz, ADD COLUMN IF NOT EXISTS worker uuid;
+DROP TABLE IF EXISTS osb_workers, osb_binding_workers;
 UPDATE osb_holdings SET ended = clock_timestamp() WHERE ended IS NULL AND NOT unfinished
     AND (holding LIKE '%"tombstone":true%' OR holding LIKE '%"marked":true%');
 UPDATE osb_bindings SET ended = clock_timestamp() WHERE ended IS NULL AND NOT held
@@ -326,9 +317,9 @@ UPDATE osb_bindings SET ended = clock_timestamp() WHERE ended IS NULL AND NOT he
 CREATE TABLE IF NOT EXISTS osb_identity (one boolean PRIMARY KEY DEFAULT true CHECK (one), id text NOT NULL);
 `
 
-// isCurrent asks whether nothing is missing: all that is missing is added in one transaction, and this table is the
-// last.
-const isCurrent = "SELECT to_regclass('osb_identity') IS NOT NULL"
+// isCurrent asks whether nothing is missing: all that is missing is added in one transaction. The table osb_identity is
+// the last that came, and osb_workers the last that went.
+const isCurrent = "SELECT to_regclass('osb_identity') IS NOT NULL AND to_regclass('osb_workers') IS NULL"
 
 // tablesLock is the number of an advisory lock for brokers that create the tables at the same time: IF NOT EXISTS is no
 // lock. Version 0.2 takes the same lock.

@@ -79,7 +79,7 @@ func TestURLThatLeadsToAnotherStore(t *testing.T) {
 	for _, isOther := range []bool{false, true, false} {
 		for what, call := range map[string]func() error{
 			"Read":       func() error { _, err := store.Read(ctx, key); return err },
-			"Change":     func() error { return store.Change(ctx, key, 0, describe("x", &calls)) },
+			"Change":     func() error { return store.Change(ctx, key, describe("x", &calls)) },
 			"Unfinished": func() error { _, err := store.UnfinishedKeys(ctx); return err },
 			"Ready":      func() error { return store.Ready(ctx) },
 		} {
@@ -186,7 +186,7 @@ func TestTablesOf02(t *testing.T) {
 	}
 	store := open(t, url)
 	defer store.Close()
-	err := store.Change(ctx, broker.InstanceKey(id(1)), 0, func(snapshot broker.Snapshot) (*broker.Entry, error) {
+	err := store.Change(ctx, broker.InstanceKey(id(1)), func(snapshot broker.Snapshot) (*broker.Entry, error) {
 		snapshot.Description = "extended"
 		return &snapshot.Entry, nil
 	})
@@ -220,6 +220,33 @@ func endedText(t *testing.T, write func(osb.Holding) ([]byte, error)) []byte {
 	text, err := write(ended)
 	check(t, err)
 	return text
+}
+
+// The tables of a broker of version 0.3, with the numbers of its workers: they are forgotten.
+func TestWorkersOf03(t *testing.T) {
+	url := pgtest.Schema(t, pgtest.URL(t), "osb_store_workers_03")
+	db := pgtest.DB(t, url)
+	pgtest.Exec(t, db, withoutTimes(t)...)
+	pgtest.Exec(t, db, fmt.Sprintf("INSERT INTO osb_workers VALUES ('%v', 7)", id(2)),
+		fmt.Sprintf("INSERT INTO osb_binding_workers VALUES ('%v', '%v', 8)", id(1), id(2)))
+	for n := 0; n < 2; n++ { // the second time nothing is left to do
+		store := open(t, url)
+		for _, key := range []broker.Key{broker.InstanceKey(id(2)), broker.BindingKey(id(1), id(2))} {
+			entry := diff.Value(store.Read(context.Background(), key))(t).Entry
+			if want := map[bool]osb.ID{true: id(9)}[n > 0]; entry.Worker != want {
+				t.Errorf("%v: got the worker %v, want %v", key, entry.Worker, want)
+			}
+			check(t, store.Change(context.Background(), key, func(snapshot broker.Snapshot) (*broker.Entry, error) {
+				snapshot.Worker = id(9)
+				return &snapshot.Entry, nil
+			}))
+		}
+		var tables int
+		check(t, db.QueryRow("SELECT count(*) FROM pg_tables WHERE schemaname = 'osb_store_workers_03' "+
+			"AND tablename LIKE '%workers'").Scan(&tables))
+		diff.Equal(t, tables, 0, "the tables of workers")
+		diff.NoError(t, store.Close(), "")
+	}
 }
 
 // A tombstone without a time gets that of the migration, once. Rows without a tombstone get none.
@@ -297,10 +324,7 @@ func TestARoleThatMayNotAlter(t *testing.T) {
 	check(t, err)
 	defer store.Close()
 	key := broker.BindingKey(id(1), id(1))
-	if _, err := store.Fence(context.Background(), key); err != nil {
-		t.Error(err)
-	}
-	err = store.Change(context.Background(), key, 0, func(snapshot broker.Snapshot) (*broker.Entry, error) {
+	err = store.Change(context.Background(), key, func(snapshot broker.Snapshot) (*broker.Entry, error) {
 		return &snapshot.Entry, nil
 	})
 	diff.NoError(t, err, "")
@@ -367,11 +391,10 @@ func TestServerThatIsAway(t *testing.T) {
 	check(t, err)
 	t.Cleanup(func() { _ = store.Close() })
 	key := broker.InstanceKey(osb.MustParseID("00000000-0000-0000-0000-000000000001"))
-	change := func(text string) error { return store.Change(ctx, key, 0, describe(text, &calls)) }
+	change := func(text string) error { return store.Change(ctx, key, describe(text, &calls)) }
 	all := map[string]func() error{
 		"Change":       func() error { return change("away") },
 		"Read":         func() error { _, err := store.Read(ctx, key); return err },
-		"Fence":        func() error { _, err := store.Fence(ctx, key); return err },
 		"Unfinished":   func() error { _, err := store.UnfinishedKeys(ctx); return err },
 		"HeldBindings": func() error { _, err := store.HeldBindings(ctx, key.Instance); return err },
 		"Ready":        func() error { return store.Ready(ctx) },
@@ -392,12 +415,9 @@ func TestServerThatIsAway(t *testing.T) {
 	}
 	proxy.Cut("")
 	own := errors.New("the step's own")
-	err = store.Change(ctx, key, 0, func(broker.Snapshot) (*broker.Entry, error) { return nil, own })
+	err = store.Change(ctx, key, func(broker.Snapshot) (*broker.Entry, error) { return nil, own })
 	if !errors.Is(err, own) || errors.Is(err, broker.ErrAway) {
 		t.Errorf("Change after an error of the step: got %v, want %v", err, own)
-	}
-	if err := store.Change(ctx, key, 1, describe("fenced", &calls)); errors.Is(err, broker.ErrAway) {
-		t.Errorf("Change without the lock: got %v, want another than %v", err, broker.ErrAway)
 	}
 	diff.Equal(t, descriptionOf(t, store, key), "lost", "the store")
 }
@@ -411,13 +431,12 @@ func TestServerThatIsSilent(t *testing.T) {
 	check(t, err)
 	t.Cleanup(func() { _ = store.Close() })
 	key := broker.InstanceKey(osb.MustParseID("00000000-0000-0000-0000-000000000001"))
-	check(t, store.Change(ctx, key, 0, describe("before", &calls)))
+	check(t, store.Change(ctx, key, describe("before", &calls)))
 	openAll(t, store, 3)
 	proxy.Hang(true)
 	all := map[string]func() error{
-		"Change":       func() error { return store.Change(ctx, key, 0, describe("silent", new(int))) },
+		"Change":       func() error { return store.Change(ctx, key, describe("silent", new(int))) },
 		"Read":         func() error { _, err := store.Read(ctx, key); return err },
-		"Fence":        func() error { _, err := store.Fence(ctx, key); return err },
 		"HeldBindings": func() error { _, err := store.HeldBindings(ctx, key.Instance); return err },
 	}
 	done := make(chan error, 2*len(all))
@@ -456,7 +475,7 @@ func TestReadOfASilentServer(t *testing.T) {
 	instance := osb.MustParseID("00000000-0000-0000-0000-000000000001")
 	for _, key := range []broker.Key{broker.InstanceKey(instance), broker.BindingKey(instance, instance)} {
 		t.Run(key.String(), func(t *testing.T) {
-			check(t, store.Change(ctx, key, 0, describe("text", &calls)))
+			check(t, store.Change(ctx, key, describe("text", &calls)))
 			if text := descriptionOf(t, store, key); text != "text" {
 				t.Fatalf("%v: got %q, want \"text\"", key, text)
 			}
@@ -521,7 +540,7 @@ func TestACommitThatFails(t *testing.T) {
 			defer store.Close()
 			trigger(t, url, "osb_holdings", "DEFERRABLE INITIALLY DEFERRED", test.statement)
 			key, calls := broker.InstanceKey(id(1)), 0
-			err := store.Change(context.Background(), key, 0, describe("x", &calls))
+			err := store.Change(context.Background(), key, describe("x", &calls))
 			if err == nil || errors.Is(err, pg.ErrUnknownCommit) != test.isUnknown || calls != 1 {
 				t.Errorf("after %d calls: got %v, want one after 1", calls, err)
 			}
@@ -538,12 +557,12 @@ func TestACommitWhoseAnswerIsLost(t *testing.T) {
 	defer store.Close()
 	proxy.Cut("COMMIT\x00")
 	key, calls := broker.InstanceKey(id(1)), 0
-	err := store.Change(context.Background(), key, 0, describe("x", &calls))
+	err := store.Change(context.Background(), key, describe("x", &calls))
 	if !errors.Is(err, pg.ErrUnknownCommit) || calls != 1 { // once more could write it twice
 		t.Errorf("after %d calls: got %v, want %v after 1", calls, err, pg.ErrUnknownCommit)
 	}
 	proxy.Cut("")
-	diff.NoError(t, store.Change(context.Background(), key, 0, describe("y", &calls)), "the next change")
+	diff.NoError(t, store.Change(context.Background(), key, describe("y", &calls)), "the next change")
 }
 
 // What another transaction has undone is tried again, and reported, but not for ever.
@@ -567,7 +586,7 @@ func TestConflicts(t *testing.T) {
 			trigger(t, url, "osb_holdings", "", "IF nextval('tries') <= "+strconv.Itoa(test.fails)+
 				" THEN RAISE EXCEPTION USING ERRCODE = '"+test.code+"'; END IF;")
 			key, calls := broker.InstanceKey(id(1)), 0
-			err = store.Change(context.Background(), key, 0, describe("x", &calls))
+			err = store.Change(context.Background(), key, describe("x", &calls))
 			if (err == nil) != test.isWritten || !test.isWritten && !pg.IsCode(err, test.code) || calls != test.calls {
 				t.Errorf("after %d calls: got %v, want %s after %d", calls, err, test.code, test.calls)
 			}
@@ -589,9 +608,8 @@ func TestSessionsThatTheServerEnds(t *testing.T) {
 	defer store.Close()
 	key, calls := broker.BindingKey(id(1), id(1)), 0
 	calling := map[string]func() error{
-		"Change":     func() error { return store.Change(context.Background(), key, 0, describe("x", &calls)) },
+		"Change":     func() error { return store.Change(context.Background(), key, describe("x", &calls)) },
 		"Read":       func() error { _, err := store.Read(context.Background(), key); return err },
-		"Fence":      func() error { _, err := store.Fence(context.Background(), key); return err },
 		"Unfinished": func() error { _, err := store.UnfinishedKeys(context.Background()); return err },
 	}
 	for name, call := range calling {
@@ -616,7 +634,7 @@ func openAll(t *testing.T, store broker.Store, count int) {
 	for n := 0; n < count; n++ {
 		key := broker.InstanceKey(id(100 + n))
 		go func() {
-			done <- store.Change(context.Background(), key, 0, func(broker.Snapshot) (*broker.Entry, error) {
+			done <- store.Change(context.Background(), key, func(broker.Snapshot) (*broker.Entry, error) {
 				select {
 				case entered <- struct{}{}:
 				default: // it is called again
@@ -639,23 +657,22 @@ func openAll(t *testing.T, store broker.Store, count int) {
 	}
 }
 
-// A look at the fence that the server ends is an error that may be over later, and the step isn't called.
-func TestALookAtTheFenceThatIsEnded(t *testing.T) {
-	const name = "osb_store_fence"
+// A look at a row that the server ends is an error that may be over later, and the step isn't called.
+func TestALookAtARowThatIsEnded(t *testing.T) {
+	const name = "osb_store_look"
 	ctx, url := context.Background(), pgtest.Schema(t, pgtest.URL(t), name)
 	store := open(t, pgtest.With(t, url, "application_name", name))
 	defer store.Close()
 	key, calls := broker.InstanceKey(id(1)), 0
-	fence, err := store.Fence(ctx, key)
-	check(t, err)
+	check(t, store.Change(ctx, key, describe("before", new(int))))
 	db := pgtest.DB(t, url)
 	holder, err := db.BeginTx(ctx, nil)
 	check(t, err)
 	defer func() { _ = holder.Rollback() }()
-	_, err = holder.Exec("SELECT FROM osb_workers FOR UPDATE")
+	_, err = holder.Exec("SELECT FROM osb_holdings FOR UPDATE")
 	check(t, err)
 	changed := make(chan error, 1)
-	go func() { changed <- store.Change(ctx, key, fence, describe("x", &calls)) }()
+	go func() { changed <- store.Change(ctx, key, describe("x", &calls)) }()
 	for until := time.Now().Add(time.Minute); time.Now().Before(until); {
 		pgtest.Exec(t, db, "SELECT pg_cancel_backend(pid) FROM pg_stat_activity WHERE application_name = '"+name+
 			"' AND wait_event_type = 'Lock'")
@@ -668,7 +685,7 @@ func TestALookAtTheFenceThatIsEnded(t *testing.T) {
 		case <-time.After(10 * time.Millisecond):
 		}
 	}
-	t.Error("got a look at the fence that goes on, want its end")
+	t.Error("got a look at the row that goes on, want its end")
 }
 
 // A session that ends while its step runs writes nothing.
@@ -677,7 +694,7 @@ func TestASessionThatEndsDuringAStep(t *testing.T) {
 	store := open(t, url)
 	defer store.Close()
 	key := broker.InstanceKey(id(1))
-	err := store.Change(context.Background(), key, 0, func(snapshot broker.Snapshot) (*broker.Entry, error) {
+	err := store.Change(context.Background(), key, func(snapshot broker.Snapshot) (*broker.Entry, error) {
 		pgtest.Exec(t, pgtest.DB(t, pgtest.URL(t)),
 			"SELECT pg_terminate_backend(pid, 5000) FROM pg_stat_activity WHERE application_name = 'osb_store_step'")
 		snapshot.Description = "x"
@@ -694,7 +711,7 @@ func TestAContextThatEnds(t *testing.T) {
 	defer store.Close()
 	key, calls := broker.InstanceKey(id(1)), 0
 	ctx, cancel := context.WithCancel(context.Background())
-	err := store.Change(ctx, key, 0, func(snapshot broker.Snapshot) (*broker.Entry, error) {
+	err := store.Change(ctx, key, func(snapshot broker.Snapshot) (*broker.Entry, error) {
 		cancel()
 		snapshot.Description = "x"
 		return &snapshot.Entry, nil
@@ -704,8 +721,8 @@ func TestAContextThatEnds(t *testing.T) {
 	}
 	ctx, cancel = context.WithCancel(context.Background())
 	waited := make(chan error, 1)
-	err = store.Change(context.Background(), key, 0, func(snapshot broker.Snapshot) (*broker.Entry, error) {
-		go func() { waited <- store.Change(ctx, key, 0, describe("of the second", &calls)) }()
+	err = store.Change(context.Background(), key, func(snapshot broker.Snapshot) (*broker.Entry, error) {
+		go func() { waited <- store.Change(ctx, key, describe("of the second", &calls)) }()
 		cancel()
 		diff.ErrorIs(t, <-waited, context.Canceled, "the second")
 		snapshot.Description = "of the first"
@@ -723,7 +740,7 @@ func TestARowThatIsGone(t *testing.T) {
 	defer store.Close()
 	pgtest.Exec(t, pgtest.DB(t, url), "CREATE RULE gone AS ON INSERT TO osb_holdings DO INSTEAD NOTHING")
 	calls := 0
-	err := store.Change(context.Background(), broker.InstanceKey(id(1)), 0, describe("x", &calls))
+	err := store.Change(context.Background(), broker.InstanceKey(id(1)), describe("x", &calls))
 	if err == nil || !strings.Contains(err.Error(), "Never delete rows") || calls != 0 {
 		t.Errorf("after %d calls: got %v, want one before any that says what not to delete", calls, err)
 	}
@@ -741,7 +758,7 @@ func TestAChangeThatWritesNoRow(t *testing.T) {
 	for _, key := range []broker.Key{broker.InstanceKey(id(1)), broker.BindingKey(id(1), id(2))} {
 		t.Run(key.String(), func(t *testing.T) {
 			calls := 0
-			err := store.Change(context.Background(), key, 0, describe("x", &calls))
+			err := store.Change(context.Background(), key, describe("x", &calls))
 			if err == nil || !strings.Contains(err.Error(), "Never delete rows") || calls != 1 {
 				t.Errorf("%v: got %v after %d calls, want that the row is gone, after 1", key, err, calls)
 			}

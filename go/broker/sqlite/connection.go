@@ -18,7 +18,7 @@ type connection struct {
 	*sqlitefile.Conn
 	readInstance, putInstance *sqlitefile.Statement
 	readBinding, putBinding   *sqlitefile.Statement
-	anyBinding, readWorker    *sqlitefile.Statement
+	anyBinding                *sqlitefile.Statement
 	instances, bindings       texts
 }
 
@@ -57,20 +57,20 @@ func (t *texts) text(holding osb.Holding, write func() ([]byte, error)) (string,
 func prepare(ctx context.Context, conn *sqlitefile.Conn) (*connection, error) {
 	c := &connection{Conn: conn}
 	for to, text := range map[**sqlitefile.Statement]string{
-		&c.readInstance: "SELECT holding, request, description, since, life, ended FROM holdings WHERE id = ?",
-		&c.putInstance: "INSERT INTO holdings (id, holding, unfinished, request, description, since, life, ended) " +
-			"VALUES (?, ?, ?, ?, ?, ?, ?, ?) ON CONFLICT (id) DO UPDATE SET holding = excluded.holding, " +
+		&c.readInstance: "SELECT holding, request, description, since, life, ended, worker FROM holdings WHERE id = ?",
+		&c.putInstance: "INSERT INTO holdings (id, holding, unfinished, request, description, since, life, ended, " +
+			"worker) VALUES (?, ?, ?, ?, ?, ?, ?, ?, ?) ON CONFLICT (id) DO UPDATE SET holding = excluded.holding, " +
 			"unfinished = excluded.unfinished, request = excluded.request, description = excluded.description, " +
-			"since = excluded.since, life = excluded.life, ended = excluded.ended",
-		&c.readBinding: "SELECT holding, request, description, since, life, ended, object FROM bindings " +
+			"since = excluded.since, life = excluded.life, ended = excluded.ended, worker = excluded.worker",
+		&c.readBinding: "SELECT holding, request, description, since, life, ended, worker, object FROM bindings " +
 			"WHERE instance = ? AND binding = ?",
 		&c.putBinding: "INSERT INTO bindings (instance, binding, holding, unfinished, request, description, since, " +
-			"life, ended, object, held) VALUES (?, ?, ?, ?, ?, ?, ?, ?, ?, ?, ?) ON CONFLICT (instance, binding) " +
-			"DO UPDATE SET holding = excluded.holding, unfinished = excluded.unfinished, request = excluded.request, " +
-			"description = excluded.description, since = excluded.since, life = excluded.life, " +
-			"ended = excluded.ended, object = excluded.object, held = excluded.held",
+			"life, ended, worker, object, held) VALUES (?, ?, ?, ?, ?, ?, ?, ?, ?, ?, ?, ?) " +
+			"ON CONFLICT (instance, binding) DO UPDATE SET holding = excluded.holding, " +
+			"unfinished = excluded.unfinished, request = excluded.request, description = excluded.description, " +
+			"since = excluded.since, life = excluded.life, ended = excluded.ended, worker = excluded.worker, " +
+			"object = excluded.object, held = excluded.held",
 		&c.anyBinding: "SELECT 1 FROM bindings WHERE instance = ? AND held LIMIT 1",
-		&c.readWorker: "SELECT worker FROM workers WHERE id = ?",
 	} {
 		var err error
 		if *to, err = conn.Prepare(ctx, text); err != nil {
@@ -101,7 +101,7 @@ func (c *connection) snapshot(key broker.Key) (snapshot broker.Snapshot, err err
 		return snapshot, unreadable{fmt.Errorf("sqlite: what is held of %v: %w", key, err)}
 	}
 	snapshot.EndedAgo = ago(row[5])
-	if snapshot.Entry.Binding, err = optional(row[6]); err != nil {
+	if snapshot.Entry.Binding, err = optional(row[7]); err != nil {
 		return snapshot, unreadable{fmt.Errorf("sqlite: what is held of %v: %w", key, err)}
 	}
 	return snapshot, nil
@@ -141,7 +141,7 @@ func ago(column driver.Value) time.Duration {
 	return 0
 }
 
-// entryOf reads the columns holding, request, description, since and life.
+// entryOf reads the columns holding, request, description, since, life and worker.
 func entryOf(row []driver.Value, known *texts, read func([]byte) (osb.Holding, error)) (entry broker.Entry, err error) {
 	text, ok := row[0].(string) // nil if the driver has lost an error
 	if !ok {
@@ -163,7 +163,10 @@ func entryOf(row []driver.Value, known *texts, read func([]byte) (osb.Holding, e
 		entry.Since = time.UnixMilli(since).UTC()
 	}
 	entry.Life, _ = row[4].(int64)
-	return entry, nil
+	if row[6] != nil {
+		err = entry.Worker.Scan(row[6])
+	}
+	return entry, err
 }
 
 // optional is the JSON of a column, or nil if it is NULL.
@@ -191,7 +194,7 @@ func (c *connection) put(key broker.Key, entry broker.Entry) error {
 		return err
 	}
 	values := []driver.Value{
-		text, entry.IsUnfinished(), column(entry.Request), nil, nil, entry.Life, nil,
+		text, entry.IsUnfinished(), column(entry.Request), nil, nil, entry.Life, nil, nil,
 	}
 	if entry.Description != "" {
 		values[3] = entry.Description
@@ -201,6 +204,9 @@ func (c *connection) put(key broker.Key, entry broker.Entry) error {
 	}
 	if entry.Holding.HasTombstone() {
 		values[6] = time.Now().UnixMilli()
+	}
+	if entry.Worker != (osb.ID{}) {
+		values[7] = entry.Worker.String()
 	}
 	if key.IsBinding {
 		values = append([]driver.Value{key.Instance.String(), key.Binding.String()}, values...)

@@ -4,9 +4,7 @@ package sqlite
 
 import (
 	"context"
-	"crypto/rand"
 	"database/sql/driver"
-	"encoding/binary"
 	"fmt"
 	"sync"
 	"time"
@@ -72,15 +70,8 @@ func (s *Store) Read(ctx context.Context, key broker.Key) (snapshot broker.Snaps
 }
 
 // Change is one transaction, or a part of one whose other parts are other changes.
-func (s *Store) Change(ctx context.Context, key broker.Key, fence int64, step broker.Step) error {
+func (s *Store) Change(ctx context.Context, key broker.Key, step broker.Step) error {
 	return s.file.Write(ctx, func(c *connection) error {
-		if fence != 0 {
-			if worker, err := c.worker(key); err != nil {
-				return err
-			} else if worker != fence {
-				return broker.ErrLostLock
-			}
-		}
 		snapshot, err := c.snapshot(key)
 		if err != nil {
 			return err
@@ -190,30 +181,6 @@ func (c *connection) text(query string) (text string, err error) {
 		return nil
 	})
 	return text, err
-}
-
-// Fence writes down a new worker of a key.
-func (s *Store) Fence(ctx context.Context, key broker.Key) (int64, error) {
-	var random [8]byte
-	if _, err := rand.Read(random[:]); err != nil {
-		return 0, err
-	}
-	worker := int64(binary.BigEndian.Uint64(random[:])>>1) | 1
-	err := s.file.Write(ctx, func(c *connection) error {
-		return c.exec("INSERT INTO workers VALUES (?, ?) ON CONFLICT (id) DO UPDATE SET worker = excluded.worker",
-			key.String(), worker)
-	})
-	return worker, err
-}
-
-// worker is who works at a key, or did last, and 0 if nobody has.
-func (c *connection) worker(key broker.Key) (int64, error) {
-	row, err := one(c.readWorker, key.String())
-	if err != nil || row == nil {
-		return 0, err
-	}
-	worker, _ := row[0].(int64)
-	return worker, nil
 }
 
 // counter is a number that is counted now and then.
@@ -363,7 +330,7 @@ var tables = []string{
 		"since INTEGER, PRIMARY KEY (instance, binding)) WITHOUT ROWID",
 	"CREATE INDEX IF NOT EXISTS held_bindings ON bindings (instance) WHERE held",
 	"CREATE INDEX IF NOT EXISTS unfinished_bindings ON bindings (instance) WHERE unfinished",
-	"CREATE TABLE IF NOT EXISTS workers (id TEXT PRIMARY KEY, worker INTEGER NOT NULL) WITHOUT ROWID",
+	"DROP TABLE IF EXISTS workers", // version 0.3 had the numbers of workers there
 	"CREATE TABLE IF NOT EXISTS readiness (one INTEGER PRIMARY KEY CHECK (one = 1), asked INTEGER NOT NULL)",
 	"CREATE TABLE IF NOT EXISTS identity (one INTEGER PRIMARY KEY CHECK (one = 1), id TEXT NOT NULL)",
 	"CREATE TABLE IF NOT EXISTS store (one INTEGER PRIMARY KEY CHECK (one = 1), name TEXT NOT NULL, " +
@@ -373,13 +340,14 @@ var tables = []string{
 // The columns of holdings that 0.2 didn't have, and those that bindings didn't have at first. The column ended has the
 // time at which the tombstone was written.
 var columns = map[string][][2]string{
-	"holdings": {{"request", "TEXT"}, {"description", "TEXT"}, {"since", "INTEGER"}, life, ended},
-	"bindings": {life, ended},
+	"holdings": {{"request", "TEXT"}, {"description", "TEXT"}, {"since", "INTEGER"}, life, ended, worker},
+	"bindings": {life, ended, worker},
 }
 
 var (
-	life  = [2]string{"life", "INTEGER NOT NULL DEFAULT 0"}
-	ended = [2]string{"ended", "INTEGER"}
+	life   = [2]string{"life", "INTEGER NOT NULL DEFAULT 0"}
+	ended  = [2]string{"ended", "INTEGER"}
+	worker = [2]string{"worker", "TEXT"}
 )
 
 // Texts of holdings have no spaces: docs/instance.md. Before 0.3.0 a tombstone was written as marked.

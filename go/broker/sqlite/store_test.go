@@ -66,7 +66,7 @@ func TestOneFails(t *testing.T) {
 	all.Add(1)
 	go func() { // while this one holds the writer, the others gather
 		defer all.Done()
-		_ = s.Change(context.Background(), keyOf(0), 0, func(broker.Snapshot) (*broker.Entry, error) {
+		_ = s.Change(context.Background(), keyOf(0), func(broker.Snapshot) (*broker.Entry, error) {
 			close(blocked)
 			<-release
 			return nil, nil
@@ -94,7 +94,7 @@ func TestOneFails(t *testing.T) {
 		go func(n int) {
 			defer all.Done()
 			it := steps[n%4]
-			given[n] = s.Change(it.ctx, keyOf(n), 0, it.step(keyOf(n)))
+			given[n] = s.Change(it.ctx, keyOf(n), it.step(keyOf(n)))
 		}(n)
 	}
 	for until := time.Now().Add(time.Minute); s.file.QueueLength() < 40; time.Sleep(time.Millisecond) {
@@ -134,7 +134,7 @@ func TestTransactionFails(t *testing.T) {
 		return nil
 	})
 	check(t, err)
-	broken := s.Change(context.Background(), keyOf(1), 0, func(snapshot broker.Snapshot) (*broker.Entry, error) {
+	broken := s.Change(context.Background(), keyOf(1), func(snapshot broker.Snapshot) (*broker.Entry, error) {
 		if err := writer.exec("ROLLBACK"); err != nil { // as SQLite does of itself if the disk is full
 			t.Error(err)
 		}
@@ -143,7 +143,7 @@ func TestTransactionFails(t *testing.T) {
 	if broken == nil {
 		t.Error("got no error of a commit that failed, want one")
 	}
-	diff.NoError(t, s.Change(context.Background(), keyOf(2), 0, provision(keyOf(2))), "")
+	diff.NoError(t, s.Change(context.Background(), keyOf(2), provision(keyOf(2))), "")
 	if snapshot, err := s.Read(context.Background(), keyOf(1)); err != nil || snapshot.Holding.IsHeld() {
 		t.Errorf("got %v and the error %v, want nothing held", snapshot.Holding, err)
 	}
@@ -154,7 +154,7 @@ func TestTellsAfterCommit(t *testing.T) {
 	path := filepath.Join(t.TempDir(), "store")
 	s, other := open(t, path, broker.Silent{}), open(t, path, broker.Silent{})
 	for n := 0; n < 50; n++ {
-		check(t, s.Change(context.Background(), keyOf(n), 0, provision(keyOf(n))))
+		check(t, s.Change(context.Background(), keyOf(n), provision(keyOf(n))))
 		if snapshot, err := other.Read(context.Background(), keyOf(n)); err != nil || !snapshot.Holding.IsHeld() {
 			t.Fatalf("%d: got %v, want it written", n, err)
 		}
@@ -225,7 +225,7 @@ func TestUnreadableRow(t *testing.T) {
 	s := open(t, filepath.Join(t.TempDir(), "store"), broker.Silent{})
 	ctx := context.Background()
 	for n := 1; n <= 2; n++ {
-		check(t, s.Change(ctx, keyOf(n), 0, provision(keyOf(n))))
+		check(t, s.Change(ctx, keyOf(n), provision(keyOf(n))))
 	}
 	err := s.file.Write(ctx, func(c *connection) error {
 		return c.exec("UPDATE holdings SET holding = '{}' WHERE id = ?", keyOf(1).String())
@@ -261,7 +261,7 @@ func TestTombstonesOfAnUnreadableRow(t *testing.T) {
 			if table == "bindings" {
 				key = broker.BindingKey(key.Instance, key.Instance)
 			}
-			check(t, s.Change(context.Background(), key, 0, provision(key)))
+			check(t, s.Change(context.Background(), key, provision(key)))
 			alter(t, s, "UPDATE "+table+" SET holding = '{}', unfinished = 0")
 			if stats, err := s.Stats(context.Background()); err == nil {
 				t.Errorf("%s: got %+v, want an error", table, stats)
@@ -274,7 +274,7 @@ func TestTombstonesOfAnUnreadableRow(t *testing.T) {
 func TestListsWithAnUnreadableID(t *testing.T) {
 	s := open(t, filepath.Join(t.TempDir(), "store"), broker.Silent{})
 	key := broker.BindingKey(keyOf(1).Instance, keyOf(2).Instance)
-	check(t, s.Change(context.Background(), key, 0, provision(key)))
+	check(t, s.Change(context.Background(), key, provision(key)))
 	alter(t, s, "UPDATE bindings SET binding = 'x', held = 1, unfinished = 1")
 	if ids, err := s.HeldBindings(context.Background(), key.Instance); err == nil {
 		t.Errorf("HeldBindings: got %v, want an error", ids)
@@ -297,10 +297,10 @@ func TestChangeOfAnUnreadableRow(t *testing.T) {
 	for _, holding := range []string{"'{}'", "x'00'"} {
 		t.Run(holding, func(t *testing.T) { // the latter is no text
 			s := open(t, filepath.Join(t.TempDir(), "store"), broker.Silent{})
-			check(t, s.Change(context.Background(), keyOf(1), 0, provision(keyOf(1))))
+			check(t, s.Change(context.Background(), keyOf(1), provision(keyOf(1))))
 			alter(t, s, "UPDATE holdings SET holding = "+holding+", description = 'unreadable'")
 			isCalled := false
-			err := s.Change(context.Background(), keyOf(1), 0, func(snapshot broker.Snapshot) (*broker.Entry, error) {
+			err := s.Change(context.Background(), keyOf(1), func(snapshot broker.Snapshot) (*broker.Entry, error) {
 				isCalled = true
 				return provision(keyOf(1))(snapshot)
 			})
@@ -322,26 +322,53 @@ func TestChangeOfAnUnreadableRow(t *testing.T) {
 func TestChangeThatIsNotWritten(t *testing.T) {
 	s := open(t, filepath.Join(t.TempDir(), "store"), broker.Silent{})
 	alter(t, s, "CREATE TRIGGER no BEFORE INSERT ON holdings BEGIN SELECT RAISE(ABORT, 'no'); END")
-	err := s.Change(context.Background(), keyOf(1), 0, provision(keyOf(1)))
+	err := s.Change(context.Background(), keyOf(1), provision(keyOf(1)))
 	if err == nil || !strings.Contains(err.Error(), "no") {
 		t.Errorf("got %v, want the error of the trigger", err)
 	}
 }
 
-// A worker whose number can't be compared writes nothing.
-func TestChangeWithoutTheWorkers(t *testing.T) {
-	s := open(t, filepath.Join(t.TempDir(), "store"), broker.Silent{})
-	fence, err := s.Fence(context.Background(), keyOf(1))
-	check(t, err)
-	alter(t, s, "DROP TABLE workers")
-	for _, number := range []int64{fence, fence + 1} {
-		err := s.Change(context.Background(), keyOf(1), number, provision(keyOf(1)))
-		if err == nil || errors.Is(err, broker.ErrLostLock) {
-			t.Errorf("with the fence %d: got %v, want the error of the table", number-fence, err)
+// The file of a broker of version 0.3, which a lock that can be lost had given numbers of workers: they are forgotten.
+func TestWorkersOf03(t *testing.T) {
+	key := broker.BindingKey(keyOf(1).Instance, keyOf(2).Instance)
+	path := makeFile(t, append(append([]string{}, withBindings...), append(rowsWithout(marked),
+		"ALTER TABLE holdings ADD COLUMN life INTEGER NOT NULL DEFAULT 0", "ALTER TABLE holdings ADD COLUMN ended INTEGER",
+		"ALTER TABLE bindings ADD COLUMN life INTEGER NOT NULL DEFAULT 0", "ALTER TABLE bindings ADD COLUMN ended INTEGER",
+		"CREATE TABLE workers (id TEXT PRIMARY KEY, worker INTEGER NOT NULL) WITHOUT ROWID",
+		"INSERT INTO workers VALUES ('"+keyOf(1).String()+"', 7), ('"+key.String()+"', 8)")...))
+	for n := 0; n < 2; n++ { // the second time nothing is left to do
+		s, err := Open(context.Background(), path, broker.Silent{})
+		check(t, err)
+		for _, key := range []broker.Key{keyOf(1), key} {
+			entry := diff.Value(s.Read(context.Background(), key))(t).Entry
+			if want := map[bool]osb.ID{true: keyOf(9).Instance}[n > 0]; entry.Worker != want {
+				t.Errorf("%v: got the worker %v, want %v", key, entry.Worker, want)
+			}
+			check(t, s.Change(context.Background(), key, func(snapshot broker.Snapshot) (*broker.Entry, error) {
+				snapshot.Worker = keyOf(9).Instance
+				return &snapshot.Entry, nil
+			}))
 		}
+		check(t, s.file.Read(context.Background(), func(c *connection) error {
+			table, err := c.text("SELECT name FROM sqlite_schema WHERE name = 'workers'")
+			diff.Equal(t, table, "", "the table of workers")
+			return err
+		}))
+		check(t, s.Close())
 	}
-	if snapshot, err := s.Read(context.Background(), keyOf(1)); err != nil || snapshot.Holding != (osb.Holding{}) {
-		t.Errorf("got %v, %v, want nothing written", snapshot.Holding, err)
+}
+
+// A row whose worker has no number is changed by nobody.
+func TestChangeOfARowWithAWrongWorker(t *testing.T) {
+	s := open(t, filepath.Join(t.TempDir(), "store"), broker.Silent{})
+	check(t, s.Change(context.Background(), keyOf(1), provision(keyOf(1))))
+	alter(t, s, "UPDATE holdings SET worker = 'unreadable'")
+	err := s.Change(context.Background(), keyOf(1), func(snapshot broker.Snapshot) (*broker.Entry, error) {
+		t.Errorf("the step: got a call with %+v, want none", snapshot)
+		return nil, nil
+	})
+	if err == nil || !strings.Contains(err.Error(), keyOf(1).String()) {
+		t.Errorf("got %v, want an error that names the row", err)
 	}
 }
 
@@ -366,7 +393,7 @@ func TestReadyWrites(t *testing.T) {
 func BenchmarkRead(b *testing.B) {
 	s, err := Open(context.Background(), filepath.Join(b.TempDir(), "store"), broker.Silent{})
 	check(b, err)
-	check(b, s.Change(context.Background(), keyOf(1), 0, provision(keyOf(1))))
+	check(b, s.Change(context.Background(), keyOf(1), provision(keyOf(1))))
 	b.ReportAllocs()
 	for n := 0; n < b.N; n++ {
 		diff.Value(s.Read(context.Background(), keyOf(1)))(b)

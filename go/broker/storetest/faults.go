@@ -100,10 +100,6 @@ var faultyCalls = []faultyCall{
 	{"Read of a binding", ofOne, (*faulty).read, nil, false, false},
 	{"Change of an instance", instance, (*faulty).change, ready, false, false},
 	{"Change of a binding", ofOne, (*faulty).change, ready, false, false},
-	{"Change of an instance with a fence", instance, (*faulty).changeFenced, ready, false, false},
-	{"Change of a binding with a fence", ofOne, (*faulty).changeFenced, ready, false, false},
-	{"Fence of an instance", instance, (*faulty).fence, nil, false, false},
-	{"Fence of a binding", ofOne, (*faulty).fence, nil, false, false},
 	{"HeldBindings", instance, (*faulty).heldBindings, nil, false, false},
 	{"Unfinished", oneOfTwo, (*faulty).unfinishedKeys, nil, true, false},
 	{"Stats", oneOfTwo, (*faulty).stats, nil, true, true},
@@ -234,25 +230,11 @@ func (f *faulty) read(*testing.T) error {
 	return f.wantHeld(snapshot)
 }
 
-func (f *faulty) change(t *testing.T) error { return f.changeWith(t, 0) }
-
-func (f *faulty) changeFenced(t *testing.T) error { return f.changeWith(t, fence(t, f.beside, f.key)) }
-
-func (f *faulty) changeWith(t *testing.T, fence int64) error {
+func (f *faulty) change(t *testing.T) error {
 	next := ready(t)
-	return f.store.Change(context.Background(), f.key, fence, func(snapshot broker.Snapshot) (*broker.Entry, error) {
+	return f.store.Change(context.Background(), f.key, func(snapshot broker.Snapshot) (*broker.Entry, error) {
 		return &next, f.wantHeld(snapshot)
 	})
-}
-
-// fence takes a fence, which is the last one then.
-func (f *faulty) fence(t *testing.T) error {
-	number, err := f.store.Fence(context.Background(), f.key)
-	if err != nil {
-		return err
-	}
-	return f.beside.Change(context.Background(), f.key, number,
-		func(broker.Snapshot) (*broker.Entry, error) { return nil, nil })
 }
 
 func (f *faulty) ready(*testing.T) error { return f.store.Ready(context.Background()) }
@@ -359,7 +341,7 @@ func (by Faulty) unreadable(t *testing.T) {
 		if snapshot, err := store.Read(context.Background(), test.key); err == nil {
 			t.Errorf("Read of %v beside %v: got %+v, want an error", test.key, test.spoiled, snapshot)
 		}
-		err := store.Change(context.Background(), test.key, 0, func(snapshot broker.Snapshot) (*broker.Entry, error) {
+		err := store.Change(context.Background(), test.key, func(snapshot broker.Snapshot) (*broker.Entry, error) {
 			t.Errorf("the step of %v beside %v: got a call with %+v, want none", test.key, test.spoiled, snapshot)
 			return nil, nil
 		})

@@ -44,8 +44,6 @@ func Run(t *testing.T, open func(t *testing.T) broker.NamedStore) {
 		{"one of two changes finds a tombstone", testReturn},
 		{"no change is lost", testCounter},
 		{"changes that exclude each other", testExclusion},
-		{"fences", testFences},
-		{"a fence during a change", testFenceDuringChange},
 		{"counts", testStats},
 		{"the name", testName},
 		{"the id", testID},
@@ -119,7 +117,7 @@ func holding(t *testing.T, row, work string, hasTombstone bool) (read osb.Holdin
 // write writes an entry without looking at what is held.
 func write(t *testing.T, store broker.Store, key broker.Key, entry broker.Entry) {
 	t.Helper()
-	err := store.Change(context.Background(), key, 0, func(broker.Snapshot) (*broker.Entry, error) { return &entry, nil })
+	err := store.Change(context.Background(), key, func(broker.Snapshot) (*broker.Entry, error) { return &entry, nil })
 	if err != nil {
 		t.Fatalf("Change of %v: got %v, want no error", key, err)
 	}
@@ -156,7 +154,7 @@ func changeError(ctx context.Context, store broker.Store, key broker.Key, step b
 			err = fmt.Errorf("panic: %v\n%s", what, debug.Stack())
 		}
 	}()
-	return store.Change(ctx, key, 0, step)
+	return store.Change(ctx, key, step)
 }
 
 func testName(t *testing.T, open func(*testing.T) broker.NamedStore) {
@@ -379,7 +377,7 @@ func testNothing(t *testing.T, open func(*testing.T) broker.NamedStore) {
 	store := openStore(t, open)
 	for _, key := range []broker.Key{instance(1), binding(2, 1)} {
 		wantEntry(t, key.String(), read(t, store, key).Entry, broker.Entry{})
-		err := store.Change(context.Background(), key, 0, func(snapshot broker.Snapshot) (*broker.Entry, error) {
+		err := store.Change(context.Background(), key, func(snapshot broker.Snapshot) (*broker.Entry, error) {
 			wantEntry(t, "in the step of "+key.String(), snapshot.Entry, broker.Entry{})
 			wantEntry(t, "the instance of "+key.String(), snapshot.Instance, broker.Entry{})
 			return nil, nil
@@ -402,6 +400,7 @@ func entries(t *testing.T, key broker.Key) []broker.Entry {
 		Description: "the disk is full",
 		Since:       time.Date(2026, 2, 3, 4, 5, 6, 789e6, time.FixedZone("somewhere", 3600)),
 		Life:        3,
+		Worker:      id(9),
 	}
 	less := broker.Entry{Holding: in(t, "ready")}
 	if key.IsBinding {
@@ -416,7 +415,7 @@ func testWritten(t *testing.T, open func(*testing.T) broker.NamedStore) {
 		for _, entry := range entries(t, key) {
 			write(t, first, key, entry)
 			wantEntry(t, "read", read(t, second, key).Entry, entry)
-			err := second.Change(context.Background(), key, 0, func(snapshot broker.Snapshot) (*broker.Entry, error) {
+			err := second.Change(context.Background(), key, func(snapshot broker.Snapshot) (*broker.Entry, error) {
 				wantEntry(t, "in a step", snapshot.Entry, entry)
 				return nil, nil
 			})
@@ -458,7 +457,7 @@ func testNoEntry(t *testing.T, open func(*testing.T) broker.NamedStore) {
 		before := entries(t, key)[0]
 		write(t, store, key, before)
 		calls := 0
-		err := store.Change(context.Background(), key, 0, func(broker.Snapshot) (*broker.Entry, error) {
+		err := store.Change(context.Background(), key, func(broker.Snapshot) (*broker.Entry, error) {
 			calls++
 			return nil, nil
 		})
@@ -477,7 +476,7 @@ func testInstanceOfBinding(t *testing.T, open func(*testing.T) broker.NamedStore
 		write(t, first, instance(1), of)
 		for _, key := range []broker.Key{binding(1, 1), binding(2, 1)} {
 			wantEntry(t, "the instance, by Read of "+key.String(), read(t, second, key).Instance, of)
-			err := second.Change(context.Background(), key, 0, func(snapshot broker.Snapshot) (*broker.Entry, error) {
+			err := second.Change(context.Background(), key, func(snapshot broker.Snapshot) (*broker.Entry, error) {
 				wantEntry(t, "the instance, by Change of "+key.String(), snapshot.Instance, of)
 				return &broker.Entry{Holding: in(t, "ready")}, nil
 			})
@@ -516,7 +515,7 @@ func wantHeld(t *testing.T, store broker.Store, want ...osb.ID) {
 	if any, err := read(t, store, instance(1)).AnyBinding(); err != nil || any != (len(want) > 0) {
 		t.Errorf("AnyBinding of Read: got %t, %v, want %v", any, err, want)
 	}
-	err = store.Change(context.Background(), instance(1), 0, func(snapshot broker.Snapshot) (*broker.Entry, error) {
+	err = store.Change(context.Background(), instance(1), func(snapshot broker.Snapshot) (*broker.Entry, error) {
 		any, err := snapshot.AnyBinding()
 		if any != (len(want) > 0) {
 			t.Errorf("AnyBinding in a step: got %t, want %v", any, want)
@@ -584,7 +583,7 @@ func testAge(t *testing.T, open func(*testing.T) broker.NamedStore) {
 func ages(t *testing.T, store broker.Store, key broker.Key) []time.Duration {
 	t.Helper()
 	found := []time.Duration{read(t, store, key).EndedAgo}
-	err := store.Change(context.Background(), key, 0, func(snapshot broker.Snapshot) (*broker.Entry, error) {
+	err := store.Change(context.Background(), key, func(snapshot broker.Snapshot) (*broker.Entry, error) {
 		found = append(found[:1], snapshot.EndedAgo)
 		return nil, nil
 	})
@@ -640,7 +639,7 @@ func returns(t *testing.T, stores []broker.Store, key broker.Key) (count int) {
 			defer all.Done()
 			gate.Done()
 			gate.Wait()
-			err := store.Change(context.Background(), key, 0, func(snapshot broker.Snapshot) (*broker.Entry, error) {
+			err := store.Change(context.Background(), key, func(snapshot broker.Snapshot) (*broker.Entry, error) {
 				if found[at] = snapshot.Holding.HasTombstone() && snapshot.EndedAgo > 0; !found[at] {
 					return nil, nil
 				}

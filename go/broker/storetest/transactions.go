@@ -85,7 +85,7 @@ func testCounter(t *testing.T, open func(*testing.T) broker.NamedStore) {
 			go func(store broker.Store) {
 				defer all.Done()
 				for i := 0; i < each; i++ {
-					diff.NoError(t, store.Change(context.Background(), key, 0, countOne), "%v", key)
+					diff.NoError(t, store.Change(context.Background(), key, countOne), "%v", key)
 				}
 			}(stores[n%2])
 		}
@@ -140,10 +140,10 @@ func exclude(t *testing.T, first, second broker.Store, one, other broker.Key) {
 	entered, release, overlapped := make(chan struct{}), make(chan struct{}), make(chan struct{})
 	var all sync.WaitGroup
 	all.Add(2)
-	written := broker.Entry{Holding: in(t, "failed"), Description: "by the first"}
+	written := broker.Entry{Holding: in(t, "failed"), Description: "by the first", Worker: id(1)}
 	go func() {
 		defer all.Done()
-		err := first.Change(context.Background(), one, 0, func(broker.Snapshot) (*broker.Entry, error) {
+		err := first.Change(context.Background(), one, func(broker.Snapshot) (*broker.Entry, error) {
 			close(entered)
 			<-release
 			return &written, nil
@@ -153,7 +153,7 @@ func exclude(t *testing.T, first, second broker.Store, one, other broker.Key) {
 	<-entered
 	go func() {
 		defer all.Done()
-		err := second.Change(context.Background(), other, 0, func(snapshot broker.Snapshot) (*broker.Entry, error) {
+		err := second.Change(context.Background(), other, func(snapshot broker.Snapshot) (*broker.Entry, error) {
 			close(overlapped)
 			return nil, seesFirst(one, other, snapshot, written)
 		})
@@ -170,7 +170,8 @@ func exclude(t *testing.T, first, second broker.Store, one, other broker.Key) {
 
 // seesFirst fails unless the second Change sees what the first has written.
 func seesFirst(one, other broker.Key, snapshot broker.Snapshot, written broker.Entry) error {
-	sees := snapshot.Holding == written.Holding && snapshot.Description == written.Description
+	sees := snapshot.Holding == written.Holding && snapshot.Description == written.Description &&
+		snapshot.Worker == written.Worker
 	var err error
 	switch {
 	case !one.IsBinding && other.IsBinding:
@@ -190,7 +191,7 @@ func testClose(t *testing.T, open func(*testing.T) broker.NamedStore) {
 	entered, release, closed := make(chan struct{}), make(chan struct{}), make(chan error, 1)
 	changed := make(chan error, 1)
 	go func() {
-		changed <- store.Change(context.Background(), instance(1), 0, func(broker.Snapshot) (*broker.Entry, error) {
+		changed <- store.Change(context.Background(), instance(1), func(broker.Snapshot) (*broker.Entry, error) {
 			close(entered)
 			<-release
 			return &broker.Entry{Holding: in(t, "ready")}, nil
@@ -217,14 +218,13 @@ func wantClosed(t *testing.T, store broker.NamedStore) {
 	ctx := context.Background()
 	for name, call := range map[string]func() error{
 		"Read":         func() error { _, err := store.Read(ctx, instance(2)); return err },
-		"Fence":        func() error { _, err := store.Fence(ctx, instance(2)); return err },
 		"HeldBindings": func() error { _, err := store.HeldBindings(ctx, id(2)); return err },
 		"Unfinished":   func() error { _, err := store.UnfinishedKeys(ctx); return err },
 		"Stats":        func() error { _, err := store.Stats(ctx); return err },
 		"Ready":        func() error { return store.Ready(ctx) },
 		"Name":         func() error { _, err := store.Name(ctx); return err },
 		"Tie":          func() error { return store.Tie(ctx, func(bool) error { return nil }) },
-		"Change":       func() error { return store.Change(ctx, instance(2), 0, nil) },
+		"Change":       func() error { return store.Change(ctx, instance(2), nil) },
 	} {
 		ended := make(chan error, 1)
 		go func() { ended <- call() }()
@@ -236,85 +236,5 @@ func wantClosed(t *testing.T, store broker.NamedStore) {
 		case <-time.After(time.Minute):
 			t.Errorf("%s after Close: got no end in a minute, want one", name)
 		}
-	}
-}
-
-// Only the last fence of a key writes, and who has none.
-func testFences(t *testing.T, open func(*testing.T) broker.NamedStore) {
-	first, second := openStore(t, open), openStore(t, open)
-	for _, key := range []broker.Key{instance(1), binding(1, 1)} {
-		wantFenced(t, first, key, 1, false) // nobody has ever held that one
-		old := fence(t, first, key)
-		wantFenced(t, first, key, old, true)
-		wantFenced(t, second, key, old, true) // a fence is of the database
-		now := fence(t, second, key)
-		if now == old || now == 0 || old == 0 {
-			t.Errorf("%v: got the fences %d and %d, want two", key, old, now)
-		}
-		wantFenced(t, first, key, old, false)
-		wantFenced(t, first, key, now, true)
-		wantFenced(t, first, key, 0, true)
-		for _, other := range []broker.Key{instance(2), binding(1, 2), binding(2, 1)} {
-			wantFenced(t, first, other, now, false)
-		}
-	}
-	// what is an instance's isn't its binding's, and the other way round
-	wantFenced(t, first, binding(1, 1), fence(t, first, instance(1)), false)
-	wantFenced(t, first, instance(1), fence(t, first, binding(1, 1)), false)
-}
-
-func fence(t *testing.T, store broker.Store, key broker.Key) int64 {
-	t.Helper()
-	number, err := store.Fence(context.Background(), key)
-	if err != nil {
-		t.Fatalf("Fence of %v: got %v, want no error", key, err)
-	}
-	return number
-}
-
-// wantFenced writes with a fence, and sees whether it is written.
-func wantFenced(t *testing.T, store broker.Store, key broker.Key, fence int64, isToWrite bool) {
-	t.Helper()
-	before := read(t, store, key).Entry
-	after := broker.Entry{Holding: in(t, "ready"), Description: before.Description + "x"}
-	step := func(broker.Snapshot) (*broker.Entry, error) { return &after, nil }
-	err := store.Change(context.Background(), key, fence, step)
-	if isToWrite && err != nil || !isToWrite && !errors.Is(err, broker.ErrLostLock) {
-		t.Errorf("%v with the fence %d: got %v, want %v unless it is to be written", key, fence, err, broker.ErrLostLock)
-	}
-	want := before
-	if isToWrite {
-		want = after
-	}
-	wantEntry(t, key.String(), read(t, store, key).Entry, want)
-}
-
-// Once Fence has returned, nothing is written under an older fence, also not by a Change that has begun before.
-func testFenceDuringChange(t *testing.T, open func(*testing.T) broker.NamedStore) {
-	first, second := openStore(t, open), openStore(t, open)
-	for _, key := range []broker.Key{instance(1), binding(1, 1)} {
-		old := fence(t, first, key)
-		fenced, isBefore := make(chan error, 1), false
-		err := first.Change(context.Background(), key, old, func(broker.Snapshot) (*broker.Entry, error) {
-			go func() {
-				_, err := second.Fence(context.Background(), key)
-				fenced <- err
-			}()
-			select {
-			case err := <-fenced:
-				isBefore = true
-				fenced <- err
-			case <-time.After(soon):
-			}
-			return &broker.Entry{Holding: in(t, "ready")}, nil
-		})
-		if isBefore && !errors.Is(err, broker.ErrLostLock) {
-			t.Errorf("%v: got %v from a Change that ended after Fence returned, want %v", key, err, broker.ErrLostLock)
-		}
-		if !isBefore && err != nil {
-			t.Errorf("%v: got the error %v, want none", key, err)
-		}
-		diff.NoError(t, <-fenced, "Fence of %v", key)
-		wantFenced(t, first, key, old, false)
 	}
 }

@@ -151,7 +151,7 @@ func TestJournalOfAFullStore(t *testing.T) {
 func TestDoubtful(t *testing.T) {
 	for err, want := range map[error]bool{
 		pg.ErrUnknownCommit: true, sqlitefile.ErrUnknownCommit: true,
-		broker.ErrLostLock: false, broker.ErrLostWork: false, sqlitefile.ErrBusy: false, pg.ErrNotBegun: false,
+		broker.ErrLostWork: false, sqlitefile.ErrBusy: false, pg.ErrNotBegun: false,
 	} {
 		t.Run(err.Error(), func(t *testing.T) {
 			diff.Equal(t, isDoubtful(broker.Away(fmt.Errorf("it has failed: %w", err))), want, "%v", err)

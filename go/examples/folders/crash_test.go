@@ -79,7 +79,8 @@ func (s *servedBroker) live() error {
 func TestCrashes(t *testing.T) {
 	for _, point := range []string{
 		"begin-next", "begin-written", "mark-next", "mark-written", "work-next", "work-running", "work-done", "end-next",
-		"end-written", "operation-next", "operation-done", "finish-next", "finish-written",
+		"end-written", "take-over-next", "take-over-written", "operation-next", "operation-done", "finish-next",
+		"finish-written",
 	} {
 		point := point
 		t.Run(point, func(t *testing.T) {

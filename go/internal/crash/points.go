@@ -6,7 +6,7 @@ var points = []string{
 	"begin-next", "begin-written", "mark-next", "mark-written",
 	"work-next", "work-running", "work-half", "binding-half", "work-done",
 	"end-next", "end-written",
-	"operation-next", "operation-done", "finish-next", "finish-written",
+	"take-over-next", "take-over-written", "operation-next", "operation-done", "finish-next", "finish-written",
 	"wait-next", "wait-written",
 }
 

@@ -62,8 +62,8 @@ type stepStore struct {
 }
 
 // Change has the other step decide what is written.
-func (s stepStore) Change(ctx context.Context, key broker.Key, fence int64, step broker.Step) error {
-	return s.NamedStore.Change(ctx, key, fence, func(snapshot broker.Snapshot) (*broker.Entry, error) {
+func (s stepStore) Change(ctx context.Context, key broker.Key, step broker.Step) error {
+	return s.NamedStore.Change(ctx, key, func(snapshot broker.Snapshot) (*broker.Entry, error) {
 		return s.step(key, step, snapshot)
 	})
 }
@@ -284,10 +284,12 @@ func (d *diary) step(key broker.Key, step broker.Step, snapshot broker.Snapshot)
 }
 
 // ignoreWork shows a step what is held without its pending work. That stays pending, until other work takes its place.
-// A step that misses its pending work is called again with it.
+// A step that takes the work over, or misses it, gets it.
 func ignoreWork(_ broker.Key, step broker.Step, snapshot broker.Snapshot) (*broker.Entry, error) {
-	if !isPending(snapshot.Entry) {
-		return step(snapshot)
+	taken, err := step(snapshot)
+	isTakeOver := err == nil && taken != nil && taken.Holding == snapshot.Holding
+	if !isPending(snapshot.Entry) || isTakeOver {
+		return taken, err
 	}
 	without, err := idleHolding(snapshot.Holding)
 	if err != nil {
@@ -296,7 +298,7 @@ func ignoreWork(_ broker.Key, step broker.Step, snapshot broker.Snapshot) (*brok
 	shown := snapshot
 	shown.Holding = without
 	next, err := step(shown)
-	if errors.Is(err, broker.ErrLostWork) {
+	if errors.Is(err, osb.ErrNothingBegun) {
 		return step(snapshot)
 	}
 	if err == nil && next != nil && !isPending(*next) {
@@ -343,7 +345,7 @@ func failUnfinished(ctx context.Context, store broker.Store) error {
 		return err
 	}
 	for _, key := range keys {
-		err := store.Change(ctx, key, 0, func(snapshot broker.Snapshot) (*broker.Entry, error) {
+		err := store.Change(ctx, key, func(snapshot broker.Snapshot) (*broker.Entry, error) {
 			row, isHeld := snapshot.Holding.Row()
 			if !isHeld || row.Phase != osb.PhaseMaking && row.Phase != osb.PhaseDeleting {
 				return nil, nil

@@ -284,15 +284,19 @@ func TestForgetsNothingElse(t *testing.T) {
 	}
 }
 
-// begin writes pending work, and end ends what is pending, as broker.Service does.
+// begin writes pending work of the worker, and end ends what is pending, as broker.Service does.
 func begin(t *testing.T, store broker.Store, key broker.Key, pending osb.Holding) {
 	t.Helper()
-	write(t, store, key, pending)
+	check(t, store.Change(context.Background(), key, func(broker.Snapshot) (*broker.Entry, error) {
+		return &broker.Entry{Holding: pending, Worker: worker}, nil
+	}))
 }
 
+var worker = osb.MustParseID("00000000-0000-4000-8000-00000000000a")
+
 func end(store broker.Store, key broker.Key) error {
-	return store.Change(context.Background(), key, 0, func(snapshot broker.Snapshot) (*broker.Entry, error) {
-		if _, isPending := snapshot.Holding.Work(); !isPending {
+	return store.Change(context.Background(), key, func(snapshot broker.Snapshot) (*broker.Entry, error) {
+		if snapshot.Worker != worker {
 			return nil, broker.ErrLostWork
 		}
 		ended, _, err := snapshot.Holding.End(osb.ModeAsync, osb.OutcomeDone)
@@ -328,11 +332,13 @@ func TestBusy(t *testing.T) {
 		{"a row stays", deleting, holding(t, in("ready"), "null", false), holding(t, in("failed"), "null", false), deleting},
 	} {
 		t.Run(test.name, func(t *testing.T) {
-			write(t, store, instance, test.pending)
-			check(t, wrapped.Change(ctx, instance, 0, func(snapshot broker.Snapshot) (*broker.Entry, error) {
-				diff.Equal(t, snapshot.Holding, test.shown, "%s: the step", test.name)
-				return &broker.Entry{Holding: test.next}, nil
+			begin(t, store, instance, test.pending)
+			var shown osb.Holding // in the last call, which counts
+			check(t, wrapped.Change(ctx, instance, func(snapshot broker.Snapshot) (*broker.Entry, error) {
+				shown = snapshot.Holding
+				return &broker.Entry{Holding: test.next, Worker: worker}, nil
 			}))
+			diff.Equal(t, shown, test.shown, "the step")
 			wantHolding(t, store, instance, test.written)
 		})
 	}
@@ -345,10 +351,32 @@ func TestBusyBinding(t *testing.T) {
 	wrapped, _, err := StoreAndLocks(ctx, "busy", store, nil)
 	check(t, err)
 	write(t, store, binding, holding(t, in("ready"), pendingWork("deprovision", binding), false))
-	check(t, wrapped.Change(ctx, binding, 0, func(snapshot broker.Snapshot) (*broker.Entry, error) {
-		diff.Equal(t, snapshot.Holding, holding(t, in("ready"), "null", false), "the step")
+	var shown osb.Holding // in the last call, which counts
+	check(t, wrapped.Change(ctx, binding, func(snapshot broker.Snapshot) (*broker.Entry, error) {
+		shown = snapshot.Holding
 		return nil, nil
 	}))
+	diff.Equal(t, shown, holding(t, in("ready"), "null", false), "the step")
+}
+
+// Whoever takes pending work over gets it.
+func TestBusyTakeOver(t *testing.T) {
+	ctx, store := context.Background(), openEmpty(t)
+	wrapped, _, err := StoreAndLocks(ctx, "busy", store, nil)
+	check(t, err)
+	pending := holding(t, in("ready"), pendingWork("deprovision", instance), false)
+	write(t, store, instance, pending)
+	check(t, wrapped.Change(ctx, instance, func(snapshot broker.Snapshot) (*broker.Entry, error) {
+		if _, isPending := snapshot.Holding.Work(); !isPending {
+			return nil, nil
+		}
+		snapshot.Worker = instance.Instance
+		return &snapshot.Entry, nil
+	}))
+	snapshot, err := store.Read(ctx, instance)
+	check(t, err)
+	diff.Equal(t, snapshot.Worker, instance.Instance, "the worker")
+	diff.Equal(t, snapshot.Holding, pending, "what is held")
 }
 
 func openEmpty(t *testing.T) broker.NamedStore {
@@ -380,7 +408,7 @@ func pendingWork(kind string, key broker.Key) string {
 // write writes a holding, whatever is held.
 func write(t *testing.T, store broker.Store, key broker.Key, holding osb.Holding) {
 	t.Helper()
-	check(t, store.Change(context.Background(), key, 0, func(broker.Snapshot) (*broker.Entry, error) {
+	check(t, store.Change(context.Background(), key, func(broker.Snapshot) (*broker.Entry, error) {
 		return &broker.Entry{Holding: holding}, nil
 	}))
 }

@@ -397,7 +397,7 @@ func TestFile(t *testing.T) {
 		numbered := diff.Value(BrokerKey(key))(t)
 		entry := broker.Entry{Holding: row.Holding, Binding: row.Object}
 		step := func(broker.Snapshot) (*broker.Entry, error) { return &entry, nil }
-		check(t, store.Change(background, numbered, 0, step))
+		check(t, store.Change(background, numbered, step))
 	}
 	diff.Check(t, diff.Value(File(path).Read(background))(t), wanted, "the rows")
 }
