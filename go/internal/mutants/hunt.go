@@ -111,11 +111,11 @@ func trace(ctx context.Context, w *worker, r run) (found tracedTest, err error) 
 	if r.reached, err = forAll(folder, "reached"); err != nil {
 		return found, err
 	}
-	o, err := w.do(ctx, r)
+	of, err := w.do(ctx, r)
 	if err != nil {
 		return found, err
 	}
-	found = tracedTest{Package: r.binary.pkg.path, Test: r.test, Ending: o.ending, Took: o.took}
+	found = tracedTest{Package: r.binary.pkg.path, Test: r.test, Ending: of.ending, Took: of.took}
 	text, err := os.ReadFile(r.reached)
 	isKnown := make(map[int]bool) // the processes of a test write beside each other
 	for _, word := range strings.Fields(string(text)) {
@@ -198,11 +198,11 @@ func (h *hunt) notice(ctx context.Context, w *worker, r run) (ending, error) {
 	without.mutant = 0
 	for tries := 0; tries < 2; tries++ {
 		for i := 0; i < 2; i++ {
-			if o, err := w.do(ctx, r); err != nil || o.ending != failed {
-				return o.ending, err
+			if found, err := w.do(ctx, r); err != nil || found.ending != failed {
+				return found.ending, err
 			}
 		}
-		if o, err := w.do(ctx, without); err != nil || o.ending == passed {
+		if found, err := w.do(ctx, without); err != nil || found.ending == passed {
 			return failed, err
 		}
 		if err := w.close(); err != nil { // the next try has a new server
@@ -287,8 +287,8 @@ type run struct {
 	most    time.Duration
 }
 
-// An outcome is how a run ended, how long it took, and what it printed.
-type outcome struct {
+// A result is how a run ended, how long it took, and what it printed.
+type result struct {
 	ending  ending
 	took    time.Duration
 	printed string
@@ -310,39 +310,39 @@ func (w *worker) close() error {
 }
 
 // do runs a test. What the test has started ends with it.
-func (w *worker) do(ctx context.Context, r run) (o outcome, err error) {
+func (w *worker) do(ctx context.Context, r run) (found result, err error) {
 	temporary, err := os.MkdirTemp("", "mutants-")
 	if err != nil {
-		return o, err
+		return found, err
 	}
 	defer os.RemoveAll(temporary)
 	if err := os.Chmod(temporary, 0o755); err != nil { // some tests are another user for a while
-		return o, err
+		return found, err
 	}
 	process, err := w.process(ctx, r, temporary)
 	if err != nil {
-		return o, err
+		return found, err
 	}
 	printed, err := os.Create(filepath.Join(temporary, "printed"))
 	if err != nil {
-		return o, err
+		return found, err
 	}
 	defer printed.Close()
 	process.Stdout, process.Stderr = printed, printed
 	begun := time.Now()
 	ended, err := child.Start(process, syscall.SIGKILL)
 	if err != nil {
-		return o, err
+		return found, err
 	}
 	defer func() { _ = syscall.Kill(-process.Process.Pid, syscall.SIGKILL) }() // what it has left
 	timer := time.NewTimer(r.most)
 	defer timer.Stop()
-	o.ending = hung
+	found.ending = hung
 	select {
 	case err := <-ended:
-		o.ending = failed
+		found.ending = failed
 		if err == nil {
-			o.ending = passed
+			found.ending = passed
 		}
 	case <-timer.C:
 		_ = process.Process.Kill()
@@ -350,15 +350,15 @@ func (w *worker) do(ctx context.Context, r run) (o outcome, err error) {
 	case <-ctx.Done():
 		_ = process.Process.Kill()
 		<-ended
-		return o, ctx.Err()
+		return found, ctx.Err()
 	}
-	o.took = time.Since(begun)
+	found.took = time.Since(begun)
 	text, err := os.ReadFile(printed.Name())
-	o.printed = string(text)
-	if o.ending == passed && !strings.Contains(o.printed, "--- PASS: ") {
-		o.ending = skipped // or there is no such test
+	found.printed = string(text)
+	if found.ending == passed && !strings.Contains(found.printed, "--- PASS: ") {
+		found.ending = skipped // or there is no such test
 	}
-	return o, err
+	return found, err
 }
 
 // process returns the process of a run, with its environment.

@@ -638,24 +638,24 @@ func runEdits(ctx context.Context, out io.Writer, many int, binaries map[string]
 
 // notice runs a test with each of these mutants, and returns a line for each that it doesn't notice.
 func notice(ctx context.Context, w *worker, r run, mutants []committedEdit) (wrongs []string, err error) {
-	o, err := w.do(ctx, r)
+	found, err := w.do(ctx, r)
 	if err != nil {
 		return nil, err
 	}
-	if o.ending != passed {
-		return []string{fmt.Sprintf("%s %s %s without a mutant:\n%s", r.binary.pkg.path, r.test, o.ending, o.printed)}, nil
+	if found.ending != passed {
+		return []string{fmt.Sprintf("%s %s %s without a mutant:\n%s", r.binary.pkg.path, r.test, found.ending, found.printed)}, nil
 	}
-	r.most = shortest + slower*o.took
+	r.most = shortest + slower*found.took
 	for _, mutant := range mutants {
 		r.mutant = mutant.mutant.ID
 		begun := time.Now()
-		o, err := w.do(ctx, r)
+		found, err := w.do(ctx, r)
 		if err != nil {
 			return nil, err
 		}
-		if o.ending == passed || o.ending == skipped {
+		if found.ending == passed || found.ending == skipped {
 			wrongs = append(wrongs, fmt.Sprintf("%s: %s %s %s with it, after %v", mutant.edit.name, r.binary.pkg.path,
-				r.test, o.ending, time.Since(begun)))
+				r.test, found.ending, time.Since(begun)))
 		}
 	}
 	return wrongs, nil

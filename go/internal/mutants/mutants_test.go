@@ -176,9 +176,9 @@ func TestHang(t *testing.T) {
 	binaries, err := build(context.Background(), t.TempDir(), tags, 1, []*pkg{p}, mutants)
 	diff.Must(t, err)
 	w := &worker{}
-	o, err := w.do(context.Background(), run{binary: binaries[p.path], test: "TestHangs", mutant: 1, most: 1})
+	found, err := w.do(context.Background(), run{binary: binaries[p.path], test: "TestHangs", mutant: 1, most: 1})
 	diff.NoError(t, err, "")
-	diff.Equal(t, o.ending, hung, "")
+	diff.Equal(t, found.ending, hung, "")
 }
 
 // TestTraceOfAnotherUser: what a test reaches is noted, also while it is another user.
