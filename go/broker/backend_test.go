@@ -235,17 +235,17 @@ type message struct {
 	header         http.Header // besides those of each request, or nil
 }
 
-// A reply is an answer over HTTP.
-type reply struct {
+// An answer is what came over HTTP.
+type answer struct {
 	status int
 	header http.Header
 	body   []byte
 }
 
 // serve has a handler answer the request.
-func (m message) serve(handler http.Handler) *reply { return m.as(handler, "u", "p") }
+func (m message) serve(handler http.Handler) *answer { return m.as(handler, "u", "p") }
 
-func (m message) as(handler http.Handler, user, password string) *reply {
+func (m message) as(handler http.Handler, user, password string) *answer {
 	request := httptest.NewRequest(m.method, m.target, bytes.NewReader(m.body))
 	request.SetBasicAuth(user, password)
 	request.Header.Set(osb.VersionHeader, osb.VersionSent)
@@ -254,7 +254,7 @@ func (m message) as(handler http.Handler, user, password string) *reply {
 	}
 	given := httptest.NewRecorder()
 	handler.ServeHTTP(given, request)
-	return &reply{status: given.Code, header: given.Header(), body: given.Body.Bytes()}
+	return &answer{status: given.Code, header: given.Header(), body: given.Body.Bytes()}
 }
 
 // credentialsOf are the credentials in the object of a binding.

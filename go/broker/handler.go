@@ -142,8 +142,8 @@ type exchange struct {
 	arrived time.Time
 }
 
-// A reply is what is answered over HTTP. Every body is JSON.
-type reply struct {
+// An answer is what is sent over HTTP. Every body is JSON.
+type answer struct {
 	status int
 	body   []byte
 }
@@ -177,9 +177,9 @@ const requestIdentity = "X-Broker-Api-Request-Identity" // as net/http writes it
 var jsonType = []string{osb.ContentType}
 
 // answer decides on what is answered. The headers are judged before any of the body is read.
-func (h *Handler) answer(x *exchange) reply {
+func (h *Handler) answer(x *exchange) answer {
 	if h.isStopping.Load() {
-		return reply{http.StatusServiceUnavailable, stopping}
+		return answer{http.StatusServiceUnavailable, stopping}
 	}
 	if refused, ok := h.admit(x); !ok {
 		return refused
@@ -243,7 +243,7 @@ func (h *Handler) parse(x *exchange, body []byte) (visit Visit, isParsed bool, e
 const largeBody = 32 << 10
 
 // busy answers a request of which nothing was done, and nothing was looked up.
-func (h *Handler) busy(x *exchange) reply {
+func (h *Handler) busy(x *exchange) answer {
 	x.header.Set("Retry-After", "30")
 	return h.otherError(x, http.StatusServiceUnavailable, allWork)
 }
@@ -283,24 +283,24 @@ func (h *Handler) body(r *http.Request) ([]byte, error) {
 }
 
 // catalogue answers the document of the catalogue.
-func (h *Handler) catalogue(x *exchange) reply {
+func (h *Handler) catalogue(x *exchange) answer {
 	x.Route = "catalog"
 	if x.request.Method != http.MethodGet {
 		x.header.Set("Allow", http.MethodGet)
 		return h.refuse(x, osb.ErrRefusedMethod)
 	}
-	return reply{http.StatusOK, h.service.document()}
+	return answer{http.StatusOK, h.service.document()}
 }
 
 // carryOut carries a request out, and has gone on with what isn't finished.
-func (h *Handler) carryOut(x *exchange, visit Visit) reply {
+func (h *Handler) carryOut(x *exchange, visit Visit) answer {
 	if h.mayWork(visit) {
 		if !h.takeTurn() {
 			return h.busy(x)
 		}
 		defer func() { <-h.working }()
 		if h.isStopping.Load() { // nothing was begun
-			return reply{http.StatusServiceUnavailable, stopping}
+			return answer{http.StatusServiceUnavailable, stopping}
 		}
 	}
 	h.slots <- struct{}{}
@@ -315,7 +315,7 @@ func (h *Handler) carryOut(x *exchange, visit Visit) reply {
 }
 
 // handle has the service handle a request.
-func (h *Handler) handle(ctx context.Context, x *exchange, visit Visit) (response Response, given reply) {
+func (h *Handler) handle(ctx context.Context, x *exchange, visit Visit) (response Response, given answer) {
 	err := safely(func() (err error) {
 		response, err = h.service.Handle(ctx, visit)
 		return err
@@ -378,7 +378,7 @@ func (h *Handler) follow(ctx context.Context, x *exchange, visit Visit, response
 }
 
 // admit judges who asks, and which version is spoken.
-func (h *Handler) admit(x *exchange) (reply, bool) {
+func (h *Handler) admit(x *exchange) (answer, bool) {
 	authorization := x.request.Header["Authorization"]
 	user, err := h.Users.judge(authorization)
 	if errors.Is(err, osb.ErrUnauthorized) {
@@ -400,7 +400,7 @@ func (h *Handler) admit(x *exchange) (reply, bool) {
 	if err != nil {
 		return h.refuse(x, err), false
 	}
-	return reply{}, true
+	return answer{}, true
 }
 
 // wait has the answer to a failed login wait for its turn. The right password doesn't wait. That distinguishes them,

@@ -136,10 +136,10 @@ func (w *world) checkSent(r broker.Request) {
 }
 
 // arrive is a request at a process. If that is killed meanwhile, nobody is answered.
-func (w *world) arrive(it outgoingRequest) *answer {
+func (w *world) arrive(it outgoingRequest) *numberedAnswer {
 	visit := &visit{outgoingRequest: it}
-	var given *answer
-	if !w.use(it.of, visit, func(p *process) { given = &answer{reply: it.serve(p.handler)} }) {
+	var given *numberedAnswer
+	if !w.use(it.of, visit, func(p *process) { given = &numberedAnswer{answer: it.serve(p.handler)} }) {
 		return nil
 	}
 	w.walk.noteAnswer(visit, given)
@@ -150,7 +150,7 @@ func (w *world) arrive(it outgoingRequest) *answer {
 func (w *world) note(it *life, event string) { w.walk.event(it.key, event) }
 
 // deliver sends a request over the network: it may be lost, its answer may be lost, or an old one may arrive first.
-func (w *world) deliver(it outgoingRequest) *answer {
+func (w *world) deliver(it outgoingRequest) *numberedAnswer {
 	how := 9
 	if !w.calm {
 		how = w.chance.Intn(12)

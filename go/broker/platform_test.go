@@ -12,7 +12,7 @@ import (
 
 // A network carries a request to the broker, and returns nil if there is no answer. It hears what the platform does.
 type network interface {
-	deliver(outgoingRequest) *answer
+	deliver(outgoingRequest) *numberedAnswer
 	note(it *life, event string)
 }
 
@@ -24,9 +24,9 @@ type outgoingRequest struct {
 	isFetch bool
 }
 
-// An answer has its number among the answers of the life, or among those to a Fetch.
-type answer struct {
-	*reply
+// A numberedAnswer has its number among the answers of the life, or among those to a Fetch.
+type numberedAnswer struct {
+	*answer
 	at int
 }
 
@@ -186,7 +186,7 @@ func (l *life) isNext(attempt uint64, record osb.Record, err error) bool {
 }
 
 // fetch is the answer to a Fetch that has the object of the binding, or nil.
-func (p *platform) fetch(it *life, poll osb.Sent) *answer {
+func (p *platform) fetch(it *life, poll osb.Sent) *numberedAnswer {
 	given := p.send(p.message(it, poll, true))
 	if given == nil {
 		return nil
@@ -197,7 +197,7 @@ func (p *platform) fetch(it *life, poll osb.Sent) *answer {
 	return given
 }
 
-func (p *platform) send(it outgoingRequest) *answer {
+func (p *platform) send(it outgoingRequest) *numberedAnswer {
 	p.sent = append(p.sent, it)
 	return p.network.deliver(it)
 }

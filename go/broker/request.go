@@ -332,20 +332,20 @@ func (h *Handler) origin(x *exchange) Origin {
 }
 
 // write writes an answer, with its own description if it has one, and else with the sentence, which may be empty.
-func (h *Handler) write(x *exchange, response Response, sentence string) reply {
+func (h *Handler) write(x *exchange, response Response, sentence string) answer {
 	status := int(response.Status)
 	if x.Reason == "" {
 		x.Reason = response.Description
 	}
 	switch {
 	case response.Binding != nil:
-		return reply{status, response.Binding}
+		return answer{status, response.Binding}
 	case response.Rejected != nil && isOwnCode(response.Rejected.Code):
 		return h.writeRejection(x, status, response.Rejected)
 	case response.Description != "":
 		body, err := osb.WriteDescribedAnswer(response.Answer, nil, &response.Description)
 		if err == nil {
-			return reply{status, body}
+			return answer{status, body}
 		}
 		h.report(x, "description_not_sent", err)
 	}
@@ -356,11 +356,11 @@ func (h *Handler) write(x *exchange, response Response, sentence string) reply {
 	if status >= http.StatusBadRequest && x.Reason == "" {
 		x.Reason = reasonIn(body)
 	}
-	return reply{status, body}
+	return answer{status, body}
 }
 
 // otherError writes an error of this status, which says the sentence.
-func (h *Handler) otherError(x *exchange, status uint16, sentence string) reply {
+func (h *Handler) otherError(x *exchange, status uint16, sentence string) answer {
 	return h.write(x, Response{Answer: osb.Answer{Status: status, Body: osb.BodyOtherError}}, sentence)
 }
 
@@ -402,7 +402,7 @@ func isOwnCode(code string) bool {
 }
 
 // writeRejection writes a rejection with the backend's code.
-func (h *Handler) writeRejection(x *exchange, status int, rejected *Rejection) reply {
+func (h *Handler) writeRejection(x *exchange, status int, rejected *Rejection) answer {
 	description := []rune(rejected.Description)
 	if len(description) == 0 {
 		description = []rune(notByUs)
@@ -417,11 +417,11 @@ func (h *Handler) writeRejection(x *exchange, status int, rejected *Rejection) r
 	if err != nil {
 		return h.fail(x, err)
 	}
-	return reply{status, body}
+	return answer{status, body}
 }
 
 // refuse answers what the library refused, or what has no memory.
-func (h *Handler) refuse(x *exchange, err error) reply {
+func (h *Handler) refuse(x *exchange, err error) answer {
 	x.Reason = err.Error()
 	if errors.Is(err, errPredecessor) {
 		return h.otherError(x, http.StatusBadRequest, predecessor)
@@ -447,7 +447,7 @@ func (h *Handler) refuse(x *exchange, err error) reply {
 	if err != nil {
 		return h.fail(x, err)
 	}
-	return reply{int(status), body}
+	return answer{int(status), body}
 }
 
 // methods are those that the library takes at a path of which it rejects a method.
@@ -463,20 +463,20 @@ func (p path) methods() string {
 
 // fail answers 500, or 503 if the store or the locks are away or there is no memory, and reports why. The work may have
 // been done, so it is never a 4xx. Both statuses tell a platform that the outcome isn't known.
-func (h *Handler) fail(x *exchange, err error) reply {
+func (h *Handler) fail(x *exchange, err error) answer {
 	h.report(x, "request_failed", err)
 	if !errors.Is(err, osb.ErrMemory) {
 		status, sentence := http.StatusInternalServerError, failedHere
 		if errors.Is(err, ErrAway) {
 			status, sentence = http.StatusServiceUnavailable, awayNow
 		}
-		answer := osb.Answer{Status: uint16(status), Body: osb.BodyOtherError}
-		if body, err := h.wordingBody(wording{answer, sentence}); err == nil {
-			return reply{status, body}
+		failed := osb.Answer{Status: uint16(status), Body: osb.BodyOtherError}
+		if body, err := h.wordingBody(wording{failed, sentence}); err == nil {
+			return answer{status, body}
 		}
 	}
 	body, _ := osb.RefusalBody(osb.ErrMemory) // it takes none of the library's memory, and is a refusal
-	return reply{http.StatusServiceUnavailable, body}
+	return answer{http.StatusServiceUnavailable, body}
 }
 
 func (h *Handler) report(x *exchange, event string, err error) {

@@ -106,7 +106,7 @@ func (l *lives) service(
 }
 
 // expect sends a request, and checks the status of its answer.
-func (l *lives) expect(t *testing.T, status int, method, target, body string) *reply {
+func (l *lives) expect(t *testing.T, status int, method, target, body string) *answer {
 	t.Helper()
 	given := message{method: method, target: target, body: []byte(body)}.serve(handlerFor(t, l.Service))
 	if given.status != status {

@@ -148,7 +148,7 @@ func numberOf(credentials string) string {
 // ---- what happens at the broker
 
 // noteAnswer is called after a request was handled and its process wasn't killed. It numbers the answer.
-func (w *walk) noteAnswer(visit *visit, given *answer) {
+func (w *walk) noteAnswer(visit *visit, given *numberedAnswer) {
 	course := w.lives[visit.of]
 	switch {
 	case visit.isFetch:

@@ -125,7 +125,7 @@ func newLoneBroker(t *testing.T) *loneBroker {
 	return it
 }
 
-func (l *loneBroker) ask(method, target, body string) *reply {
+func (l *loneBroker) ask(method, target, body string) *answer {
 	return message{method: method, target: target, body: []byte(body)}.serve(l.handler)
 }
 
