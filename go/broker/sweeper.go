@@ -255,7 +255,7 @@ type run struct {
 	timer     *time.Timer // until it is slow
 }
 
-// Places are what runs take, one each, so that work that hangs or fails doesn't hold up the work of other keys:
+// Slots are what runs take, one each, so that work that hangs or fails doesn't hold up the work of other keys:
 //
 //   - A run begins in one of the usual slots. There are as many as workers.
 //   - A slow run moves to one of the slots beside these, if one is free. There are as many again, and at least two.
