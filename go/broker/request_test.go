@@ -25,10 +25,9 @@ func TestIDsWithOneNumber(t *testing.T) {
 		{text, keyOf(text).Instance.String()},
 		{keyOf(text).Instance.String(), text},
 	} {
-		it := test
-		t.Run(it.first, func(t *testing.T) {
+		t.Run(test.first, func(t *testing.T) {
 			s := newTestBroker(t, setting{})
-			first, second := instances+it.first, instances+it.second
+			first, second := instances+test.first, instances+test.second
 			s.expect(t, 201, "PUT", first, bodyOf(now, ""))
 			bound := s.expect(t, 201, "PUT", first+"/service_bindings/b", bodyOf(now, ""))
 

@@ -54,8 +54,7 @@ func Run(t *testing.T, open func(t *testing.T) broker.NamedStore) {
 		{"ready", testReady},
 		{"closing", testClose},
 	} {
-		it := test
-		t.Run(it.name, func(t *testing.T) { it.run(t, open) })
+		t.Run(test.name, func(t *testing.T) { test.run(t, open) })
 	}
 }
 

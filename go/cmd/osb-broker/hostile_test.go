@@ -665,12 +665,12 @@ func TestHostileConnections(t *testing.T) {
 	before := stateOf(t, state)
 	slots := make(chan struct{}, 16)
 	for _, smuggling := range allSmuggled() {
-		it := smuggling
+		smuggling := smuggling
 		slots <- struct{}{}
 		go func() {
 			defer func() { <-slots }()
-			statuses, given := s.exchange(it.text)
-			diff.Check(t, statuses, it.statuses, "%.500q, %.300s", it.text, given)
+			statuses, given := s.exchange(smuggling.text)
+			diff.Check(t, statuses, smuggling.statuses, "%.500q, %.300s", smuggling.text, given)
 		}()
 	}
 	for n := 0; n < cap(slots); n++ {

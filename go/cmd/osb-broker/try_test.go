@@ -163,15 +163,15 @@ func TestTryMistakes(t *testing.T) {
 		"rejected": {`[ "$1" != create ] || { echo '{"status": 400, "error": "Full", "description": "No."}'; exit 3; }`,
 			"create instance 1: rejected with 400 Full: No.", "5 ok, 2 failed"},
 	} {
-		it := test
+		test := test
 		t.Run(name, func(t *testing.T) {
 			t.Parallel()
-			run := runTry(t, nil, nil, "--backend", backendWith(t, it.text), "--catalog", unbindable(t))
+			run := runTry(t, nil, nil, "--backend", backendWith(t, test.text), "--catalog", unbindable(t))
 			failed := run.lines("FAILED")
-			if run.status != 1 || len(failed) == 0 || run.stderr != "" || it.last != "" && run.last() != it.last {
+			if run.status != 1 || len(failed) == 0 || run.stderr != "" || test.last != "" && run.last() != test.last {
 				t.Fatalf("got the status %d and %s%s, want 1 and what failed", run.status, run.stdout, run.stderr)
 			}
-			diff.Contains(t, strings.Join(failed, "\n")+"\n", it.line+"\n", "%q", it.line)
+			diff.Contains(t, strings.Join(failed, "\n")+"\n", test.line+"\n", "%q", test.line)
 			kept := run.lines("kept")
 			if len(run.temporary) != 1 || len(kept) != 1 || kept[0] != "the state folder "+run.temporary[0] {
 				t.Errorf("got %v kept, and %q reported, want one folder that is reported", run.temporary, kept)

@@ -196,12 +196,11 @@ func TestTransactionFails(t *testing.T) {
 		"ROLLBACK, one statement": {"ROLLBACK", true},
 		"RELEASE":                 {"RELEASE job", false}, // so that the job can't be undone
 	} {
-		it := test
 		t.Run(name, func(t *testing.T) {
 			with := options()
-			with.OneStatement = it.oneStatement
+			with.OneStatement = test.oneStatement
 			file := open(t, filepath.Join(t.TempDir(), "file"), with)
-			breakOff(t, file, it.breaking)
+			breakOff(t, file, test.breaking)
 			wantNotes(t, file)
 			diff.NoError(t, file.Write(background, note("next")), "")
 			wantNotes(t, file, "next")
