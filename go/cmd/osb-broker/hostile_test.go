@@ -6,6 +6,9 @@ import (
 	"encoding/base64"
 	"encoding/json"
 	"fmt"
+	"go/ast"
+	"go/parser"
+	"go/token"
 	"io"
 	"io/fs"
 	"math/rand"
@@ -726,7 +729,6 @@ func TestStateIsPrivate(t *testing.T) {
 
 var (
 	nameOfTest   = regexp.MustCompile(`\bTest[A-Z]\w*`)
-	functionTest = regexp.MustCompile(`(?m)^func (Test[A-Z]\w*)\(`)
 	tableOfTests = regexp.MustCompile(`(?m)^\|.*\| test \|\n\|[-|]+\|\n((?:\|.*\n)+)`)
 )
 
@@ -739,11 +741,16 @@ func TestSecurityNamesTests(t *testing.T) {
 		if err != nil || !strings.HasSuffix(path, "_test.go") {
 			return err
 		}
-		text, err := os.ReadFile(path)
-		for _, found := range functionTest.FindAllSubmatch(text, -1) {
-			exists[string(found[1])] = true
+		file, err := parser.ParseFile(token.NewFileSet(), path, nil, parser.SkipObjectResolution)
+		if err != nil {
+			return err
 		}
-		return err
+		for _, declaration := range file.Decls {
+			if function, isFunction := declaration.(*ast.FuncDecl); isFunction && function.Recv == nil {
+				exists[function.Name.Name] = true
+			}
+		}
+		return nil
 	})
 	check(t, err)
 	named := nameOfTest.FindAllString(string(document), -1)
