@@ -262,7 +262,6 @@ func testTie(t *testing.T, open func(*testing.T) broker.NamedStore) {
 
 func testUsedByRows(t *testing.T, open func(*testing.T) broker.NamedStore) {
 	for _, key := range []broker.Key{instance(1), binding(1, 1)} {
-		key := key
 		t.Run(key.String(), func(t *testing.T) {
 			store := openStore(t, open)
 			begin(t, store)

@@ -82,7 +82,6 @@ func TestCrashes(t *testing.T) {
 		"end-written", "take-over-next", "take-over-written", "operation-next", "operation-done", "finish-next",
 		"finish-written",
 	} {
-		point := point
 		t.Run(point, func(t *testing.T) {
 			s, process := startProcess(t, t.TempDir(), point)
 			if err := s.live(); err == nil {

@@ -361,7 +361,6 @@ func TestWhoseRequestItIs(t *testing.T) {
 		"a proxy before it":       {"127.0.0.1/32 198.51.100.7/32", line, "1.1.1.1, 2.2.2.2", "2.2.2.2:0"},
 		"an untrusted header":     {"192.0.2.0/24", "", "198.51.100.9", own},
 	} {
-		test := test
 		t.Run(name, func(t *testing.T) {
 			trusted := trustedNetworks(t, strings.Fields(test.trusted)...)
 			client := dial(t, start(t, Options{TrustedProxies: trusted}, Server{}, whoAsks))
@@ -396,7 +395,6 @@ func TestBadPROXYHeaders(t *testing.T) {
 		"a file":                   {"127.0.0.1/32", version2(0x21, 0x31, strings.Repeat("a", 216)) + whole},
 		"too short":                {"127.0.0.1/32", version2(0x21, 0x11, client4) + whole},
 	} {
-		test := test
 		t.Run(name, func(t *testing.T) {
 			observer := &recorder{}
 			listener := start(t, Options{TrustedProxies: trustedNetworks(t, test.trusted), Observer: observer}, Server{}, echo)

@@ -101,7 +101,6 @@ func (c *Conn) set(ctx context.Context) error {
 		"PRAGMA journal_mode = WAL", "PRAGMA synchronous = FULL",
 		"PRAGMA temp_store = MEMORY", // what SAVEPOINT needs to undo would be written to a file
 	} {
-		statement := statement
 		if err := Patiently(ctx, func() error { return c.Exec(statement) }); err != nil {
 			return err
 		}

@@ -58,7 +58,6 @@ func (d *Databases) remove(ctx context.Context, conn *sql.Conn, f existence) err
 	}
 	crash.At("work-half")
 	for _, role := range roles {
-		role := role
 		if err := persist(func() error { return d.dropRole(ctx, conn, role, "") }); err != nil {
 			return err
 		}

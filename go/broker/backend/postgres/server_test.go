@@ -245,7 +245,6 @@ func (it hostileTrial) wantHarmless(t *testing.T, set []assignment) {
 	half := len(set) / 2
 	areHarmless := true
 	for _, part := range [][]assignment{set[:half], set[half:]} {
-		part := part
 		areHarmless = t.Run("of them", func(t *testing.T) { it.wantHarmless(t, part) }) && areHarmless
 	}
 	if areHarmless {
