@@ -9,7 +9,6 @@ import (
 	"net"
 	"os"
 	"sync/atomic"
-	"time"
 
 	"pippinterm/internal/ciphers"
 )
@@ -25,12 +24,7 @@ type CertificateFiles struct {
 // goroutines may use them.
 type Certificates struct {
 	files   CertificateFiles
-	current atomic.Pointer[certificates]
-}
-
-type certificates struct {
-	config  *tls.Config
-	expires time.Time
+	current atomic.Pointer[tls.Config]
 }
 
 // LoadCertificates reads the files.
@@ -57,27 +51,20 @@ func (c *Certificates) Reload() error {
 	return nil
 }
 
-// Expires returns when the certificate of the server expires.
-func (c *Certificates) Expires() time.Time { return c.current.Load().expires }
-
 // config returns a configuration that uses the certificates at the time of the handshake.
 func (c *Certificates) config() *tls.Config {
 	return &tls.Config{GetConfigForClient: func(*tls.ClientHelloInfo) (*tls.Config, error) {
-		return c.current.Load().config, nil
+		return c.current.Load(), nil
 	}}
 }
 
-func (f CertificateFiles) read() (*certificates, error) {
+func (f CertificateFiles) read() (*tls.Config, error) {
 	if f.Certificate == "" || f.Key == "" {
 		return nil, errors.New("TLS needs both a certificate and a key")
 	}
 	pair, err := tls.LoadX509KeyPair(f.Certificate, f.Key)
 	if err != nil {
 		return nil, fmt.Errorf("the certificate %s with the key %s: %w", f.Certificate, f.Key, err)
-	}
-	leaf, err := x509.ParseCertificate(pair.Certificate[0])
-	if err != nil {
-		return nil, fmt.Errorf("the certificate %s: %w", f.Certificate, err)
 	}
 	config := &tls.Config{
 		MinVersion:   tls.VersionTLS12,
@@ -91,7 +78,7 @@ func (f CertificateFiles) read() (*certificates, error) {
 		}
 		config.ClientAuth = tls.RequireAndVerifyClientCert
 	}
-	return &certificates{config: config, expires: leaf.NotAfter}, nil
+	return config, nil
 }
 
 func authorities(file string) (*x509.CertPool, error) {

@@ -47,12 +47,9 @@ func dialTLS(t *testing.T, listener *Listener, config *tls.Config) (client, tls.
 
 func TestTLS(t *testing.T) {
 	authority := newAuthority(t)
-	listener, certificates := startTLS(t, authority.issue("server"), Options{}, Server{})
+	listener, _ := startTLS(t, authority.issue("server"), Options{}, Server{})
 	if !strings.HasPrefix(listener.URL(), "https://127.0.0.1:") {
 		t.Errorf("the URL: got %s, want one of https", listener.URL())
-	}
-	if left := time.Until(certificates.Expires()); left < 50*time.Second || left > time.Minute {
-		t.Errorf("the certificate: got %v left, want about a minute", left)
 	}
 	for _, version := range []uint16{tls.VersionTLS12, tls.VersionTLS13} {
 		t.Run(fmt.Sprintf("%#x", version), func(t *testing.T) {
@@ -60,6 +57,9 @@ func TestTLS(t *testing.T) {
 			config.MinVersion, config.MaxVersion = version, version
 			client, state := dialTLS(t, listener, config)
 			diff.Equal(t, state.Version, version, "")
+			if left := time.Until(state.PeerCertificates[0].NotAfter); left < 50*time.Second || left > time.Minute {
+				t.Errorf("the certificate: got %v left, want about a minute", left)
+			}
 			client.send(whole)
 			client.until("GET /a ;")
 			client.send("PUT /b HTTP/1.1\r\nHost: x\r\nContent-Length: 3\r\n\r\nabc")
