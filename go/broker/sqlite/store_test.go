@@ -9,6 +9,7 @@ import (
 	"path/filepath"
 	"strings"
 	"sync"
+	"sync/atomic"
 	"testing"
 	"time"
 
@@ -18,6 +19,7 @@ import (
 	"pippinterm/broker/storetest"
 	"pippinterm/internal/diff"
 	"pippinterm/internal/storefaults"
+	"pippinterm/internal/waits"
 	"pippinterm/osb"
 )
 
@@ -57,6 +59,18 @@ type commitRecorder struct {
 
 func (o *commitRecorder) OnCommit(changes int) { o.commits = append(o.commits, changes) }
 
+// A countedContext counts how often somebody is about to wait for it. A change that is to be written waits twice: for a
+// slot in the queue, and for the commit.
+type countedContext struct {
+	context.Context
+	waits *atomic.Int64
+}
+
+func (c countedContext) Done() <-chan struct{} {
+	c.waits.Add(1)
+	return c.Context.Done()
+}
+
 // Of changes that are written together, one that fails, panics or is cancelled harms no other. One commit writes all.
 func TestOneFails(t *testing.T) {
 	seen := &commitRecorder{}
@@ -89,20 +103,16 @@ func TestOneFails(t *testing.T) {
 		{going, provision},
 		{context.Background(), provision},
 	}
+	var waiting atomic.Int64
 	for n := 1; n <= 40; n++ {
 		all.Add(1)
 		go func(n int) {
 			defer all.Done()
 			it := steps[n%4]
-			given[n] = s.Change(it.ctx, keyOf(n), it.step(keyOf(n)))
+			given[n] = s.Change(countedContext{it.ctx, &waiting}, keyOf(n), it.step(keyOf(n)))
 		}(n)
 	}
-	for until := time.Now().Add(time.Minute); s.file.QueueLength() < 40; time.Sleep(time.Millisecond) {
-		if time.Now().After(until) {
-			t.Error("got changes that don't gather in time, want them in one commit")
-			break
-		}
-	}
+	waits.Until(t, "all changes wait for one commit", func() bool { return waiting.Load() == 2*40 })
 	cancel()
 	close(release)
 	all.Wait()

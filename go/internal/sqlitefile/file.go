@@ -223,9 +223,6 @@ func syncLog(log string) error {
 	return file.Sync()
 }
 
-// QueueLength returns how many jobs wait for the next transaction.
-func (f *File[C]) QueueLength() int { return len(f.queue) }
-
 // Close closes the file, once all jobs and reads that have begun have ended. Later calls fail with ErrClosed. To call
 // Close again does nothing.
 func (f *File[C]) Close() error {

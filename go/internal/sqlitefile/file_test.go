@@ -149,7 +149,7 @@ func writeTogether(t *testing.T, file *File[*notes], jobs map[string]func(*notes
 			}
 		}()
 	}
-	waits.Until(t, "the jobs gather", func() bool { return file.QueueLength() == len(jobs) })
+	waits.Until(t, "the jobs gather", func() bool { return len(file.queue) == len(jobs) })
 	close(release)
 	all.Wait()
 }
