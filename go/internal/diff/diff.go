@@ -78,6 +78,14 @@ func Error(t testing.TB, err error, format string, arguments ...any) {
 	}
 }
 
+// ErrorContains fails the test unless there is an error whose text has a part, and says what was called as Equal does.
+func ErrorContains(t testing.TB, err error, part, format string, arguments ...any) {
+	t.Helper()
+	if err == nil || !strings.Contains(err.Error(), part) {
+		t.Errorf("%sgot the error %v, want one with %q", prefix(format, arguments), err, part)
+	}
+}
+
 // Contains fails the test unless a text has a part, and says what was searched as Equal does.
 func Contains(t testing.TB, text, part, format string, arguments ...any) {
 	t.Helper()

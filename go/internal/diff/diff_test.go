@@ -88,18 +88,20 @@ func TestCheck(t *testing.T) {
 func TestValuesAndErrors(t *testing.T) {
 	wrong := errors.New("wrong")
 	for want, call := range map[string]func(testing.TB){
-		"":                                      func(t testing.TB) { Equal(t, 1, 1, "%d", 2); Equal(t, "a", "a", "") },
-		"a count of 2: got 1, want 3":           func(t testing.TB) { Equal(t, 1, 3, "a count of %d", 2) },
-		`got "a", want ""`:                      func(t testing.TB) { Equal(t, "a", "", "") },
-		"got +, want -\n":                       func(t testing.TB) { Equal(t, "a\nb\n", "a\nc\n", "") },
-		"of 1: got the error no, want wrong":    func(t testing.TB) { ErrorIs(t, errors.New("no"), wrong, "of %d", 1) },
-		"got the error <nil>, want wrong":       func(t testing.TB) { ErrorIs(t, nil, wrong, "") },
-		"Read: got the error wrong, want none":  func(t testing.TB) { NoError(t, wrong, "Read") },
-		"ended: got the error wrong, want none": func(t testing.TB) { Must(t, wrong) },
-		"ended: got the error no, want none":    func(t testing.TB) { Value(1, errors.New("no"))(t) },
-		"Read 2: got no error, want one":        func(t testing.TB) { Error(t, nil, "Read %d", 2) },
-		`a log: got "a", want "b" in it`:        func(t testing.TB) { Contains(t, "a", "b", "a log") },
-		`got "abc", want no "b" in it`:          func(t testing.TB) { Lacks(t, "abc", "b", "") },
+		"":                                           func(t testing.TB) { Equal(t, 1, 1, "%d", 2); Equal(t, "a", "a", "") },
+		"a count of 2: got 1, want 3":                func(t testing.TB) { Equal(t, 1, 3, "a count of %d", 2) },
+		`got "a", want ""`:                           func(t testing.TB) { Equal(t, "a", "", "") },
+		"got +, want -\n":                            func(t testing.TB) { Equal(t, "a\nb\n", "a\nc\n", "") },
+		"of 1: got the error no, want wrong":         func(t testing.TB) { ErrorIs(t, errors.New("no"), wrong, "of %d", 1) },
+		"got the error <nil>, want wrong":            func(t testing.TB) { ErrorIs(t, nil, wrong, "") },
+		"Read: got the error wrong, want none":       func(t testing.TB) { NoError(t, wrong, "Read") },
+		"ended: got the error wrong, want none":      func(t testing.TB) { Must(t, wrong) },
+		"ended: got the error no, want none":         func(t testing.TB) { Value(1, errors.New("no"))(t) },
+		"Read 2: got no error, want one":             func(t testing.TB) { Error(t, nil, "Read %d", 2) },
+		`a log: got "a", want "b" in it`:             func(t testing.TB) { Contains(t, "a", "b", "a log") },
+		`got "abc", want no "b" in it`:               func(t testing.TB) { Lacks(t, "abc", "b", "") },
+		`got the error wrong, want one with "no"`:    func(t testing.TB) { ErrorContains(t, wrong, "no", "") },
+		`a: got the error <nil>, want one with "no"`: func(t testing.TB) { ErrorContains(t, nil, "no", "a") },
 	} {
 		t.Run(want, func(t *testing.T) {
 			f := &fake{TB: t}
@@ -114,6 +116,7 @@ func TestValuesAndErrors(t *testing.T) {
 	NoError(f, nil, "x")
 	Equal(t, Value(5, nil)(f), 5, "the value")
 	Error(f, wrong, "x")
+	ErrorContains(f, wrong, "ron", "x")
 	Contains(f, "abc", "bc", "x")
 	Lacks(f, "abc", "ac", "x")
 	if ErrorIs(f, fmt.Errorf("of x: %w", wrong), wrong, "x"); f.failed != "" {
