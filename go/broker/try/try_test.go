@@ -115,9 +115,8 @@ func TestRequests(t *testing.T) {
 }
 
 func TestParametersThatAreNoJSON(t *testing.T) {
-	if _, err := Run(ctx, newFake(t), locks{}, Options{Plan: bindable, Parameters: json.RawMessage("{")}); err == nil {
-		t.Error("Run: got no error, want one")
-	}
+	_, err := Run(ctx, newFake(t), locks{}, Options{Plan: bindable, Parameters: json.RawMessage("{")})
+	diff.Error(t, err, "Run")
 }
 
 // A call that is broken off isn't reported, and all that may exist is deleted.
@@ -525,8 +524,7 @@ var (
 )
 
 func TestPlans(t *testing.T) {
-	plans, err := Plans([]byte(document))
-	diff.Must(t, err)
+	plans := diff.Value(Plans([]byte(document)))(t)
 	diff.Check(t, plans, []Plan{small, large, queue, largeQueue}, "the plans")
 	for _, text := range []string{"", "[", `{"services": 1}`, `{"services": [{"id": "s", "plans": [{"name": "p"}]}]}`} {
 		t.Run(fmt.Sprintf("%q", text), func(t *testing.T) {
@@ -547,9 +545,7 @@ func TestChoose(t *testing.T) {
 			}
 		})
 	}
-	if got, err := Choose(plans[:2], "small"); err != nil || got != small {
-		t.Errorf("Choose: got %+v, %v, want %+v", got, err, small)
-	}
+	diff.Equal(t, diff.Value(Choose(plans[:2], "small"))(t), small, "Choose")
 	for text, says := range map[string]string{"large": "several plans", "s1": "small, large, p1, large", "": "no plan"} {
 		t.Run(text, func(t *testing.T) {
 			if got, err := Choose(plans, text); err == nil || !strings.Contains(err.Error(), says) {
@@ -571,9 +567,7 @@ func TestDescribed(t *testing.T) {
 		"null":                                           "null",
 	} {
 		t.Run(text, func(t *testing.T) {
-			if got := describe(json.RawMessage(text)); got != wanted {
-				t.Errorf("got the description %q, want %q", got, wanted)
-			}
+			diff.Equal(t, describe(json.RawMessage(text)), wanted, "")
 		})
 	}
 }
