@@ -55,8 +55,7 @@ func TestMembers(t *testing.T) {
 	s := newTestBroker(t)
 	s.ask("PUT", "my%20first", atOnce)
 	s.ask("PUT", "my%20first/"+bind, atOnce)
-	number, err := osb.IDOfText("my first")
-	check(t, err)
+	number := diff.Value(osb.IDOfText("my first"))(t)
 	text, changes := map[string]string{}, int64(0)
 	for _, line := range s.lines()[1:] {
 		if line.Instance != number.String() || line.Event == "arrived" && line.InstanceID != "my first" {
@@ -268,8 +267,7 @@ func TestSwept(t *testing.T) {
 	s.ask("PUT", one, later)
 	s.ask("POLL", one, later)
 	from := len(s.lines())
-	id, err := osb.ParseID(one)
-	check(t, err)
+	id := diff.Value(osb.ParseID(one))(t)
 	check(t, s.service.TakeUp(context.Background(), broker.InstanceKey(id)))
 	want(t, "taken up", s.events(from), "look begun; look ended absent done; create begun; create ended done; "+
 		"look begun; look ended whole done; changed")
@@ -297,9 +295,7 @@ func TestResults(t *testing.T) {
 	s := newTestBroker(t)
 	s.seller.called = func(call string) { panic(call) }
 	s.ask("PUT", one, atOnce)
-	if !strings.Contains(s.events(1), "look begun; look ended failed; answered Internal") {
-		t.Errorf("after a panic: got %s, want \"look begun; look ended failed; answered Internal\" in it", s.events(1))
-	}
+	diff.Contains(t, s.events(1), "look begun; look ended failed; answered Internal", "after a panic")
 }
 
 // A request that has the time of another journal is followed by later lines.
@@ -332,8 +328,7 @@ func TestNoSecrets(t *testing.T) {
 	s.ask("PUT", one+"/"+one, atOnce)
 	s.ask("DELETE", one+"/"+bind, atOnce)
 	s.ask("DELETE", one, atOnce)
-	text, err := os.ReadFile(s.path)
-	check(t, err)
+	text := diff.Value(os.ReadFile(s.path))(t)
 	for _, secret := range []string{password, parameter, credential} {
 		if strings.Contains(string(text), secret) {
 			t.Errorf("the journal: got %s in it, want no secret", secret)
@@ -394,9 +389,7 @@ func TestOptional(t *testing.T) {
 			if _, ok := made.(broker.SyncBackend); ok {
 				got += "s"
 			}
-			if got != name {
-				t.Errorf("a backend with %q: got %q, want that", name, got)
-			}
+			diff.Equal(t, got, name, "a backend with %q", name)
 		})
 	}
 }
@@ -406,8 +399,7 @@ func TestStarted(t *testing.T) {
 		FirstPoll: true, WaitForPoll: 90 * time.Second, IDsReturnAfter: time.Hour,
 	}, true)
 	check(t, err)
-	text, err := json.Marshal(made)
-	check(t, err)
+	text := diff.Value(json.Marshal(made))(t)
 	var got line
 	check(t, json.Unmarshal(text, &got))
 	if !got.LocksCanBeLost {
@@ -431,9 +423,8 @@ func TestStarted(t *testing.T) {
 			}
 		})
 	}
-	if _, err := StartMembers("1.2", []byte(`[]`), broker.Rules{}, false); err == nil {
-		t.Error("a catalogue that can't be read: got no error, want one")
-	}
+	_, err = StartMembers("1.2", []byte(`[]`), broker.Rules{}, false)
+	diff.Error(t, err, "a catalogue that can't be read")
 }
 
 // A change is undone once, also if the step writes nothing when it is called again.
@@ -462,10 +453,8 @@ func TestUnbindFailed(t *testing.T) {
 	ready := s.lines()[len(s.lines())-2].After
 	s.ask("PUT", one+"/"+bind, bound)
 	s.ask("POLL", one+"/"+bind, "")
-	instance, err := osb.ParseID(one)
-	check(t, err)
-	binding, err := osb.ParseID(bind)
-	check(t, err)
+	instance := diff.Value(osb.ParseID(one))(t)
+	binding := diff.Value(osb.ParseID(bind))(t)
 	s.seller.fails = errFull
 	check(t, s.service.TakeUp(context.Background(), broker.BindingKey(instance, binding)))
 	from := len(s.lines())

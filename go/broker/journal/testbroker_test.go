@@ -196,8 +196,7 @@ func newTestBroker(t *testing.T) *testBroker {
 		t: t, path: filepath.Join(t.TempDir(), "journal"), store: &memory{entries: map[broker.Key]broker.Entry{}},
 		seller: &seller{things: map[broker.Key]broker.There{}, called: func(string) {}},
 	}
-	sold, err := broker.NewCatalogue([]byte(catalogue), true)
-	check(t, err)
+	sold := diff.Value(broker.NewCatalogue([]byte(catalogue), true))(t)
 	locks, err := broker.NewFileLocks(filepath.Join(t.TempDir(), "locks"))
 	check(t, err)
 	s.writer, err = Open(Options{
@@ -248,8 +247,7 @@ func (s *testBroker) request(method, target, plan string) *http.Request {
 // lines are those of the journal.
 func (s *testBroker) lines() (lines []line) {
 	s.t.Helper()
-	text, err := os.ReadFile(s.path)
-	check(s.t, err)
+	text := diff.Value(os.ReadFile(s.path))(s.t)
 	for _, text := range strings.Split(strings.TrimSuffix(string(text), "\n"), "\n") {
 		var read line
 		if err := json.Unmarshal([]byte(text), &read); err != nil {
