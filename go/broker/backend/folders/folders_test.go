@@ -33,8 +33,7 @@ func requestOf(key broker.Key) broker.Request {
 
 func newFolders(t *testing.T, top string) *Folders {
 	t.Helper()
-	f, err := New(top)
-	check(t, err)
+	f := diff.Value(New(top))(t)
 	return f
 }
 
@@ -55,8 +54,7 @@ func has(t *testing.T, f *Folders, request broker.Request, wanted broker.There) 
 // names returns the names in a folder.
 func names(t *testing.T, folder string) []string {
 	t.Helper()
-	entries, err := os.ReadDir(folder)
-	check(t, err)
+	entries := diff.Value(os.ReadDir(folder))(t)
 	found := []string{}
 	for _, entry := range entries {
 		found = append(found, entry.Name())
@@ -71,8 +69,7 @@ func TestLife(t *testing.T) {
 	check(t, f.Create(ctx, first))
 	has(t, f, first, broker.Whole)
 	for _, path := range []string{f.whole(first.Key.Instance), f.top, filepath.Dir(f.top), f.bindings()} {
-		found, err := os.Stat(path)
-		check(t, err)
+		found := diff.Value(os.Stat(path))(t)
 		diff.Equal(t, found.Mode(), os.ModeDir|0o700, "the mode of %s", path)
 	}
 	check(t, os.WriteFile(f.whole(first.Key.Instance)+"/data", []byte("of the user"), 0o400))
@@ -140,9 +137,7 @@ func TestFoldersOfVersion02(t *testing.T) {
 	f := newFolders(t, top)
 	has(t, f, first, broker.Whole)
 	has(t, f, other, broker.Part)
-	if owner, err := f.Owner(ctx); owner != "the store" || err != nil {
-		t.Errorf("the owner: got %q and %v, want \"the store\" and no error", owner, err)
-	}
+	diff.Equal(t, diff.Value(f.Owner(ctx))(t), "the store", "the owner")
 	check(t, f.Delete(ctx, first))
 	check(t, f.Delete(ctx, other))
 	has(t, f, first, broker.None)
@@ -178,12 +173,8 @@ func TestNobodyCanLook(t *testing.T) {
 	if there, err := f.LookBinding(ctx, bound); !errors.Is(err, syscall.ELOOP) {
 		t.Errorf("LookBinding: got %v, %v, want %v", there, err, syscall.ELOOP)
 	}
-	if err := f.Create(ctx, first); err == nil {
-		t.Error("Create: got no error, want one")
-	}
-	if err := f.Delete(ctx, first); err == nil {
-		t.Error("Delete: got no error, want one")
-	}
+	diff.Error(t, f.Create(ctx, first), "Create")
+	diff.Error(t, f.Delete(ctx, first), "Delete")
 }
 
 func TestTopsThatNewRejects(t *testing.T) {
@@ -193,9 +184,8 @@ func TestTopsThatNewRejects(t *testing.T) {
 		"a file": file, "below a file": file + "/top", "not UTF-8": t.TempDir() + "/\xff",
 	} {
 		t.Run(name, func(t *testing.T) {
-			if _, err := New(top); err == nil {
-				t.Errorf("New with %s: got no error, want one", name)
-			}
+			_, err := New(top)
+			diff.Error(t, err, "New with %s", name)
 		})
 	}
 }
@@ -214,8 +204,7 @@ func TestRemoved(t *testing.T) {
 func TestTopBehindALink(t *testing.T) {
 	folder := t.TempDir()
 	check(t, os.Symlink(t.TempDir(), folder+"/link"))
-	before, err := os.Getwd()
-	check(t, err)
+	before := diff.Value(os.Getwd())(t)
 	check(t, os.Chdir(folder))
 	defer func() { check(t, os.Chdir(before)) }()
 	f := newFolders(t, "link")
@@ -256,8 +245,7 @@ func withInstances(t *testing.T) *Folders {
 // bind creates a binding, and returns its credentials.
 func bind(t *testing.T, f *Folders, request broker.Request) (text string, read credentials) {
 	t.Helper()
-	created, err := f.CreateBinding(ctx, request)
-	check(t, err)
+	created := diff.Value(f.CreateBinding(ctx, request))(t)
 	has(t, f, request, broker.Whole)
 	check(t, json.Unmarshal(created, &read))
 	return string(created), read
@@ -267,9 +255,7 @@ func TestLifeOfABinding(t *testing.T) {
 	f := withInstances(t)
 	has(t, f, bound, broker.None)
 	text, read := bind(t, f, bound)
-	if wanted := f.top + "/" + first.Key.Instance.String(); read.Folder != wanted {
-		t.Errorf("the folder: got %q, want %q", read.Folder, wanted)
-	}
+	diff.Equal(t, read.Folder, f.top+"/"+first.Key.Instance.String(), "the folder")
 	if len(read.Token) != 43 {
 		t.Errorf("the token: got %q, want one of 43 characters", read.Token)
 	}
@@ -280,8 +266,7 @@ func TestLifeOfABinding(t *testing.T) {
 	if again, _ := bind(t, f, bound); again != text {
 		t.Errorf("a second creation: got %s, want %s", again, text)
 	}
-	found, err := os.Stat(f.binding(bound.Key))
-	check(t, err)
+	found := diff.Value(os.Stat(f.binding(bound.Key)))(t)
 	diff.Equal(t, found.Mode(), 0o600, "the mode of the file")
 	check(t, f.Sync(ctx, bound))
 	check(t, f.DeleteBinding(ctx, bound))
@@ -339,9 +324,8 @@ func TestWhateverIsLeftOfABinding(t *testing.T) {
 
 func TestBindingOfAnInstanceThatDoesNotExist(t *testing.T) {
 	f := newFolders(t, t.TempDir())
-	if _, err := f.CreateBinding(ctx, bound); err == nil {
-		t.Error("CreateBinding: got no error, want one")
-	}
+	_, err := f.CreateBinding(ctx, bound)
+	diff.Error(t, err, "CreateBinding")
 	has(t, f, bound, broker.None)
 }
 
@@ -350,14 +334,11 @@ func TestLinkInThePlaceOfABinding(t *testing.T) {
 	f, precious := withInstances(t), t.TempDir()+"/data"
 	leave(t, precious)
 	check(t, os.Symlink(precious, f.bindingPart(bound.Key)))
-	if _, err := f.CreateBinding(ctx, bound); err == nil {
-		t.Error("CreateBinding: got no error, want one")
-	}
+	_, err := f.CreateBinding(ctx, bound)
+	diff.Error(t, err, "CreateBinding")
 	check(t, f.DeleteBinding(ctx, bound))
 	bind(t, f, bound)
-	if text, err := os.ReadFile(precious); err != nil || string(text) != "x" {
-		t.Errorf("got %q, %v, want what the link leads to left as it was", text, err)
-	}
+	diff.Equal(t, string(diff.Value(os.ReadFile(precious))(t)), "x", "")
 }
 
 func TestCredentialsThatAreNotJSON(t *testing.T) {
@@ -380,18 +361,12 @@ func TestOrderOfFsyncsOfABinding(t *testing.T) {
 
 func TestOwner(t *testing.T) {
 	f := newFolders(t, t.TempDir())
-	if owner, err := f.Owner(ctx); owner != "" || err != nil {
-		t.Errorf("the owner of a new top: got %q and %v, want none and no error", owner, err)
-	}
+	diff.Equal(t, diff.Value(f.Owner(ctx))(t), "", "the owner of a new top")
 	for _, store := range []string{"one", "two"} {
-		if owner, err := f.Own(ctx, store); owner != "one" || err != nil {
-			t.Errorf("Own(%s): got %q and %v, want \"one\" and no error", store, owner, err)
-		}
+		diff.Equal(t, diff.Value(f.Own(ctx, store))(t), "one", "Own(%s)", store)
 	}
 	check(t, f.Create(ctx, first))
-	if owner, err := f.Own(ctx, "two"); owner != "one" || err != nil {
-		t.Errorf("Own with a folder: got %q and %v, want \"one\" and no error", owner, err)
-	}
+	diff.Equal(t, diff.Value(f.Own(ctx, "two"))(t), "one", "Own with a folder")
 	check(t, f.Delete(ctx, first))
 	diff.Check(t, names(t, f.top), []string{".bindings", ".locks", ".owner"}, "what is left")
 }
@@ -404,9 +379,7 @@ func TestFoldersWithoutAnOwner(t *testing.T) {
 			if owner, err := f.Own(ctx, "one"); err == nil || !strings.Contains(err.Error(), ".owner") {
 				t.Errorf("with %s: Own got %q, %v, want an error that names .owner", name, owner, err)
 			}
-			if owner, err := f.Owner(ctx); owner != "" || err != nil {
-				t.Errorf("the owner with %s: got %q and %v, want none and no error", name, owner, err)
-			}
+			diff.Equal(t, diff.Value(f.Owner(ctx))(t), "", "the owner with %s", name)
 		})
 	}
 }
@@ -467,9 +440,7 @@ func TestOwnerOfATopThatCanNotBeListed(t *testing.T) {
 	if owner, err := f.Own(ctx, "one"); !errors.Is(err, fs.ErrPermission) {
 		t.Errorf("got %q, %v, want %v", owner, err, fs.ErrPermission)
 	}
-	if owner, err := f.Owner(ctx); owner != "" || err != nil {
-		t.Errorf("the owner: got %q, %v, want none", owner, err)
-	}
+	diff.Equal(t, diff.Value(f.Owner(ctx))(t), "", "the owner")
 }
 
 // A new folder is there after a power cut: the folder that it is in is synced. If that fails, so does New.
@@ -514,14 +485,12 @@ func TestLabel(t *testing.T) {
 // An id that isn't a GUID stands for its number.
 func TestLabelHasNumbers(t *testing.T) {
 	sold := soldAs{"postgres", "small"}
-	text, err := sold.textOf(first.Key.Instance)
-	check(t, err)
+	text := diff.Value(sold.textOf(first.Key.Instance))(t)
 	var label map[string]string
 	check(t, json.Unmarshal(text, &label))
 	wanted := ""
 	for _, attribute := range [][2]string{{"service", "postgres"}, {"plan", "small"}} {
-		number, err := osb.IDOfText(attribute[1])
-		check(t, err)
+		number := diff.Value(osb.IDOfText(attribute[1]))(t)
 		if label[attribute[0]] != number.String() {
 			t.Errorf("%s: got %s, want %v", attribute[0], label[attribute[0]], number)
 		}
