@@ -34,8 +34,7 @@ func keyOf(n int) broker.Key {
 
 func open(t *testing.T, path string, observer broker.Observer) *Store {
 	t.Helper()
-	s, err := Open(context.Background(), path, observer)
-	check(t, err)
+	s := diff.Value(Open(context.Background(), path, observer))(t)
 	t.Cleanup(func() {
 		diff.NoError(t, s.Close(), "")
 	})
@@ -123,8 +122,7 @@ func TestOneFails(t *testing.T) {
 			given[n] == context.Canceled,
 			given[n] == nil,
 		}[n%4]
-		snapshot, err := s.Read(context.Background(), keyOf(n))
-		check(t, err)
+		snapshot := diff.Value(s.Read(context.Background(), keyOf(n)))(t)
 		if _, isWritten := snapshot.Holding.Work(); !isRight || isWritten != (n%4 == 3) {
 			t.Errorf("change %d: got the error %v and %v, want each fourth written", n, given[n], snapshot.Holding)
 		}
@@ -174,8 +172,7 @@ func TestTellsAfterCommit(t *testing.T) {
 // A file of version 0.2 is read and extended.
 func TestMigration(t *testing.T) {
 	path := filepath.Join(t.TempDir(), "store")
-	made, err := (&sqlite3.SQLiteDriver{}).Open("file:" + path)
-	check(t, err)
+	made := diff.Value((&sqlite3.SQLiteDriver{}).Open("file:" + path))(t)
 	old := made.(*sqlite3.SQLiteConn)
 	for _, statement := range []string{
 		"CREATE TABLE holdings (id TEXT PRIMARY KEY, holding TEXT NOT NULL, unfinished INTEGER NOT NULL) WITHOUT ROWID",
@@ -206,27 +203,20 @@ func TestMigration(t *testing.T) {
 	if second, err := s.Read(context.Background(), keyOf(1)); err != nil || !second.Holding.HasTombstone() {
 		t.Errorf("got %v and the error %v, want a tombstone", second, err)
 	}
-	if name, err := s.Name(context.Background()); err != nil || name != "a store" {
-		t.Errorf("got the name %q and the error %v, want a store", name, err)
-	}
-	if stats, err := s.Stats(context.Background()); err != nil || stats != (broker.Stats{Tombstones: 1}) {
-		t.Errorf("got %+v and the error %v, want one tombstone", stats, err)
-	}
+	diff.Equal(t, diff.Value(s.Name(context.Background()))(t), "a store", "")
+	diff.Equal(t, diff.Value(s.Stats(context.Background()))(t), (broker.Stats{Tombstones: 1}), "")
 }
 
 // A file that isn't a database, or one of another program, is an error that names it.
 func TestNoStore(t *testing.T) {
 	folder := t.TempDir()
 	foreign := filepath.Join(folder, "foreign")
-	made, err := (&sqlite3.SQLiteDriver{}).Open("file:" + foreign)
-	check(t, err)
+	made := diff.Value((&sqlite3.SQLiteDriver{}).Open("file:" + foreign))(t)
 	diff.Value(made.(*sqlite3.SQLiteConn).Exec("CREATE TABLE bindings (x)", nil))(t)
 	check(t, made.Close())
 	for _, path := range []string{folder, foreign} {
 		_, err := Open(context.Background(), path, broker.Silent{})
-		if err == nil || !strings.Contains(err.Error(), path) {
-			t.Errorf("want an error that names %s, got %v", path, err)
-		}
+		diff.ErrorContains(t, err, path, "")
 	}
 }
 
@@ -332,10 +322,7 @@ func TestChangeOfAnUnreadableRow(t *testing.T) {
 func TestChangeThatIsNotWritten(t *testing.T) {
 	s := open(t, filepath.Join(t.TempDir(), "store"), broker.Silent{})
 	alter(t, s, "CREATE TRIGGER no BEFORE INSERT ON holdings BEGIN SELECT RAISE(ABORT, 'no'); END")
-	err := s.Change(context.Background(), keyOf(1), provision(keyOf(1)))
-	if err == nil || !strings.Contains(err.Error(), "no") {
-		t.Errorf("got %v, want the error of the trigger", err)
-	}
+	diff.ErrorContains(t, s.Change(context.Background(), keyOf(1), provision(keyOf(1))), "no", "")
 }
 
 // The file of a broker of version 0.3, which a lock that can be lost had given numbers of workers: they are forgotten.
@@ -401,8 +388,7 @@ func TestReadyWrites(t *testing.T) {
 }
 
 func BenchmarkRead(b *testing.B) {
-	s, err := Open(context.Background(), filepath.Join(b.TempDir(), "store"), broker.Silent{})
-	check(b, err)
+	s := diff.Value(Open(context.Background(), filepath.Join(b.TempDir(), "store"), broker.Silent{}))(b)
 	check(b, s.Change(context.Background(), keyOf(1), provision(keyOf(1))))
 	b.ReportAllocs()
 	for n := 0; n < b.N; n++ {
@@ -449,8 +435,7 @@ func rowsWithout(tombstone string) (statements []string) {
 func makeFile(t *testing.T, statements []string) string {
 	t.Helper()
 	path := filepath.Join(t.TempDir(), "store")
-	file, err := (&sqlite3.SQLiteDriver{}).Open("file:" + path)
-	check(t, err)
+	file := diff.Value((&sqlite3.SQLiteDriver{}).Open("file:" + path))(t)
 	for _, statement := range statements {
 		if _, err := file.(*sqlite3.SQLiteConn).Exec(statement, nil); err != nil {
 			t.Fatalf("%s: got the error %v, want none", statement, err)
@@ -469,8 +454,7 @@ const (
 // A tombstone without a time gets that of the migration, once. Rows without a tombstone get none.
 func TestMigrationOfTombstones(t *testing.T) {
 	binding := broker.BindingKey(keyOf(0).Instance, osb.ID{1})
-	text, err := bindingTombstone(t).BindingText()
-	check(t, err)
+	text := diff.Value(bindingTombstone(t).BindingText())(t)
 	rowOfBinding := fmt.Sprintf("INSERT INTO bindings (instance, binding, holding, held, unfinished) "+
 		"VALUES ('%v', '%v', '%s', false, false)", binding.Instance, binding.Binding, text)
 	for _, test := range []struct {
@@ -513,8 +497,7 @@ func bindingTombstone(t *testing.T) osb.Holding {
 
 // What every store must do if one of its statements fails.
 func TestFaults(t *testing.T) {
-	folder, err := os.MkdirTemp("", "osb-sqlite")
-	check(t, err)
+	folder := diff.Value(os.MkdirTemp("", "osb-sqlite"))(t)
 	t.Cleanup(func() { _ = os.RemoveAll(folder) })
 	beside := func(t *testing.T) *Store {
 		return open(t, filepath.Join(folder, storetest.NameOf(t)), broker.Silent{})

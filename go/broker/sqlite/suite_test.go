@@ -14,8 +14,7 @@ import (
 
 // What every store must do.
 func TestStore(t *testing.T) {
-	folder, err := os.MkdirTemp("", "osb-sqlite")
-	check(t, err)
+	folder := diff.Value(os.MkdirTemp("", "osb-sqlite"))(t)
 	t.Cleanup(func() { _ = os.RemoveAll(folder) })
 	storetest.Run(t, func(t *testing.T) broker.NamedStore {
 		store, err := sqlite.Open(context.Background(), filepath.Join(folder, storetest.NameOf(t)), broker.Silent{})
@@ -28,14 +27,12 @@ func TestStore(t *testing.T) {
 // nothing.
 func TestClose(t *testing.T) {
 	ctx, folder := context.Background(), t.TempDir()
-	store, err := sqlite.Open(ctx, filepath.Join(folder, "store"), broker.Silent{})
-	check(t, err)
+	store := diff.Value(sqlite.Open(ctx, filepath.Join(folder, "store"), broker.Silent{}))(t)
 	check(t, store.Ready(ctx))
 	for n := 0; n < 2; n++ {
 		check(t, store.Close())
 	}
-	left, err := os.ReadDir(folder)
-	check(t, err)
+	left := diff.Value(os.ReadDir(folder))(t)
 	if len(left) != 1 || left[0].Name() != "store" {
 		t.Errorf("got %v left, want only store", left)
 	}
