@@ -266,8 +266,7 @@ func (f *faulty) unfinishedKeys(t *testing.T) error {
 	if err != nil {
 		return err
 	}
-	want, err := f.beside.UnfinishedKeys(context.Background())
-	check(t, err)
+	want := diff.Value(f.beside.UnfinishedKeys(context.Background()))(t)
 	f.want("Unfinished", texts(got), texts(want))
 	return nil
 }
@@ -277,8 +276,7 @@ func (f *faulty) stats(t *testing.T) error {
 	if err != nil {
 		return err
 	}
-	want, err := f.beside.Stats(context.Background())
-	check(t, err)
+	want := diff.Value(f.beside.Stats(context.Background()))(t)
 	want.Tombstones = f.tombstones // a store may count them now and then
 	f.want("Stats", got, want)
 	return nil
@@ -303,8 +301,7 @@ func (f *faulty) id(t *testing.T) error {
 	if err != nil {
 		return err
 	}
-	want, err := f.beside.ID(context.Background())
-	check(t, err)
+	want := diff.Value(f.beside.ID(context.Background()))(t)
 	f.want("the id", got, want)
 	return nil
 }
@@ -345,8 +342,6 @@ func (by Faulty) unreadable(t *testing.T) {
 			t.Errorf("the step of %v beside %v: got a call with %+v, want none", test.key, test.spoiled, snapshot)
 			return nil, nil
 		})
-		if err == nil {
-			t.Errorf("Change of %v beside %v: got nil, want an error", test.key, test.spoiled)
-		}
+		diff.Error(t, err, "Change of %v beside %v", test.key, test.spoiled)
 	}
 }

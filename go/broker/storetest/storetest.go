@@ -193,16 +193,12 @@ func testID(t *testing.T, open func(*testing.T) broker.NamedStore) {
 		t.Errorf("the id: got %q, want a random GUID", first)
 	}
 	for n := 1; n < cap(ids); n++ {
-		if id := <-ids; id != first {
-			t.Errorf("another store of the database: got the id %q, want %q", id, first)
-		}
+		diff.Equal(t, <-ids, first, "another store of the database")
 	}
 	if _, err := openStore(t, open).Begin(context.Background(), "a name"); err != nil {
 		t.Error(err)
 	}
-	if id, err := openStore(t, open).ID(context.Background()); err != nil || id != first {
-		t.Errorf("the id later: got %q, %v, want %q", id, err, first)
-	}
+	diff.Equal(t, diff.Value(openStore(t, open).ID(context.Background()))(t), first, "the id later")
 }
 
 // A store that is untied gets another name once, and then its rows don't count.
@@ -215,9 +211,7 @@ func testUntiedBefore(t *testing.T, open func(*testing.T) broker.NamedStore) {
 		{broker.UntiedBefore + "three", broker.UntiedBefore + "two"},
 		{broker.Untied, broker.UntiedBefore + "two"},
 	} {
-		if name, err := store.Begin(ctx, test.given); err != nil || name != test.want {
-			t.Errorf("Begin(%q): got %q, %v, want %q", test.given, name, err, test.want)
-		}
+		diff.Equal(t, diff.Value(store.Begin(ctx, test.given))(t), test.want, "Begin(%q)", test.given)
 	}
 	for _, key := range []broker.Key{instance(1), binding(1, 1)} {
 		write(t, store, key, broker.Entry{Holding: tombstone(t)})
@@ -325,9 +319,7 @@ func testReady(t *testing.T, open func(*testing.T) broker.NamedStore) {
 	store := openStore(t, open)
 	begin(t, store)
 	diff.NoError(t, store.Ready(context.Background()), "a store that works")
-	if name, err := store.Name(context.Background()); err != nil || name != "one" {
-		t.Errorf("the name: got %q, %v, want \"one\"", name, err)
-	}
+	diff.Equal(t, diff.Value(store.Name(context.Background()))(t), "one", "the name")
 	if isUsed, err := tie(store, nil); isUsed || err != nil {
 		t.Errorf("got used %t, %v, want false", isUsed, err)
 	}
@@ -543,8 +535,7 @@ func testUnfinished(t *testing.T, open func(*testing.T) broker.NamedStore) {
 		write(t, store, key, broker.Entry{Holding: in(t, "deleting")})
 		write(t, store, key, broker.Entry{Holding: tombstone(t)})
 	}
-	keys, err := store.UnfinishedKeys(context.Background())
-	check(t, err)
+	keys := diff.Value(store.UnfinishedKeys(context.Background()))(t)
 	got := map[broker.Key]bool{}
 	for _, key := range keys {
 		if got[key] {
@@ -592,9 +583,7 @@ func ages(t *testing.T, store broker.Store, key broker.Key) []time.Duration {
 func wantNoAge(t *testing.T, store broker.Store, key broker.Key) {
 	t.Helper()
 	for _, age := range ages(t, store, key) {
-		if age != 0 {
-			t.Errorf("%v: got the age %v, want 0", key, age)
-		}
+		diff.Equal(t, age, 0, "%v", key)
 	}
 }
 

@@ -4,7 +4,6 @@ import (
 	"context"
 	"errors"
 	"strconv"
-	"strings"
 	"sync"
 	"testing"
 	"time"
@@ -60,9 +59,7 @@ var failing = []func(*testing.T, broker.Store, broker.Key){
 	func(t *testing.T, store broker.Store, key broker.Key) {
 		err := changeError(context.Background(), store, key,
 			func(broker.Snapshot) (*broker.Entry, error) { panic("a bug") })
-		if err == nil || !strings.Contains(err.Error(), "a bug") {
-			t.Errorf("a step that panics: got %v, want an error with \"a bug\"", err)
-		}
+		diff.ErrorContains(t, err, "a bug", "a step that panics")
 	},
 	func(t *testing.T, store broker.Store, key broker.Key) {
 		entry := ready(t)
@@ -230,9 +227,7 @@ func wantClosed(t *testing.T, store broker.NamedStore) {
 		go func() { ended <- call() }()
 		select {
 		case err := <-ended:
-			if err == nil {
-				t.Errorf("%s after Close: got nil, want an error", name)
-			}
+			diff.Error(t, err, "%s after Close", name)
 		case <-time.After(time.Minute):
 			t.Errorf("%s after Close: got no end in a minute, want one", name)
 		}
