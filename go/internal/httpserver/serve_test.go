@@ -624,8 +624,7 @@ func clientOf(t *testing.T, connection net.Conn) client {
 
 func (c client) send(text string) {
 	c.t.Helper()
-	_, err := io.WriteString(c, text)
-	check(c.t, err)
+	diff.Value(io.WriteString(c, text))(c.t)
 }
 
 // closeWrite reports to the server that nothing follows.

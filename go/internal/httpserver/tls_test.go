@@ -198,9 +198,7 @@ func TestReload(t *testing.T) {
 		t.Error("got the same certificate after it was read, want another")
 	}
 	check(t, os.WriteFile(files.Key, []byte("no key"), 0o600))
-	if err := certificates.Reload(); err == nil || !strings.Contains(err.Error(), files.Key) {
-		t.Errorf("a key that is none: got %v, want an error that names the file", err)
-	}
+	diff.ErrorContains(t, certificates.Reload(), files.Key, "a key that is none")
 	diff.Equal(t, shown(), second, "")
 }
 
@@ -224,9 +222,8 @@ func TestCertificatesThatCantBeUsed(t *testing.T) {
 			CertificateFiles{Certificate: files.Certificate, Key: files.Key, ClientCA: files.Key}, files.Key + " has no certificate"},
 	} {
 		t.Run(name, func(t *testing.T) {
-			if _, err := LoadCertificates(test.files); err == nil || !strings.Contains(err.Error(), test.has) {
-				t.Errorf("got %v, want an error with %q", err, test.has)
-			}
+			_, err := LoadCertificates(test.files)
+			diff.ErrorContains(t, err, test.has, "")
 		})
 	}
 }
