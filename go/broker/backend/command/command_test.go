@@ -50,8 +50,7 @@ func newBackend(t *testing.T, options Options, text string) bindingsWithCredenti
 		options.State = t.TempDir()
 	}
 	program := script(t, `case $1 in capabilities) echo '{"bindings":true,"credentials":true}'; exit 0 ;; esac`+"\n"+text)
-	backend, err := New(ctx, program, options)
-	check(t, err)
+	backend := diff.Value(New(ctx, program, options))(t)
 	return backend.(bindingsWithCredentials)
 }
 
@@ -170,9 +169,8 @@ func TestMayPass(t *testing.T) {
 func TestLocksThatCanNotBeOpened(t *testing.T) {
 	state := t.TempDir()
 	check(t, os.Mkdir(state+lockFile, 0o700))
-	if _, err := New(ctx, script(t, ""), Options{State: state}); err == nil || !strings.Contains(err.Error(), lockFile) {
-		t.Errorf("got %v, want the error of %s", err, lockFile)
-	}
+	_, err := New(ctx, script(t, ""), Options{State: state})
+	diff.ErrorContains(t, err, lockFile, "")
 }
 
 func TestOptionsThatNewRejects(t *testing.T) {
@@ -183,9 +181,8 @@ func TestOptionsThatNewRejects(t *testing.T) {
 		"negative": {State: t.TempDir(), Limit: -1},
 	} {
 		t.Run(wanted, func(t *testing.T) {
-			if _, err := New(ctx, script(t, ""), options); err == nil || !strings.Contains(err.Error(), wanted) {
-				t.Errorf("New: got %v, want an error with %q", err, wanted)
-			}
+			_, err := New(ctx, script(t, ""), options)
+			diff.ErrorContains(t, err, wanted, "New")
 		})
 	}
 }
@@ -213,9 +210,8 @@ func TestExisting(t *testing.T) {
 	}
 	for _, existing := range []bool{false, true} {
 		t.Run(fmt.Sprintf("existing %t", existing), func(t *testing.T) {
-			if _, err := New(ctx, program, Options{State: empty, Existing: existing}); err != nil {
-				t.Errorf("New with Existing %v: got %v, want no error", existing, err)
-			}
+			_, err := New(ctx, program, Options{State: empty, Existing: existing})
+			diff.NoError(t, err, "New with Existing %v", existing)
 		})
 	}
 }
@@ -225,20 +221,16 @@ func TestWithoutTimeout(t *testing.T) {
 	program := script(t, "")
 	t.Setenv("PATH", t.TempDir())
 	_, err := New(ctx, program, Options{State: t.TempDir()})
-	if err == nil || !strings.Contains(err.Error(), "Install coreutils") {
-		t.Errorf("New: got %v, want an error with \"Install coreutils\"", err)
-	}
+	diff.ErrorContains(t, err, "Install coreutils", "New")
 }
 
 // A relative path of the program, and of the folder, is one of the folder in which the broker was started.
 func TestRelativePaths(t *testing.T) {
 	program, folder := script(t, `pwd >"$OSB_STATE/pwd"`), t.TempDir()
-	before, err := os.Getwd()
-	check(t, err)
+	before := diff.Value(os.Getwd())(t)
 	check(t, os.Chdir(filepath.Dir(program)))
 	defer func() { _ = os.Chdir(before) }()
-	state, err := filepath.Rel(filepath.Dir(program), filepath.Join(folder, "new", "state"))
-	check(t, err)
+	state := diff.Value(filepath.Rel(filepath.Dir(program), filepath.Join(folder, "new", "state")))(t)
 	diff.Value(New(ctx, "./backend", Options{State: state}))(t)
 	text, err := os.ReadFile(folder + "/new/state/pwd")
 	if err != nil || !strings.HasSuffix(strings.TrimSpace(string(text)), "/new/state") {
@@ -421,9 +413,7 @@ func TestExitStatuses(t *testing.T) {
 				if rejected != nil {
 					described = c.rejected.Description
 				}
-				if found := broker.Description(err); found != described {
-					t.Errorf("%s: got the description %q, want %q", call, found, described)
-				}
+				diff.Equal(t, broker.Description(err), described, "%s", call)
 			}
 		})
 	}
@@ -438,8 +428,7 @@ func TestRequestIsTheInput(t *testing.T) {
 	request.RequestID = "r1"
 	request.Deletion = &broker.Origin{RequestID: "r2"}
 	_, _ = backend.CreateBinding(ctx, request)
-	text, err := os.ReadFile(filepath.Join(backend.state, "create-binding"))
-	check(t, err)
+	text := diff.Value(os.ReadFile(filepath.Join(backend.state, "create-binding")))(t)
 	var found any
 	check(t, json.Unmarshal(text, &found))
 	wanted := map[string]any{
@@ -461,27 +450,20 @@ func TestOwner(t *testing.T) {
 	state := t.TempDir()
 	check(t, os.WriteFile(filepath.Join(state, "sold before"), nil, 0o600))
 	first := newBackend(t, Options{State: state}, "")
-	if owner, err := first.Owner(ctx); owner != "" || err != nil {
-		t.Errorf("the owner of a new folder: got %q and %v, want none and no error", owner, err)
-	}
+	diff.Equal(t, diff.Value(first.Owner(ctx))(t), "", "the owner of a new folder")
 	for _, store := range []string{"one", "two"} {
-		if owner, err := first.Own(ctx, store); owner != "one" || err != nil {
-			t.Errorf("Own(%s): got %q and %v, want \"one\" and no error", store, owner, err)
-		}
+		diff.Equal(t, diff.Value(first.Own(ctx, store))(t), "one", "Own(%s)", store)
 	}
 	if owner, err := newBackend(t, Options{State: state, Existing: true}, "").Owner(ctx); owner != "one" || err != nil {
 		t.Errorf("the owner after a restart: got %q and %v, want \"one\" and no error", owner, err)
 	}
-	left, err := os.ReadDir(state)
-	check(t, err)
+	left := diff.Value(os.ReadDir(state))(t)
 	for n, name := range []string{".locks", ".owner", "sold before"} {
 		if len(left) != 3 || left[n].Name() != name {
 			t.Fatalf("the folder: got %v, want three files", left)
 		}
 	}
-	if owner, err := newBackend(t, Options{}, "").Owner(ctx); owner != "" || err != nil {
-		t.Errorf("the owner of another folder: got %q and %v, want none and no error", owner, err)
-	}
+	diff.Equal(t, diff.Value(newBackend(t, Options{}, "").Owner(ctx))(t), "", "the owner of another folder")
 }
 
 // If nobody can tell the owner, Owner fails, and Own too.
@@ -585,8 +567,7 @@ func TestLimitOutlivesTheBroker(t *testing.T) {
 	t.Setenv(limitVariable, "2s")
 	text := `[ $1 = create ] || exit 0; sleep 1000 & echo >"$OSB_STATE/started"; sleep 1000`
 	killedBroker(t, script(t, text), state, func() { read(t, started) })
-	locks, err := broker.NewFileLocks(state + "/.locks")
-	check(t, err)
+	locks := diff.Value(broker.NewFileLocks(state + "/.locks"))(t)
 	if lock, err := locks.TryLock(ctx, instance.Key); lock != nil || err != nil {
 		t.Errorf("TryLock while the program runs: got %v and %v, want none and no error", lock, err)
 	}
@@ -602,12 +583,9 @@ type lockingBackend interface {
 // serviceOf returns a service over a backend, and its store.
 func serviceOf(t *testing.T, backend lockingBackend, observer broker.Observer) (*broker.Service, broker.Store) {
 	t.Helper()
-	document, err := os.ReadFile(examples + "own-catalogue.json")
-	check(t, err)
-	catalogue, err := broker.NewCatalogue(document, true)
-	check(t, err)
-	store, err := sqlite.Open(ctx, filepath.Join(t.TempDir(), "holdings.sqlite"), broker.Silent{})
-	check(t, err)
+	document := diff.Value(os.ReadFile(examples + "own-catalogue.json"))(t)
+	catalogue := diff.Value(broker.NewCatalogue(document, true))(t)
+	store := diff.Value(sqlite.Open(ctx, filepath.Join(t.TempDir(), "holdings.sqlite"), broker.Silent{}))(t)
 	t.Cleanup(func() { _ = store.Close() })
 	rules := broker.Rules{WaitForPoll: time.Minute}
 	return broker.NewService(catalogue, store, backend, backend.Locks(), rules, observer), store
@@ -621,8 +599,7 @@ func provision(t *testing.T) broker.Visit {
 		Service: osb.MustParseID("11111111-0000-0000-0000-0000000000a0"),
 		Plan:    osb.MustParseID("11111111-0000-0000-0000-0000000000b1"),
 	}
-	request, err := json.Marshal(instance)
-	check(t, err)
+	request := diff.Value(json.Marshal(instance))(t)
 	return broker.Visit{Key: instance.Key, Asked: asked, Request: request}
 }
 
@@ -649,12 +626,10 @@ func TestNobodyIsToldWhatAProcessStillChanges(t *testing.T) {
 	if snapshot, err := store.Read(ctx, instance.Key); err != nil || !isPending(snapshot) {
 		t.Errorf("got %v, %v, want the work pending", snapshot.Holding, err)
 	}
-	_, err = goOn.WriteString("go\n")
-	check(t, err)
+	diff.Value(goOn.WriteString("go\n"))(t)
 	mustLock(t, backend.Locks()).Unlock()
 	check(t, service.TakeUp(ctx, instance.Key))
-	snapshot, err := store.Read(ctx, instance.Key)
-	check(t, err)
+	snapshot := diff.Value(store.Read(ctx, instance.Key))(t)
 	if row, isHeld := snapshot.Holding.Row(); !isHeld || row.Phase != osb.PhaseReady || isPending(snapshot) {
 		t.Errorf("in the end: got %v in the store, want it ready", snapshot.Holding)
 	}

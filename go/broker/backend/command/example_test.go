@@ -30,8 +30,7 @@ func databases(t *testing.T, fakes map[string]string) bindingsWithCredentials {
 		check(t, os.WriteFile(filepath.Join(folder, name), []byte("#!/bin/sh\n"+text+"\n"), 0o700))
 	}
 	t.Setenv("PATH", folder+":"+os.Getenv("PATH"))
-	backend, err := New(ctx, examples+"databases", Options{State: t.TempDir()})
-	check(t, err)
+	backend := diff.Value(New(ctx, examples+"databases", Options{State: t.TempDir()}))(t)
 	return backend.(bindingsWithCredentials)
 }
 
@@ -60,8 +59,7 @@ func TestExampleLife(t *testing.T) {
 			t.Errorf("after another Create: got %q in %s, %v, want it as the user left it", text, name, err)
 		}
 	}
-	created, err := backend.CreateBinding(ctx, binding)
-	check(t, err)
+	created := diff.Value(backend.CreateBinding(ctx, binding))(t)
 	exist(t, backend, broker.Whole, broker.Whole)
 	var credentials struct{ Database, Token string }
 	check(t, json.Unmarshal(created, &credentials))
@@ -88,8 +86,7 @@ func TestExampleLife(t *testing.T) {
 // resources returns the paths of all resources, whole and in part.
 func resources(t *testing.T, backend bindingsWithCredentials) []string {
 	t.Helper()
-	found, err := filepath.Glob(backend.state + "/[0-9a-f]*")
-	check(t, err)
+	found := diff.Value(filepath.Glob(backend.state + "/[0-9a-f]*"))(t)
 	return found
 }
 
@@ -97,8 +94,7 @@ func resources(t *testing.T, backend bindingsWithCredentials) []string {
 func TestExampleIsPrivate(t *testing.T) {
 	backend := databases(t, nil)
 	check(t, backend.Create(ctx, instance))
-	_, err := backend.CreateBinding(ctx, binding)
-	check(t, err)
+	diff.Value(backend.CreateBinding(ctx, binding))(t)
 	for name, wanted := range map[string]os.FileMode{whole: 0o600, bound: 0o600} {
 		t.Run(name, func(t *testing.T) {
 			found, err := os.Stat(backend.state + "/" + name)
@@ -157,8 +153,7 @@ func TestExampleRejectsOtherCalls(t *testing.T) {
 }
 
 func TestExampleCatalogue(t *testing.T) {
-	document, err := os.ReadFile(examples + "own-catalogue.json")
-	check(t, err)
+	document := diff.Value(os.ReadFile(examples + "own-catalogue.json"))(t)
 	check(t, osb.CheckCatalogue(document, osb.Endpoints{Bindings: true, FetchingBindings: true}))
 	for name, read := range map[string]func([]byte) ([]osb.Plan, error){
 		"instances": osb.CataloguePlans, "bindings": osb.BindingModes,
@@ -314,8 +309,7 @@ func (d *disk) isWritten() {
 func TestExampleThatIsKilled(t *testing.T) {
 	fakes := map[string]string{}
 	for _, name := range []string{"cat", "mv", "rm", "sync"} {
-		path, err := exec.LookPath(name)
-		check(t, err)
+		path := diff.Value(exec.LookPath(name))(t)
 		if name == "sync" {
 			path = "true"
 		}
@@ -374,17 +368,14 @@ func goOnWith(
 			return err
 		}
 	}
-	left, err := look(ctx, request)
-	check(t, err)
+	left = diff.Value(look(ctx, request))(t)
 	if left != broker.Whole && wanted == broker.Whole {
 		check(t, create(ctx, request))
 	}
 	if left != broker.None && wanted == broker.None {
 		check(t, remove(ctx, request))
 	}
-	if there, err := look(ctx, request); err != nil || there != wanted {
-		t.Errorf("%v was left: got %v, %v, want %v", left, there, err, wanted)
-	}
+	diff.Equal(t, diff.Value(look(ctx, request))(t), wanted, "%v was left", left)
 	for _, path := range resources(t, backend) {
 		if found := filepath.Base(path); found != whole && (found != name || wanted != broker.Whole) {
 			t.Errorf("%v was left: got a file %s, want none but the whole one", left, found)

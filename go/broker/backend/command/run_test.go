@@ -46,9 +46,7 @@ func TestWriteSynced(t *testing.T) {
 	text, err := io.ReadAll(read)
 	diff.NoError(t, err, "")
 	diff.Equal(t, string(text), "name\n", "the text")
-	if err := writeSynced(write, "name\n"); !errors.Is(err, os.ErrClosed) {
-		t.Errorf("a closed file: got %v, want %v", err, os.ErrClosed)
-	}
+	diff.ErrorIs(t, writeSynced(write, "name\n"), os.ErrClosed, "a closed file")
 }
 
 func TestEndOfStandardError(t *testing.T) {
@@ -67,9 +65,7 @@ func TestLimitsOfTheSupervisor(t *testing.T) {
 	for limit, want := range map[time.Duration]string{0: "305.000", 90 * time.Second: "95.000"} {
 		t.Run(want, func(t *testing.T) {
 			backend := newBackend(t, Options{Limit: limit}, "")
-			if got := backend.command("create", nil, nil).Args[2]; got != want {
-				t.Errorf("got %s seconds, want %s", got, want)
-			}
+			diff.Equal(t, backend.command("create", nil, nil).Args[2], want, "")
 		})
 	}
 }
@@ -113,9 +109,8 @@ func TestEndOfARun(t *testing.T) {
 			}
 			diff.Value(goOn.WriteString("go\n"))(t)
 			diff.NoError(t, <-ended, "Create")
-			if _, err := os.Stat(backend.state + "/done"); err != nil {
-				t.Errorf("Create before the work was done: got %v, want no error", err)
-			}
+			_, err := os.Stat(backend.state + "/done")
+			diff.NoError(t, err, "Create before the work was done")
 		})
 	}
 }
@@ -124,8 +119,7 @@ func TestEndOfARun(t *testing.T) {
 func fifo(t *testing.T, path string) *os.File {
 	t.Helper()
 	check(t, syscall.Mkfifo(path, 0o600))
-	file, err := os.OpenFile(path, os.O_RDWR, 0)
-	check(t, err)
+	file := diff.Value(os.OpenFile(path, os.O_RDWR, 0))(t)
 	t.Cleanup(func() { _ = file.Close() })
 	return file
 }
@@ -144,9 +138,7 @@ func TestLimit(t *testing.T) {
 			lock := mustLock(t, backend.Locks())
 			err := backend.Create(lock.Context(ctx), instance)
 			lock.Unlock()
-			if err == nil || !strings.Contains(err.Error(), "it ran longer than 200ms") {
-				t.Errorf("Create: got %v, want an error with \"it ran longer than 200ms\"", err)
-			}
+			diff.ErrorContains(t, err, "it ran longer than 200ms", "Create")
 			mustLock(t, backend.Locks()).Unlock() // the sleep has ended
 		})
 	}
@@ -157,8 +149,7 @@ func mustLock(t *testing.T, locks broker.Locks) broker.Lock {
 	t.Helper()
 	limited, cancel := context.WithTimeout(ctx, time.Minute)
 	defer cancel()
-	lock, err := locks.Lock(limited, instance.Key)
-	check(t, err)
+	lock := diff.Value(locks.Lock(limited, instance.Key))(t)
 	return lock
 }
 
@@ -246,10 +237,8 @@ func TestServerThatHasTheLock(t *testing.T) {
 // pidOf returns the number that the program has written to its file pid.
 func pidOf(t *testing.T, backend bindingsWithCredentials) int {
 	t.Helper()
-	text, err := os.ReadFile(filepath.Join(backend.state, "pid"))
-	check(t, err)
-	pid, err := strconv.Atoi(strings.TrimSpace(string(text)))
-	check(t, err)
+	text := diff.Value(os.ReadFile(filepath.Join(backend.state, "pid")))(t)
+	pid := diff.Value(strconv.Atoi(strings.TrimSpace(string(text))))(t)
 	return pid
 }
 
@@ -269,12 +258,8 @@ func TestDescriptors(t *testing.T) {
 	backend := newBackend(t, Options{}, `[ -e /proc/$$/fd/3 ] && echo '{"exists": "whole"}' || echo '{"exists": "none"}'`)
 	lock := mustLock(t, backend.Locks())
 	defer lock.Unlock()
-	if there, err := backend.Look(ctx, instance); there != broker.None || err != nil {
-		t.Errorf("Look without a lock: got %v and %v, want %v and no error", there, err, broker.None)
-	}
-	if there, err := backend.Look(lock.Context(ctx), instance); there != broker.Whole || err != nil {
-		t.Errorf("Look with a lock: got %v and %v, want %v and no error", there, err, broker.Whole)
-	}
+	diff.Equal(t, diff.Value(backend.Look(ctx, instance))(t), broker.None, "Look without a lock")
+	diff.Equal(t, diff.Value(backend.Look(lock.Context(ctx), instance))(t), broker.Whole, "Look with a lock")
 }
 
 // Runs leave neither open files nor children behind, also if they don't begin.
@@ -288,13 +273,10 @@ func TestRunsLeaveNothing(t *testing.T) {
 	}
 	backend.path += "-that-does-not-exist"
 	err := backend.Create(lock.Context(ctx), instance)
-	if err == nil || !strings.Contains(err.Error(), "exit status 127: ") {
-		t.Errorf("a program that was deleted: got %v, want an error with \"exit status 127: \"", err)
-	}
+	diff.ErrorContains(t, err, "exit status 127: ", "a program that was deleted")
 	backend.timeout += "-that-does-not-exist"
 	diff.ErrorIs(t, backend.Create(lock.Context(ctx), instance), os.ErrNotExist, "without the command timeout")
-	lent, err := filelock.Lend(lock.Context(ctx), time.Minute)
-	check(t, err)
+	lent := diff.Value(filelock.Lend(lock.Context(ctx), time.Minute))(t)
 	backend.grace = 10 * time.Millisecond
 	diff.ErrorIs(t, backend.Create(lock.Context(ctx), instance), filelock.ErrLent, "with a lock that is lent")
 	check(t, lent.Close())
@@ -308,8 +290,7 @@ func TestRunsLeaveNothing(t *testing.T) {
 // open until they are collected as garbage.
 func openFiles(t *testing.T) (count int) {
 	t.Helper()
-	found, err := os.ReadDir("/proc/self/fd")
-	check(t, err)
+	found := diff.Value(os.ReadDir("/proc/self/fd"))(t)
 	for _, entry := range found {
 		path, err := os.Readlink("/proc/self/fd/" + entry.Name())
 		if err == nil && !strings.HasSuffix(path, " (deleted)") {
@@ -391,8 +372,7 @@ func TestWorkOverTheLimitEnds(t *testing.T) {
 	if err != nil || response.Status != http.StatusInternalServerError {
 		t.Errorf("the Provision: got %v, %v, want 500", response, err)
 	}
-	snapshot, err := store.Read(ctx, instance.Key)
-	check(t, err)
+	snapshot := diff.Value(store.Read(ctx, instance.Key))(t)
 	if row, isHeld := snapshot.Holding.Row(); isHeld || isPending(snapshot) {
 		t.Errorf("in the end: got %v in the store, want none", row)
 	}
@@ -441,12 +421,10 @@ func isPendingAfter(t *testing.T, limit time.Duration) bool {
 	if check(t, err); !isPending(snapshot) {
 		t.Errorf("while the process runs: got %v, want the work pending", snapshot.Holding)
 	}
-	_, err = goOn.WriteString("go\n")
-	check(t, err)
+	diff.Value(goOn.WriteString("go\n"))(t)
 	mustLock(t, backend.Locks()).Unlock()
 	check(t, service.TakeUp(ctx, instance.Key))
-	snapshot, err = store.Read(ctx, instance.Key)
-	check(t, err)
+	snapshot = diff.Value(store.Read(ctx, instance.Key))(t)
 	if row, isHeld := snapshot.Holding.Row(); !isHeld || row.Phase != osb.PhaseReady || isPending(snapshot) {
 		t.Errorf("in the end: got %v in the store, want it ready", snapshot.Holding)
 	}
