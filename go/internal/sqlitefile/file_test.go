@@ -421,8 +421,7 @@ func TestCloseAfterWriting(t *testing.T) {
 // Close closes the files, and leaves nothing in the log: one file has everything.
 func TestCloseLeavesOneFile(t *testing.T) {
 	folder := t.TempDir()
-	file, err := Open(background, filepath.Join(folder, "file"), options())
-	check(t, err)
+	file := diff.Value(Open(background, filepath.Join(folder, "file"), options()))(t)
 	diff.NoError(t, file.Write(background, note("x")), "")
 	wantNotes(t, file, "x")
 	diff.NoError(t, file.Close(), "")
@@ -473,9 +472,8 @@ func TestOpenFails(t *testing.T) {
 		filepath.Join(folder, "rejecting"): rejecting, filepath.Join(folder, "unprepared"): unprepared,
 	} {
 		t.Run(path, func(t *testing.T) {
-			if _, err := Open(background, path, with); err == nil || !strings.Contains(err.Error(), path) {
-				t.Errorf("want an error that names %s, got %v", path, err)
-			}
+			_, err := Open(background, path, with)
+			diff.ErrorContains(t, err, path, "")
 		})
 	}
 }
