@@ -13,6 +13,7 @@ import (
 	"testing"
 
 	"pippinterm/broker"
+	"pippinterm/internal/diff"
 	"pippinterm/osb"
 )
 
@@ -30,15 +31,13 @@ const catalogue = `{"services": [{
 
 func catalogueFor(t *testing.T, document string) *broker.Catalogue {
 	t.Helper()
-	made, err := broker.NewCatalogue([]byte(document), true)
-	check(t, err)
+	made := diff.Value(broker.NewCatalogue([]byte(document), true))(t)
 	return made
 }
 
 func handlerFor(t *testing.T, service *broker.Service) *broker.Handler {
 	t.Helper()
-	users, err := broker.NewUsers(map[string][]string{"u": {"p"}})
-	check(t, err)
+	users := diff.Value(broker.NewUsers(map[string][]string{"u": {"p"}}))(t)
 	handler, err := broker.NewHandler(context.Background(), service, broker.Config{
 		Users: users, LongestBody: 1000, AtOnce: 4, Touch: func(broker.Key) {}, Observer: broker.Silent{},
 	})

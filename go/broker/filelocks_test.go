@@ -9,22 +9,20 @@ import (
 	"testing"
 
 	"pippinterm/broker"
+	"pippinterm/internal/diff"
 	"pippinterm/osb"
 )
 
 // Each key has a lock of its own, in all Locks of one file.
 func TestFileLocks(t *testing.T) {
 	ctx, path := context.Background(), filepath.Join(t.TempDir(), "locks")
-	first, err := broker.NewFileLocks(path)
-	check(t, err)
-	second, err := broker.NewFileLocks(path)
-	check(t, err)
+	first := diff.Value(broker.NewFileLocks(path))(t)
+	second := diff.Value(broker.NewFileLocks(path))(t)
 	if first.CanBeLost() {
 		t.Error("a lock in a file: got one that can be lost, want one that can't be")
 	}
 	instance := broker.InstanceKey(osb.ID{15: 1})
-	taken, err := first.Lock(ctx, instance)
-	check(t, err)
+	taken := diff.Value(first.Lock(ctx, instance))(t)
 	if lock, err := second.TryLock(ctx, instance); lock != nil || err != nil {
 		t.Errorf("got the lock %v and %v of a key whose lock is held, want neither", lock, err)
 	}

@@ -145,12 +145,8 @@ func TestLives(t *testing.T) {
 			} else if given.StatusCode != 201 {
 				t.Fatalf("got %s, want 201", given.Status)
 			}
-			if !strings.Contains(first, `"credentials":"token 1"`) {
-				t.Errorf("got the body %s, want credentials in it", first)
-			}
-			if again := s.expect(t, 200, "PUT", bound+query, bodyOf(plan, "")); again != first {
-				t.Errorf("got the body %s, want %s", again, first)
-			}
+			diff.Contains(t, first, `"credentials":"token 1"`, "")
+			diff.Equal(t, s.expect(t, 200, "PUT", bound+query, bodyOf(plan, "")), first, "")
 			s.expect(t, 409, "PUT", bound+query, bodyOf(plan, `,"parameters":{"a":1}`))
 			s.expect(t, 409, "PUT", bound+query, bodyOf(plan, `,"bind_resource":{"app_guid":"a"}`))
 			body := s.expect(t, 422, "DELETE", one+names(plan)+"&accepts_incomplete=true", "")
@@ -201,9 +197,7 @@ func TestPending(t *testing.T) {
 	}
 	s.expect(t, 503, "PUT", instances+"i", bodyOf(now, `,"parameters":{"a":1.0}`))
 	s.expect(t, 422, "DELETE", instances+"i"+names(now), "")
-	if body := s.expect(t, 200, "GET", instances+"i/last_operation", ""); !strings.Contains(body, "in progress") {
-		t.Errorf("got the body %s, want it in progress", body)
-	}
+	diff.Contains(t, s.expect(t, 200, "GET", instances+"i/last_operation", ""), "in progress", "")
 	s.expect(t, 503, "PUT", instances+"i/service_bindings/b", bodyOf(now, ""))
 	close(one.release)
 	diff.Equal(t, <-made, 201, "")
@@ -298,9 +292,7 @@ func TestFailures(t *testing.T) {
 			}})
 			body := s.expect(t, test.status, "PUT", instances+"i", bodyOf(now, ""))
 			for _, text := range test.want {
-				if !strings.Contains(body, text) {
-					t.Errorf("got the body %s, want %s in it", body, text)
-				}
+				diff.Contains(t, body, text, "")
 			}
 			if test.absent != "" && strings.Contains(body, test.absent) {
 				t.Errorf("got the body %s, want no %s in it", body, test.absent)
@@ -484,9 +476,7 @@ func TestObserved(t *testing.T) {
 		t.Error("a Bind that was put off: got no reason in the log, want one")
 	}
 	s.expect(t, 400, "PUT", instances+"i", bodyOf("ff", "")[1:])
-	if reason := s.observed.last().Reason; !strings.Contains(reason, "isn't JSON") {
-		t.Errorf("the reason: got %q, want \"isn't JSON\" in it", reason)
-	}
+	diff.Contains(t, s.observed.last().Reason, "isn't JSON", "the reason")
 	s.expect(t, 200, "GET", "/v2/catalog", "", header("Traceparent", strings.Repeat("0", 300)))
 	if got := s.observed.last().Traceparent; len(got) != 200 {
 		t.Errorf("got %d bytes of a long header, want 200", len(got))
@@ -594,9 +584,7 @@ func TestConfigsThatAreRejected(t *testing.T) {
 
 func TestWordsForWhatExists(t *testing.T) {
 	got := fmt.Sprint(broker.None, broker.Part, broker.Whole, broker.There(9))
-	if want := "none part whole unknown"; got != want {
-		t.Errorf("got %q, want %q", got, want)
-	}
+	diff.Equal(t, got, "none part whole unknown", "")
 	diff.Equal(t, (&broker.Rejection{Status: 400, Description: "too many"}).Error(), "rejected: too many", "")
 	if broker.Away(nil) != nil {
 		t.Error("got an error, want nil")
@@ -610,9 +598,8 @@ func TestCataloguesThatAreRejected(t *testing.T) {
 		strings.Replace(catalogue, `"description": "all later"`, `"description": "d", "maintenance_info": 1`, 1),
 		strings.Replace(catalogue, `"bindings_retrievable": true`, `"bindings_retrievable": 1`, 1),
 	} {
-		if _, err := broker.NewCatalogue([]byte(target), true); err == nil {
-			t.Errorf("%q: got nil, want an error", target)
-		}
+		_, err := broker.NewCatalogue([]byte(target), true)
+		diff.Error(t, err, "%q", target)
 	}
 	if document := catalogueFor(t, catalogue).Document(); !json.Valid(document) {
 		t.Errorf("got %s, want JSON", document)
@@ -727,9 +714,8 @@ func TestParsedAtOnce(t *testing.T) {
 	s := twoUsers(t)
 	config := s.Config
 	config.ParsedAtOnce = config.LongestBody - 1
-	if _, err := broker.NewHandler(context.Background(), nil, config); err == nil || !strings.Contains(err.Error(), "999 bytes") {
-		t.Errorf("got %v, want an error that names 999 bytes", err)
-	}
+	_, err := broker.NewHandler(context.Background(), nil, config)
+	diff.ErrorContains(t, err, "999 bytes", "")
 }
 
 func TestBodiesAtOnce(t *testing.T) {

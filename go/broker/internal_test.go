@@ -120,8 +120,7 @@ func TestWithStore(t *testing.T) {
 func TestOfStore(t *testing.T) {
 	const document = `{"services": [{"id": "s", "name": "n", "description": "d", "bindable": false, "plans": [
 		{"id": "p", "name": "n", "description": "d", "x-osb-asynchronous": false}]}]}`
-	without, err := NewCatalogue([]byte(document), false)
-	diff.Must(t, err)
+	without := diff.Value(NewCatalogue([]byte(document), false))(t)
 	of, err := without.OfStore("the-id")
 	diff.Must(t, err)
 	for _, text := range [][]byte{of.document, of.returning, of.Document()} {
@@ -132,9 +131,8 @@ func TestOfStore(t *testing.T) {
 	if bytes.Contains(without.Document(), []byte("x-osb-store")) || bytes.Contains(without.returning, []byte("x-osb-store")) {
 		t.Errorf("the catalogue without a store: got %s, want no id in it", without.Document())
 	}
-	if _, err := without.OfStore("two\r\nlines"); err == nil {
-		t.Error("an id of two lines: got no error, want one")
-	}
+	_, err = without.OfStore("two\r\nlines")
+	diff.Error(t, err, "an id of two lines")
 	named := strings.Replace(document, "{", `{"x-osb-store": "mine", `, 1)
 	if _, err := NewCatalogue([]byte(named), false); !errors.Is(err, ErrCatalogueMember) ||
 		!strings.Contains(err.Error(), "x-osb-store") {
@@ -254,9 +252,7 @@ func TestTextOfAKey(t *testing.T) {
 	number := osb.MustParseID(one)
 	for want, key := range map[string]Key{one: InstanceKey(number), one + "/" + one: BindingKey(number, number)} {
 		t.Run(want, func(t *testing.T) {
-			if got := key.String(); got != want {
-				t.Errorf("got %s, want %s", got, want)
-			}
+			diff.Equal(t, key.String(), want, "")
 		})
 	}
 }

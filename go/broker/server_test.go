@@ -35,8 +35,7 @@ func TestServerObserver(t *testing.T) {
 // Serve answers by the handler, rejects a request with two ends, which the observer gets, and ends without an error
 // once it is stopped.
 func TestServe(t *testing.T) {
-	listener, err := net.Listen("tcp", "127.0.0.1:0")
-	check(t, err)
+	listener := diff.Value(net.Listen("tcp", "127.0.0.1:0"))(t)
 	stop, cancel := context.WithCancel(context.Background())
 	defer cancel()
 	got, served := &recorder{}, make(chan error, 1)
@@ -63,12 +62,10 @@ func TestServe(t *testing.T) {
 // statusOf returns the status of the answer to a request.
 func statusOf(t *testing.T, address net.Addr, request string) int {
 	t.Helper()
-	connection, err := net.Dial(address.Network(), address.String())
-	check(t, err)
+	connection := diff.Value(net.Dial(address.Network(), address.String()))(t)
 	defer connection.Close()
 	diff.Value(io.WriteString(connection, request))(t)
-	answer, err := http.ReadResponse(bufio.NewReader(connection), nil)
-	check(t, err)
+	answer := diff.Value(http.ReadResponse(bufio.NewReader(connection), nil))(t)
 	defer answer.Body.Close()
 	return answer.StatusCode
 }

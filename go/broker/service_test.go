@@ -35,8 +35,7 @@ func (b *bench) close(t *testing.T) {
 
 func (b *bench) entry(t *testing.T, key broker.Key) broker.Entry {
 	t.Helper()
-	snapshot, err := b.store.Read(context.Background(), key)
-	check(t, err)
+	snapshot := diff.Value(b.store.Read(context.Background(), key))(t)
 	return snapshot.Entry
 }
 
@@ -218,8 +217,7 @@ func newOvertaken(t *testing.T) (*bench, *overtakenBackend) {
 
 func (b *bench) holding(t *testing.T, key broker.Key) osb.Holding {
 	t.Helper()
-	snapshot, err := b.store.Read(context.Background(), key)
-	check(t, err)
+	snapshot := diff.Value(b.store.Read(context.Background(), key))(t)
 	return snapshot.Holding
 }
 
@@ -401,8 +399,7 @@ func TestWorkOfAnotherKey(t *testing.T) {
 	ctx, backend := context.Background(), &blind{shelf: newShelf(calm)}
 	b := newBench(t, backend, newMemoryLocks())
 	entry := b.entry(t, b.leave(t, backend, "i"))
-	err := b.store.Change(ctx, keyOf("j"), func(broker.Snapshot) (*broker.Entry, error) { return &entry, nil })
-	check(t, err)
+	check(t, b.store.Change(ctx, keyOf("j"), func(broker.Snapshot) (*broker.Entry, error) { return &entry, nil }))
 	if err := b.TakeUp(ctx, keyOf("j")); !errors.Is(err, broker.ErrMisfit) || len(backend.things) > 0 {
 		t.Errorf("got %v and %v, want %v and nothing", err, backend.things, broker.ErrMisfit)
 	}
@@ -417,8 +414,7 @@ func TestTakeUpReportsALockThatStaysTaken(t *testing.T) {
 	ctx, backend, locks := context.Background(), &blind{shelf: newShelf(calm)}, newMemoryLocks()
 	b := newBench(t, backend, locks)
 	key := b.leave(t, backend, "i")
-	lock, err := locks.Lock(ctx, key)
-	check(t, err)
+	lock := diff.Value(locks.Lock(ctx, key))(t)
 	for _, test := range []struct {
 		ago  time.Duration
 		want error

@@ -77,8 +77,7 @@ type clumsy struct {
 
 func newClumsy(t *testing.T, n int, backend broker.Backend) *clumsy {
 	t.Helper()
-	opened, err := sqlite.Open(context.Background(), filepath.Join(t.TempDir(), "store"), broker.Silent{})
-	check(t, err)
+	opened := diff.Value(sqlite.Open(context.Background(), filepath.Join(t.TempDir(), "store"), broker.Silent{}))(t)
 	t.Cleanup(func() { _ = opened.Close() })
 	c := &clumsy{store: &failingStore{Store: opened, left: n}}
 	b := &bench{store: opened, observed: &recorder{}}
@@ -389,9 +388,7 @@ func TestTieOfUnknownOwners(t *testing.T) {
 	here, instance := g.folders("here"), filepath.Join(g.top, "here", id("1").String())
 	g.check(os.Mkdir(instance, 0o700))
 	for round := 0; round < 2; round++ { // the first has given the store its name
-		if err := broker.Tie(context.Background(), g.store("b"), here, false); err == nil {
-			t.Error("the folders of an unknown owner: got no error, want one")
-		}
+		diff.Error(t, broker.Tie(context.Background(), g.store("b"), here, false), "the folders of an unknown owner")
 		diff.Equal(t, g.owner(here), "", "the owner of the folders")
 	}
 	g.check(os.Remove(instance))
@@ -485,8 +482,7 @@ func (nameless) Begin(context.Context, string) (string, error) { return "", errD
 func TestTieOfAStoreWithoutAName(t *testing.T) {
 	g := newGround(t)
 	backend := g.folders("here")
-	err := broker.Tie(context.Background(), nameless{g.store("a")}, backend, false)
-	diff.ErrorIs(t, err, errDiskFull, "")
+	diff.ErrorIs(t, broker.Tie(context.Background(), nameless{g.store("a")}, backend, false), errDiskFull, "")
 	diff.Equal(t, g.owner(backend), "", "the owner of the folders")
 	g.tie(g.store("a"), backend) // later it is tied
 }

@@ -37,8 +37,7 @@ func newBench(t *testing.T, backend broker.Backend, locks broker.Locks) *bench {
 
 func (b *bench) isPending(t *testing.T, key broker.Key) bool {
 	t.Helper()
-	snapshot, err := b.store.Read(context.Background(), key)
-	check(t, err)
+	snapshot := diff.Value(b.store.Read(context.Background(), key))(t)
 	_, isPending := snapshot.Holding.Work()
 	return isPending
 }
@@ -122,8 +121,7 @@ func TestSweeperPassesOverALockedKey(t *testing.T) {
 	backend, locks := &blind{shelf: newShelf(calm)}, newMemoryLocks()
 	b := newBench(t, backend, locks)
 	locked, free := b.leave(t, backend, "i"), b.leave(t, backend, "j")
-	lock, err := locks.Lock(context.Background(), locked)
-	check(t, err)
+	lock := diff.Value(locks.Lock(context.Background(), locked))(t)
 	var once sync.Once
 	unlock := func() { once.Do(lock.Unlock) }
 	defer unlock()
@@ -552,8 +550,7 @@ func (l *silentLocks) count() int {
 // While the locks are silent, a Poll is answered, and so is whatever needs no work. All else is answered with 503, and
 // at once from then on. Once the locks answer again, everything is as before. The handler has 4 threads.
 func TestLocksThatAreSilent(t *testing.T) {
-	store, err := sqlite.Open(context.Background(), filepath.Join(t.TempDir(), "store"), broker.Silent{})
-	check(t, err)
+	store := diff.Value(sqlite.Open(context.Background(), filepath.Join(t.TempDir(), "store"), broker.Silent{}))(t)
 	t.Cleanup(func() { _ = store.Close() })
 	locks := &silentLocks{memoryLocks: newMemoryLocks()}
 	rules := broker.Rules{LocksAtOnce: 2} // of the 3 threads that may do work

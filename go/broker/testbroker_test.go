@@ -48,8 +48,7 @@ func newTestBroker(t *testing.T, s setting) *testBroker {
 	if s.over != nil {
 		backend = s.over(it.shelf)
 	}
-	named, err := catalogueFor(t, catalogue).OfStore(storeID)
-	check(t, err)
+	named := diff.Value(catalogueFor(t, catalogue).OfStore(storeID))(t)
 	service := broker.NewService(named, it.store, backend, newMemoryLocks(), s.rules, it.observed)
 	sweeper := broker.NewSweeper(service, it.observed)
 	stop, cancel := context.WithCancel(ctx)

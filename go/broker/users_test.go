@@ -122,9 +122,7 @@ func TestGuessesDontShutOutThePlatform(t *testing.T) {
 func TestWhatALoginIsTold(t *testing.T) {
 	s := newTestBroker(t, setting{})
 	none := s.expect(t, 401, "GET", "/v2/catalog", "", func(r *http.Request) { r.Header.Del("Authorization") })
-	if !strings.Contains(none, "The header Authorization is missing.") {
-		t.Errorf("got %q, want \"The header Authorization is missing.\" in it", none)
-	}
+	diff.Contains(t, none, "The header Authorization is missing.", "")
 	user := s.expect(t, 401, "GET", "/v2/catalog", "", func(r *http.Request) { r.SetBasicAuth("v", "p") })
 	if wrong := s.expect(t, 401, "GET", "/v2/catalog", "", wrongLogin); wrong != user ||
 		!strings.Contains(wrong, "The user or the password is wrong.") {

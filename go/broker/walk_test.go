@@ -44,8 +44,7 @@ func walksTo(t *testing.T) *bufio.Writer {
 	if path == "" {
 		return nil
 	}
-	file, err := os.Create(path)
-	check(t, err)
+	file := diff.Value(os.Create(path))(t)
 	to := bufio.NewWriter(file)
 	t.Cleanup(func() {
 		diff.NoError(t, to.Flush(), "")

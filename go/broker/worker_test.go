@@ -351,8 +351,7 @@ func newWatched(t *testing.T, backend broker.Backend) *watchedBroker {
 func newWatchedWith(t *testing.T, backend broker.Backend, locks broker.Locks) *watchedBroker {
 	t.Helper()
 	seen := &callObserver{calls: map[string]int{}}
-	store, err := sqlite.Open(context.Background(), filepath.Join(t.TempDir(), "store"), seen)
-	check(t, err)
+	store := diff.Value(sqlite.Open(context.Background(), filepath.Join(t.TempDir(), "store"), seen))(t)
 	t.Cleanup(func() { _ = store.Close() })
 	service := broker.NewService(catalogueFor(t, catalogue), store, backend, locks, broker.Rules{}, seen)
 	return &watchedBroker{service, seen, handlerFor(t, service)}
@@ -375,9 +374,7 @@ func TestFailedCallsAreCountedEachTime(t *testing.T) {
 	diff.Equal(t, w.ask("PUT", instances+"one", bodyOf(now, ""), "a"), http.StatusInternalServerError, "the Provision")
 	w.expect(t, map[string]int{"look": 1})
 	for round := 0; round < 3; round++ {
-		if err := w.TakeUp(context.Background(), keyOf("one")); err == nil {
-			t.Error("TakeUp: got no error, want one")
-		}
+		diff.Error(t, w.TakeUp(context.Background(), keyOf("one")), "TakeUp")
 	}
 	w.expect(t, map[string]int{"look": 3})
 }
@@ -525,8 +522,7 @@ func TestLocksThatFail(t *testing.T) {
 
 	locks := newMemoryLocks()
 	w = newWatchedWith(t, newShelf(calm), locks)
-	taken, err := locks.TryLock(context.Background(), keyOf("one"))
-	check(t, err)
+	taken := diff.Value(locks.TryLock(context.Background(), keyOf("one")))(t)
 	defer taken.Unlock()
 	diff.NoError(t, w.TakeUp(context.Background(), keyOf("one")), "TakeUp")
 	w.expect(t, map[string]int{})
@@ -746,9 +742,7 @@ func TestCredentialsAreWrittenWithTheRow(t *testing.T) {
 			store := &reportingStore{Store: l.store, written: func(entry broker.Entry) {
 				if row, isHeld := entry.Holding.Row(); isHeld && row.Phase == osb.PhaseReady {
 					ready++
-					if got, want := credentialsOf(entry.Binding), backend.credentials(key); got != want {
-						t.Errorf("plan %s: got the credentials %q, want %q", plan, got, want)
-					}
+					diff.Equal(t, credentialsOf(entry.Binding), backend.credentials(key), "plan %s", plan)
 				}
 			}}
 			l.Service = broker.NewService(catalogueFor(t, catalogue), store, backend, newMemoryLocks(), broker.Rules{},
