@@ -433,6 +433,24 @@ func TestPageBesideBusyAPI(t *testing.T) {
 	all.Wait()
 }
 
+// While the store keeps a page waiting, the API goes on.
+func TestAPIBesideSlowPage(t *testing.T) {
+	file := diff.Value(sqlite.Open(context.Background(), filepath.Join(t.TempDir(), "store")))(t)
+	defer file.Close()
+	store := &lockedStore{Store: file, listing: make(chan struct{}), letGo: make(chan struct{})}
+	r := servingOver(t, store, new(lockedBuffer))
+	page := diff.Value(r.page(context.Background()))(t)
+	api := diff.Value(r.api())(t)
+	shown, listed := make(chan int, 1), make(chan int, 1)
+	go func() { shown <- answerOf(page, "/?kind=bindings").Code }()
+	waits.For(t, store.listing, "the store's list for the page")
+	go func() { listed <- answerOf(api, "/v1/instances").Code }()
+	diff.Equal(t, waits.For(t, listed, "the API"), 200, "the API")
+	diff.Equal(t, len(shown), 0, "pages that are shown meanwhile")
+	close(store.letGo)
+	waits.For(t, shown, "the page")
+}
+
 // The files with the API's tokens and with the page's users are read again at SIGHUP. After a file that can't be read,
 // the old ones stay valid.
 func TestUsersAndTokensAreReadAgain(t *testing.T) {
