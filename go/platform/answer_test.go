@@ -48,8 +48,7 @@ func (it trial) take(t *testing.T, result exchangeResult) *Change {
 		instance := rowIn(anInstance, Ready)
 		snapshot.Instance = &instance
 	}
-	change := diff.Value(takeAnswer(at(11), snapshot, it.sent, result))(t)
-	return change
+	return diff.Value(takeAnswer(at(11), snapshot, it.sent, result))(t)
 }
 
 // rest stands for a row that rests.
@@ -372,19 +371,21 @@ func TestNUL(t *testing.T) {
 // At a broker without tombstones, one deletion more is due after the end: once the hold has passed again.
 func TestTakenHasLast(t *testing.T) {
 	for _, key := range []Key{anInstance, aBinding} {
-		row := with(rowIn(key, Cleaning), func(e *Entry) { e.SentUntil = at(-1000) })
-		try := newTrial(t, row, usualTerms())
-		if e := try.take(t, try.answer(410, `{}`)).Entry; !e.HasLast || !e.Due.Equal(at(11+300)) {
-			t.Errorf("%v: got last %v, due %v, want one after the hold", key, e.HasLast, e.Due)
-		}
-		try = newTrial(t, rowIn(key, Ordered), usualTerms()) // it may leave until 60 seconds later
-		if e := try.take(t, try.answer(400, `{}`)).Entry; !e.HasLast || !e.Due.Equal(at(10+60+300)) {
-			t.Errorf("%v: got last %v, due %v, want one after the hold", key, e.HasLast, e.Due)
-		}
-		try = newTrial(t, row, plain())
-		if e := try.take(t, try.answer(410, `{}`)).Entry; e.HasLast || !e.Rests() {
-			t.Errorf("%v: at a broker with tombstones: got last %v, due %v, want none", key, e.HasLast, e.Due)
-		}
+		t.Run(key.String(), func(t *testing.T) {
+			row := with(rowIn(key, Cleaning), func(e *Entry) { e.SentUntil = at(-1000) })
+			try := newTrial(t, row, usualTerms())
+			if e := try.take(t, try.answer(410, `{}`)).Entry; !e.HasLast || !e.Due.Equal(at(11+300)) {
+				t.Errorf("%v: got last %v, due %v, want one after the hold", key, e.HasLast, e.Due)
+			}
+			try = newTrial(t, rowIn(key, Ordered), usualTerms()) // it may leave until 60 seconds later
+			if e := try.take(t, try.answer(400, `{}`)).Entry; !e.HasLast || !e.Due.Equal(at(10+60+300)) {
+				t.Errorf("%v: got last %v, due %v, want one after the hold", key, e.HasLast, e.Due)
+			}
+			try = newTrial(t, row, plain())
+			if e := try.take(t, try.answer(410, `{}`)).Entry; e.HasLast || !e.Rests() {
+				t.Errorf("%v: at a broker with tombstones: got last %v, due %v, want none", key, e.HasLast, e.Due)
+			}
+		})
 	}
 }
 
@@ -514,17 +515,19 @@ func TestNextTryOfBinding(t *testing.T) {
 	count := 0
 	for _, state := range everyState {
 		for _, removal := range []Removal{NotRemoved, Removed, RemovedWhole} {
-			try := newTrial(t, failedTry(aBinding), plain())
-			instance := with(rowIn(anInstance, state), func(e *Entry) { e.Removal = removal })
-			change, err := takeAnswer(at(11), Snapshot{Entry: try.row, Instance: &instance}, try.sent, try.answer(200, `{}`))
-			check(t, err)
-			diff.Equal(t, change.Next != nil, state == Ready && removal == NotRemoved,
-				"a next try with the instance in %s, removal %d", state, removal)
-			if change.Entry.State != Gone || !change.WakeInstance {
-				t.Errorf("the instance in %s: got the binding in %s, want it gone and the instance woken", state,
-					change.Entry.State)
-			}
-			count++
+			t.Run(fmt.Sprint(state, " ", removal), func(t *testing.T) {
+				try := newTrial(t, failedTry(aBinding), plain())
+				instance := with(rowIn(anInstance, state), func(e *Entry) { e.Removal = removal })
+				change, err := takeAnswer(at(11), Snapshot{Entry: try.row, Instance: &instance}, try.sent, try.answer(200, `{}`))
+				check(t, err)
+				diff.Equal(t, change.Next != nil, state == Ready && removal == NotRemoved,
+					"a next try with the instance in %s, removal %d", state, removal)
+				if change.Entry.State != Gone || !change.WakeInstance {
+					t.Errorf("the instance in %s: got the binding in %s, want it gone and the instance woken", state,
+						change.Entry.State)
+				}
+				count++
+			})
 		}
 	}
 	diff.Equal(t, count, 3*len(everyState), "tried")

@@ -59,9 +59,10 @@ func TestReadForeignCatalogue(t *testing.T) {
 		}
 	}
 	for _, text := range []string{``, `{}`, `[]`, `{"services": {}}`, `{"services": null}`, `{"services": [`} {
-		if _, err := ReadCatalogue([]byte(text)); err == nil {
-			t.Errorf("%s: got no error, want one", text)
-		}
+		t.Run(text, func(t *testing.T) {
+			_, err := ReadCatalogue([]byte(text))
+			diff.Error(t, err, "%s", text)
+		})
 	}
 }
 
@@ -97,9 +98,11 @@ func TestCheckURL(t *testing.T) {
 		"HTTPS://broker.example/a%20b", "https://[2001:db8::1]/v2", "http://localhost:8080", "http://LocalHost",
 		"http://127.0.0.1:8080/postgres", "http://127.1.2.3", "http://[::1]:8080", "https://broker.example/a.b/..c/...",
 	} {
-		for _, allowHTTP := range []bool{false, true} {
-			diff.NoError(t, CheckURL(url, allowHTTP), "%s", url)
-		}
+		t.Run(url, func(t *testing.T) {
+			for _, allowHTTP := range []bool{false, true} {
+				diff.NoError(t, CheckURL(url, allowHTTP), "%s", url)
+			}
+		})
 	}
 	for url, said := range map[string]string{
 		"":                                  "must begin with https://",

@@ -168,25 +168,27 @@ func TestCreateWithoutCatalogue(t *testing.T) {
 func TestBind(t *testing.T) {
 	for _, state := range everyState {
 		for _, removal := range []Removal{NotRemoved, Removed} {
-			d := newDesk(t)
-			instance := d.put(with(rowIn(anInstance, state), func(e *Entry) { e.Removal = removal }))
-			e, err := d.orders.Bind(background, NewBinding{
-				Instance: instance.Names.Instance, Parameters: json.RawMessage(`{}`),
-				BindResource: json.RawMessage(`{"app_guid": "1"}`),
-			})
-			if state == Ready && removal == NotRemoved {
-				check(t, err)
-				if e.Key.Instance != anInstance.Instance || !e.Key.IsBinding || e.State != Ordered || e.Tries != 3 ||
-					e.Try != 1 || e.First != e.Key.Binding || !e.IsOwnID ||
-					e.Broker != "shelf" || e.Names.Plan != instance.Names.Plan ||
-					string(e.Body) != `{"bind_resource":{"app_guid":"1"},"parameters":{}}` ||
-					!e.Due.Equal(d.dial.time()) {
-					t.Errorf("got %+v, want a binding of the instance, ordered and due now", e)
+			t.Run(fmt.Sprint(state, " ", removal), func(t *testing.T) {
+				d := newDesk(t)
+				instance := d.put(with(rowIn(anInstance, state), func(e *Entry) { e.Removal = removal }))
+				e, err := d.orders.Bind(background, NewBinding{
+					Instance: instance.Names.Instance, Parameters: json.RawMessage(`{}`),
+					BindResource: json.RawMessage(`{"app_guid": "1"}`),
+				})
+				if state == Ready && removal == NotRemoved {
+					check(t, err)
+					if e.Key.Instance != anInstance.Instance || !e.Key.IsBinding || e.State != Ordered || e.Tries != 3 ||
+						e.Try != 1 || e.First != e.Key.Binding || !e.IsOwnID ||
+						e.Broker != "shelf" || e.Names.Plan != instance.Names.Plan ||
+						string(e.Body) != `{"bind_resource":{"app_guid":"1"},"parameters":{}}` ||
+						!e.Due.Equal(d.dial.time()) {
+						t.Errorf("got %+v, want a binding of the instance, ordered and due now", e)
+					}
+					return
 				}
-				continue
-			}
-			wantFault(t, err, Conflict, "instance")
-			diff.Equal(t, len(d.store.rows), 1, "%s", state)
+				wantFault(t, err, Conflict, "instance")
+				diff.Equal(t, len(d.store.rows), 1, "%s", state)
+			})
 		}
 	}
 }
@@ -252,33 +254,35 @@ func TestBindRejected(t *testing.T) {
 func TestRemove(t *testing.T) {
 	for _, key := range []Key{anInstance, aBinding} {
 		for _, state := range everyState {
-			d := newDesk(t)
-			d.put(rowIn(anInstance, Ready))
-			before := d.put(rowIn(key, state))
-			d.dial.forward(time.Minute)
-			after, err := d.orders.Remove(background, key, false)
-			now := d.dial.time()
-			switch state {
-			case Abandoned:
-				wantFault(t, err, Conflict, "abandoned")
-				continue
-			case Gone, Withdrawn:
-				if err != nil || after.State != state || after.Due != before.Due || after.Removal != NotRemoved {
-					t.Errorf("%s: got %+v, %v, want no change", state, after, err)
+			t.Run(fmt.Sprint(key, " ", state), func(t *testing.T) {
+				d := newDesk(t)
+				d.put(rowIn(anInstance, Ready))
+				before := d.put(rowIn(key, state))
+				d.dial.forward(time.Minute)
+				after, err := d.orders.Remove(background, key, false)
+				now := d.dial.time()
+				switch state {
+				case Abandoned:
+					wantFault(t, err, Conflict, "abandoned")
+					return
+				case Gone, Withdrawn:
+					if err != nil || after.State != state || after.Due != before.Due || after.Removal != NotRemoved {
+						t.Errorf("%s: got %+v, %v, want no change", state, after, err)
+					}
+					return
+				case Ordered:
+					if err != nil || after.State != Withdrawn || !after.Rests() || !after.Since.Equal(now) {
+						t.Errorf("%s: got %+v, %v, want withdrawn since %v, at rest", state, after, err, now)
+					}
+				default:
+					if err != nil || after.State != state || !after.Due.Equal(now) || after.Record != before.Record {
+						t.Errorf("%s: got %+v, %v, want the same state and record, due at %v", state, after, err, now)
+					}
 				}
-				continue
-			case Ordered:
-				if err != nil || after.State != Withdrawn || !after.Rests() || !after.Since.Equal(now) {
-					t.Errorf("%s: got %+v, %v, want withdrawn since %v, at rest", state, after, err, now)
+				if stored := d.store.rows[key]; stored.Removal != Removed || stored.State != after.State {
+					t.Errorf("%s: got %+v stored, want the removal and the state", state, stored)
 				}
-			default:
-				if err != nil || after.State != state || !after.Due.Equal(now) || after.Record != before.Record {
-					t.Errorf("%s: got %+v, %v, want the same state and record, due at %v", state, after, err, now)
-				}
-			}
-			if stored := d.store.rows[key]; stored.Removal != Removed || stored.State != after.State {
-				t.Errorf("%s: got %+v stored, want the removal and the state", state, stored)
-			}
+			})
 		}
 	}
 	_, err := newDesk(t).orders.Remove(background, anInstance, true)
@@ -386,22 +390,24 @@ func TestRetryAfterCrash(t *testing.T) {
 func TestAbandon(t *testing.T) {
 	for _, key := range []Key{anInstance, aBinding} {
 		for _, state := range everyState {
-			d := newDesk(t)
-			d.put(with(rowIn(anInstance, Ready), remove))
-			before := d.put(rowIn(key, state))
-			d.dial.forward(time.Minute)
-			after, err := d.orders.Abandon(background, key, "the broker was closed")
-			if state == Gone || state == Withdrawn || state == Abandoned || state == Ordered {
-				wantFault(t, err, Conflict, describe(before))
-				continue
-			}
-			if err != nil || after.State != Abandoned || !after.Rests() || after.Because != "the broker was closed" ||
-				after.Record != before.Record || after.Credentials != nil || !after.Since.Equal(d.dial.time()) {
-				t.Errorf("%s: got %+v, %v, want it abandoned with its record", state, after, err)
-			}
-			if key.IsBinding && !d.store.rows[anInstance].Due.Equal(d.dial.time()) {
-				t.Errorf("%s: got an instance that isn't woken, want it due now", state)
-			}
+			t.Run(fmt.Sprint(key, " ", state), func(t *testing.T) {
+				d := newDesk(t)
+				d.put(with(rowIn(anInstance, Ready), remove))
+				before := d.put(rowIn(key, state))
+				d.dial.forward(time.Minute)
+				after, err := d.orders.Abandon(background, key, "the broker was closed")
+				if state == Gone || state == Withdrawn || state == Abandoned || state == Ordered {
+					wantFault(t, err, Conflict, describe(before))
+					return
+				}
+				if err != nil || after.State != Abandoned || !after.Rests() || after.Because != "the broker was closed" ||
+					after.Record != before.Record || after.Credentials != nil || !after.Since.Equal(d.dial.time()) {
+					t.Errorf("%s: got %+v, %v, want it abandoned with its record", state, after, err)
+				}
+				if key.IsBinding && !d.store.rows[anInstance].Due.Equal(d.dial.time()) {
+					t.Errorf("%s: got an instance that isn't woken, want it due now", state)
+				}
+			})
 		}
 	}
 	d := newDesk(t)

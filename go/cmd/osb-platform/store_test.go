@@ -82,12 +82,14 @@ func TestStatusOfFiles(t *testing.T) {
 		{fmt.Errorf("the store: %w", &pq.Error{Code: "57014"}), 78, 75}, // a table that VACUUM FULL has locked
 		{fmt.Errorf("the store: %w", &pq.Error{Code: "55P03"}), 78, 75},
 	} {
-		for err, want := range map[error]int{ofFile(test.err): test.opened, (&app{}).withStatus(test.err): test.called} {
-			root := &cobra.Command{Use: "test", RunE: func(*cobra.Command, []string) error { return err }}
-			root.SetArgs([]string{})
-			root.SetErr(new(nothing))
-			diff.Equal(t, cli.Run(context.Background(), root), want, "%v", err)
-		}
+		t.Run(test.err.Error(), func(t *testing.T) {
+			for err, want := range map[error]int{ofFile(test.err): test.opened, (&app{}).withStatus(test.err): test.called} {
+				root := &cobra.Command{Use: "test", RunE: func(*cobra.Command, []string) error { return err }}
+				root.SetArgs([]string{})
+				root.SetErr(new(nothing))
+				diff.Equal(t, cli.Run(context.Background(), root), want, "%v", err)
+			}
+		})
 	}
 }
 

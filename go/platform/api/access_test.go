@@ -3,6 +3,7 @@ package api
 import (
 	"crypto/sha256"
 	"encoding/hex"
+	"fmt"
 	"os"
 	"path/filepath"
 	"strings"
@@ -44,18 +45,20 @@ func TestReadTokens(t *testing.T) {
 
 func TestBadTokens(t *testing.T) {
 	digest := digestOf(all)
-	for _, text := range []string{
+	for n, text := range []string{
 		"", "# none\n", "portal read\n", "portal read " + digest[1:] + "\n", "portal read " + digest + " x\n",
 		"portal read  " + digest, "portal all " + digest, "portal  " + digest, "portal read, " + digest,
 		"por:tal read " + digest, "portal read x" + digest[1:], "portal read " + digest + "\r\n",
 		"a read " + digest + "\nb write " + digest, strings.Repeat("#\n", longestTokens),
 	} {
-		tokens, _, err := ReadTokens(fileWith(t, text, 0o600))
-		if err == nil {
-			t.Errorf("%.80q: got %v, want an error", text, tokens)
-		} else if strings.Contains(err.Error(), digest[1:]) {
-			t.Errorf("%.80q: got the error %v, want no digest in it", text, err)
-		}
+		t.Run(fmt.Sprint("line ", n), func(t *testing.T) {
+			tokens, _, err := ReadTokens(fileWith(t, text, 0o600))
+			if err == nil {
+				t.Errorf("%.80q: got %v, want an error", text, tokens)
+			} else if strings.Contains(err.Error(), digest[1:]) {
+				t.Errorf("%.80q: got the error %v, want no digest in it", text, err)
+			}
+		})
 	}
 	if _, _, err := ReadTokens(filepath.Join(t.TempDir(), "none")); !os.IsNotExist(err) {
 		t.Errorf("no file: got %v, want that there is none", err)
@@ -91,8 +94,10 @@ func TestHosts(t *testing.T) {
 	for _, text := range []string{
 		"", "*", "*.", ".", ".x", "*x.example", "a b", "http://x", "x:", "x:port", "10.0.0.0/33", "x/8", "a,b", "x:123456",
 	} {
-		_, err := ParseHosts([]string{"ok.example", text})
-		diff.Error(t, err, "the host %q", text)
+		t.Run(text, func(t *testing.T) {
+			_, err := ParseHosts([]string{"ok.example", text})
+			diff.Error(t, err, "the host %q", text)
+		})
 	}
 }
 

@@ -386,14 +386,20 @@ func TestStrictBodies(t *testing.T) {
 		"{\"service\": \"\xff\"}", `{"tries": 1.5}`, `{"tries": "1"}`, `{"parameters": ` + deep + `}`, ` `,
 		`{"parameters": {"a": 01}}`, `{"service": "shelf", "plan": "small", "id": ""}`,
 	} {
-		r.call("POST", "/v1/instances", text).want(400, "malformed")
+		t.Run(text, func(t *testing.T) {
+			r.in(t)
+			r.call("POST", "/v1/instances", text).want(400, "malformed")
+		})
 	}
 	for _, text := range []string{
 		`{"url": "https://x", "user": "u", "settings": {"hold": 1}}`,
 		`{"url": "https://x", "settings": {"hold_seconds": null}}`,
 		`{"url": "https://x", "settings": []}`,
 	} {
-		r.call("PUT", "/v1/brokers/x", text).want(400, "malformed")
+		t.Run(text, func(t *testing.T) {
+			r.in(t)
+			r.call("PUT", "/v1/brokers/x", text).want(400, "malformed")
+		})
 	}
 	found, _ := r.store.List(background, platform.Filter{})
 	diff.Equal(t, len(found), 0, "%v", found)

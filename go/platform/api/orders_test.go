@@ -304,7 +304,10 @@ func TestBadLists(t *testing.T) {
 		"first=a", "order=state&after=" + cursor, "latest=true&after=" + cursor, "order=number&after=" + byState,
 		"after=" + byState, "order=number&latest=true", "order=id",
 	} {
-		r.call("GET", "/v1/records?"+query, "").want(400, "malformed")
+		t.Run(query, func(t *testing.T) {
+			r.in(t)
+			r.call("GET", "/v1/records?"+query, "").want(400, "malformed")
+		})
 	}
 	const position = `"i":"00000000-0000-4000-8000-000000000001"`
 	for _, query := range []string{
@@ -312,10 +315,13 @@ func TestBadLists(t *testing.T) {
 		`order=newest {"s":"ready","t":"2026-01-02T03:04:05Z",` + position + `,"m":"x"}`,
 		`order=number&state=ready {` + position + `}`, `order=number {` + position + `,"m":"1"}`,
 	} {
-		query, text, _ := strings.Cut(query, " ")
-		query += "&after=" + base64.RawURLEncoding.EncodeToString([]byte(text))
-		got := r.call("GET", "/v1/records?"+query, "").want(400, "malformed")
-		diff.Contains(t, got.at("detail"), "begin with the first page", "%s", text)
+		t.Run(query, func(t *testing.T) {
+			r.in(t)
+			query, text, _ := strings.Cut(query, " ")
+			query += "&after=" + base64.RawURLEncoding.EncodeToString([]byte(text))
+			got := r.call("GET", "/v1/records?"+query, "").want(400, "malformed")
+			diff.Contains(t, got.at("detail"), "begin with the first page", "%s", text)
+		})
 	}
 	for _, query := range []string{"after=a&before=a", "last=true&after=a", "last=true&before=a"} {
 		got := r.call("GET", "/v1/records?"+query, "").want(400, "malformed")

@@ -221,8 +221,7 @@ func (r *rig) answer(key platform.Key, status uint16, change func(*platform.Entr
 
 func keyOfIDs(t *testing.T, ids ...string) platform.Key {
 	t.Helper()
-	key := diff.Value(platform.ParseKey(strings.Join(ids, "/")))(t)
-	return key
+	return diff.Value(platform.ParseKey(strings.Join(ids, "/")))(t)
 }
 
 // ready creates an instance that is ready.

@@ -106,14 +106,16 @@ func TestTaken(t *testing.T) {
 // The reason reaches the caller, also that of an answer that isn't taken.
 func TestReason(t *testing.T) {
 	for _, status := range []string{"400 Bad Request", "401 Unauthorized", "503 Service Unavailable"} {
-		server := serve(t, always(text(status, `{"error":"Quota","description":"full"}`, "", "Retry-After: 7")))
-		in := exchange(t, newClient(t, Options{}), server.url, osb.KindProvision)
-		if said := in.Details.Description; said == nil || *said != "full" {
-			t.Errorf("%s: got %+v, want the description full", status, in)
-		}
-		if code := in.Details.Error; code == nil || *code != "Quota" || in.RetryAfter != 7*time.Second {
-			t.Errorf("%s: got %+v, want the error Quota, and 7 s of Retry-After", status, in)
-		}
+		t.Run(status, func(t *testing.T) {
+			server := serve(t, always(text(status, `{"error":"Quota","description":"full"}`, "", "Retry-After: 7")))
+			in := exchange(t, newClient(t, Options{}), server.url, osb.KindProvision)
+			if said := in.Details.Description; said == nil || *said != "full" {
+				t.Errorf("%s: got %+v, want the description full", status, in)
+			}
+			if code := in.Details.Error; code == nil || *code != "Quota" || in.RetryAfter != 7*time.Second {
+				t.Errorf("%s: got %+v, want the error Quota, and 7 s of Retry-After", status, in)
+			}
+		})
 	}
 }
 
@@ -409,27 +411,29 @@ func TestOddNames(t *testing.T) {
 		"a/b", "a?b=c&d#e", "%2F", "a b+c", "größe", "日本", "..a", "...", "a;b:c@d", `"\`, "'", "{}|^`<>[]",
 		"\x7f\x01\n\r", "%zz",
 	} {
-		var got []string
-		server := serve(t, always(text("200 OK", "{}", "")))
-		names := platform.Names{Instance: name, Binding: name + "2", Service: name + "3", Plan: name + "4"}
-		c := newClient(t, Options{})
-		in := c.Exchange(context.Background(), outgoingOf(c, server.url, osb.KindDeprovision, names))
-		if in.Lost != nil {
-			t.Errorf("%q: got %v, want no error", name, in.Lost)
-			continue
-		}
-		requests, _ := server.arrivals()
-		line, _, _ := strings.Cut(requests[0], " HTTP/1.1\r\n")
-		path, query, _ := strings.Cut(strings.TrimPrefix(line, "DELETE "), "?")
-		for _, part := range strings.Split(path, "/") {
-			plain := diff.Value(url.PathUnescape(part))(t)
-			got = append(got, plain)
-		}
-		values := diff.Value(url.ParseQuery(query))(t)
-		if len(got) != 6 || got[3] != name || got[5] != name+"2" || values.Get("service_id") != name+"3" ||
-			values.Get("plan_id") != name+"4" {
-			t.Errorf("%q: got %q sent, want the names escaped", name, line)
-		}
+		t.Run(name, func(t *testing.T) {
+			var got []string
+			server := serve(t, always(text("200 OK", "{}", "")))
+			names := platform.Names{Instance: name, Binding: name + "2", Service: name + "3", Plan: name + "4"}
+			c := newClient(t, Options{})
+			in := c.Exchange(context.Background(), outgoingOf(c, server.url, osb.KindDeprovision, names))
+			if in.Lost != nil {
+				t.Errorf("%q: got %v, want no error", name, in.Lost)
+				return
+			}
+			requests, _ := server.arrivals()
+			line, _, _ := strings.Cut(requests[0], " HTTP/1.1\r\n")
+			path, query, _ := strings.Cut(strings.TrimPrefix(line, "DELETE "), "?")
+			for _, part := range strings.Split(path, "/") {
+				plain := diff.Value(url.PathUnescape(part))(t)
+				got = append(got, plain)
+			}
+			values := diff.Value(url.ParseQuery(query))(t)
+			if len(got) != 6 || got[3] != name || got[5] != name+"2" || values.Get("service_id") != name+"3" ||
+				values.Get("plan_id") != name+"4" {
+				t.Errorf("%q: got %q sent, want the names escaped", name, line)
+			}
+		})
 	}
 }
 
@@ -524,24 +528,26 @@ func TestJournalTime(t *testing.T) {
 // not every broker returns it.
 func TestAnswersToAnotherRequest(t *testing.T) {
 	for _, named := range []string{"another", "", "the same, twice"} {
-		server := httptest.NewServer(http.HandlerFunc(func(w http.ResponseWriter, r *http.Request) {
-			switch own := r.Header.Get(osb.RequestIdentityHeader); {
-			case own == "":
-				t.Errorf("%s %s: got no identity, want one", r.Method, r.URL)
-			case named == "another":
-				w.Header().Set(osb.RequestIdentityHeader, named)
-			case named != "":
-				w.Header().Set(osb.RequestIdentityHeader, own+", "+own)
+		t.Run(named, func(t *testing.T) {
+			server := httptest.NewServer(http.HandlerFunc(func(w http.ResponseWriter, r *http.Request) {
+				switch own := r.Header.Get(osb.RequestIdentityHeader); {
+				case own == "":
+					t.Errorf("%s %s: got no identity, want one", r.Method, r.URL)
+				case named == "another":
+					w.Header().Set(osb.RequestIdentityHeader, named)
+				case named != "":
+					w.Header().Set(osb.RequestIdentityHeader, own+", "+own)
+				}
+				w.Header().Set(platform.StoreHeader, "one")
+				_, _ = w.Write([]byte(namedCatalogue))
+			}))
+			for name, ask := range asks(t, newClient(t, Options{}), at(server.URL)) {
+				if err := ask(); errors.Is(err, ErrOtherRequest) != (named != "") || named == "" && err != nil {
+					t.Errorf("%s with the identity %q: got %v, want %v exactly with another", name, named, err, ErrOtherRequest)
+				}
 			}
-			w.Header().Set(platform.StoreHeader, "one")
-			_, _ = w.Write([]byte(namedCatalogue))
-		}))
-		for name, ask := range asks(t, newClient(t, Options{}), at(server.URL)) {
-			if err := ask(); errors.Is(err, ErrOtherRequest) != (named != "") || named == "" && err != nil {
-				t.Errorf("%s with the identity %q: got %v, want %v exactly with another", name, named, err, ErrOtherRequest)
-			}
-		}
-		server.Close()
+			server.Close()
+		})
 	}
 }
 

@@ -3,6 +3,7 @@ package page
 import (
 	"context"
 	"database/sql/driver"
+	"fmt"
 	"net/http"
 	"net/url"
 	"path/filepath"
@@ -207,7 +208,9 @@ func TestNoSuchPage(t *testing.T) {
 		"/?find=" + strings.Repeat("a", 256),
 		"/?after=" + strings.Repeat("9", 5000) + "_a",
 	} {
-		diff.Equal(t, answerTo(h, request("GET", target)).Code, 404, "%.80s", target)
+		t.Run(fmt.Sprintf("%.80s", target), func(t *testing.T) {
+			diff.Equal(t, answerTo(h, request("GET", target)).Code, 404, "%.80s", target)
+		})
 	}
 }
 

@@ -384,8 +384,7 @@ func shelf() *fake {
 // pageOf is the page over a store.
 func pageOf(t *testing.T, store platform.Store, options Options) http.Handler {
 	t.Helper()
-	h := diff.Value(NewHandler(api.NewReader(store, true), options))(t)
-	return h
+	return diff.Value(NewHandler(api.NewReader(store, true), options))(t)
 }
 
 // A request as a page at 127.0.0.1:8090 gets it.

@@ -71,8 +71,7 @@ func TestEscaping(t *testing.T) {
 // objectOf is an object of JSON with a member of this name and value.
 func objectOf(t *testing.T, text string) []byte {
 	t.Helper()
-	object := diff.Value(json.Marshal(map[string]string{text: text}))(t)
-	return object
+	return diff.Value(json.Marshal(map[string]string{text: text}))(t)
 }
 
 // No page shows a password, credentials, parameters, or the identity of an order.
