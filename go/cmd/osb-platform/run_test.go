@@ -359,8 +359,7 @@ func oldestDue(t *testing.T, p *process) float64 {
 	if found == nil {
 		t.Fatalf("got %s, want oldest_due_seconds", text)
 	}
-	seconds := diff.Value(strconv.ParseFloat(found[1], 64))(t)
-	return seconds
+	return diff.Value(strconv.ParseFloat(found[1], 64))(t)
 }
 
 // While a broker doesn't answer, its oldest order counts as due since it was ordered, though each request is sent
