@@ -232,11 +232,28 @@ impl Driver {
         ensures tx { result ≡ spec.first locked is_owner (not may_begin && begins mode row request.now attributes) row
             request.now (begun_if may_begin mode first_poll row request.now attributes) }
     {
+        let put_off = !may_begin && row.begins(mode, request, attributes);
+        let begun = row.begin_if(mode, first_poll, request, attributes, may_begin);
+        Driver::begun(locked, is_owner, put_off, row, request, begun)
+    }
+
+    /// Returns the first transaction of a request, by the row that it reads and by what comes of the request: `begun`,
+    /// as [`Holding::begin_if`] or a binding's `begin` returns it. `put_off` is whether the request would begin
+    /// something that may not begin. [`Driver::first`] has the rest.
+    pub fn begun(
+        locked: bool,
+        is_owner: bool,
+        put_off: bool,
+        row: Holding,
+        request: &Request,
+        begun: (Holding, Begun),
+    ) -> Transaction
+        ensures tx { result ≡ spec.first locked is_owner put_off row request.now begun }
+    {
         if is_owner {
             return nothing(row, Stage::Done);
         }
-        let put_off = !may_begin && row.begins(mode, request, attributes);
-        let (after, begun) = row.begin_if(mode, first_poll, request, attributes, may_begin);
+        let (after, begun) = begun;
         match begun {
             Begun::Answered(answer) => answered(after, answer, put_off),
             Begun::Work(_) => {
