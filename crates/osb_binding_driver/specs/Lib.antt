@@ -1,1 +1,2 @@
 pub mod ServiceWorld
+pub mod Driver

@@ -2,8 +2,10 @@
 //! them. It is proved that whatever happens is a run of the network of `osb_binding_network`.
 #![tactic(auto)]
 
+mod driver;
 mod laws;
 mod world;
 
+pub use driver::transaction;
 pub use laws::refines;
 pub use world::ServiceHappening;
