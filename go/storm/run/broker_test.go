@@ -528,17 +528,22 @@ func TestHangingCommands(t *testing.T) {
 			t.Run(fmt.Sprint(name, second), func(t *testing.T) {
 				t.Parallel()
 				m, config := configForModel(t, false, mistakes{})
-				config.Commands, config.Time = m.commands(), 10*time.Minute // it goes on until the signal
+				config.Commands, config.Time = m.commands(), time.Minute
 				flag := filepath.Join(t.TempDir(), "hang")
 				change(&config.Commands, "! test -e "+flag)
 				storm := openStorm(t, config)
 				running, first := context.WithCancel(context.Background())
 				deleting, end := context.WithCancel(context.Background())
 				defer end()
-				begun := make(chan time.Time, 1)
+				begun, ended := make(chan time.Time, 1), make(chan struct{})
 				go func() {
-					for wanted := map[bool]int{true: 1, false: 5}[name == "trial"]; len(m.list(t)) < wanted; {
-						time.Sleep(10 * time.Millisecond)
+					defer close(begun)
+					for wanted := map[bool]int{true: 1, false: 2}[name == "trial"]; len(m.list(t)) < wanted; {
+						select {
+						case <-ended:
+							return
+						case <-time.After(10 * time.Millisecond):
+						}
 					}
 					_ = os.WriteFile(flag, nil, 0o600)
 					time.Sleep(time.Second)
@@ -550,7 +555,12 @@ func TestHangingCommands(t *testing.T) {
 					}
 				}()
 				report, err := storm.Run(running, deleting)
-				took, most := time.Since(<-begun), 3*lastTime
+				close(ended)
+				signal, isSent := <-begun
+				if !isSent {
+					t.Fatalf("got the end before a signal, want it afterwards\n%s", textOf(t, report))
+				}
+				took, most := time.Since(signal), 3*lastTime
 				if second {
 					most = 8 * time.Second
 				}
