@@ -145,7 +145,7 @@ func (s *Service) lock(ctx context.Context, key Key) (Lock, error) {
 	case err == nil || ctx.Err() != nil:
 		return lock, err
 	case within.Err() != nil:
-		return nil, fmt.Errorf("%w: somebody else has the lock of %v", ErrNobodyKnows, key)
+		return nil, fmt.Errorf("somebody else has the lock of %v, so nothing was begun", key)
 	}
 	s.observer.OnCallFailure("lock")
 	return nil, err
@@ -226,6 +226,7 @@ func (p pendingEntry) requestOf(key Key) (Request, error) {
 func (s *Service) record(ctx context.Context, visit Visit, isLocked bool, away error) (given beginning, err error) {
 	point := ""
 	err = s.change(ctx, visit.Key, func(snapshot Snapshot) (next *Entry, err error) {
+		point = ""
 		next, given, err = s.begin(snapshot, visit)
 		if err == nil && given.work != osb.WorkNone {
 			if !isLocked {
@@ -235,7 +236,7 @@ func (s *Service) record(ctx context.Context, visit Visit, isLocked bool, away e
 			next.Worker = newNumber()
 			given.pending.entry.Worker = next.Worker
 		}
-		if point = ""; err == nil && next != nil {
+		if err == nil && next != nil {
 			if point = "begin"; given.work == osb.WorkNone {
 				point = "mark"
 			}

@@ -61,9 +61,9 @@ func (s *Service) takeUp(ctx context.Context, key Key) (backendResult, error) {
 	if err != nil {
 		return backendUnused, err
 	}
-	done := backendUnused
 	if _, isPending := taken.Holding.Work(); isPending {
-		if done, err = s.endPending(ctx, lock, key, taken); err != nil {
+		isUnfinished, done, err := s.endPending(ctx, lock, key, taken)
+		if err != nil || !isUnfinished {
 			return done, err
 		}
 		if taken, err = s.takeOver(ctx, key); err != nil {
@@ -73,24 +73,25 @@ func (s *Service) takeUp(ctx context.Context, key Key) (backendResult, error) {
 	if taken.isOperating() {
 		return s.operate(ctx, lock, key, taken)
 	}
-	return done, nil
+	return backendUnused, nil
 }
 
 // takeOver is the first transaction of a take-up: pending work, or the operation that runs, gets the number of a new
 // worker. A creation that had no first Poll in time ends: it has failed, and nothing of it was made. It returns the
-// entry then, or the zero Entry if there is nothing to do any more.
+// entry then, or the zero Entry if there is nothing to do, which needs no transaction.
 func (s *Service) takeOver(ctx context.Context, key Key) (taken Entry, err error) {
+	if snapshot, err := s.read(ctx, key); err != nil || !s.rules.isDue(snapshot.Entry) {
+		return Entry{}, err
+	}
 	var late *Failure
 	err = s.change(ctx, key, func(snapshot Snapshot) (next *Entry, err error) {
 		taken, late = Entry{}, nil
 		entry := snapshot.Entry
-		row, isHeld := entry.Holding.Row()
-		_, isPending := entry.Holding.Work()
+		row, _ := entry.Holding.Row()
 		switch {
-		case isPending || entry.isOperating():
-			entry.Worker = newNumber()
-			crash.At("take-over-next")
-		case isHeld && row.Phase == osb.PhaseWaiting && time.Since(entry.Since) >= s.rules.WaitForPoll:
+		case !s.rules.isDue(entry):
+			return nil, nil
+		case row.Phase == osb.PhaseWaiting:
 			crash.At("wait-next")
 			request, _ := requestOf(key, row, entry.Request) // for the log alone
 			if entry.Holding, err = entry.Holding.GiveUpWaiting(); err != nil {
@@ -101,7 +102,8 @@ func (s *Service) takeOver(ctx context.Context, key Key) (taken Entry, err error
 				Event: "creation_timed_out", RequestID: request.RequestID, Key: key, IsNamed: true, Err: errNoPoll,
 			}
 		default:
-			return nil, nil
+			entry.Worker = newNumber()
+			crash.At("take-over-next")
 		}
 		taken = entry
 		return &entry, nil
@@ -118,28 +120,40 @@ func (s *Service) takeOver(ctx context.Context, key Key) (taken Entry, err error
 	return taken, nil
 }
 
+// isDue reports whether somebody has to go on with an entry now: work is pending, an operation runs, or a creation has
+// waited too long for its first Poll.
+func (r Rules) isDue(entry Entry) bool {
+	row, isHeld := entry.Holding.Row()
+	if isHeld && row.Phase == osb.PhaseWaiting {
+		return time.Since(entry.Since) >= r.WaitForPoll
+	}
+	return entry.IsUnfinished()
+}
+
 // isOperating reports whether an operation runs that somebody has to go on with.
 func (e Entry) isOperating() bool {
 	row, isHeld := e.Holding.Row()
 	return isHeld && (row.Phase == osb.PhaseMaking || row.Phase == osb.PhaseDeleting)
 }
 
-// endPending does the pending work of a key under its lock.
-func (s *Service) endPending(ctx context.Context, lock Lock, key Key, taken Entry) (backendResult, error) {
+// endPending does the pending work of a key under its lock. It reports whether somebody has to go on with the key then.
+func (s *Service) endPending(
+	ctx context.Context, lock Lock, key Key, taken Entry,
+) (isUnfinished bool, done backendResult, err error) {
 	response, err := s.do(ctx, lock, key, pendingEntry{entry: taken})
 	if err != nil {
-		return backendResultOf(err), err
+		return false, backendResultOf(err), err
 	}
 	isDone := response.Status < http.StatusMultipleChoices
 	switch {
 	case response.IsUnfinished: // an operation has begun
-		return backendUnused, nil
+		return true, backendUnused, nil
 	case isDone || response.Rejected != nil:
 		s.observer.OnEnd(key, isDone)
-		return backendSucceeded, nil
+		return false, backendSucceeded, nil
 	}
 	s.observer.OnEnd(key, false)
-	return backendFailed, nil
+	return false, backendFailed, nil
 }
 
 // stillTaken returns ErrStillTaken if somebody else has been at the key for long.

@@ -54,7 +54,8 @@ func (s store) Change(ctx context.Context, key broker.Key, step broker.Step) err
 	return err
 }
 
-// isAnother reports whether a change changes the holding. Otherwise it only has the age of a tombstone start again.
+// isAnother reports whether a change changes the holding. Otherwise it only has the age of a tombstone start again, or
+// another worker takes the work over.
 func isAnother(before, after broker.Entry) bool {
 	return before.Holding != after.Holding || before.Life != after.Life
 }

@@ -52,9 +52,9 @@ var (
 )
 
 // Open opens the store in the database of a URL, with at most so many connections, at least 1. It creates the tables,
-// or extends those of version 0.2. Version 0.2 can't serve them any more once a row was written. For tables that need
-// no change, a role that may read, insert and update rows is enough. If the server undoes a transaction because of
-// another one, it is tried again, and the observer gets the Failure transaction_retried.
+// or extends those of versions 0.2 and 0.3, which can't serve them any more then. For tables that need no change, a role
+// that may read, insert and update rows is enough. If the server undoes a transaction because of another one, it is tried
+// again, and the observer gets the Failure transaction_retried.
 //
 // The server has to keep what it has committed: synchronous_commit must not be off for the role of the URL (on, local,
 // remote_write and remote_apply all write to the server's disk first), and fsync has to be on, which isn't checked.
@@ -290,8 +290,11 @@ func of(key broker.Key, instance, binding string) string {
 
 // The tables. Version 0.2 had osb_holdings with its first three columns, osb_workers and osb_store. The column ended
 // has the time at which the tombstone was written. A tombstone of an earlier version gets the time of now. That reads
-// all rows, so no statement may be too long for it. Version 0.3 had the numbers of workers in tables of their own. A
-// broker of 0.3 that still runs begins and ends no work without them.
+// all rows, so no statement may be too long for it.
+//
+// Version 0.3 had the numbers of workers in tables of their own. Views have their names now: a broker of 0.3 would neither
+// know the numbers in the rows nor write its own there. One that runs fails at the views before it works, and one that
+// starts doesn't serve.
 const tables = `
 SET LOCAL statement_timeout = 0;
 CREATE TABLE IF NOT EXISTS osb_holdings (id uuid PRIMARY KEY, holding text NOT NULL, unfinished boolean NOT NULL);
@@ -309,7 +312,18 @@ ALTER TABLE osb_holdings ADD COLUMN IF NOT EXISTS life bigint NOT NULL DEFAULT 0
     ADD COLUMN IF NOT EXISTS ended timestamptz, ADD COLUMN IF NOT EXISTS worker uuid;
 ALTER TABLE osb_bindings ADD COLUMN IF NOT EXISTS life bigint NOT NULL DEFAULT 0,
     ADD COLUMN IF NOT EXISTS ended timestamptz, ADD COLUMN IF NOT EXISTS worker uuid;
-DROP TABLE IF EXISTS osb_workers, osb_binding_workers;
+DO $$
+DECLARE earlier text;
+BEGIN
+    FOREACH earlier IN ARRAY ARRAY['osb_workers', 'osb_binding_workers'] LOOP
+        IF to_regclass(format('%I.%I', current_schema(), earlier)) IS NOT NULL THEN
+            CONTINUE WHEN EXISTS (SELECT FROM pg_views WHERE schemaname = current_schema() AND viewname = earlier);
+            EXECUTE format('DROP TABLE %I.%I', current_schema(), earlier);
+        END IF;
+        EXECUTE format('CREATE VIEW %I.%I AS SELECT ''the numbers of workers are in the rows'' AS moved',
+            current_schema(), earlier);
+    END LOOP;
+END $$;
 UPDATE osb_holdings SET ended = clock_timestamp() WHERE ended IS NULL AND NOT unfinished
     AND (holding LIKE '%"tombstone":true%' OR holding LIKE '%"marked":true%');
 UPDATE osb_bindings SET ended = clock_timestamp() WHERE ended IS NULL AND NOT held
@@ -317,9 +331,10 @@ UPDATE osb_bindings SET ended = clock_timestamp() WHERE ended IS NULL AND NOT he
 CREATE TABLE IF NOT EXISTS osb_identity (one boolean PRIMARY KEY DEFAULT true CHECK (one), id text NOT NULL);
 `
 
-// isCurrent asks whether nothing is missing: all that is missing is added in one transaction. The table osb_identity is
-// the last that came, and osb_workers the last that went.
-const isCurrent = "SELECT to_regclass('osb_identity') IS NOT NULL AND to_regclass('osb_workers') IS NULL"
+// isCurrent asks whether nothing is missing: all that is missing is added in one transaction, and the column worker is the
+// last that came.
+const isCurrent = "SELECT EXISTS (SELECT FROM pg_attribute WHERE attrelid = to_regclass('osb_bindings') " +
+	"AND attname = 'worker')"
 
 // tablesLock is the number of an advisory lock for brokers that create the tables at the same time: IF NOT EXISTS is no
 // lock. Version 0.2 takes the same lock.

@@ -34,8 +34,8 @@ var (
 	ErrUnknownCommit = sqlitefile.ErrUnknownCommit
 )
 
-// Open opens a file, and makes it if there is none. A file of version 0.2 is extended: 0.2 can't serve it beside this
-// version, and can again if no binding was created. The observer gets how many changes each commit has written.
+// Open opens a file, and makes it if there is none. A file of version 0.2 or 0.3 is extended, and they can't serve it any
+// more then. The observer gets how many changes each commit has written.
 func Open(ctx context.Context, path string, observer broker.Observer) (*Store, error) {
 	return openBy(ctx, path, observer, nil)
 }
@@ -330,7 +330,6 @@ var tables = []string{
 		"since INTEGER, PRIMARY KEY (instance, binding)) WITHOUT ROWID",
 	"CREATE INDEX IF NOT EXISTS held_bindings ON bindings (instance) WHERE held",
 	"CREATE INDEX IF NOT EXISTS unfinished_bindings ON bindings (instance) WHERE unfinished",
-	"DROP TABLE IF EXISTS workers", // version 0.3 had the numbers of workers there
 	"CREATE TABLE IF NOT EXISTS readiness (one INTEGER PRIMARY KEY CHECK (one = 1), asked INTEGER NOT NULL)",
 	"CREATE TABLE IF NOT EXISTS identity (one INTEGER PRIMARY KEY CHECK (one = 1), id TEXT NOT NULL)",
 	"CREATE TABLE IF NOT EXISTS store (one INTEGER PRIMARY KEY CHECK (one = 1), name TEXT NOT NULL, " +
@@ -356,6 +355,9 @@ const isTombstone = `NOT unfinished AND (holding LIKE '%"tombstone":true%' OR ho
 // makeTables makes the tables and columns that are missing, in one transaction.
 func makeTables(ctx context.Context, conn *sqlitefile.Conn, _ string) error {
 	return conn.Transaction(ctx, func() error {
+		if err := keepEarlierOut(conn); err != nil {
+			return err
+		}
 		for _, statement := range tables {
 			if err := conn.Exec(statement); err != nil {
 				return err
@@ -368,6 +370,23 @@ func makeTables(ctx context.Context, conn *sqlitefile.Conn, _ string) error {
 		}
 		return nil
 	})
+}
+
+// keepEarlierOut drops the table in which version 0.3 had the numbers of workers, and has a view in its place: a broker
+// of version 0.3 can't open the file any more. It would neither know the numbers in the rows nor write its own there.
+func keepEarlierOut(conn *sqlitefile.Conn) error {
+	var kind string
+	err := conn.Each("SELECT type FROM sqlite_schema WHERE name = 'workers'", nil, func(row []driver.Value) error {
+		kind = fmt.Sprint(row[0])
+		return nil
+	})
+	if err == nil && kind == "table" {
+		err = conn.Exec("DROP TABLE workers")
+	}
+	if err != nil || kind == "view" {
+		return err
+	}
+	return conn.Exec("CREATE VIEW workers AS SELECT 'the numbers of workers are in the rows' AS moved")
 }
 
 // addColumns adds the columns that a table lacks. A tombstone gets the time of now, if tombstones had no time.

@@ -329,8 +329,6 @@ func TestChangeThatIsNotWritten(t *testing.T) {
 func TestWorkersOf03(t *testing.T) {
 	key := broker.BindingKey(keyOf(1).Instance, keyOf(2).Instance)
 	path := makeFile(t, append(append([]string{}, withBindings...), append(rowsWithout(marked),
-		"ALTER TABLE holdings ADD COLUMN life INTEGER NOT NULL DEFAULT 0", "ALTER TABLE holdings ADD COLUMN ended INTEGER",
-		"ALTER TABLE bindings ADD COLUMN life INTEGER NOT NULL DEFAULT 0", "ALTER TABLE bindings ADD COLUMN ended INTEGER",
 		"CREATE TABLE workers (id TEXT PRIMARY KEY, worker INTEGER NOT NULL) WITHOUT ROWID",
 		"INSERT INTO workers VALUES ('"+keyOf(1).String()+"', 7), ('"+key.String()+"', 8)")...))
 	for n := 0; n < 2; n++ { // the second time nothing is left to do
@@ -346,13 +344,15 @@ func TestWorkersOf03(t *testing.T) {
 				return &snapshot.Entry, nil
 			}))
 		}
-		check(t, s.file.Read(context.Background(), func(c *connection) error {
-			table, err := c.text("SELECT name FROM sqlite_schema WHERE name = 'workers'")
-			diff.Equal(t, table, "", "the table of workers")
-			return err
-		}))
 		check(t, s.Close())
 	}
+	old := diff.Value((&sqlite3.SQLiteDriver{}).Open("file:" + path))(t).(*sqlite3.SQLiteConn)
+	_, err := old.Exec("CREATE TABLE IF NOT EXISTS workers (id TEXT PRIMARY KEY, worker INTEGER NOT NULL)", nil)
+	diff.NoError(t, err, "what version 0.3 makes first")
+	if _, err := old.Prepare("SELECT worker FROM workers WHERE id = ?"); err == nil {
+		t.Error("what version 0.3 reads next: got no error, want one")
+	}
+	check(t, old.Close())
 }
 
 // A row whose worker has no number is changed by nobody.
