@@ -81,8 +81,8 @@ class LateCommitAtUnsure(LateCommit):
 
     def transact(self, world: World, at: int, driver: Driver) -> Steps:
         if driver.stage.name != "Unsure":
-            for other, it in enumerate(world.drivers):
-                world = world.put(other, it._replace(late=None))
+            for here, other in enumerate(world.drivers):
+                world = world.put(here, other._replace(late=None))
         yield from super().transact(world, at, world.drivers[at])
 
 
@@ -138,7 +138,7 @@ class WorkOutlivesLock(Design):
     """The lock is freed while its work goes on."""
 
     def is_free(self, world: World) -> bool:
-        return not any(it.has_lock and it.stage.name != "Work" for it in world.drivers)
+        return not any(driver.has_lock and driver.stage.name != "Work" for driver in world.drivers)
 
 
 # ---- the number

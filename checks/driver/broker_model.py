@@ -31,7 +31,7 @@ class Stage(NamedTuple):
     answer: Answer | None = None
 
 
-TRY_LOCK, AWAIT_LOCK, UNSURE, DONE = (Stage(it) for it in ("TryLock", "AwaitLock", "Unsure", "Done"))
+TRY_LOCK, AWAIT_LOCK, UNSURE, DONE = (Stage(name) for name in ("TryLock", "AwaitLock", "Unsure", "Done"))
 BEGIN = {locked: Stage("Begin", locked=locked) for locked in (False, True)}
 
 

@@ -110,6 +110,6 @@ number at the begin of one stands for its driver.
 """
 
 WAYS = {
-    design: (tuple(re.sub(r"^(?=\d)", "driver ", it) for it in steps.split(" | ")), wrong)
+    design: (tuple(re.sub(r"^(?=\d)", "driver ", step) for step in steps.split(" | ")), wrong)
     for design, (steps, wrong) in _WAYS.items()
 }

@@ -136,7 +136,7 @@ class Design:
         if out is not None:
             taken = world._replace(out=None, answers=frozenset())
             yield "the request times out", taken._replace(state="cleaning" if state == "wanted" else state)
-            garbled = {Answer(it.status, "malformed") for it in world.answers}
+            garbled = {Answer(answer.status, "malformed") for answer in world.answers}
             for answer in sorted(world.answers | garbled | {GATEWAY}):
                 after = model.state_after(state, out, answer)
                 yield f"the platform takes {answer_words(answer)}", taken._replace(state=after)
@@ -179,7 +179,7 @@ class Design:
 
     def is_free(self, world: World) -> bool:
         """Whether a driver can get the lock."""
-        return not any(it.has_lock for it in world.drivers)
+        return not any(driver.has_lock for driver in world.drivers)
 
     def unlocked(self, driver: Driver) -> Driver:
         """The driver of a request that didn't get the lock at once."""
@@ -199,7 +199,7 @@ class Design:
     def outcomes(self, task: Task, resource: str) -> list[str]:
         """The outcomes that are true of the resource."""
         if isinstance(task, Request):
-            return [it for it in model.OUTCOMES if can_have_ended(self.plan.mode, task, it, resource)]
+            return [outcome for outcome in model.OUTCOMES if can_have_ended(self.plan.mode, task, outcome, resource)]
         return ["failed", "ok"] if resource == {"making": "whole", "deleting": "absent"}[task] else ["failed"]
 
     # ---- the transactions
@@ -249,7 +249,9 @@ class Design:
         drivers = world.drivers
         if tx.takes_over:
             is_shared = not self.has_own_number(driver)
-            drivers = tuple(it._replace(owns=here == at or is_shared and it.owns) for here, it in enumerate(drivers))
+            drivers = tuple(
+                other._replace(owns=here == at or is_shared and other.owns) for here, other in enumerate(drivers)
+            )
         world = world._replace(drivers=drivers, row=tx.row, worker=event.worker)
         return (world if event.given is None else world.with_answer(*event.given)), event.given
 
@@ -274,11 +276,11 @@ def disagreement(world: World) -> str | None:
 
 def unsound(plan: Plan, world: World) -> str | None:
     """What doesn't hold of the owner, whose number the row has, and of the driver that has the lock."""
-    owners = [it for it in world.drivers if it.owns]
-    holders = [it for it in world.drivers if it.has_lock]
+    owners = [driver for driver in world.drivers if driver.owns]
+    holders = [driver for driver in world.drivers if driver.has_lock]
     if len(owners) > 1 or len(holders) > 1:
         return "two drivers have the number of the row, or the lock"
-    works = any(it.stage.name == "Work" for it in holders)
+    works = any(holder.stage.name == "Work" for holder in holders)
     if works and model.is_made(world.row) is None:
         return "a driver works, and no work is pending and no operation runs"
     for owner in owners:

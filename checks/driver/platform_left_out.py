@@ -52,7 +52,7 @@ class UncommittedRead(Design):
 
     def commit(self, world: World, at: int, tx: Transaction) -> Steps:
         yield from super().commit(world, at, tx)
-        other = next((it for it, driver in enumerate(world.drivers) if it != at and driver == Driver()), None)
+        other = next((here for here, driver in enumerate(world.drivers) if here != at and driver == Driver()), None)
         if other is not None and tx.events:
             for claim in self.claims(world._replace(row=tx.row)):
                 word = f"driver {other + 1} reads what driver {at + 1} hasn't committed, and claims: "
@@ -135,9 +135,9 @@ class CleanedUpInFlight(Design):
 
     def claims(self, world: World) -> list[Transaction]:
         row = world.row
-        wishes = [it for it, states in CLEAN_UPS.items() if row and row.out and row.state in states]
+        wishes = [wish for wish, states in CLEAN_UPS.items() if row and row.out and row.state in states]
         assert row is not None or not wishes
-        return super().claims(world) + [Transaction(row and row._replace(state="cleaning"), (it,)) for it in wishes]
+        return super().claims(world) + [Transaction(row and row._replace(state="cleaning"), (wish,)) for wish in wishes]
 
 
 class GivenUpAsGone(Design):

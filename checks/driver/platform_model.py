@@ -33,7 +33,7 @@ class Wishes(NamedTuple):
     send: bool = False
 
 
-WISHES = [Wishes(*it) for it in product((False, True), (None, *CLEAN_UPS), (False, True))]
+WISHES = [Wishes(*fields) for fields in product((False, True), (None, *CLEAN_UPS), (False, True))]
 
 
 class Stage(NamedTuple):
@@ -102,4 +102,4 @@ def take(row: Recorded | None, stage: Stage, owns: bool) -> Transaction:
 @lru_cache(maxsize=None)
 def claims(row: Recorded | None, attempts: int) -> list[Transaction]:
     """What a first transaction can be, by the wishes, if it isn't nothing."""
-    return [it for it in dict.fromkeys(claim(row, wishes, attempts) for wishes in WISHES) if it.events]
+    return [tx for tx in dict.fromkeys(claim(row, wishes, attempts) for wishes in WISHES) if tx.events]

@@ -41,7 +41,7 @@ class Way(NamedTuple):
 
 def way(steps: str, wrong: str, plan: Plan = SYNC, attempts: int = 1) -> Way:
     """Bars separate the steps, and a number at the begin of one stands for its driver."""
-    return Way(tuple(re.sub(r"^(?=\d)", "driver ", it) for it in steps.split(" | ")), wrong, plan, attempts)
+    return Way(tuple(re.sub(r"^(?=\d)", "driver ", step) for step in steps.split(" | ")), wrong, plan, attempts)
 
 
 HARM: dict[type[Design], Way] = {

@@ -89,7 +89,7 @@ def record(row: Recorded | None, events: tuple[str, ...], given: Given | None) -
     network = Instance("-", True, given=[given] if given else [])
     if row is not None:
         network.state, network.out, network.attempt = row
-    if not all(network.happen(it) for it in events):
+    if not all(network.happen(event) for event in events):
         return None
     assert network.state is not None
     sent = Sent(network.attempt, network.sent[-1].kind) if network.sent else None
@@ -116,8 +116,8 @@ def transaction_words(driver: Driver, tx: Transaction) -> str:
 
 
 BROKER_WORDS = {
-    **{f"end {it}": f"the work ends: {it}" for it in model.OUTCOMES},
-    **{f"work {it}": f"the work leaves the resource {it}" for it in model.RESOURCES},
+    **{f"end {outcome}": f"the work ends: {outcome}" for outcome in model.OUTCOMES},
+    **{f"work {resource}": f"the work leaves the resource {resource}" for resource in model.RESOURCES},
     "finish ok": "the operation succeeds",
     "finish failed": "the operation fails",
     "end-unknown": "nobody knows how the work went",
@@ -141,7 +141,7 @@ class Design:
 
     def steps(self, world: World) -> Steps:
         for word, after in self.all_steps(world):
-            waits = after.worker is not None and any(self.can_hear(it, after.worker) for it in after.drivers)
+            waits = after.worker is not None and any(self.can_hear(driver, after.worker) for driver in after.drivers)
             yield word, after if waits else after._replace(worker=None)
 
     def all_steps(self, world: World) -> Steps:
@@ -241,7 +241,7 @@ class Design:
         if not tx.events:
             return world
         driver = world.drivers[at]
-        events = tuple(driver.event if it == "answer" else it for it in tx.events)
+        events = tuple(driver.event if event == "answer" else event for event in tx.events)
         after = record(world.row, events, driver.given)
         wrong = None
         if after is None:
@@ -250,7 +250,7 @@ class Design:
             wrong = f"the row has {row_words(tx.row)}, and the network has {row_words(after.row)}"
         elif driver.stage.name == "Unsure" and not driver.owns:
             wrong = "it gives up the request of another driver"
-        drivers = tuple(it._replace(owns=False) for it in world.drivers)
+        drivers = tuple(driver._replace(owns=False) for driver in world.drivers)
         world = self.and_sent(world._replace(drivers=drivers, row=tx.row), after and after.sent)
         return self.is_wrong(world, wrong)
 
@@ -287,10 +287,10 @@ def unsound(world: World) -> str | None:
             return f"a {row.out} is in flight, and the row is {row.state}"
         if row.state == "wanted" and row.out is None or row.attempt != len(world.sent):
             return "the row isn't that of the latest request"
-    waiting = [it.stage.attempt for it in world.drivers if it.stage.name == "Send"]
+    waiting = [driver.stage.attempt for driver in world.drivers if driver.stage.name == "Send"]
     if len(waiting) != len(set(waiting)):
         return "two drivers wait for the answer to one request"
-    if any(it.given and it.given.attempt != it.stage.attempt for it in world.drivers):
+    if any(driver.given and driver.given.attempt != driver.stage.attempt for driver in world.drivers):
         return "a driver takes the answer to another request"
     return None
 
@@ -319,7 +319,7 @@ class Rounds:
     def round(self, world: World) -> World:
         """What goes on goes well. Then the request that is due is sent, and answered."""
         world, _ = self.go_well(world)
-        due = [it for it in self.design.claims(world) if it.events in (("send",), ("timeout", "send"))]
+        due = [claim for claim in self.design.claims(world) if claim.events in (("send",), ("timeout", "send"))]
         if not due:
             return world
         world = self.design.committed(world, 0, due[0], RETURNED)

@@ -64,7 +64,7 @@ class UntruthfulLife(Life):
     def outcomes(self, task: Task, resource: str) -> list[str]:
         if not isinstance(task, Request):
             return super().outcomes(task, resource)
-        return [it for it in model.OUTCOMES if can_have_ended(self.plan.mode, task, it, resource)]
+        return [outcome for outcome in model.OUTCOMES if can_have_ended(self.plan.mode, task, outcome, resource)]
 
 
 class UntruthfulDeletion(Design):

@@ -61,7 +61,7 @@ class Life(broker_world.Design):
         """A deletion that changed nothing left all of it."""
         found = super().outcomes(task, resource)
         is_deletion = isinstance(task, Request) and task.kind == "deprovision"
-        return [it for it in found if it != "before" or not is_deletion or resource == "whole"]
+        return [outcome for outcome in found if outcome != "before" or not is_deletion or resource == "whole"]
 
 
 def told(word: str) -> str:

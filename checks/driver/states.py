@@ -49,7 +49,7 @@ def explore(
     numbers: dict[object, int] = {}
 
     def key(world: World) -> Key:
-        return (*sorted([numbers.setdefault(it, len(numbers)) for it in world.drivers]), *world[1:])
+        return (*sorted([numbers.setdefault(driver, len(numbers)) for driver in world.drivers]), *world[1:])
 
     worlds, steps = [start], 0
     came: Came = {key(start): None}
@@ -80,7 +80,7 @@ def way_to(key: Key, came: Came) -> tuple[str, ...]:
 def below(design: type[Design]) -> set[type[Design]]:
     """The designs that leave something out."""
     found = set(design.__subclasses__())
-    return found.union(*(below(it) for it in found))
+    return found.union(*(below(subclass) for subclass in found))
 
 
 def disagreement(state: str | None, held: Held, resource: str) -> str | None:

@@ -60,7 +60,7 @@ OPERATIONS = {"Finish", "owner: Finish"}
 
 def stages(worlds: list[World]) -> set[str]:
     found = set()
-    for driver in {it for world in worlds for it in world.drivers}:
+    for driver in {driver for world in worlds for driver in world.drivers}:
         words = f"{'owner: ' if driver.owns else ''}{driver.stage.name}{', locked' if driver.stage.locked else ''}"
         words += ", remembers" if driver.stage.answer else ""
         found.add(words + (" what was given" if driver.was_given else ""))
@@ -94,7 +94,7 @@ def name(design: type[Design]) -> str:
 
 
 def test_ways_are_of_all_obligations() -> None:
-    of_broker = {it for it in below(Design) if it.__module__ == LateCommitAtUnsure.__module__}
+    of_broker = {design for design in below(Design) if design.__module__ == LateCommitAtUnsure.__module__}
     assert of_broker == {*WAYS, *NOT_NEEDED}
 
 

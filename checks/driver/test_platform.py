@@ -54,7 +54,7 @@ def step(design: Design, is_strict: bool = True) -> Exploration[World]:
 
 def stages(worlds: list[World]) -> set[str]:
     found = set()
-    for driver in {it for world in worlds for it in world.drivers}:
+    for driver in {driver for world in worlds for driver in world.drivers}:
         words = driver.stage.name + (f" by {driver.event}" if driver.stage.name == "Take" else "")
         found.add(("owner: " if driver.owns else "") + words)
     return found

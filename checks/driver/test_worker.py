@@ -32,7 +32,7 @@ def test_design(creates: bool, worlds: int) -> None:
     explored = step(Design(creates))
     assert explored.wrong is None, explored.way
     outcomes = {None, "done", "before", "refused 400"} if creates else {None, "done", "before"}
-    assert {it.worker.outcome for it in explored.worlds} == outcomes
+    assert {world.worker.outcome for world in explored.worlds} == outcomes
     assert len(explored.worlds) == worlds
 
 

@@ -109,20 +109,20 @@ class Design:
             yield "syncs", synced.with_worker(worker._replace(stage="look"))
             yield "syncs, and that fails", world.with_worker(self.sync_failed(worker))
         if world.hangs is not None:
-            for it in self.changes(world.hangs, world.resource):
-                yield f"the {world.hangs} goes on: the resource is {it}", world._replace(resource=it)
+            for resource in self.changes(world.hangs, world.resource):
+                yield f"the {world.hangs} goes on: the resource is {resource}", world._replace(resource=resource)
             yield f"the {world.hangs} ends", world._replace(hangs=None)
         hangs = self.call(worker) if worker.stage == "call" else world.hangs
         is_left = world.resource != world.disk
         killed = world._replace(drivers=(Worker(),), hangs=hangs, is_left=is_left)
         yield "the worker is killed, and another one begins", killed
-        for it in self.after_power_cut(world):
-            yield f"a power cut leaves the resource {it}", World((Worker(),), it, it)
+        for resource in self.after_power_cut(world):
+            yield f"a power cut leaves the resource {resource}", World((Worker(),), resource, resource)
 
     def at_call(self, world: World) -> Steps:
         call = self.call(world.worker)
-        for it in self.changes(call, world.resource):
-            yield f"{call}s: the resource is {it}", world._replace(resource=it)
+        for resource in self.changes(call, world.resource):
+            yield f"{call}s: the resource is {resource}", world._replace(resource=resource)
         disk = self.disk_after(world)
         ok = world._replace(disk=disk, is_left=world.is_left and disk != world.resource)
         yield f"the {call} returns", ok.with_worker(self.returned(world.worker, True, None))
@@ -135,11 +135,15 @@ class Design:
     def changes(self, call: str, resource: str) -> list[str]:
         """What a call may make of the resource. A deletion creates nothing."""
         at = model.RESOURCES.index(resource)
-        return [it for it in model.RESOURCES if it != resource and (call == "create" or it in model.RESOURCES[:at])]
+        return [
+            other
+            for other in model.RESOURCES
+            if other != resource and (call == "create" or other in model.RESOURCES[:at])
+        ]
 
     def after_power_cut(self, world: World) -> list[str]:
         """What may exist then: what is on disk, what existed, or something between."""
-        low, high = sorted(model.RESOURCES.index(it) for it in (world.resource, world.disk))
+        low, high = sorted(model.RESOURCES.index(resource) for resource in (world.resource, world.disk))
         return model.RESOURCES[low : high + 1]
 
     # ---- what the backend promises, and what the worker makes of a failure
@@ -167,9 +171,13 @@ class Design:
             return None
         if not self.is_true(outcome, world.resource):
             return f"the outcome is '{outcome}', and the resource is {world.resource}"
-        found = [it for it in self.after_power_cut(world) if not self.is_true(outcome, it)]
+        found = [resource for resource in self.after_power_cut(world) if not self.is_true(outcome, resource)]
         if world.hangs is not None:
-            found += [it for it in self.changes(world.hangs, world.resource) if not self.is_true(outcome, it)]
+            found += [
+                resource
+                for resource in self.changes(world.hangs, world.resource)
+                if not self.is_true(outcome, resource)
+            ]
         return f"the outcome is '{outcome}', and the resource becomes {found[0]}" if found else None
 
     def is_true(self, outcome: str, resource: str) -> bool:
