@@ -70,12 +70,12 @@ type visitState struct {
 	number   int64
 	request  string // its X-Broker-API-Request-Identity
 	key      broker.Key
-	saw      *sight // what it has read last, or nil
-	isChange bool   // whether it has changed what is held of its key
+	saw      *holdings // what it has read last, or nil
+	isChange bool      // whether it has changed what is held of its key
 }
 
-// A sight is what is held of the key of a visit, and of a binding's instance.
-type sight struct{ of, instance osb.Holding }
+// holdings are what is held of the key of a visit, and of a binding's instance.
+type holdings struct{ of, instance osb.Holding }
 
 // visitKey is where a context has its visit.
 type visitKey struct{}
@@ -94,7 +94,7 @@ func visitOf(ctx context.Context) int64 { return visitIn(ctx).number }
 // sees notes what a visit has read.
 func (v *visitState) sees(key broker.Key, snapshot broker.Snapshot) {
 	if key == v.key {
-		v.saw = &sight{snapshot.Holding, snapshot.Instance.Holding}
+		v.saw = &holdings{snapshot.Holding, snapshot.Instance.Holding}
 	}
 }
 
@@ -180,7 +180,7 @@ func (j *Journal) OnAnswer(ctx context.Context, header http.Header, given broker
 }
 
 // see adds what a request has seen to the line of its answer.
-func (j *Journal) see(line *answerLine, saw sight, isBinding bool) error {
+func (j *Journal) see(line *answerLine, saw holdings, isBinding bool) error {
 	text, err := j.texts.text(saw.of, isBinding)
 	if err != nil {
 		return err
