@@ -47,19 +47,19 @@ func (h *Handler) refusal(refusal osb.Status) string {
 	return ""
 }
 
-// A subject is what a request is about.
-type subject struct{ name, an string }
+// A noun is how a sentence names what a request is about.
+type noun struct{ name, an string }
 
-func subjectOf(key Key) subject {
+func nounOf(key Key) noun {
 	if key.IsBinding {
-		return subject{"binding", "A binding"}
+		return noun{"binding", "A binding"}
 	}
-	return subject{"instance", "An instance"}
+	return noun{"instance", "An instance"}
 }
 
 // sentence is what a person reads in an answer that has no description of its own, or "" for one of success.
 func (h *Handler) sentence(visit Visit, response Response) string {
-	of := subjectOf(visit.Key)
+	of := nounOf(visit.Key)
 	switch {
 	case response.Description != "":
 		return ""
@@ -75,7 +75,7 @@ func (h *Handler) sentence(visit Visit, response Response) string {
 	return ""
 }
 
-func (h *Handler) otherSentence(visit Visit, status uint16, of subject) string {
+func (h *Handler) otherSentence(visit Visit, status uint16, of noun) string {
 	isCreation := !visit.IsFetch && visit.Asked.Kind == osb.KindProvision
 	switch status {
 	case http.StatusBadRequest:
@@ -98,7 +98,7 @@ func (h *Handler) otherSentence(visit Visit, status uint16, of subject) string {
 }
 
 // badRequest is the sentence of a 400 to a request that can be read.
-func badRequest(isCreation bool, of subject) string {
+func badRequest(isCreation bool, of noun) string {
 	switch {
 	case !isCreation:
 		return "The " + of.name + " has another service_id or plan_id."
@@ -110,7 +110,7 @@ func badRequest(isCreation bool, of subject) string {
 
 // conflictSentence says why an id is taken, by what is held now. If that has changed since the request was answered, or
 // can't be read, the sentence names no reason.
-func (h *Handler) conflictSentence(visit Visit, of subject) string {
+func (h *Handler) conflictSentence(visit Visit, of noun) string {
 	snapshot, err := h.service.read(h.ctx, visit.Key)
 	if err != nil {
 		return idTaken
