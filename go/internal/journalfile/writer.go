@@ -82,11 +82,11 @@ type Writer struct {
 type job struct {
 	event string
 	rest  []byte
-	done  chan receipt // has room for one
+	done  chan result // has room for one
 }
 
-// A receipt is the time of a line that was written, or why it wasn't.
-type receipt struct {
+// A result is the time of a line that was written, or why it wasn't.
+type result struct {
 	at  int64
 	err error
 }
@@ -142,12 +142,12 @@ func (w *Writer) run() {
 }
 
 // put writes a line, and what precedes it.
-func (w *Writer) put(it *job) receipt {
+func (w *Writer) put(it *job) result {
 	if err := w.prepare(); err != nil {
-		return receipt{err: err}
+		return result{err: err}
 	}
 	at := w.next()
-	return receipt{at, w.append(at, it.event, it.rest)}
+	return result{at, w.append(at, it.event, it.rest)}
 }
 
 // next is the time of the next line.
@@ -196,7 +196,7 @@ func (w *Writer) Write(event string, members any) int64 {
 	if err != nil {
 		return w.lose(err)
 	}
-	it := w.write(&job{event, rest, make(chan receipt, 1)})
+	it := w.write(&job{event, rest, make(chan result, 1)})
 	if it.err != nil {
 		return w.lose(it.err)
 	}
@@ -233,7 +233,7 @@ func (w *Writer) count() (at int64, isNew bool) {
 // write has a line written.
 //
 // Errors: errSlow; errClosed; those of the file.
-func (w *Writer) write(it *job) receipt {
+func (w *Writer) write(it *job) result {
 	timer := time.NewTimer(w.patience)
 	defer timer.Stop()
 	err := w.hand(it, timer.C)
@@ -248,7 +248,7 @@ func (w *Writer) write(it *job) receipt {
 	if errors.Is(err, errSlow) {
 		w.isStuck.Store(true)
 	}
-	return receipt{err: err}
+	return result{err: err}
 }
 
 // hand gives a line to the goroutine that writes. If that hangs already, nobody waits for it.
