@@ -33,7 +33,7 @@ const (
 // A hunt runs the mutants of a run.
 type hunt struct {
 	out      io.Writer
-	ledger   *ledger
+	results  *results
 	binaries map[string]binary
 	mutants  []mutant
 	many     int // workers
@@ -41,20 +41,20 @@ type hunt struct {
 	mutex sync.Mutex // of out
 }
 
-// run runs what the ledger doesn't have yet: each test alone, to know which mutants it reaches, and then each mutant.
+// run runs what the results don't have yet: each test alone, to know which mutants it reaches, and then each mutant.
 func (h *hunt) run(ctx context.Context) error {
 	if err := h.trace(ctx); err != nil {
 		return err
 	}
 	tests := h.testsOfMutants()
-	left := those(h.mutants, func(m mutant) bool { return h.ledger.verdict(m.ID).Ending == "" })
+	left := those(h.mutants, func(m mutant) bool { return h.results.verdict(m.ID).Ending == "" })
 	done := len(h.mutants) - len(left)
 	return parallel(ctx, h.many, len(left), func(ctx context.Context, w *worker, i int) error {
 		found, err := h.judge(ctx, w, left[i], tests[left[i].ID])
 		if err != nil {
 			return err
 		}
-		if err := h.ledger.add(line{Verdict: &found}); err != nil {
+		if err := h.results.add(line{Verdict: &found}); err != nil {
 			return err
 		}
 		h.mutex.Lock()
@@ -74,7 +74,7 @@ func (h *hunt) trace(ctx context.Context) error {
 			return err
 		}
 		for _, name := range names {
-			if !h.ledger.isTraced(binary.pkg.path, name) {
+			if !h.results.isTraced(binary.pkg.path, name) {
 				runs = append(runs, run{binary: binary, test: name, most: longestTest})
 			}
 		}
@@ -88,7 +88,7 @@ func (h *hunt) trace(ctx context.Context) error {
 		if found.Ending != passed {
 			h.print("left out: %s %s: it %s without a mutant\n", found.Package, found.Test, found.Ending)
 		}
-		return h.ledger.add(line{Traced: &found})
+		return h.results.add(line{Traced: &found})
 	})
 }
 
@@ -149,7 +149,7 @@ func (h *hunt) testsOfMutants() map[int][]tracedTest {
 		of[mutant.ID] = mutant.Package
 	}
 	found := make(map[int][]tracedTest)
-	for _, test := range h.ledger.traced {
+	for _, test := range h.results.traced {
 		if test.Ending != passed {
 			continue
 		}
@@ -530,33 +530,33 @@ const (
 	unreached = "unreached"
 )
 
-// A line is one line of the file of a ledger: one of the two.
+// A line is one line of the file of the results: one of the two.
 type line struct {
 	Traced  *tracedTest `json:",omitempty"`
 	Verdict *verdict    `json:",omitempty"`
 }
 
-// A ledger is a file with what a run has found out, so that a run that was interrupted goes on. Any number of
+// results are a file with what a run has found out, so that a run that was interrupted goes on. Any number of
 // goroutines use it.
-type ledger struct {
+type results struct {
 	mutex    sync.Mutex
 	file     *os.File
 	traced   map[string]tracedTest // by package and test
 	verdicts map[int]verdict       // by mutant
 }
 
-// openLedger reads a file, or creates it.
-func openLedger(path string) (*ledger, error) {
-	l := &ledger{traced: make(map[string]tracedTest), verdicts: make(map[int]verdict)}
-	if err := l.read(path); err != nil && !errors.Is(err, fs.ErrNotExist) {
+// openResults reads a file, or creates it.
+func openResults(path string) (*results, error) {
+	r := &results{traced: make(map[string]tracedTest), verdicts: make(map[int]verdict)}
+	if err := r.read(path); err != nil && !errors.Is(err, fs.ErrNotExist) {
 		return nil, err
 	}
 	var err error
-	l.file, err = os.OpenFile(path, os.O_WRONLY|os.O_CREATE|os.O_APPEND, 0o666)
-	return l, err
+	r.file, err = os.OpenFile(path, os.O_WRONLY|os.O_CREATE|os.O_APPEND, 0o666)
+	return r, err
 }
 
-func (l *ledger) read(path string) error {
+func (r *results) read(path string) error {
 	file, err := os.Open(path)
 	if err != nil {
 		return err
@@ -569,45 +569,45 @@ func (l *ledger) read(path string) error {
 		}
 		var it line
 		if json.Unmarshal(text, &it) == nil {
-			l.note(it)
+			r.note(it)
 		}
 	}
 }
 
-func (l *ledger) note(it line) {
+func (r *results) note(it line) {
 	if it.Traced != nil {
-		l.traced[it.Traced.Package+" "+it.Traced.Test] = *it.Traced
+		r.traced[it.Traced.Package+" "+it.Traced.Test] = *it.Traced
 	}
 	if it.Verdict != nil {
-		l.verdicts[it.Verdict.Mutant] = *it.Verdict
+		r.verdicts[it.Verdict.Mutant] = *it.Verdict
 	}
 }
 
 // add writes a line.
-func (l *ledger) add(it line) error {
+func (r *results) add(it line) error {
 	text, err := json.Marshal(it)
 	if err != nil {
 		return err
 	}
-	l.mutex.Lock()
-	defer l.mutex.Unlock()
-	l.note(it)
-	_, err = l.file.Write(append(text, '\n'))
+	r.mutex.Lock()
+	defer r.mutex.Unlock()
+	r.note(it)
+	_, err = r.file.Write(append(text, '\n'))
 	return err
 }
 
-func (l *ledger) isTraced(p, test string) bool {
-	l.mutex.Lock()
-	defer l.mutex.Unlock()
-	_, is := l.traced[p+" "+test]
+func (r *results) isTraced(p, test string) bool {
+	r.mutex.Lock()
+	defer r.mutex.Unlock()
+	_, is := r.traced[p+" "+test]
 	return is
 }
 
 // verdict returns what became of a mutant, or nothing.
-func (l *ledger) verdict(id int) verdict {
-	l.mutex.Lock()
-	defer l.mutex.Unlock()
-	return l.verdicts[id]
+func (r *results) verdict(id int) verdict {
+	r.mutex.Lock()
+	defer r.mutex.Unlock()
+	return r.verdicts[id]
 }
 
-func (l *ledger) close() error { return l.file.Close() }
+func (r *results) close() error { return r.file.Close() }

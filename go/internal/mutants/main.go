@@ -134,12 +134,12 @@ func (d *drawing) run(ctx context.Context, patterns []string) error {
 	if err != nil {
 		return err
 	}
-	kept, err := openLedger(filepath.Join(folder, "results.jsonl"))
+	kept, err := openResults(filepath.Join(folder, "results.jsonl"))
 	if err != nil {
 		return err
 	}
 	defer kept.close()
-	h := &hunt{out: d.out, ledger: kept, binaries: binaries, mutants: mutants, many: d.many}
+	h := &hunt{out: d.out, results: kept, binaries: binaries, mutants: mutants, many: d.many}
 	if err := h.run(ctx); err != nil {
 		return err
 	}
@@ -168,7 +168,7 @@ func digest(packages []*pkg, mutants []mutant) string {
 }
 
 // report prints the mutants that no test has noticed, and the counts.
-func report(out io.Writer, kept *ledger, packages []*pkg, mutants []mutant) error {
+func report(out io.Writer, kept *results, packages []*pkg, mutants []mutant) error {
 	texts := make(map[string][]byte)
 	for _, p := range packages {
 		for _, source := range p.sources {
