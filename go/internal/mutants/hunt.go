@@ -47,14 +47,14 @@ func (h *hunt) run(ctx context.Context) error {
 		return err
 	}
 	tests := h.testsOfMutants()
-	left := those(h.mutants, func(m mutant) bool { return h.results.verdict(m.ID).Ending == "" })
+	left := those(h.mutants, func(m mutant) bool { return h.results.fate(m.ID).Ending == "" })
 	done := len(h.mutants) - len(left)
 	return parallel(ctx, h.many, len(left), func(ctx context.Context, w *worker, i int) error {
 		found, err := h.judge(ctx, w, left[i], tests[left[i].ID])
 		if err != nil {
 			return err
 		}
-		if err := h.results.add(line{Verdict: &found}); err != nil {
+		if err := h.results.add(line{Fate: &found}); err != nil {
 			return err
 		}
 		h.mutex.Lock()
@@ -168,9 +168,9 @@ func (h *hunt) testsOfMutants() map[int][]tracedTest {
 }
 
 // judge runs the tests that reach a mutant, until one notices it.
-func (h *hunt) judge(ctx context.Context, w *worker, m mutant, tests []tracedTest) (verdict, error) {
+func (h *hunt) judge(ctx context.Context, w *worker, m mutant, tests []tracedTest) (fate, error) {
 	if len(tests) == 0 {
-		return verdict{Mutant: m.ID, Ending: unreached}, nil
+		return fate{Mutant: m.ID, Ending: unreached}, nil
 	}
 	for _, test := range tests {
 		r := run{
@@ -179,16 +179,16 @@ func (h *hunt) judge(ctx context.Context, w *worker, m mutant, tests []tracedTes
 		}
 		ending, err := h.notice(ctx, w, r)
 		if err != nil {
-			return verdict{}, err
+			return fate{}, err
 		}
 		switch ending {
 		case failed:
-			return verdict{Mutant: m.ID, Ending: killed, By: test.Test}, nil
+			return fate{Mutant: m.ID, Ending: killed, By: test.Test}, nil
 		case hung:
-			return verdict{Mutant: m.ID, Ending: string(hung), By: test.Test}, nil
+			return fate{Mutant: m.ID, Ending: string(hung), By: test.Test}, nil
 		}
 	}
-	return verdict{Mutant: m.ID, Ending: survived}, nil
+	return fate{Mutant: m.ID, Ending: survived}, nil
 }
 
 // notice returns how a test ends with a mutant. A failure counts if it happens twice, and if the test passes without
@@ -517,8 +517,8 @@ type tracedTest struct {
 	Reaches       []int
 }
 
-// A verdict is what became of a mutant.
-type verdict struct {
+// A fate is what became of a mutant.
+type fate struct {
 	Mutant int
 	Ending string // killed, hung, survived, or unreached
 	By     string // the test that noticed it
@@ -532,22 +532,22 @@ const (
 
 // A line is one line of the file of the results: one of the two.
 type line struct {
-	Traced  *tracedTest `json:",omitempty"`
-	Verdict *verdict    `json:",omitempty"`
+	Traced *tracedTest `json:",omitempty"`
+	Fate   *fate       `json:",omitempty"`
 }
 
 // results are a file with what a run has found out, so that a run that was interrupted goes on. Any number of
 // goroutines use it.
 type results struct {
-	mutex    sync.Mutex
-	file     *os.File
-	traced   map[string]tracedTest // by package and test
-	verdicts map[int]verdict       // by mutant
+	mutex  sync.Mutex
+	file   *os.File
+	traced map[string]tracedTest // by package and test
+	fates  map[int]fate          // by mutant
 }
 
 // openResults reads a file, or creates it.
 func openResults(path string) (*results, error) {
-	r := &results{traced: make(map[string]tracedTest), verdicts: make(map[int]verdict)}
+	r := &results{traced: make(map[string]tracedTest), fates: make(map[int]fate)}
 	if err := r.read(path); err != nil && !errors.Is(err, fs.ErrNotExist) {
 		return nil, err
 	}
@@ -578,8 +578,8 @@ func (r *results) note(it line) {
 	if it.Traced != nil {
 		r.traced[it.Traced.Package+" "+it.Traced.Test] = *it.Traced
 	}
-	if it.Verdict != nil {
-		r.verdicts[it.Verdict.Mutant] = *it.Verdict
+	if it.Fate != nil {
+		r.fates[it.Fate.Mutant] = *it.Fate
 	}
 }
 
@@ -603,11 +603,11 @@ func (r *results) isTraced(p, test string) bool {
 	return is
 }
 
-// verdict returns what became of a mutant, or nothing.
-func (r *results) verdict(id int) verdict {
+// fate returns what became of a mutant, or nothing.
+func (r *results) fate(id int) fate {
 	r.mutex.Lock()
 	defer r.mutex.Unlock()
-	return r.verdicts[id]
+	return r.fates[id]
 }
 
 func (r *results) close() error { return r.file.Close() }

@@ -177,7 +177,7 @@ func report(out io.Writer, kept *results, packages []*pkg, mutants []mutant) err
 	}
 	counts := make(map[string]int)
 	for _, mutant := range mutants {
-		ending := kept.verdict(mutant.ID).Ending
+		ending := kept.fate(mutant.ID).Ending
 		counts[ending]++
 		if ending == survived || ending == unreached {
 			fmt.Fprintf(out, "\n%s: %s\n%s", ending, mutant, mutant.diff(texts[mutant.File]))
