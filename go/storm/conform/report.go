@@ -27,7 +27,7 @@ func (r *Runner) report() *Report {
 	hide := r.client.hider()
 	report := &Report{
 		URL: r.client.base, Prefix: r.prefix, Service: hide.In(r.target.ServiceName), Plan: hide.In(r.target.PlanName),
-		Instances: len(r.ledger.all), Ended: r.ended, Leftovers: []Leftover{},
+		Instances: len(r.candidates.all), Ended: r.ended, Leftovers: []Leftover{},
 	}
 	for _, test := range Cases() {
 		report.Results = append(report.Results, *r.results[test.Name])

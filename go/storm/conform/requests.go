@@ -57,7 +57,7 @@ func (r *Runner) delete(k key) *exchange { return r.deleteBy(k, deletion(k, r.ta
 func (r *Runner) deleteBy(k key, sent request) *exchange {
 	x := r.send(sent)
 	if x.is(200, 410) {
-		r.ledger.forget(k)
+		r.candidates.forget(k)
 	}
 	return x
 }
@@ -573,9 +573,9 @@ func (r *Runner) Ask(ctx context.Context, method, instance, binding, path string
 // Create asks for an instance of the target, or a binding of it. CleanUp deletes it.
 func (r *Runner) Create(ctx context.Context, instance, binding string) Answer {
 	k := key{instance, binding}
-	r.ledger.noteSending(k, r.target.Pair)
+	r.candidates.noteSending(k, r.target.Pair)
 	x := r.client.send(ctx, r.creation(k, nil))
-	r.ledger.noteCreation(k, x)
+	r.candidates.noteCreation(k, x)
 	return Answer{x.status, x.object, x.requestLine(), x.came()}
 }
 
@@ -589,8 +589,8 @@ type Debt struct {
 // Owe has CleanUp delete an instance or a binding.
 func (r *Runner) Owe(it Debt) {
 	k := key{it.Instance, it.Binding}
-	r.ledger.noteSending(k, r.target.Pair)
-	owed := r.ledger.entry(k)
+	r.candidates.noteSending(k, r.target.Pair)
+	owed := r.candidates.of(k)
 	owed.rejected, owed.unanswered = it.Rejected, it.Unanswered
 }
 

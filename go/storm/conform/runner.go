@@ -51,18 +51,18 @@ const mostSilent = 3
 
 // A Runner runs the cases once. Use one goroutine.
 type Runner struct {
-	config  Config
-	client  *client
-	prefix  string
-	ledger  ledger
-	ctx     context.Context // of Run
-	results map[string]*Result
-	because string       // why the rest of a scenario isn't run
-	ended   string       // why a request wasn't sent that a case needs, or empty
-	silent  int          // requests in a row without an answer
-	general generalCases // what is judged over all answers
-	fetched *exchange    // of the catalogue
-	target  Target
+	config     Config
+	client     *client
+	prefix     string
+	candidates candidates
+	ctx        context.Context // of Run
+	results    map[string]*Result
+	because    string       // why the rest of a scenario isn't run
+	ended      string       // why a request wasn't sent that a case needs, or empty
+	silent     int          // requests in a row without an answer
+	general    generalCases // what is judged over all answers
+	fetched    *exchange    // of the catalogue
+	target     Target
 	// What the answers have shown: whether the target is created and bound asynchronously, and an instance that exists.
 	isAsync, bindsAsync bool
 	existing            string
@@ -160,7 +160,7 @@ func (r *Runner) send(sent request) *exchange {
 
 // create sends the creation of an instance or a binding, and notes it for CleanUp. The pair is that of the request.
 func (r *Runner) create(k key, p Pair, sent request) *exchange {
-	if !r.ledger.all[k.instance] && len(r.ledger.all) >= r.config.Instances {
+	if !r.candidates.all[k.instance] && len(r.candidates.all) >= r.config.Instances {
 		err := fmt.Errorf("%d instances were ordered, which is the limit", r.config.Instances)
 		r.ended = err.Error()
 		return &exchange{request: sent, err: err, unsent: true}
@@ -168,10 +168,10 @@ func (r *Runner) create(k key, p Pair, sent request) *exchange {
 	if err := r.stopReason(); err != nil {
 		return &exchange{request: sent, err: err, unsent: true}
 	}
-	r.ledger.noteSending(k, r.target.Pair)
-	r.ledger.noteSending(k, p)
+	r.candidates.noteSending(k, r.target.Pair)
+	r.candidates.noteSending(k, p)
 	x := r.send(sent)
-	r.ledger.noteCreation(k, x)
+	r.candidates.noteCreation(k, x)
 	return x
 }
 
@@ -331,11 +331,11 @@ const (
 func (r *Runner) CleanUp(ctx context.Context) []Leftover {
 	c := &cleanUp{Runner: r, begun: time.Now(), tell: r.config.Tell, bindings: map[string][]*removal{}}
 	c.late = c.begun.Add(2 * r.config.RequestTime)
-	for _, entry := range r.ledger.rest() {
-		made := &removal{entry: entry, reason: reasonTime}
+	for _, candidate := range r.candidates.rest() {
+		made := &removal{candidate: candidate, reason: reasonTime}
 		c.all = append(c.all, made)
-		if entry.binding != "" {
-			c.bindings[entry.instance] = append(c.bindings[entry.instance], made)
+		if candidate.binding != "" {
+			c.bindings[candidate.instance] = append(c.bindings[candidate.instance], made)
 		}
 	}
 	for c.pass(ctx); ctx.Err() == nil && c.isOpen(); c.pass(ctx) {
@@ -351,7 +351,7 @@ func (r *Runner) CleanUp(ctx context.Context) []Leftover {
 }
 
 type removal struct {
-	*entry
+	*candidate
 	state     removalState
 	reason    string    // why it isn't deleted, or not yet
 	until     time.Time // when its time is over; zero before its first request
@@ -481,7 +481,7 @@ func (c *cleanUp) noteDeletion(it *removal) {
 		return
 	}
 	it.state, it.unanswered = removed, false
-	c.ledger.forget(it.key)
+	c.candidates.forget(it.key)
 }
 
 // fails notes why a deletion hasn't succeeded. It is sent again.
@@ -573,29 +573,29 @@ type key struct{ instance, binding string }
 // A Pair is the service and the plan of a request, by their ids.
 type Pair struct{ Service, Plan string }
 
-// An entry is an instance or a binding that a broker may have created.
-type entry struct {
+// A candidate is an instance or a binding that a broker may have created.
+type candidate struct {
 	key
 	pairs      []Pair // under which it was asked for
 	rejected   bool   // every creation was answered with 4xx, other than 408
 	unanswered bool   // a creation wasn't answered, and may still arrive
 }
 
-// A ledger is what may have been created, in the order in which it was first asked for.
-type ledger struct {
-	entries []*entry
-	all     map[string]bool // the ids of all instances that were ever asked for
+// candidates are what may have been created, in the order in which they were first asked for.
+type candidates struct {
+	open []*candidate
+	all  map[string]bool // the ids of all instances that were ever asked for
 }
 
-func (l *ledger) noteSending(k key, p Pair) {
-	if l.all == nil {
-		l.all = map[string]bool{}
+func (c *candidates) noteSending(k key, p Pair) {
+	if c.all == nil {
+		c.all = map[string]bool{}
 	}
-	l.all[k.instance] = true
-	it := l.entry(k)
+	c.all[k.instance] = true
+	it := c.of(k)
 	if it == nil {
-		it = &entry{key: k, rejected: true}
-		l.entries = append(l.entries, it)
+		it = &candidate{key: k, rejected: true}
+		c.open = append(c.open, it)
 	}
 	for _, known := range it.pairs {
 		if known == p || p.Service == "" || p.Plan == "" {
@@ -605,8 +605,8 @@ func (l *ledger) noteSending(k key, p Pair) {
 	it.pairs = append(it.pairs, p)
 }
 
-func (l *ledger) noteCreation(k key, x *exchange) {
-	it := l.entry(k)
+func (c *candidates) noteCreation(k key, x *exchange) {
+	it := c.of(k)
 	if x.status < 400 || x.status > 499 || x.status == 408 {
 		it.rejected = false
 	}
@@ -614,32 +614,32 @@ func (l *ledger) noteCreation(k key, x *exchange) {
 }
 
 // forget forgets what was deleted, unless a creation may still arrive.
-func (l *ledger) forget(k key) {
-	for at, entry := range l.entries {
-		if entry.key == k && !entry.unanswered {
-			l.entries = append(l.entries[:at:at], l.entries[at+1:]...)
+func (c *candidates) forget(k key) {
+	for at, candidate := range c.open {
+		if candidate.key == k && !candidate.unanswered {
+			c.open = append(c.open[:at:at], c.open[at+1:]...)
 			return
 		}
 	}
 }
 
-func (l *ledger) entry(k key) *entry {
-	for _, entry := range l.entries {
-		if entry.key == k {
-			return entry
+func (c *candidates) of(k key) *candidate {
+	for _, candidate := range c.open {
+		if candidate.key == k {
+			return candidate
 		}
 	}
 	return nil
 }
 
 // rest returns what has to be deleted: bindings before instances.
-func (l *ledger) rest() []*entry {
-	var bindings, instances []*entry
-	for _, entry := range l.entries {
-		if entry.binding != "" {
-			bindings = append(bindings, entry)
+func (c *candidates) rest() []*candidate {
+	var bindings, instances []*candidate
+	for _, candidate := range c.open {
+		if candidate.binding != "" {
+			bindings = append(bindings, candidate)
 		} else {
-			instances = append(instances, entry)
+			instances = append(instances, candidate)
 		}
 	}
 	return append(bindings, instances...)

@@ -216,7 +216,7 @@ func TestHangingDeletions(t *testing.T) {
 	ran(t, r)
 	m.turn.Lock()
 	m.hold = func(*call) { <-hangs }
-	exist := len(r.ledger.entries)
+	exist := len(r.candidates.open)
 	m.turn.Unlock()
 	t.Cleanup(func() { close(hangs) })
 	within, cancel := context.WithTimeout(context.Background(), 100*time.Millisecond)
