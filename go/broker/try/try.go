@@ -387,14 +387,14 @@ func (p Plan) String() string { return fmt.Sprintf("plan %s of service %s", p.Na
 //
 // Errors: those of osb.BindingModes; if the document isn't JSON.
 func Plans(document []byte) ([]Plan, error) {
-	type entry struct {
+	type offer struct {
 		ID   string `json:"id"`
 		Name string `json:"name"`
 	}
 	var read struct {
 		Services []struct {
-			entry
-			Plans []entry `json:"plans"`
+			offer
+			Plans []offer `json:"plans"`
 		} `json:"services"`
 	}
 	if err := json.Unmarshal(document, &read); err != nil {
