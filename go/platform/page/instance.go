@@ -117,11 +117,11 @@ func (l look) chain(tries []api.Record) *table {
 		return nil
 	}
 	shown := &table{
-		Caption: thousands(len(tries)) + " tries of one order, each under another id", Lines: l.linesOf(tries, "try"),
+		Caption: thousands(len(tries)) + " tries of one order, each under another id", Items: l.itemsOf(tries, "try"),
 	}
 	for at, try := range tries {
-		shown.Lines[at].Of = "" // that of this page
-		shown.Lines[at].Notes = append([]string{"try " + strconv.Itoa(try.Try)}, shown.Lines[at].Notes...)
+		shown.Items[at].Of = "" // that of this page
+		shown.Items[at].Notes = append([]string{"try " + strconv.Itoa(try.Try)}, shown.Items[at].Notes...)
 	}
 	return shown
 }
@@ -134,12 +134,12 @@ func (l look) bindings(r api.Record) (*table, error) {
 	if err != nil {
 		return nil, err
 	}
-	shown := &table{Caption: count(len(found.Items), "binding") + ", by state", Lines: l.linesOf(found.Items, "b")}
+	shown := &table{Caption: count(len(found.Items), "binding") + ", by state", Items: l.itemsOf(found.Items, "b")}
 	if found.Next != "" {
 		shown.Caption = "The first " + thousands(len(found.Items)) + ", by state"
 	}
-	for at := range shown.Lines {
-		shown.Lines[at].Of = "" // the instance of this page
+	for at := range shown.Items {
+		shown.Items[at].Of = "" // the instance of this page
 	}
 	return shown, nil
 }

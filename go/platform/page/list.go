@@ -36,7 +36,7 @@ func (l look) list(o *overview, a target, c counts, flights []api.Record) error 
 	if a.find != "" && len(shown.Items) >= size {
 		o.Caption = "The first " + thousands(len(shown.Items)) + ", " + order + ": more digits find fewer"
 	}
-	o.Lines = l.linesOf(shown.Items, "i")
+	o.Items = l.itemsOf(shown.Items, "i")
 	return nil
 }
 
@@ -96,10 +96,10 @@ func holds(all []api.Record, id string) bool {
 	return false
 }
 
-// linesOf are lines with their lives.
-func (l look) linesOf(records []api.Record, kind string) (all []line) {
+// itemsOf are items with their lives.
+func (l look) itemsOf(records []api.Record, kind string) (all []item) {
 	for _, record := range records {
-		shown := l.line(record, kind)
+		shown := l.item(record, kind)
 		if record.Omitted > 0 {
 			shown.Before = count(record.Omitted, "state")
 		}
@@ -141,9 +141,9 @@ func (l look) moment(at time.Time) moment {
 	return moment{Text: "never"}
 }
 
-// line is a line without its life. kind keeps links to one line apart if a page has several.
-func (l look) line(r api.Record, kind string) line {
-	shown := line{
+// item is an item without its life. kind keeps links to one item apart if a page has several.
+func (l look) item(r api.Record, kind string) item {
+	shown := item{
 		ID: cut(nameOf(r), longestID), Href: targetOf(r, l.isStill), Anchor: kind + "-" + r.Key(),
 		State: plain(r.State), Since: l.moment(r.Since),
 	}

@@ -199,7 +199,7 @@ func (l look) parts(o *overview, a target, c counts, flights []api.Record) error
 	}
 	for _, flight := range flights {
 		if len(o.Flights) < short {
-			o.Flights = append(o.Flights, l.line(flight, "flies"))
+			o.Flights = append(o.Flights, l.item(flight, "flies"))
 		}
 	}
 	o.FlightCaption = first(len(o.Flights), len(flights), "by the end of their lease")
@@ -351,7 +351,7 @@ func (l look) waitingOf(of attention, entries []api.Record, number int, a target
 		w.More = moreOf(of, a, c)
 	}
 	for _, entry := range entries {
-		w.Lines = append(w.Lines, l.line(entry, anchor))
+		w.Items = append(w.Items, l.item(entry, anchor))
 	}
 	switch {
 	case isMore && number == 0:

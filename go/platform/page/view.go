@@ -46,8 +46,8 @@ type message struct {
 	Text string
 }
 
-// A line is an instance or a binding in a table.
-type line struct {
+// An item is an instance or a binding in a table.
+type item struct {
 	ID     string
 	Of     string // the id of a binding's instance, or empty
 	Href   string
@@ -89,7 +89,7 @@ type waiting struct {
 	Heading string
 	Todo    []words
 	Caption string
-	Lines   []line
+	Items   []item
 	More    []link
 }
 
@@ -101,10 +101,10 @@ type seller struct {
 	ReasonAt    *moment
 }
 
-// A table has lines.
+// A table has items.
 type table struct {
 	Caption string
-	Lines   []line
+	Items   []item
 }
 
 // An overview is the page of a list, and on the first page of what waits and what is in flight.
@@ -117,7 +117,7 @@ type overview struct {
 
 	Waiting       []waiting
 	Rejected      []seller
-	Flights       []line
+	Flights       []item
 	FlightCaption string
 	MoreFlights   string
 	Brokers       []seller
