@@ -20,7 +20,7 @@ type Finding struct {
 	Instance string `json:"instance"`
 	Binding  string `json:"binding,omitempty"`
 	What     string `json:"what"`
-	Life     []Line `json:"life"`
+	Life     []Item `json:"life"`
 }
 
 // A Difference is what a record and what exists disagree in, or what somebody has to compare.
@@ -116,8 +116,8 @@ func (f Finding) Name() string {
 func WriteFindings(w io.Writer, title string, all []Finding) {
 	for _, finding := range all {
 		fmt.Fprintf(w, "\n%s: %s: %s\n", title, finding.Name(), finding.What)
-		for _, line := range finding.Life {
-			fmt.Fprintf(w, "  %s\n", line)
+		for _, item := range finding.Life {
+			fmt.Fprintf(w, "  %s\n", item)
 		}
 	}
 }
@@ -314,8 +314,8 @@ const (
 	WhoPlatform = "platform"
 )
 
-// A Line is one thing in the life of an instance or a binding.
-type Line struct {
+// An Item is one thing in the life of an instance or a binding.
+type Item struct {
 	Seconds float64 `json:"seconds"`           // since the start of the run
 	Until   float64 `json:"until,omitempty"`   // of a request: when the platform got its answer
 	Number  string  `json:"request,omitempty"` // the number of the request, or empty
@@ -327,18 +327,18 @@ type Line struct {
 }
 
 // LifeOf returns the life of an instance with its bindings, or of a binding with its instance.
-func LifeOf(key Key, exchanges []fault.Exchange, events []Event, hide Hider) []Line {
-	var life []Line
+func LifeOf(key Key, exchanges []fault.Exchange, events []Event, hide Hider) []Item {
+	var life []Item
 	for _, event := range events {
 		if event.Key == (Key{}) || event.Key == key || event.Key == key.InstanceKey() {
-			life = append(life, Line{
+			life = append(life, Item{
 				Seconds: seconds(event.At), Who: event.Who, What: conform.Printable(hide.In(event.What)), isOfAll: event.Key == (Key{}),
 			})
 		}
 	}
 	for _, x := range exchanges {
 		if its := (Key{x.Instance, x.Binding}); its == key || its == key.InstanceKey() {
-			life = append(life, linesOf(x, hide)...)
+			life = append(life, itemsOf(x, hide)...)
 		}
 	}
 	sort.SliceStable(life, func(one, other int) bool { return life[one].Seconds < life[other].Seconds })
@@ -348,17 +348,17 @@ func LifeOf(key Key, exchanges []fault.Exchange, events []Event, hide Hider) []L
 	return life
 }
 
-func linesOf(x fault.Exchange, hide Hider) []Line {
+func itemsOf(x fault.Exchange, hide Hider) []Item {
 	number := x.Number.String()
-	line := func(at time.Duration, who, what string) Line {
-		return Line{Seconds: seconds(at), Number: number, Who: who, What: conform.Printable(hide.In(what))}
+	item := func(at time.Duration, who, what string) Item {
+		return Item{Seconds: seconds(at), Number: number, Who: who, What: conform.Printable(hide.In(what))}
 	}
-	request := line(x.Begun, "request", x.Method+" "+x.Target)
+	request := item(x.Begun, "request", x.Method+" "+x.Target)
 	if x.Fault != fault.None {
 		request.Fault = string(x.Fault)
 	}
 	request.Until = seconds(x.Ended)
-	all := []Line{request}
+	all := []Item{request}
 	for at, d := range x.Deliveries {
 		which := "the request"
 		switch {
@@ -369,15 +369,15 @@ func linesOf(x fault.Exchange, hide Hider) []Line {
 		case x.Fault == fault.RequestGarbled:
 			which = "the request with a body that isn't JSON"
 		}
-		all = append(all, line(d.Begun, WhoBroker, "gets "+which), line(d.Ended, WhoBroker, answerOf(x, d, hide)))
+		all = append(all, item(d.Begun, WhoBroker, "gets "+which), item(d.Ended, WhoBroker, answerOf(x, d, hide)))
 	}
 	if len(x.Deliveries) == 0 {
-		all = append(all, line(x.Begun, WhoBroker, "doesn't get the request"))
+		all = append(all, item(x.Begun, WhoBroker, "doesn't get the request"))
 	}
 	if x.Ended == 0 { // it is still in flight
 		return all
 	}
-	return append(all, line(x.Ended, "proxy", "gives the platform "+x.Receipt.Words))
+	return append(all, item(x.Ended, "proxy", "gives the platform "+x.Receipt.Words))
 }
 
 func answerOf(x fault.Exchange, d fault.Delivery, hide Hider) string {
@@ -392,11 +392,11 @@ func answerOf(x fault.Exchange, d fault.Delivery, hide Hider) string {
 
 func seconds(of time.Duration) float64 { return float64(of.Milliseconds()) / 1000 }
 
-// String returns the line for people.
-func (l Line) String() string {
-	text := fmt.Sprintf("%8.3f s  %-9s  %-9s  %s", l.Seconds, l.Number, l.Who, l.What)
-	if l.Fault != "" {
-		text += "   FAULT: " + l.Fault
+// String returns the item for people.
+func (i Item) String() string {
+	text := fmt.Sprintf("%8.3f s  %-9s  %-9s  %s", i.Seconds, i.Number, i.Who, i.What)
+	if i.Fault != "" {
+		text += "   FAULT: " + i.Fault
 	}
 	return text
 }

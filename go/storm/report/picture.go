@@ -52,7 +52,7 @@ type tick struct {
 }
 
 // draw draws a picture of findings, with the kills between their first and their last request.
-func draw(findings []Finding, kills []Line) *picture {
+func draw(findings []Finding, kills []Item) *picture {
 	first, last := bounds(findings)
 	x := func(at float64) float64 {
 		return leftMargin + (at-first)/(last-first)*(pictureWidth-leftMargin-rightMargin)
@@ -68,9 +68,9 @@ func draw(findings []Finding, kills []Line) *picture {
 	for at, finding := range findings {
 		p.Lanes = append(p.Lanes, laneOf(finding, topMargin+laneHeight*float64(at), x))
 	}
-	for _, line := range kills {
-		if line.Seconds >= first && line.Seconds <= last {
-			p.Restarts = append(p.Restarts, tick{x(line.Seconds), "the " + line.Who + " " + line.What})
+	for _, item := range kills {
+		if item.Seconds >= first && item.Seconds <= last {
+			p.Restarts = append(p.Restarts, tick{x(item.Seconds), "the " + item.Who + " " + item.What})
 		}
 	}
 	return p
@@ -80,10 +80,10 @@ func draw(findings []Finding, kills []Line) *picture {
 func bounds(findings []Finding) (first, last float64) {
 	first = math.Inf(1)
 	for _, finding := range findings {
-		for _, line := range finding.Life {
-			if line.Number != "" || line.Who == "record" || line.Who == "operator" {
-				first = math.Min(first, line.Seconds)
-				last = math.Max(last, math.Max(line.Seconds, line.Until))
+		for _, item := range finding.Life {
+			if item.Number != "" || item.Who == "record" || item.Who == "operator" {
+				first = math.Min(first, item.Seconds)
+				last = math.Max(last, math.Max(item.Seconds, item.Until))
 			}
 		}
 	}
@@ -107,20 +107,20 @@ func stepOf(length float64) float64 {
 // laneOf draws a lane: the requests above, the broker's answers in the middle, and the record below.
 func laneOf(it Finding, y float64, x func(float64) float64) lane {
 	drawn := lane{Label: it.Number, Y: y}
-	for _, line := range it.Life {
-		title := line.String()
+	for _, item := range it.Life {
+		title := item.String()
 		switch {
-		case line.Who == "request":
+		case item.Who == "request":
 			class := "request"
-			if line.Fault != "" {
+			if item.Fault != "" {
 				class = "request fault"
 			}
-			width := math.Max(3, x(math.Max(line.Until, line.Seconds))-x(line.Seconds))
-			drawn.Spans = append(drawn.Spans, span{x(line.Seconds), y + 8, width, class, title})
-		case line.Who == WhoBroker && line.Number != "":
-			drawn.Points = append(drawn.Points, mark{x(line.Seconds), y + 30, "answer", title})
-		case line.Who == "record", line.Who == "operator", line.Who == "osb-storm":
-			drawn.Points = append(drawn.Points, mark{x(line.Seconds), y + 46, line.Who, title})
+			width := math.Max(3, x(math.Max(item.Until, item.Seconds))-x(item.Seconds))
+			drawn.Spans = append(drawn.Spans, span{x(item.Seconds), y + 8, width, class, title})
+		case item.Who == WhoBroker && item.Number != "":
+			drawn.Points = append(drawn.Points, mark{x(item.Seconds), y + 30, "answer", title})
+		case item.Who == "record", item.Who == "operator", item.Who == "osb-storm":
+			drawn.Points = append(drawn.Points, mark{x(item.Seconds), y + 46, item.Who, title})
 		}
 	}
 	return drawn
@@ -139,7 +139,7 @@ type Page struct {
 	Sections     []Section
 	// Course is what is drawn if there are no findings, and Kills what happened to the programs meanwhile.
 	Course []Finding
-	Kills  []Line
+	Kills  []Item
 	Noun   string // what breaks the standard: answer or request
 	Broken []Violation
 	Given  []string // all faults
@@ -152,7 +152,7 @@ type Fact struct{ Name, Value string }
 type Section struct {
 	Title    string
 	Findings []Finding
-	Kills    []Line // what happened to the programs in the same run
+	Kills    []Item // what happened to the programs in the same run
 }
 
 // Add adds a fact for each value.
@@ -235,12 +235,12 @@ func (r Run) countFaults() (all []*faultCount) {
 }
 
 // Kills returns what happened to the programs: how they were killed, paused and started again.
-func (r Run) Kills() (lines []Line) {
+func (r Run) Kills() (items []Item) {
 	for _, event := range r.Events {
 		if event.Key == (Key{}) && (event.Who == WhoBroker || event.Who == WhoPlatform) {
 			what := conform.Printable(r.Hide.In(event.What))
-			lines = append(lines, Line{Seconds: seconds(event.At), Who: event.Who, What: what, isOfAll: true})
+			items = append(items, Item{Seconds: seconds(event.At), Who: event.Who, What: what, isOfAll: true})
 		}
 	}
-	return lines
+	return items
 }

@@ -39,8 +39,8 @@ func TestLifeOf(t *testing.T) {
 	}
 	x := fault.Exchange{Instance: "one", Binding: "two", Method: "PUT", Target: "/x", Begun: 3 * time.Second}
 	var got []string
-	for _, line := range LifeOf(key, []fault.Exchange{x}, events, Hider{}) {
-		got = append(got, line.What)
+	for _, item := range LifeOf(key, []fault.Exchange{x}, events, Hider{}) {
+		got = append(got, item.What)
 	}
 	diff.Equal(t, strings.Join(got, "|"), "ready|PUT /x|doesn't get the request|is paused", "the life")
 	x.Ended, x.Receipt.Words = 7*time.Second, "no answer"
@@ -60,9 +60,9 @@ func TestDeliveriesOfALife(t *testing.T) {
 		t.Run(string(kind), func(t *testing.T) {
 			x := fault.Exchange{Instance: "one", Method: "PUT", Target: "/x", Fault: kind, Deliveries: make([]fault.Delivery, 2)}
 			var got []string
-			for _, line := range LifeOf(Key{Instance: "one"}, []fault.Exchange{x}, nil, Hider{}) {
-				if strings.HasPrefix(line.What, "gets ") {
-					got = append(got, line.What)
+			for _, item := range LifeOf(Key{Instance: "one"}, []fault.Exchange{x}, nil, Hider{}) {
+				if strings.HasPrefix(item.What, "gets ") {
+					got = append(got, item.What)
 				}
 			}
 			diff.Check(t, got, wanted, "%s", kind)
@@ -102,12 +102,12 @@ func TestBreaches(t *testing.T) {
 
 // All marks of a picture are within it.
 func TestPicture(t *testing.T) {
-	life := []Line{
+	life := []Item{
 		{Seconds: 1, Number: "1.1", Who: "request", What: "PUT", Fault: "hang-up", Until: 2},
 		{Seconds: 1.5, Number: "1.1", Who: "broker", What: "answers"}, {Seconds: 2, Who: "record", What: "ready"},
 		{Seconds: 1.3, Who: "platform", What: "takes no answer"},
 	}
-	kills := []Line{
+	kills := []Item{
 		{Seconds: 0.9, Who: "broker"}, {Seconds: 1.2, Who: "broker", What: "is killed"}, {Seconds: 3, Who: "broker"},
 	}
 	p := draw([]Finding{{Number: "1", Life: life}}, kills)

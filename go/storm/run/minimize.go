@@ -21,7 +21,7 @@ type Minimum struct {
 	MinimizeEnded string `json:"minimize_ended,omitempty"`
 
 	minimal      []fault.Injection
-	minimalKills []report.Line // what happened to the programs in the run that MinimalLost is about
+	minimalKills []report.Item // what happened to the programs in the run that MinimalLost is about
 }
 
 // A Candidate is a list of faults that may lose something.

@@ -50,7 +50,7 @@ type Report struct {
 	given          []fault.Injection
 	user, password string
 	course         []Finding // what is drawn if nothing was found
-	kills          []report.Line
+	kills          []report.Item
 }
 
 // A wording is what the reports of a storm call things.

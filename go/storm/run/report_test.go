@@ -33,7 +33,7 @@ const hostile = `<script>alert("&'1")</script>`
 
 // hostileReport has a text of the broker wherever one may stand.
 func hostileReport() *Report {
-	life := []report.Line{
+	life := []report.Item{
 		{Seconds: 1, Number: "1.1", Who: "request", What: hostile, Fault: "hang-up", Until: 2},
 		{Seconds: 1.5, Number: "1.1", Who: "broker", What: hostile}, {Seconds: 2, Who: "record", What: hostile},
 		{Seconds: 1.2, Who: "broker", What: hostile},
