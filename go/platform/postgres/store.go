@@ -170,9 +170,9 @@ func (s *Store) enter() error {
 
 // transaction is pg.Transaction on a connection of the store. It is tried again if it couldn't begin, since the
 // server may have closed each connection that was idle, and if another transaction has undone it.
-func (s *Store) transaction(ctx context.Context, work func(*sql.Tx) (bool, error)) error {
+func (s *Store) transaction(ctx context.Context, passed func(*sql.Tx) (bool, error)) error {
 	for unbegun, undone := 0, 0; ; {
-		err := s.attempt(ctx, work)
+		err := s.attempt(ctx, passed)
 		switch {
 		case errors.Is(err, pg.ErrNotBegun) && unbegun < s.most:
 			unbegun++
@@ -184,13 +184,13 @@ func (s *Store) transaction(ctx context.Context, work func(*sql.Tx) (bool, error
 	}
 }
 
-func (s *Store) attempt(ctx context.Context, work func(*sql.Tx) (bool, error)) error {
+func (s *Store) attempt(ctx context.Context, passed func(*sql.Tx) (bool, error)) error {
 	conn, err := s.db.Conn(ctx)
 	if err != nil {
 		return err
 	}
 	defer conn.Close()
-	return pg.Transaction(ctx, conn, work)
+	return pg.Transaction(ctx, conn, passed)
 }
 
 // A call is one call of a Store. The functions that its caller has passed are called by do alone, so that none of them
@@ -223,16 +223,16 @@ func (c *call) end() {
 	c.isOver = true
 }
 
-// within calls work as a call of the store, and returns what it returns. lib/pq doesn't return before the server has
-// answered, or its time is over, even if the context ends. So once the context has ended, work is waited for no longer
-// than grace; the connection that it uses is closed when it returns.
-func within[T any](ctx context.Context, s *Store, work func(*call) (T, error)) (value T, err error) {
+// within calls a function as a call of the store, and returns what the function returns. lib/pq doesn't return before
+// the server has answered, or its time is over, even if the context ends. So once the context has ended, within waits
+// for the function no longer than grace. The connection that the function uses is closed when it returns.
+func within[T any](ctx context.Context, s *Store, passed func(*call) (T, error)) (value T, err error) {
 	if err := s.enter(); err != nil {
 		return value, err
 	}
 	defer s.running.Done()
 	this := &call{}
-	value, isLeft, err := runWithin(ctx, func() (T, error) { return work(this) })
+	value, isLeft, err := runWithin(ctx, func() (T, error) { return passed(this) })
 	if isLeft {
 		this.end()
 	}
@@ -242,23 +242,23 @@ func within[T any](ctx context.Context, s *Store, work func(*call) (T, error)) (
 	return value, asAway(err)
 }
 
-// A result is what work returns.
+// A result is what a function returns that within has called.
 type result[T any] struct {
 	value T
 	err   error
 }
 
-// runWithin returns what work returns. If isLeft is true, it has left work running, since the context has ended.
-func runWithin[T any](ctx context.Context, work func() (T, error)) (value T, isLeft bool, err error) {
+// runWithin returns what a function returns. If isLeft is true, the function still runs, and the context has ended.
+func runWithin[T any](ctx context.Context, passed func() (T, error)) (value T, isLeft bool, err error) {
 	if ctx.Done() == nil {
-		value, err = work()
+		value, err = passed()
 		return value, false, err
 	}
 	done := make(chan result[T], 1)
 	go func() {
 		made := result[T]{err: errors.New("a function that was passed has ended its goroutine")}
 		defer func() { done <- made }()
-		made.value, made.err = work()
+		made.value, made.err = passed()
 	}()
 	select {
 	case made := <-done:
@@ -275,9 +275,9 @@ func runWithin[T any](ctx context.Context, work func() (T, error)) (value T, isL
 	}
 }
 
-// run is within for work that has only an error.
-func (s *Store) run(ctx context.Context, work func(*call) error) error {
-	_, err := within(ctx, s, func(this *call) (struct{}, error) { return struct{}{}, work(this) })
+// run is within for a function that returns only an error.
+func (s *Store) run(ctx context.Context, passed func(*call) error) error {
+	_, err := within(ctx, s, func(this *call) (struct{}, error) { return struct{}{}, passed(this) })
 	return err
 }
 

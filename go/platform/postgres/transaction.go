@@ -299,9 +299,9 @@ type stay struct {
 	Since seconds `json:"since"`
 }
 
-// batch calls work in a transaction, with a batch whose rows are locked by a statement. The batch is written if work
-// returns no error.
-func (s *Store) batch(ctx context.Context, of *call, lock string, work func(*batch) error) error {
+// batch calls a function in a transaction, with a batch whose rows are locked by a statement. The batch is written if
+// the function returns no error.
+func (s *Store) batch(ctx context.Context, of *call, lock string, passed func(*batch) error) error {
 	locking, err := s.statement(ctx, lock)
 	if err != nil {
 		return err
@@ -312,7 +312,7 @@ func (s *Store) batch(ctx context.Context, of *call, lock string, work func(*bat
 	}
 	return s.transaction(ctx, func(tx *sql.Tx) (bool, error) {
 		it := &batch{ctx: ctx, tx: tx, call: of, lock: locking, send: sending, rows: map[platform.Key]*lockedRow{}}
-		if err := work(it); err != nil {
+		if err := passed(it); err != nil {
 			return false, err
 		}
 		return it.write()
