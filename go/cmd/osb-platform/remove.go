@@ -497,14 +497,14 @@ func (q question) ask(ctx context.Context, asking *client.Client) (facts [][2]st
 	}
 	var fetched *client.Answer
 	if q.isRetrievable() {
-		told, err := asking.Fetch(ctx, q.broker, q.entry)
+		answer, err := asking.Fetch(ctx, q.broker, q.entry)
 		if err != nil {
 			return facts, q.noAnswer(err)
 		}
-		for _, fact := range factsOf("fetch", told) {
+		for _, fact := range factsOf("fetch", answer) {
 			add(fact[0], fact[1])
 		}
-		fetched = &told
+		fetched = &answer
 	}
 	add("what to do", q.advice(last, fetched))
 	return facts, nil

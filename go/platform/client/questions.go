@@ -41,14 +41,14 @@ func (c *Client) LastOperation(ctx context.Context, of platform.Broker, entry pl
 	if err != nil {
 		return Answer{}, err
 	}
-	told, err := answerOf(got)
+	answer, err := answerOf(got)
 	if err != nil {
 		return Answer{}, err
 	}
-	answer, err := osb.ReadAnswer(osb.KindPoll, uint16(got.status), got.body) // the status has three digits
+	read, err := osb.ReadAnswer(osb.KindPoll, uint16(got.status), got.body) // the status has three digits
 	isBare := got.status == http.StatusGone && len(got.body) == 0
-	told.State, told.IsUnsure = states[answer.Body], answer.Body == osb.BodyMalformed && !isBare
-	return told, err
+	answer.State, answer.IsUnsure = states[read.Body], read.Body == osb.BodyMalformed && !isBare
+	return answer, err
 }
 
 // Fetch asks a broker for an instance or a binding itself, as LastOperation does. Only a broker whose catalogue says
@@ -58,10 +58,10 @@ func (c *Client) Fetch(ctx context.Context, of platform.Broker, entry platform.E
 	if err != nil {
 		return Answer{}, err
 	}
-	told, err := answerOf(got)
+	answer, err := answerOf(got)
 	var object map[string]json.RawMessage
-	told.IsUnsure = err == nil && (json.Unmarshal(got.body, &object) != nil || object == nil)
-	return told, err
+	answer.IsUnsure = err == nil && (json.Unmarshal(got.body, &object) != nil || object == nil)
+	return answer, err
 }
 
 // question is one GET about a row: the Fetch, or the Poll of its last operation.
@@ -106,14 +106,14 @@ func answerOf(got wholeAnswer) (Answer, error) {
 	if err != nil {
 		return Answer{}, fmt.Errorf("status %d: %w", got.status, err)
 	}
-	told := Answer{Status: got.status}
+	answer := Answer{Status: got.status}
 	if details.Error != nil {
-		told.Error = *details.Error
+		answer.Error = *details.Error
 	}
 	if details.Description != nil {
-		told.Description = *details.Description
+		answer.Description = *details.Description
 	}
-	return told, nil
+	return answer, nil
 }
 
 // longestReason is how many characters of a broker's description stand in an error.

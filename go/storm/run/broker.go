@@ -221,9 +221,9 @@ func (s *BrokerStorm) byDeletion(
 	}
 	within, cancel := context.WithTimeout(ctx, s.config.CleanUpTime)
 	defer cancel()
-	told := s.deletionsOf(within, asked)
-	found.Unknown = len(asked) - len(told)
-	for key, existence := range told {
+	answers := s.deletionsOf(within, asked)
+	found.Unknown = len(asked) - len(answers)
+	for key, existence := range answers {
 		shown[key] = existence
 	}
 	return compare(records, Sight{Of: shown}).Without(Stuck)
