@@ -133,8 +133,8 @@ func (h *Handler) Wait(within time.Duration) bool {
 	return true
 }
 
-// An exchange is one request while it is being answered.
-type exchange struct {
+// An arrival is one request while it is being answered.
+type arrival struct {
 	Exchange
 	request *http.Request
 	header  http.Header // of the answer
@@ -151,25 +151,25 @@ type answer struct {
 // ServeHTTP answers one request.
 func (h *Handler) ServeHTTP(w http.ResponseWriter, r *http.Request) {
 	began := time.Now()
-	x := &exchange{request: r, header: w.Header(), arrived: began, Exchange: Exchange{
+	a := &arrival{request: r, header: w.Header(), arrived: began, Exchange: Exchange{
 		RequestID: h.requestID(r), Route: otherRoute, Method: atMost(r.Method, 20),
 		Target: httpserver.LoggedTarget(r.RequestURI), Address: hostOf(r.RemoteAddr),
 		Traceparent: first(r.Header, "Traceparent"), VcapRequest: first(r.Header, "X-Vcap-Request-Id"),
 	}}
-	x.header[requestIdentity] = []string{x.RequestID}
+	a.header[requestIdentity] = []string{a.RequestID}
 	if h.store != nil {
-		x.header[StoreHeader] = h.store
+		a.header[StoreHeader] = h.store
 	}
-	x.header["Content-Type"] = jsonType
+	a.header["Content-Type"] = jsonType
 	if len(r.TransferEncoding) > 0 { // no request follows a body whose end the sender may see elsewhere
-		x.header.Set("Connection", "close")
+		a.header.Set("Connection", "close")
 	}
-	given := h.answer(x)
-	x.header["Content-Length"] = []string{strconv.Itoa(len(given.body))} // so that it ends before the body has arrived
+	given := h.answer(a)
+	a.header["Content-Length"] = []string{strconv.Itoa(len(given.body))} // so that it ends before the body has arrived
 	w.WriteHeader(given.status)
 	_, _ = w.Write(given.body) // a platform that has gone gets no answer
-	x.Status, x.Duration = given.status, time.Since(began)
-	h.Observer.OnExchange(x.Exchange)
+	a.Status, a.Duration = given.status, time.Since(began)
+	h.Observer.OnExchange(a.Exchange)
 }
 
 const requestIdentity = "X-Broker-Api-Request-Identity" // as net/http writes it
@@ -177,42 +177,42 @@ const requestIdentity = "X-Broker-Api-Request-Identity" // as net/http writes it
 var jsonType = []string{osb.ContentType}
 
 // answer decides on what is answered. The headers are judged before any of the body is read.
-func (h *Handler) answer(x *exchange) answer {
+func (h *Handler) answer(a *arrival) answer {
 	if h.isStopping.Load() {
 		return answer{http.StatusServiceUnavailable, stopping}
 	}
-	if refused, ok := h.admit(x); !ok {
+	if refused, ok := h.admit(a); !ok {
 		return refused
 	}
-	if x.path = pathOf(x.request.RequestURI); x.path.isCatalogue {
-		return h.catalogue(x)
+	if a.path = pathOf(a.request.RequestURI); a.path.isCatalogue {
+		return h.catalogue(a)
 	}
-	if h.isForAnother(x.request) {
-		return h.otherError(x, http.StatusMisdirectedRequest, otherStore)
+	if h.isForAnother(a.request) {
+		return h.otherError(a, http.StatusMisdirectedRequest, otherStore)
 	}
-	size := h.sizeOf(x.request)
-	if !h.bodies.Take(x.User, size, h.patience) {
-		return h.busy(x)
+	size := h.sizeOf(a.request)
+	if !h.bodies.Take(a.User, size, h.patience) {
+		return h.busy(a)
 	}
-	defer func() { h.bodies.Give(x.User, size) }()
-	body, err := h.body(x.request)
+	defer func() { h.bodies.Give(a.User, size) }()
+	body, err := h.body(a.request)
 	if size > len(body) { // its length wasn't announced, or it was cut
-		h.bodies.Give(x.User, size-len(body))
+		h.bodies.Give(a.User, size-len(body))
 		size = len(body)
 	}
 	if err != nil { // it was cut on its way, was too slow, or has a malformed chunk
-		x.header.Set("Connection", "close")
-		return h.otherError(x, http.StatusRequestTimeout, cutBody)
+		a.header.Set("Connection", "close")
+		return h.otherError(a, http.StatusRequestTimeout, cutBody)
 	}
-	visit, isParsed, err := h.parse(x, body)
+	visit, isParsed, err := h.parse(a, body)
 	switch {
 	case !isParsed:
-		return h.busy(x)
+		return h.busy(a)
 	case err != nil:
-		return h.refuse(x, err)
+		return h.refuse(a, err)
 	}
-	visit.Arrived = x.arrived
-	return h.carryOut(x, visit)
+	visit.Arrived = a.arrived
+	return h.carryOut(a, visit)
 }
 
 // isForAnother reports whether a request names another store: it is meant for a broker over that one.
@@ -226,12 +226,12 @@ func (h *Handler) isForAnother(r *http.Request) bool {
 }
 
 // parse reads what a request asks, once its body may be parsed, and returns whether that happened in time.
-func (h *Handler) parse(x *exchange, body []byte) (visit Visit, isParsed bool, err error) {
-	if !h.parsed.Take(x.User, len(body), h.patience) {
+func (h *Handler) parse(a *arrival, body []byte) (visit Visit, isParsed bool, err error) {
+	if !h.parsed.Take(a.User, len(body), h.patience) {
 		return visit, false, nil
 	}
-	defer h.parsed.Give(x.User, len(body))
-	visit, err = h.read(x, body)
+	defer h.parsed.Give(a.User, len(body))
+	visit, err = h.read(a, body)
 	if len(body) >= largeBody {
 		osb.ReturnMemory()
 	}
@@ -243,9 +243,9 @@ func (h *Handler) parse(x *exchange, body []byte) (visit Visit, isParsed bool, e
 const largeBody = 32 << 10
 
 // busy answers a request of which nothing was done, and nothing was looked up.
-func (h *Handler) busy(x *exchange) answer {
-	x.header.Set("Retry-After", "30")
-	return h.otherError(x, http.StatusServiceUnavailable, allWork)
+func (h *Handler) busy(a *arrival) answer {
+	a.header.Set("Retry-After", "30")
+	return h.otherError(a, http.StatusServiceUnavailable, allWork)
 }
 
 // sizeOf is how many bytes the body of a request may take.
@@ -283,20 +283,20 @@ func (h *Handler) body(r *http.Request) ([]byte, error) {
 }
 
 // catalogue answers the document of the catalogue.
-func (h *Handler) catalogue(x *exchange) answer {
-	x.Route = "catalog"
-	if x.request.Method != http.MethodGet {
-		x.header.Set("Allow", http.MethodGet)
-		return h.refuse(x, osb.ErrRefusedMethod)
+func (h *Handler) catalogue(a *arrival) answer {
+	a.Route = "catalog"
+	if a.request.Method != http.MethodGet {
+		a.header.Set("Allow", http.MethodGet)
+		return h.refuse(a, osb.ErrRefusedMethod)
 	}
 	return answer{http.StatusOK, h.service.document()}
 }
 
 // carryOut carries a request out, and has gone on with what isn't finished.
-func (h *Handler) carryOut(x *exchange, visit Visit) answer {
+func (h *Handler) carryOut(a *arrival, visit Visit) answer {
 	if h.mayWork(visit) {
 		if !h.takeTurn() {
-			return h.busy(x)
+			return h.busy(a)
 		}
 		defer func() { <-h.working }()
 		if h.isStopping.Load() { // nothing was begun
@@ -305,26 +305,26 @@ func (h *Handler) carryOut(x *exchange, visit Visit) answer {
 	}
 	h.slots <- struct{}{}
 	defer func() { <-h.slots }()
-	ctx := h.Journal.OnArrival(h.ctx, x.request, x.RequestID, visit)
-	response, given := h.handle(ctx, x, visit)
+	ctx := h.Journal.OnArrival(h.ctx, a.request, a.RequestID, visit)
+	response, given := h.handle(ctx, a, visit)
 	if given.status != int(response.Status) { // it has failed
 		response = Response{Answer: osb.Answer{Status: uint16(given.status), Body: osb.BodyOtherError}}
 	}
-	h.Journal.OnAnswer(ctx, x.header, response)
+	h.Journal.OnAnswer(ctx, a.header, response)
 	return given
 }
 
 // handle has the service handle a request.
-func (h *Handler) handle(ctx context.Context, x *exchange, visit Visit) (response Response, given answer) {
+func (h *Handler) handle(ctx context.Context, a *arrival, visit Visit) (response Response, given answer) {
 	err := safely(func() (err error) {
 		response, err = h.service.Handle(ctx, visit)
 		return err
 	})
 	if err != nil {
-		return Response{}, h.fail(x, fmt.Errorf("%v: %w", visit.Key, err))
+		return Response{}, h.fail(a, fmt.Errorf("%v: %w", visit.Key, err))
 	}
-	h.follow(ctx, x, visit, response)
-	return response, h.write(x, response, h.sentence(visit, response))
+	h.follow(ctx, a, visit, response)
+	return response, h.write(a, response, h.sentence(visit, response))
 }
 
 // mayWork reports whether a request may do work before it is answered: the creations and deletions of synchronous
@@ -357,7 +357,7 @@ func (h *Handler) takeTurn() bool {
 
 // follow has somebody go on with a key: an operation has begun, or work is pending whose worker may be dead. After the
 // deletion of an instance was put off, it deletes the bindings whose creation has failed.
-func (h *Handler) follow(ctx context.Context, x *exchange, visit Visit, response Response) {
+func (h *Handler) follow(ctx context.Context, a *arrival, visit Visit, response Response) {
 	if response.IsUnfinished {
 		h.Touch(visit.Key)
 	}
@@ -373,32 +373,32 @@ func (h *Handler) follow(ctx context.Context, x *exchange, visit Visit, response
 		h.Touch(key)
 	}
 	if err != nil {
-		h.report(x, "failed_binding_not_deleted", err)
+		h.report(a, "failed_binding_not_deleted", err)
 	}
 }
 
 // admit judges who asks, and which version is spoken.
-func (h *Handler) admit(x *exchange) (answer, bool) {
-	authorization := x.request.Header["Authorization"]
+func (h *Handler) admit(a *arrival) (answer, bool) {
+	authorization := a.request.Header["Authorization"]
 	user, err := h.Users.judge(authorization)
 	if errors.Is(err, osb.ErrUnauthorized) {
 		if h.Limiter != nil {
-			h.wait(h.Limiter.FailedLogin(x.Address))
+			h.wait(h.Limiter.FailedLogin(a.Address))
 		}
-		x.header.Set("WWW-Authenticate", `Basic realm="service broker", charset="UTF-8"`)
-		x.header.Set("Connection", "close") // nobody without a password keeps a connection
+		a.header.Set("WWW-Authenticate", `Basic realm="service broker", charset="UTF-8"`)
+		a.header.Set("Connection", "close") // nobody without a password keeps a connection
 		sentence := wrongLogin
 		if len(authorization) == 0 {
 			sentence = noLogin
 		}
-		return h.otherError(x, http.StatusUnauthorized, sentence), false
+		return h.otherError(a, http.StatusUnauthorized, sentence), false
 	}
 	if err == nil {
-		x.User = user
-		err = version(x.request.Header["X-Broker-Api-Version"])
+		a.User = user
+		err = version(a.request.Header["X-Broker-Api-Version"])
 	}
 	if err != nil {
-		return h.refuse(x, err), false
+		return h.refuse(a, err), false
 	}
 	return answer{}, true
 }

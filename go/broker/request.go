@@ -168,19 +168,19 @@ func (v Visit) unknownResponse() Response {
 var stopping = []byte(`{"description":"The broker is being stopped. Send the request again later.","error":"ServiceUnavailable"}`)
 
 // read reads what a request asks, and judges what the plan asks of it.
-func (h *Handler) read(x *exchange, body []byte) (visit Visit, err error) {
-	if x.path.isBinding {
-		visit, err = h.readBinding(x, body)
+func (h *Handler) read(a *arrival, body []byte) (visit Visit, err error) {
+	if a.path.isBinding {
+		visit, err = h.readBinding(a, body)
 	} else {
-		visit, err = h.readInstance(x, body)
+		visit, err = h.readInstance(a, body)
 	}
 	if err != nil {
 		if !errors.Is(err, osb.ErrRefusedTarget) && !errors.Is(err, osb.ErrRefusedMethod) {
-			x.Route = x.path.route(x.request.Method)
+			a.Route = a.path.route(a.request.Method)
 		}
 		return visit, err
 	}
-	x.Key, x.IsNamed = visit.Key, true
+	a.Key, a.IsNamed = visit.Key, true
 	return visit, nil
 }
 
@@ -223,16 +223,16 @@ func (p path) route(method string) string {
 	return bindingRoutes[kind]
 }
 
-func (h *Handler) readInstance(x *exchange, body []byte) (visit Visit, err error) {
-	received, err := osb.ReceiveRequest("", h.LongestBody, x.request.Method, x.request.RequestURI, body)
+func (h *Handler) readInstance(a *arrival, body []byte) (visit Visit, err error) {
+	received, err := osb.ReceiveRequest("", h.LongestBody, a.request.Method, a.request.RequestURI, body)
 	if err != nil {
 		return visit, err
 	}
 	visit.Asked, visit.Key, visit.Names.Instance =
 		received.Asked, InstanceKey(received.Asked.ID), received.Names.Instance
-	x.Route = routes[visit.Asked.Kind]
+	a.Route = routes[visit.Asked.Kind]
 	if visit.Asked.Kind != osb.KindProvision {
-		visit.Origin = h.origin(x)
+		visit.Origin = h.origin(a)
 		return visit, nil
 	}
 	if visit.Attributes, err = osb.AttributesDigest(body); err != nil {
@@ -241,7 +241,7 @@ func (h *Handler) readInstance(x *exchange, body []byte) (visit Visit, err error
 	if err := h.conflict(planIDs{visit.Asked.Service, visit.Asked.Plan}, body); err != nil {
 		return visit, err
 	}
-	return h.creation(x, visit, body, Request{ServiceID: received.Names.Service, PlanID: received.Names.Plan})
+	return h.creation(a, visit, body, Request{ServiceID: received.Names.Service, PlanID: received.Names.Plan})
 }
 
 var routes = map[osb.Kind]string{
@@ -260,19 +260,19 @@ func (h *Handler) conflict(of planIDs, body []byte) error {
 // errPredecessor refuses a Bind that names a predecessor, since no plan is binding_rotatable.
 var errPredecessor = errors.New("binding rotation isn't served: no plan is binding_rotatable")
 
-func (h *Handler) readBinding(x *exchange, body []byte) (visit Visit, err error) {
-	received, err := osb.ReceiveBindingRequest("", h.LongestBody, x.request.Method, x.request.RequestURI, body)
+func (h *Handler) readBinding(a *arrival, body []byte) (visit Visit, err error) {
+	received, err := osb.ReceiveBindingRequest("", h.LongestBody, a.request.Method, a.request.RequestURI, body)
 	if err != nil {
 		return visit, err
 	}
 	visit.Asked, visit.IsFetch = received.Asked.Asked, received.Asked.IsFetch
 	visit.Key = BindingKey(received.Asked.Instance, visit.Asked.ID)
 	visit.Names = Names{Instance: received.Names.Instance, Binding: received.Names.Binding}
-	if x.Route = bindingRoutes[visit.Asked.Kind]; visit.IsFetch {
-		x.Route = "fetch-binding"
+	if a.Route = bindingRoutes[visit.Asked.Kind]; visit.IsFetch {
+		a.Route = "fetch-binding"
 	}
 	if visit.Asked.Kind != osb.KindProvision {
-		visit.Origin = h.origin(x)
+		visit.Origin = h.origin(a)
 		return visit, nil
 	}
 	if received.Parts.PredecessorBindingID != nil {
@@ -281,7 +281,7 @@ func (h *Handler) readBinding(x *exchange, body []byte) (visit Visit, err error)
 	if visit.Attributes, err = bindingDigest(received.Parts, body); err != nil {
 		return visit, err
 	}
-	return h.creation(x, visit, body, Request{ServiceID: received.Names.Service, PlanID: received.Names.Plan})
+	return h.creation(a, visit, body, Request{ServiceID: received.Names.Service, PlanID: received.Names.Plan})
 }
 
 var bindingRoutes = map[osb.Kind]string{
@@ -289,10 +289,10 @@ var bindingRoutes = map[osb.Kind]string{
 }
 
 // creation adds what is stored of a creation.
-func (h *Handler) creation(x *exchange, visit Visit, body []byte, request Request) (Visit, error) {
+func (h *Handler) creation(a *arrival, visit Visit, body []byte, request Request) (Visit, error) {
 	request.Key = visit.Key
 	request.InstanceID, request.BindingID = visit.Names.Instance, visit.Names.Binding
-	request.Body, request.Origin = body, h.origin(x)
+	request.Body, request.Origin = body, h.origin(a)
 	var err error
 	visit.Request, err = request.text()
 	visit.Creation = &request
@@ -316,9 +316,9 @@ func bindingDigest(parts osb.BindingParts, body []byte) (osb.Digest, error) {
 }
 
 // origin is who sent a request. A header that can't be read names nobody.
-func (h *Handler) origin(x *exchange) Origin {
-	origin := Origin{RequestID: x.RequestID}
-	values := x.request.Header["X-Broker-Api-Originating-Identity"]
+func (h *Handler) origin(a *arrival) Origin {
+	origin := Origin{RequestID: a.RequestID}
+	values := a.request.Header["X-Broker-Api-Originating-Identity"]
 	if len(values) != 1 {
 		return origin
 	}
@@ -326,42 +326,42 @@ func (h *Handler) origin(x *exchange) Origin {
 	if err != nil {
 		return origin
 	}
-	x.Identity = identity.Platform
+	a.Identity = identity.Platform
 	origin.Identity = &Identity{Platform: identity.Platform, Value: identity.Object}
 	return origin
 }
 
 // write writes an answer, with its own description if it has one, and else with the sentence, which may be empty.
-func (h *Handler) write(x *exchange, response Response, sentence string) answer {
+func (h *Handler) write(a *arrival, response Response, sentence string) answer {
 	status := int(response.Status)
-	if x.Reason == "" {
-		x.Reason = response.Description
+	if a.Reason == "" {
+		a.Reason = response.Description
 	}
 	switch {
 	case response.Binding != nil:
 		return answer{status, response.Binding}
 	case response.Rejected != nil && isOwnCode(response.Rejected.Code):
-		return h.writeRejection(x, status, response.Rejected)
+		return h.writeRejection(a, status, response.Rejected)
 	case response.Description != "":
 		body, err := osb.WriteDescribedAnswer(response.Answer, nil, &response.Description)
 		if err == nil {
 			return answer{status, body}
 		}
-		h.report(x, "description_not_sent", err)
+		h.report(a, "description_not_sent", err)
 	}
 	body, err := h.wordingBody(wording{response.Answer, sentence})
 	if err != nil {
-		return h.fail(x, err)
+		return h.fail(a, err)
 	}
-	if status >= http.StatusBadRequest && x.Reason == "" {
-		x.Reason = reasonIn(body)
+	if status >= http.StatusBadRequest && a.Reason == "" {
+		a.Reason = reasonIn(body)
 	}
 	return answer{status, body}
 }
 
 // otherError writes an error of this status, which says the sentence.
-func (h *Handler) otherError(x *exchange, status uint16, sentence string) answer {
-	return h.write(x, Response{Answer: osb.Answer{Status: status, Body: osb.BodyOtherError}}, sentence)
+func (h *Handler) otherError(a *arrival, status uint16, sentence string) answer {
+	return h.write(a, Response{Answer: osb.Answer{Status: status, Body: osb.BodyOtherError}}, sentence)
 }
 
 // A wording is an answer with a sentence of this package, or with none. There are few, so the library writes the body
@@ -402,7 +402,7 @@ func isOwnCode(code string) bool {
 }
 
 // writeRejection writes a rejection with the backend's code.
-func (h *Handler) writeRejection(x *exchange, status int, rejected *Rejection) answer {
+func (h *Handler) writeRejection(a *arrival, status int, rejected *Rejection) answer {
 	description := []rune(rejected.Description)
 	if len(description) == 0 {
 		description = []rune(notByUs)
@@ -415,37 +415,37 @@ func (h *Handler) writeRejection(x *exchange, status int, rejected *Rejection) a
 		Error       string `json:"error"`
 	}{string(description), rejected.Code})
 	if err != nil {
-		return h.fail(x, err)
+		return h.fail(a, err)
 	}
 	return answer{status, body}
 }
 
 // refuse answers what the library refused, or what has no memory.
-func (h *Handler) refuse(x *exchange, err error) answer {
-	x.Reason = err.Error()
+func (h *Handler) refuse(a *arrival, err error) answer {
+	a.Reason = err.Error()
 	if errors.Is(err, errPredecessor) {
-		return h.otherError(x, http.StatusBadRequest, predecessor)
+		return h.otherError(a, http.StatusBadRequest, predecessor)
 	}
 	var refusal osb.Status
 	if !errors.As(err, &refusal) {
-		return h.fail(x, err)
+		return h.fail(a, err)
 	}
 	status, write := osb.BindingRefusalStatus(refusal), osb.BindingRefusalBody
 	if status == 0 {
 		status, write = osb.RefusalStatus(refusal), osb.RefusalBody
 	}
 	if status == 0 {
-		return h.fail(x, err)
+		return h.fail(a, err)
 	}
-	if refusal == osb.ErrRefusedMethod && x.header.Get("Allow") == "" {
-		x.header.Set("Allow", x.path.methods())
+	if refusal == osb.ErrRefusedMethod && a.header.Get("Allow") == "" {
+		a.header.Set("Allow", a.path.methods())
 	}
 	if sentence := h.refusal(refusal); sentence != "" {
-		return h.otherError(x, status, sentence)
+		return h.otherError(a, status, sentence)
 	}
 	body, err := write(refusal)
 	if err != nil {
-		return h.fail(x, err)
+		return h.fail(a, err)
 	}
 	return answer{int(status), body}
 }
@@ -463,8 +463,8 @@ func (p path) methods() string {
 
 // fail answers 500, or 503 if the store or the locks are away or there is no memory, and reports why. The work may have
 // been done, so it is never a 4xx. Both statuses tell a platform that the outcome isn't known.
-func (h *Handler) fail(x *exchange, err error) answer {
-	h.report(x, "request_failed", err)
+func (h *Handler) fail(a *arrival, err error) answer {
+	h.report(a, "request_failed", err)
 	if !errors.Is(err, osb.ErrMemory) {
 		status, sentence := http.StatusInternalServerError, failedHere
 		if errors.Is(err, ErrAway) {
@@ -479,6 +479,6 @@ func (h *Handler) fail(x *exchange, err error) answer {
 	return answer{http.StatusServiceUnavailable, body}
 }
 
-func (h *Handler) report(x *exchange, event string, err error) {
-	h.Observer.OnFailure(Failure{Event: event, RequestID: x.RequestID, Key: x.Key, IsNamed: x.IsNamed, Err: err})
+func (h *Handler) report(a *arrival, event string, err error) {
+	h.Observer.OnFailure(Failure{Event: event, RequestID: a.RequestID, Key: a.Key, IsNamed: a.IsNamed, Err: err})
 }
