@@ -276,7 +276,7 @@ func (t *transaction) undo(of platform.Key, isDoubtful bool) {
 	rest := t.lines[:0]
 	for _, line := range t.lines {
 		if line.of == of {
-			t.journal.to.Write("undone", undone{Change: line.number, life: line.life, IsDoubtful: isDoubtful})
+			t.journal.to.Write("undone", undoneLine{Change: line.number, life: line.life, IsDoubtful: isDoubtful})
 		} else {
 			rest = append(rest, line)
 		}
@@ -319,8 +319,8 @@ type changeLine struct {
 	Credentials string `json:"credentials,omitempty"` // the digest of the object that is recorded with it
 }
 
-// undone is the line of a change that wasn't committed.
-type undone struct {
+// undoneLine is the line of a change that wasn't committed.
+type undoneLine struct {
 	Change int64 `json:"change"`
 	life
 	IsDoubtful bool `json:"doubtful,omitempty"` // whether it may have been committed
