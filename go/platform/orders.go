@@ -110,14 +110,14 @@ func (o *Orders) change(ctx context.Context, key Key, step func(time.Time, Snaps
 		return change, nil
 	})
 	if err != nil {
-		return Entry{}, unknown(key, err)
+		return Entry{}, noRow(key, err)
 	}
 	crash.At("order-written")
 	return after, nil
 }
 
-// unknown is the Fault of a key that has no row, or the error that is given.
-func unknown(key Key, err error) error {
+// noRow is the Fault of a key that has no row, or the error that is given.
+func noRow(key Key, err error) error {
 	switch {
 	case !errors.Is(err, ErrUnknown):
 		return err
@@ -598,7 +598,7 @@ func (o *Orders) Credentials(ctx context.Context, key Key) (json.RawMessage, err
 	}
 	e, err := o.store.Read(ctx, key)
 	if err != nil {
-		return nil, unknown(key, err)
+		return nil, noRow(key, err)
 	}
 	if e.Unreadable != "" {
 		return nil, fmt.Errorf("%s can't be read: %s", describe(e), e.Unreadable)
