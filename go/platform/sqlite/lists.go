@@ -110,14 +110,14 @@ func (c *connection) positions(ctx context.Context, filter platform.Filter) ([]p
 		}
 		if last > number {
 			l.asOf = number
-			if err := l.changed(); err != nil {
+			if err := l.readChanged(); err != nil {
 				return nil, err
 			}
 		}
 	}
 	changed := l.found
 	l.found = nil
-	if err := l.unchanged(ctx); err != nil {
+	if err := l.readUnchanged(ctx); err != nil {
 		return nil, err
 	}
 	if l.found = append(l.found, changed...); len(changed) > 0 || filter.Order == platform.ByTime {
@@ -126,9 +126,9 @@ func (c *connection) positions(ctx context.Context, filter platform.Filter) ([]p
 	return l.found, nil
 }
 
-// unchanged reads all rows, or those whose state hasn't changed since the moment. By key that is one query. Else it is
-// one for each state, which an index has in order: by state they are read until there are enough, and by time all.
-func (l *listing) unchanged(ctx context.Context) error {
+// readUnchanged reads all rows, or those whose state hasn't changed since the moment. By key that is one query. Else it
+// is one for each state, which an index has in order: by state they are read until there are enough, and by time all.
+func (l *listing) readUnchanged(ctx context.Context) error {
 	if l.filter.Order == platform.ByKey {
 		return l.byKey()
 	}
@@ -199,8 +199,8 @@ func (l *listing) byKey() error {
 	return l.inAll(false, "", isUnindexed)
 }
 
-// changed reads the rows that have changed their state since the moment, as they were then.
-func (l *listing) changed() error {
+// readChanged reads the rows that have changed their state since the moment, as they were then.
+func (l *listing) readChanged() error {
 	switch l.filter.Order {
 	case platform.ByKey:
 		return l.inAll(true, "", true)

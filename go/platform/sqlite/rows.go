@@ -22,7 +22,7 @@ type (
 // The columns of an order, which are written once, and of what has become of it. The first two of these are in more
 // indexes than the others, and change less often.
 var (
-	orderColumns = append(named(platform.OrderColumns),
+	orderColumns = append(columnsOf(platform.OrderColumns),
 		entryColumn{Name: "instance_name", Member: func(e *platform.Entry) any {
 			return &name{&e.Names.Instance, e.Key.Instance}
 		}},
@@ -35,7 +35,7 @@ var (
 		}},
 		entryColumn{Name: "first", Member: func(e *platform.Entry) any { return (*first)(e) }},
 	)
-	stateColumns = append(named(platform.StateColumns),
+	stateColumns = append(columnsOf(platform.StateColumns),
 		entryColumn{Name: "may_exist", IsOfBinding: true, Member: func(e *platform.Entry) any {
 			mayExist := e.IsSent && !e.Record.IsGone() && e.State != platform.Abandoned
 			return &mayExist // for platform.Snapshot.AllGone
@@ -43,14 +43,14 @@ var (
 	)
 	rowColumns = append(append(entryColumns{}, orderColumns...), stateColumns...)
 
-	brokerColumns = named(platform.BrokerColumns)
+	brokerColumns = columnsOf(platform.BrokerColumns)
 )
 
 // lasting is how many of stateColumns stay as they are if the state stays.
 const lasting = 2
 
-// named are columns as a file has them. Some have another name there, and an identity isn't NULL.
-func named[T any](columns platform.Columns[T]) platform.Columns[T] {
+// columnsOf are columns as a file has them. Some have another name there, and an identity isn't NULL.
+func columnsOf[T any](columns platform.Columns[T]) platform.Columns[T] {
 	names := map[string]string{
 		"own_id": "is_own", "try_number": "try", "passing": "is_passing", "after": "after_ms", "username": "user",
 	}
