@@ -420,24 +420,26 @@ func testWritten(t *testing.T, open func(*testing.T) broker.NamedStore) {
 func testTexts(t *testing.T, open func(*testing.T) broker.NamedStore) {
 	store := openStore(t, open)
 	for _, test := range []struct {
-		text    string
-		isExact bool
+		name, text string
+		isExact    bool
 	}{
-		{"'; DROP TABLE x; -- \" \\ \r\n\t \x01 é 😀 \U0010FFFF", true},
-		{"with \x00 in it", false},
-		{"not UTF-8: \xff\xc3", false},
+		{"quotes and control characters", "'; DROP TABLE x; -- \" \\ \r\n\t \x01 é 😀 \U0010FFFF", true},
+		{"zero byte", "with \x00 in it", false},
+		{"not UTF-8", "not UTF-8: \xff\xc3", false},
 	} {
-		write(t, store, binding(1, 1), broker.Entry{
-			Holding: in(t, "failed"), Description: test.text, Binding: json.RawMessage(`"` + "\xff" + `"`),
+		t.Run(test.name, func(t *testing.T) {
+			write(t, store, binding(1, 1), broker.Entry{
+				Holding: in(t, "failed"), Description: test.text, Binding: json.RawMessage(`"` + "\xff" + `"`),
+			})
+			snapshot := read(t, store, binding(1, 1))
+			diff.Equal(t, snapshot.Holding, in(t, "failed"), "the holding")
+			if test.isExact && snapshot.Description != test.text {
+				t.Errorf("got %q, want %q", snapshot.Description, test.text)
+			}
+			if !test.isExact && snapshot.Description != test.text && !utf8.ValidString(snapshot.Description) {
+				t.Errorf("got %q, want %q, or a text in UTF-8", snapshot.Description, test.text)
+			}
 		})
-		snapshot := read(t, store, binding(1, 1))
-		diff.Equal(t, snapshot.Holding, in(t, "failed"), "%q: the holding", test.text)
-		if test.isExact && snapshot.Description != test.text {
-			t.Errorf("%q: got %q, want it as it was written", test.text, snapshot.Description)
-		}
-		if !test.isExact && snapshot.Description != test.text && !utf8.ValidString(snapshot.Description) {
-			t.Errorf("%q: got %q, want it in UTF-8", test.text, snapshot.Description)
-		}
 	}
 }
 

@@ -23,12 +23,14 @@ func TestMomentOfASnapshot(t *testing.T) {
 		{"740:745:740,744", "739, 741, 743, 4000000000", "740, 744, 745, 1000000000"},
 		{"4294967290:4294967300:4294967295,4294967299", "4294967290, 4294967294, 0, 2", "4294967295, 3, 4, 2000000000"},
 	} {
-		past := diff.Value(pastOf(diff.Value(momentOf(test.snapshot, 1.7e9))(t)))(t)
-		query := fmt.Sprintf("SELECT count(*) FROM (SELECT n::text::xid AS xmin, n IN (%[2]s) AS want "+
-			"FROM unnest(ARRAY[%[1]s, %[2]s]::bigint[]) AS n) AS l WHERE %[3]s <> want", test.shown, test.later, past.isLater)
-		wrong := 0
-		diff.NoError(t, db.QueryRow(query).Scan(&wrong), "%s", query)
-		diff.Equal(t, wrong, 0, "%s: the transactions that are taken for others", test.snapshot)
+		t.Run(test.snapshot, func(t *testing.T) {
+			past := diff.Value(pastOf(diff.Value(momentOf(test.snapshot, 1.7e9))(t)))(t)
+			query := fmt.Sprintf("SELECT count(*) FROM (SELECT n::text::xid AS xmin, n IN (%[2]s) AS want "+
+				"FROM unnest(ARRAY[%[1]s, %[2]s]::bigint[]) AS n) AS l WHERE %[3]s <> want", test.shown, test.later, past.isLater)
+			wrong := 0
+			diff.NoError(t, db.QueryRow(query).Scan(&wrong), "%s", query)
+			diff.Equal(t, wrong, 0, "the transactions that are taken for others")
+		})
 	}
 	many := diff.Value(pastOf(platform.Moment("1700000000-745" + strings.Repeat("-1", 10000))))(t)
 	diff.Equal(t, strings.Count(many.isLater, "l.xmin"), 2, "the comparisons with many transactions")
