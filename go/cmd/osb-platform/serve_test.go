@@ -404,8 +404,8 @@ func (b *lockedBuffer) String() string {
 	return b.text.String()
 }
 
-// While the API carries out all that it may at once, the page goes on: it asks an API of its own. What it asks isn't in
-// the log.
+// While the API carries out as many requests as it may at once, the page still answers, because it reads the store
+// without a slot of the API. What the page reads isn't in the log.
 func TestPageBesideBusyAPI(t *testing.T) {
 	file := diff.Value(sqlite.Open(context.Background(), filepath.Join(t.TempDir(), "store")))(t)
 	defer file.Close()
