@@ -645,5 +645,3 @@ func returns(t *testing.T, stores []broker.Store, key broker.Key) (count int) {
 	}
 	return count
 }
-
-var check = diff.Must

@@ -473,5 +473,3 @@ func TestSilentConnection(t *testing.T) {
 	time.Sleep(50 * time.Millisecond)
 	diff.Equal(t, p.Pending(), 0, "pending")
 }
-
-var check = diff.Must
