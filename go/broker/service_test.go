@@ -332,6 +332,23 @@ func (l *breakingStore) Change(ctx context.Context, key broker.Key, step broker.
 	return l.Store.Change(ctx, key, step)
 }
 
+// A take-up whose store fails once the start of an operation is written returns the error, and the operation stays.
+func TestTakeUpWhoseStoreFails(t *testing.T) {
+	ctx, key := context.Background(), keyOf("i")
+	b := newBench(t, newShelf(calm), newMemoryLocks())
+	breaksAfter := func(changes int) *broker.Service {
+		return broker.NewService(catalogueFor(t, catalogue), &breakingStore{b.store, changes, errScripted}, newShelf(calm),
+			newMemoryLocks(), broker.Rules{}, b.observed)
+	}
+	given, err := breaksAfter(1).Handle(ctx, provision(later))
+	if !errors.Is(err, errScripted) || !b.isPending(t, key) {
+		t.Fatalf("got %+v, %v, want %v and pending work", given, err, errScripted)
+	}
+	diff.ErrorIs(t, breaksAfter(2).TakeUp(ctx, key), errScripted, "the take-up")
+	row, _ := b.holding(t, key).Row()
+	diff.Equal(t, row.Phase, osb.PhaseMaking, "the phase")
+}
+
 // While the store is away, requests are answered with 503, and with 500 if it fails otherwise, also after the work was
 // done. Neither answer says why.
 func TestStoreThatIsAway(t *testing.T) {
