@@ -21,7 +21,7 @@ func TestFileLocks(t *testing.T) {
 	if first.CanBeLost() {
 		t.Error("a lock in a file: got one that can be lost, want one that can't be")
 	}
-	instance := broker.InstanceKey(osb.ID{15: 1})
+	instance := osb.InstanceKey(osb.ID{15: 1})
 	taken := diff.Value(first.Lock(ctx, instance))(t)
 	if lock, err := second.TryLock(ctx, instance); lock != nil || err != nil {
 		t.Errorf("got the lock %v and %v of a key whose lock is held, want neither", lock, err)
@@ -31,7 +31,7 @@ func TestFileLocks(t *testing.T) {
 	if lock, err := second.Lock(done, instance); lock != nil || !errors.Is(err, context.Canceled) {
 		t.Errorf("got the lock %v and %v, want %v", lock, err, context.Canceled)
 	}
-	binding, err := second.TryLock(ctx, broker.BindingKey(instance.Instance, instance.Instance))
+	binding, err := second.TryLock(ctx, osb.BindingKey(instance.Instance, instance.Instance))
 	if binding == nil || err != nil {
 		t.Fatalf("another key: got the lock %v and %v, want one and no error", binding, err)
 	}

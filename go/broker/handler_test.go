@@ -357,7 +357,7 @@ func TestFirstPoll(t *testing.T) {
 func keyOf(text string) broker.Key {
 	number, err := osb.IDOfText(text)
 	must(err)
-	return broker.InstanceKey(number)
+	return osb.InstanceKey(number)
 }
 
 // After the deletion of an instance was put off, its bindings whose creation has failed are deleted, so that it can be
@@ -368,7 +368,7 @@ func TestFailedBindings(t *testing.T) {
 	s.expect(t, 201, "PUT", one, bodyOf(bindLater, ""))
 	s.expect(t, 202, "PUT", one+"/service_bindings/b?accepts_incomplete=true", bodyOf(bindLater, ""))
 	s.until(t, "failed", "GET", one+"/service_bindings/b/last_operation")
-	s.expected.beginsItself(broker.BindingKey(keyOf("i").Instance, keyOf("b").Instance))
+	s.expected.beginsItself(osb.BindingKey(keyOf("i").Instance, keyOf("b").Instance))
 	s.expect(t, 422, "DELETE", one+names(bindLater), "")
 	for end := time.Now().Add(time.Minute); ; time.Sleep(time.Millisecond) {
 		if given, _ := s.ask("DELETE", one+names(bindLater), ""); given.StatusCode == 200 {

@@ -185,7 +185,7 @@ func keyOfTest(n int) Key {
 	if err != nil {
 		panic(err)
 	}
-	return InstanceKey(number)
+	return osb.InstanceKey(number)
 }
 
 // A key rests only if its work goes on. It is forgotten when its work succeeds, and some time after its last failure.
@@ -243,17 +243,6 @@ func TestSlowFollowsWhatRunsTake(t *testing.T) {
 			t.Errorf("%d runs of %v, %v: got slow after %v, want from %v to %v",
 				test.runs, test.took, test.went, after, test.shortest, test.after)
 		}
-	}
-}
-
-// The text of a key names locks, and stands in the log: brokers of two versions need the same.
-func TestTextOfAKey(t *testing.T) {
-	const one = "00000000-0000-0000-0000-000000000001"
-	number := osb.MustParseID(one)
-	for want, key := range map[string]Key{one: InstanceKey(number), one + "/" + one: BindingKey(number, number)} {
-		t.Run(want, func(t *testing.T) {
-			diff.Equal(t, key.String(), want, "")
-		})
 	}
 }
 

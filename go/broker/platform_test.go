@@ -57,9 +57,9 @@ type platform struct {
 }
 
 func newPlatform(network network, plan osb.Plan) *platform {
-	p := &platform{network: network, plan: plan, instance: &life{key: broker.InstanceKey(id("1"))}}
+	p := &platform{network: network, plan: plan, instance: &life{key: osb.InstanceKey(id("1"))}}
 	for _, binding := range []string{"b1", "b2"} {
-		p.bindings = append(p.bindings, &life{key: broker.BindingKey(id("1"), id(binding))})
+		p.bindings = append(p.bindings, &life{key: osb.BindingKey(id("1"), id(binding))})
 	}
 	return p
 }

@@ -121,7 +121,7 @@ func (v Visit) namesAnother(held Entry) (bool, error) {
 
 // instance is the holding of a binding's instance. If the request names another instance, it is the zero Holding.
 func (v Visit) instance(snapshot Snapshot) (osb.Holding, error) {
-	key := InstanceKey(v.Key.Instance)
+	key := osb.InstanceKey(v.Key.Instance)
 	differ, err := Names{Instance: v.Names.of(v.Key).Instance}.differ(key, snapshot.Instance)
 	if err != nil || differ {
 		return osb.Holding{}, err
@@ -229,7 +229,7 @@ func (h *Handler) readInstance(a *arrival, body []byte) (visit Visit, err error)
 		return visit, err
 	}
 	visit.Asked, visit.Key, visit.Names.Instance =
-		received.Asked, InstanceKey(received.Asked.ID), received.Names.Instance
+		received.Asked, osb.InstanceKey(received.Asked.ID), received.Names.Instance
 	a.Route = routes[visit.Asked.Kind]
 	if visit.Asked.Kind != osb.KindProvision {
 		visit.Origin = h.origin(a)
@@ -266,7 +266,7 @@ func (h *Handler) readBinding(a *arrival, body []byte) (visit Visit, err error) 
 		return visit, err
 	}
 	visit.Asked, visit.IsFetch = received.Asked.Asked, received.Asked.IsFetch
-	visit.Key = BindingKey(received.Asked.Instance, visit.Asked.ID)
+	visit.Key = osb.BindingKey(received.Asked.Instance, visit.Asked.ID)
 	visit.Names = Names{Instance: received.Names.Instance, Binding: received.Names.Binding}
 	if a.Route = bindingRoutes[visit.Asked.Kind]; visit.IsFetch {
 		a.Route = "fetch-binding"

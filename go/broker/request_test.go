@@ -180,13 +180,13 @@ func (m message) request() (request broker.Request, isGiven bool) {
 	if err != nil {
 		return request, false
 	}
-	request.Key, request.InstanceID = broker.InstanceKey(instance), names[0]
+	request.Key, request.InstanceID = osb.InstanceKey(instance), names[0]
 	if len(names) == 3 && names[1] == "service_bindings" {
 		binding, err := osb.IDOfText(names[2])
 		if err != nil {
 			return request, false
 		}
-		request.Key, request.BindingID = broker.BindingKey(instance, binding), names[2]
+		request.Key, request.BindingID = osb.BindingKey(instance, binding), names[2]
 	} else if len(names) > 1 {
 		return request, false
 	}

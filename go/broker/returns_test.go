@@ -285,7 +285,7 @@ func TestTwoBrokersFindOneTombstone(t *testing.T) {
 // The id of a binding returns too, while its instance lives on.
 func TestABindingReturns(t *testing.T) {
 	one := instances + "i"
-	bound, key := one+"/service_bindings/b", broker.BindingKey(keyOf("i").Instance, keyOf("b").Instance)
+	bound, key := one+"/service_bindings/b", osb.BindingKey(keyOf("i").Instance, keyOf("b").Instance)
 	l := newLives(t, newShelf(calm), anHour)
 	l.expect(t, 201, "PUT", one, bodyOf(now, ""))
 	first := l.expect(t, 201, "PUT", bound, bodyOf(now, ""))
@@ -323,7 +323,7 @@ func boundTwice(t *testing.T) (l *lives, bound string) {
 
 // The tombstones of the bindings of the old life are not in the way of the new one, and aren't taken for its own.
 func TestBindingsOfTheOldLife(t *testing.T) {
-	key := broker.BindingKey(keyOf("i").Instance, keyOf("b").Instance)
+	key := osb.BindingKey(keyOf("i").Instance, keyOf("b").Instance)
 	l, bound := boundTwice(t)
 	l.expect(t, 201, "PUT", bound, bodyOf(now, ""))
 	if entry := l.entry(t, key); !entry.Holding.IsHeld() || entry.Life != 1 {
@@ -345,7 +345,7 @@ func TestBindingsOfTheOldLife(t *testing.T) {
 
 // A binding that a broker without lives has written is held all the same.
 func TestABindingOfAnEarlierVersion(t *testing.T) {
-	key := broker.BindingKey(keyOf("i").Instance, keyOf("b").Instance)
+	key := osb.BindingKey(keyOf("i").Instance, keyOf("b").Instance)
 	l, bound := boundTwice(t)
 	l.expect(t, 201, "PUT", bound, bodyOf(now, ""))
 	err := l.store.Change(context.Background(), key, func(snapshot broker.Snapshot) (*broker.Entry, error) {
@@ -438,7 +438,7 @@ func TestALateUnbindOfAFailedBinding(t *testing.T) {
 	bound := one + "/service_bindings/b"
 	l := newLives(t, newShelf(func() int { return mood }), anHour)
 	l.expect(t, 202, "PUT", one+query, bodyOf(later, ""))
-	key := broker.BindingKey(keyOf("i").Instance, keyOf("b").Instance)
+	key := osb.BindingKey(keyOf("i").Instance, keyOf("b").Instance)
 	check(t, l.TakeUp(ctx, keyOf("i")))
 	mood = 0
 	l.expect(t, 202, "PUT", bound+query, bodyOf(later, ""))
@@ -492,7 +492,7 @@ func TestALateFetchOfTheOldLife(t *testing.T) {
 func TestADeletionRenewsATombstone(t *testing.T) {
 	const pause, inexact = 100 * time.Millisecond, 10 * time.Millisecond
 	one := instances + "i"
-	bound, binding := one+"/service_bindings/b", broker.BindingKey(keyOf("i").Instance, keyOf("b").Instance)
+	bound, binding := one+"/service_bindings/b", osb.BindingKey(keyOf("i").Instance, keyOf("b").Instance)
 	for _, rules := range []broker.Rules{anHour, {}} {
 		t.Run(fmt.Sprintf("ids return %t", rules.IDsReturnAfter > 0), func(t *testing.T) {
 			l := newLives(t, newShelf(calm), rules)

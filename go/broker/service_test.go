@@ -148,7 +148,7 @@ func TestFailedRequestsAreForgotten(t *testing.T) {
 // If what is stored of the request for an instance can't be read, a request for its binding fails, and what is held of
 // the binding stays.
 func TestBindingOfAnUnreadableInstance(t *testing.T) {
-	ctx, one, both := context.Background(), keyOf("i"), broker.BindingKey(keyOf("i").Instance, keyOf("b").Instance)
+	ctx, one, both := context.Background(), keyOf("i"), osb.BindingKey(keyOf("i").Instance, keyOf("b").Instance)
 	b := newBench(t, newShelf(calm), newMemoryLocks())
 	bound := func(it broker.Visit) broker.Visit {
 		it.Key, it.Asked.ID = both, both.Binding

@@ -111,7 +111,7 @@ func (c *clumsy) until(t *testing.T, status, other int, method, target, body str
 // A store that fails at any one call costs an answer, and leaves nothing: the same requests, sent again, end as they do
 // without it.
 func TestStoreThatFailsOnce(t *testing.T) {
-	one, both := keyOf("i"), broker.BindingKey(keyOf("i").Instance, keyOf("b").Instance)
+	one, both := keyOf("i"), osb.BindingKey(keyOf("i").Instance, keyOf("b").Instance)
 	bound := instances + "i/service_bindings/b"
 	for _, plan := range []string{now, later} {
 		t.Run(plan, func(t *testing.T) {

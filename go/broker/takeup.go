@@ -218,7 +218,7 @@ func (s *Service) UnbindFailed(ctx context.Context, instance osb.ID) (begun []Ke
 		return nil, err
 	}
 	for _, binding := range bindings {
-		key, arrived := BindingKey(instance, binding), time.Now()
+		key, arrived := osb.BindingKey(instance, binding), time.Now()
 		snapshot, err := s.read(ctx, key)
 		if err != nil {
 			return begun, err

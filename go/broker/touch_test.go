@@ -6,6 +6,7 @@ import (
 
 	"pippinterm/broker"
 	"pippinterm/internal/diff"
+	"pippinterm/osb"
 )
 
 // A toucher is a broker without a sweeper. It keeps the keys that are touched.
@@ -114,7 +115,7 @@ func TestTouchOfPendingWork(t *testing.T) {
 // The same of a binding, under its own key.
 func TestTouchOfBindings(t *testing.T) {
 	u, one := newToucher(t, newShelf(calm)), instances+"i"
-	key := broker.BindingKey(keyOf("i").Instance, keyOf("b").Instance)
+	key := osb.BindingKey(keyOf("i").Instance, keyOf("b").Instance)
 	bound, poll := one+"/service_bindings/b", one+"/service_bindings/b/last_operation"
 	u.check(t, key, []touchCase{
 		{"PUT", bound + query, bodyOf(bindLater, ""), 503, false}, // its instance doesn't exist
@@ -137,7 +138,7 @@ func TestTouchOfBindings(t *testing.T) {
 func TestTouchOfFailedBindings(t *testing.T) {
 	backend := &failingBackend{shelf: newShelf(calm), name: "create-binding", err: errScripted}
 	u, one := newToucher(t, backend), instances+"i"
-	key := broker.BindingKey(keyOf("i").Instance, keyOf("b").Instance)
+	key := osb.BindingKey(keyOf("i").Instance, keyOf("b").Instance)
 	u.check(t, key, []touchCase{
 		{"PUT", one, bodyOf(bindLater, ""), 201, false},
 		{"PUT", one + "/service_bindings/b" + query, bodyOf(bindLater, ""), 202, true},

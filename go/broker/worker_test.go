@@ -434,7 +434,7 @@ func (f *failingBackend) Credentials(context.Context, broker.Request) (credentia
 
 // Each call that fails is counted once, under its own name. A creation that is rejected isn't counted.
 func TestNamesOfFailedCalls(t *testing.T) {
-	one, bound := keyOf("one"), broker.BindingKey(keyOf("one").Instance, keyOf("b").Instance)
+	one, bound := keyOf("one"), osb.BindingKey(keyOf("one").Instance, keyOf("b").Instance)
 	rejected := &broker.Rejection{Status: 400}
 	for title, test := range map[string]struct {
 		name string
@@ -646,7 +646,7 @@ func TestCredentialsThatCannotBeReadNorDeleted(t *testing.T) {
 	l.expect(t, 201, "PUT", instances+"i", bodyOf(now, ""))
 	backend.there, backend.deletion, backend.calls = whole, errScripted, nil
 	l.expect(t, 500, "PUT", bound, bodyOf(now, ""))
-	key := broker.BindingKey(keyOf("i").Instance, keyOf("b").Instance)
+	key := osb.BindingKey(keyOf("i").Instance, keyOf("b").Instance)
 	if !l.isPending(t, key) {
 		t.Error("got the work ended, want it pending")
 	}
@@ -666,7 +666,7 @@ func TestCredentialsWhileTheBrokerStops(t *testing.T) {
 	l.expect(t, 500, "PUT", instances+"i/service_bindings/b", bodyOf(now, ""))
 	ctx, cancel := context.WithCancel(context.Background())
 	backend.calls, backend.deletion, backend.asked = nil, nil, cancel
-	key := broker.BindingKey(keyOf("i").Instance, keyOf("b").Instance)
+	key := osb.BindingKey(keyOf("i").Instance, keyOf("b").Instance)
 	diff.ErrorIs(t, l.TakeUp(ctx, key), broker.ErrNobodyKnows, "TakeUp")
 	if len(backend.calls) > 0 || !l.isPending(t, key) {
 		t.Errorf("got the calls %v, want none and the work pending", backend.calls)
@@ -733,7 +733,7 @@ func (r *reportingStore) Change(ctx context.Context, key broker.Key, step broker
 func TestCredentialsAreWrittenWithTheRow(t *testing.T) {
 	number, err := osb.IDOfText("b")
 	must(err)
-	key := broker.BindingKey(keyOf("i").Instance, number)
+	key := osb.BindingKey(keyOf("i").Instance, number)
 	for _, plan := range []string{now, bindLater} {
 		t.Run(plan, func(t *testing.T) {
 			ready := 0

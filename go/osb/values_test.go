@@ -68,6 +68,28 @@ func TestID(t *testing.T) {
 	osb.MustParseID("no id")
 }
 
+// The text of a key names locks, stands in the log, and opens credentials: programs of two versions need the same.
+func TestKey(t *testing.T) {
+	const one, other = "00000000-0000-0000-0000-000000000001", "00000000-0000-0000-0000-0000000000b1"
+	instance, binding := osb.MustParseID(one), osb.MustParseID(other)
+	for text, want := range map[string]osb.Key{
+		one:               osb.InstanceKey(instance),
+		one + "/" + other: osb.BindingKey(instance, binding),
+	} {
+		t.Run(text, func(t *testing.T) {
+			bindingText := strings.TrimPrefix(strings.TrimPrefix(text, one), "/")
+			if key, err := osb.KeyOfTexts(one, bindingText); err != nil || key != want || key.String() != text {
+				t.Errorf("got %v, %v, want %v with the text %s", key, err, want, text)
+			}
+		})
+	}
+	for _, texts := range [][2]string{{"", ""}, {"", one}, {one, "\xff"}} {
+		if key, err := osb.KeyOfTexts(texts[0], texts[1]); err == nil {
+			t.Errorf("%q: got %v, want an error", texts, key)
+		}
+	}
+}
+
 // Each value is read again from JSON and from a column, as a string and as bytes.
 func TestRoundTrips(t *testing.T) {
 	record, _ := osb.Create(instance, service, plan, false)

@@ -175,9 +175,9 @@ func nextTry(now time.Time, e Entry, instance *Entry, t terms) (*Entry, error) {
 	}
 	next := Entry{Order: e.Order, State: Ordered, Since: now}
 	if e.Key.IsBinding {
-		next.Key, next.Names.Binding = BindingKey(e.Key.Instance, id), id.String()
+		next.Key, next.Names.Binding = osb.BindingKey(e.Key.Instance, id), id.String()
 	} else {
-		next.Key, next.Names.Instance = InstanceKey(id), id.String()
+		next.Key, next.Names.Instance = osb.InstanceKey(id), id.String()
 	}
 	next.IsOwnID = true
 	next.Try++

@@ -492,10 +492,10 @@ func orderAgain(order Order) Order {
 	order.Try++
 	order.IsOwnID = true
 	if order.Key.IsBinding {
-		order.Key, order.Names.Binding = BindingKey(order.Key.Instance, id("99")), id("99").String()
+		order.Key, order.Names.Binding = osb.BindingKey(order.Key.Instance, id("99")), id("99").String()
 		return order
 	}
-	order.Key, order.Names.Instance = InstanceKey(id("99")), id("99").String()
+	order.Key, order.Names.Instance = osb.InstanceKey(id("99")), id("99").String()
 	return order
 }
 

@@ -42,8 +42,8 @@ func wait() terms {
 }
 
 var (
-	anInstance = InstanceKey(id("1"))
-	aBinding   = BindingKey(id("1"), id("b1"))
+	anInstance = osb.InstanceKey(id("1"))
+	aBinding   = osb.BindingKey(id("1"), id("b1"))
 )
 
 // rowIn is a row in a state, in which nothing is in flight but in Wanted.

@@ -70,7 +70,7 @@ func (s *seller) handle(out Outgoing) *reply {
 	if out.IsFetch {
 		return s.fetch(key)
 	}
-	held, instance := s.holdings[key], s.holdings[InstanceKey(key.Instance)]
+	held, instance := s.holdings[key], s.holdings[osb.InstanceKey(key.Instance)]
 	mode, rules := s.modeOf(key, out.Request.Plan), osb.Rules{FirstPoll: s.first}
 	var begun osb.Begun
 	var err error
@@ -347,7 +347,7 @@ func (t *transaction) snapshot(key Key) Snapshot {
 	e, _ := t.read(key)
 	snapshot := Snapshot{Entry: e}
 	if key.IsBinding {
-		if instance, ok := t.read(InstanceKey(key.Instance)); ok {
+		if instance, ok := t.read(osb.InstanceKey(key.Instance)); ok {
 			snapshot.Instance = &instance
 		}
 		return snapshot
@@ -368,7 +368,7 @@ func (t *transaction) snapshot(key Key) Snapshot {
 
 // lockAll locks what a step of a key reads: the instance first.
 func (t *transaction) lockAll(key Key, waits bool) bool {
-	return (!key.IsBinding || t.lock(InstanceKey(key.Instance), waits)) && t.lock(key, waits)
+	return (!key.IsBinding || t.lock(osb.InstanceKey(key.Instance), waits)) && t.lock(key, waits)
 }
 
 func (t *transaction) write(before Entry, change *Change, now time.Time) error {
@@ -392,7 +392,7 @@ func (t *transaction) write(before Entry, change *Change, now time.Time) error {
 			e, _ = t.read(other)
 			e.Removal, e.Due = Removed, now
 			t.writes[other] = whole(e)
-		case change.WakeInstance && other == InstanceKey(key.Instance) && e.Removal != NotRemoved:
+		case change.WakeInstance && other == osb.InstanceKey(key.Instance) && e.Removal != NotRemoved:
 			e.Due = now
 			t.writes[other] = whole(e)
 		}

@@ -182,7 +182,7 @@ func (o *Orders) Create(ctx context.Context, wanted NewInstance) (Entry, error) 
 		return Entry{}, err
 	}
 	order := Order{
-		Key: InstanceKey(number), Broker: broker.Name, Service: service.Number, Plan: plan.Number,
+		Key: osb.InstanceKey(number), Broker: broker.Name, Service: service.Number, Plan: plan.Number,
 		IsOwnID:      wanted.ID == "",
 		Names:        Names{Instance: text, Service: service.ID, Plan: plan.ID},
 		Organization: orText(wanted.Organization, DefaultOrganization), Space: orText(wanted.Space, DefaultSpace),
@@ -220,7 +220,7 @@ func (o *Orders) Bind(ctx context.Context, wanted NewBinding) (Entry, error) {
 		return Entry{}, err
 	}
 	order := Order{
-		Key: BindingKey(of.Key.Instance, number), Broker: of.Broker, Service: of.Service, Plan: of.Plan,
+		Key: osb.BindingKey(of.Key.Instance, number), Broker: of.Broker, Service: of.Service, Plan: of.Plan,
 		IsOwnID:      wanted.ID == "",
 		Names:        Names{Instance: of.Names.Instance, Binding: text, Service: of.Names.Service, Plan: of.Names.Plan},
 		Organization: of.Organization, Space: of.Space, Identity: wanted.Identity, Try: 1, Tries: tries, First: number,
@@ -247,7 +247,7 @@ func (o *Orders) bindable(ctx context.Context, id string) (Entry, error) {
 	if err != nil {
 		return Entry{}, err
 	}
-	of, err := o.store.Read(ctx, InstanceKey(instance))
+	of, err := o.store.Read(ctx, osb.InstanceKey(instance))
 	if err != nil {
 		return Entry{}, unknownInstance(id, err)
 	}

@@ -66,7 +66,7 @@ func TestCreate(t *testing.T) {
 	}
 	number := diff.Value(osb.IDOfText(e.Names.Instance))(t)
 	want := Order{
-		Key: InstanceKey(number), Broker: "shelf", Service: id("a0"), Plan: id("c2"), IsOwnID: true,
+		Key: osb.InstanceKey(number), Broker: "shelf", Service: id("a0"), Plan: id("c2"), IsOwnID: true,
 		Names:        Names{Instance: e.Names.Instance, Service: id("a0").String(), Plan: id("c2").String()},
 		Organization: "osb-platform", Space: "osb-platform", Try: 1, Tries: 3, First: number,
 	}
@@ -292,7 +292,7 @@ func TestRemove(t *testing.T) {
 func TestRemoveWithBindings(t *testing.T) {
 	d := newDesk(t)
 	d.put(rowIn(anInstance, Ready))
-	other := BindingKey(id("1"), id("b2"))
+	other := osb.BindingKey(id("1"), id("b2"))
 	d.put(with(rowIn(aBinding, Ready), func(e *Entry) { e.Due = time.Time{} }))
 	d.put(rowIn(other, Gone))
 	_, err := d.orders.Remove(background, anInstance, false)
@@ -321,7 +321,7 @@ func TestRemoveWhileBindingWaits(t *testing.T) {
 		t.Run(name, func(t *testing.T) {
 			d := newDesk(t)
 			d.put(rowIn(anInstance, Ready))
-			d.put(with(rowIn(BindingKey(id("1"), id("b0")), Gone), func(e *Entry) { e.Due = time.Time{} }))
+			d.put(with(rowIn(osb.BindingKey(id("1"), id("b0")), Gone), func(e *Entry) { e.Due = time.Time{} }))
 			d.put(with(rowIn(aBinding, Ordered), func(e *Entry) { e.Try, e.Due = 2, d.dial.time().Add(time.Hour) }))
 			_, err := end(d.orders)
 			check(t, err)
@@ -417,14 +417,14 @@ func TestAbandon(t *testing.T) {
 	wantFault(t, err, Conflict, "may exist")
 	_, err = d.orders.Abandon(background, anInstance, "")
 	wantFault(t, err, Invalid, "reason")
-	_, err = d.orders.Abandon(background, InstanceKey(id("77")), "why not")
+	_, err = d.orders.Abandon(background, osb.InstanceKey(id("77")), "why not")
 	wantFault(t, err, NotFound, "no instance of this id")
 }
 
 // A binding that is abandoned doesn't keep its instance from being removed or abandoned. One that is held beside it
 // does.
 func TestAbandonedBinding(t *testing.T) {
-	held := BindingKey(id("1"), id("b2"))
+	held := osb.BindingKey(id("1"), id("b2"))
 	for name, end := range map[string]func(*desk) (Entry, error){
 		"removed": func(d *desk) (Entry, error) { return d.orders.Remove(background, anInstance, false) },
 		"abandoned": func(d *desk) (Entry, error) {
@@ -524,7 +524,7 @@ func TestCredentials(t *testing.T) {
 	wantFault(t, err, Conflict, "no key")
 	_, err = d.orders.Credentials(background, anInstance)
 	wantFault(t, err, Invalid, "instance")
-	_, err = d.orders.Credentials(background, BindingKey(id("1"), id("b2")))
+	_, err = d.orders.Credentials(background, osb.BindingKey(id("1"), id("b2")))
 	wantFault(t, err, NotFound, "no binding of this id")
 	d.put(rowIn(aBinding, Cleaning))
 	_, err = d.orders.Credentials(background, aBinding)

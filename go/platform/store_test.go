@@ -12,6 +12,7 @@ import (
 	"time"
 
 	"pippinterm/internal/diff"
+	"pippinterm/osb"
 )
 
 var errStore = errors.New("the store fails")
@@ -118,8 +119,8 @@ func TestOrdersOverAStoreThatFails(t *testing.T) {
 			return err
 		},
 		"Remove":      func(o *Orders) error { _, err := o.Remove(background, anInstance, true); return err },
-		"Retry":       func(o *Orders) error { _, err := o.Retry(background, InstanceKey(id("9"))); return err },
-		"Abandon":     func(o *Orders) error { _, err := o.Abandon(background, InstanceKey(id("8")), "so"); return err },
+		"Retry":       func(o *Orders) error { _, err := o.Retry(background, osb.InstanceKey(id("9"))); return err },
+		"Abandon":     func(o *Orders) error { _, err := o.Abandon(background, osb.InstanceKey(id("8")), "so"); return err },
 		"Credentials": func(o *Orders) error { _, err := o.Credentials(background, aBinding); return err },
 		"AddBroker": func(o *Orders) error {
 			return o.AddBroker(background, Broker{Name: "b", URL: "https://b", User: "u"}, []byte("secret"))
@@ -135,8 +136,8 @@ func TestOrdersOverAStoreThatFails(t *testing.T) {
 				check(t, d.orders.AddBroker(background, Broker{Name: "unused", URL: "https://c", User: "u"}, []byte("secret")))
 				d.put(rowIn(anInstance, Ready))
 				d.put(with(rowIn(aBinding, Ready), func(e *Entry) { e.Credentials, _ = seal{}.Seal([]byte("{}"), e.Key.String()) }))
-				d.put(with(rowIn(InstanceKey(id("9")), Polling), func(e *Entry) { e.Due = at(500) }))
-				d.put(with(rowIn(InstanceKey(id("8")), Unsettled), func(e *Entry) { e.Due = time.Time{} }))
+				d.put(with(rowIn(osb.InstanceKey(id("9")), Polling), func(e *Entry) { e.Due = at(500) }))
+				d.put(with(rowIn(osb.InstanceKey(id("8")), Unsettled), func(e *Entry) { e.Due = time.Time{} }))
 				rows, brokers := fmt.Sprint(d.store.rows), fmt.Sprint(d.store.brokers)
 				store := &failingStore{memory: d.store, left: n}
 				err := call(NewOrders(store, seal{}))
@@ -221,7 +222,7 @@ func TestFaultsNameIDs(t *testing.T) {
 	create := NewInstance{Service: "shelf", Plan: "now", ID: "my shelf"}
 	e, err := d.orders.Create(background, create)
 	check(t, err)
-	bound := BindingKey(e.Key.Instance, id("b1"))
+	bound := osb.BindingKey(e.Key.Instance, id("b1"))
 	set := func(key Key, change func(*Entry)) {
 		row := with(rowIn(key, Ready), change)
 		row.Names = e.Names
@@ -329,7 +330,7 @@ func TestPasswordContext(t *testing.T) {
 // Walk passes each row once, some at once, and leaves out those that have left the states meanwhile. An error ends it.
 func TestWalk(t *testing.T) {
 	d := newDesk(t)
-	keys := []Key{InstanceKey(id("1")), InstanceKey(id("2")), InstanceKey(id("3"))}
+	keys := []Key{osb.InstanceKey(id("1")), osb.InstanceKey(id("2")), osb.InstanceKey(id("3"))}
 	for _, key := range keys {
 		d.put(rowIn(key, Ready))
 	}
@@ -367,8 +368,8 @@ func TestWalk(t *testing.T) {
 func TestParseKey(t *testing.T) {
 	one, other := id("1"), id("b1")
 	for text, want := range map[string]Key{
-		one.String():                        InstanceKey(one),
-		one.String() + "/" + other.String(): BindingKey(one, other),
+		one.String():                        osb.InstanceKey(one),
+		one.String() + "/" + other.String(): osb.BindingKey(one, other),
 	} {
 		t.Run(text, func(t *testing.T) {
 			diff.Equal(t, diff.Value(ParseKey(text))(t), want, "")

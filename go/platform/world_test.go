@@ -384,7 +384,7 @@ func (w *world) checkSending(out Outgoing) {
 		w.t.Fatalf("seed %d: the creation of %v: got it sent after the time that is recorded, want it before", w.seed, key)
 	}
 	if key.IsBinding && out.Request.Kind == osb.KindProvision {
-		if of, err := w.store.Read(context.Background(), InstanceKey(key.Instance)); err != nil || of.State != Ready {
+		if of, err := w.store.Read(context.Background(), osb.InstanceKey(key.Instance)); err != nil || of.State != Ready {
 			w.t.Fatalf("seed %d: the binding %v is sent: got its instance in %s (%v), want it ready", w.seed, key, of.State, err)
 		}
 	}
@@ -496,7 +496,7 @@ func (w *world) agree() {
 		if e.State != Ready && e.Credentials != nil {
 			w.t.Fatalf("seed %d: %v in %s: got credentials, want none", w.seed, key, e.State)
 		}
-		of := w.store.rows[InstanceKey(key.Instance)]
+		of := w.store.rows[osb.InstanceKey(key.Instance)]
 		if key.IsBinding && !w.seller.isNone(key) && of.State != Ready {
 			w.t.Fatalf("seed %d: the binding %v is there: got its instance in %s, want it ready", w.seed, key, of.State)
 		}

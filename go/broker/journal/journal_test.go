@@ -82,13 +82,13 @@ func TestMembers(t *testing.T) {
 	}
 	var holding osb.Holding
 	check(t, holding.UnmarshalJSON([]byte(text[""])))
-	if key := broker.InstanceKey(number); holding != s.store.entries[key].Holding {
+	if key := osb.InstanceKey(number); holding != s.store.entries[key].Holding {
 		t.Errorf("the journal: got %v, want %v held", holding, s.store.entries[key].Holding)
 	}
 	bound, err := osb.ParseID(bind)
 	check(t, err)
 	holding, err = osb.BindingHoldingFromText([]byte(text[bind]))
-	if key := broker.BindingKey(number, bound); err != nil || holding != s.store.entries[key].Holding {
+	if key := osb.BindingKey(number, bound); err != nil || holding != s.store.entries[key].Holding {
 		t.Errorf("the journal: got %v (%v), want %v held", holding, err, s.store.entries[key].Holding)
 	}
 }
@@ -268,7 +268,7 @@ func TestSwept(t *testing.T) {
 	s.ask("POLL", one, later)
 	from := len(s.lines())
 	id := diff.Value(osb.ParseID(one))(t)
-	check(t, s.service.TakeUp(context.Background(), broker.InstanceKey(id)))
+	check(t, s.service.TakeUp(context.Background(), osb.InstanceKey(id)))
 	want(t, "taken up", s.events(from), "look begun; look ended absent done; create begun; create ended done; "+
 		"look begun; look ended whole done; changed")
 	for _, line := range s.lines()[from:] {
@@ -456,7 +456,7 @@ func TestUnbindFailed(t *testing.T) {
 	instance := diff.Value(osb.ParseID(one))(t)
 	binding := diff.Value(osb.ParseID(bind))(t)
 	s.seller.fails = errFull
-	check(t, s.service.TakeUp(context.Background(), broker.BindingKey(instance, binding)))
+	check(t, s.service.TakeUp(context.Background(), osb.BindingKey(instance, binding)))
 	from := len(s.lines())
 	s.ask("DELETE", one, bound)
 	want(t, "deletion", s.events(from), "arrived; changed; changed; answered Unprocessable Entity concurrency-error")

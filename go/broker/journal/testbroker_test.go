@@ -54,7 +54,7 @@ type memory struct {
 func (m *memory) snapshot(key broker.Key) broker.Snapshot {
 	snapshot := broker.Snapshot{Entry: m.entries[key]}
 	if key.IsBinding {
-		snapshot.Instance = m.entries[broker.InstanceKey(key.Instance)]
+		snapshot.Instance = m.entries[osb.InstanceKey(key.Instance)]
 		return snapshot
 	}
 	snapshot.AnyBinding = func() (bool, error) {

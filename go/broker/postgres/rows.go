@@ -156,7 +156,7 @@ func readHeldBinding(ctx context.Context, reading *sql.Stmt, key broker.Key) (sn
 	if snapshot, err = it.snapshot(key); err != nil {
 		return snapshot, err
 	}
-	snapshot.Instance, err = instance.entry(broker.InstanceKey(key.Instance))
+	snapshot.Instance, err = instance.entry(osb.InstanceKey(key.Instance))
 	return snapshot, err
 }
 
@@ -174,11 +174,11 @@ func (s *Store) UnfinishedKeys(ctx context.Context) (keys []broker.Key, err erro
 			return err
 		}
 		if !binding.Valid {
-			keys = append(keys, broker.InstanceKey(instance))
+			keys = append(keys, osb.InstanceKey(instance))
 			return nil
 		}
 		id, err := osb.ParseID(binding.String)
-		keys = append(keys, broker.BindingKey(instance, id))
+		keys = append(keys, osb.BindingKey(instance, id))
 		return err
 	})
 	return keys, err
@@ -335,7 +335,7 @@ func (c change) lock() (snapshot broker.Snapshot, err error) {
 		}
 		return snapshot, err
 	}
-	instance, err := c.lockRow(broker.InstanceKey(c.key.Instance), forShare)
+	instance, err := c.lockRow(osb.InstanceKey(c.key.Instance), forShare)
 	if err != nil {
 		return snapshot, err
 	}

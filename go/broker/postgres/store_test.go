@@ -75,7 +75,7 @@ func TestURLThatLeadsToAnotherStore(t *testing.T) {
 			"ALTER SCHEMA osb_store_swap RENAME TO "+other,
 			"SELECT pg_terminate_backend(pid, 5000) FROM pg_stat_activity WHERE application_name = '"+name+"'")
 	}
-	key, calls := broker.InstanceKey(id(1)), 0
+	key, calls := osb.InstanceKey(id(1)), 0
 	for _, isOther := range []bool{false, true, false} {
 		for what, call := range map[string]func() error{
 			"Read":       func() error { _, err := store.Read(ctx, key); return err },
@@ -170,13 +170,13 @@ func TestTablesOf02(t *testing.T) {
 		if name, err := store.Name(ctx); err != nil || name != "of 0.2" {
 			t.Errorf("the name: got %q, %v, want \"of 0.2\"", name, err)
 		}
-		snapshot, err := store.Read(ctx, broker.InstanceKey(id(1)))
+		snapshot, err := store.Read(ctx, osb.InstanceKey(id(1)))
 		row, isHeld := snapshot.Holding.Row()
 		if err != nil || !isHeld || row.Phase != osb.PhaseReady || snapshot.Request != nil {
 			t.Errorf("the instance that is ready: got %+v, %v, want it without a request", snapshot, err)
 		}
 		keys, err := store.UnfinishedKeys(ctx)
-		if err != nil || len(keys) != 1 || keys[0] != broker.InstanceKey(id(2)) {
+		if err != nil || len(keys) != 1 || keys[0] != osb.InstanceKey(id(2)) {
 			t.Errorf("unfinished: got %v, %v, want the second", keys, err)
 		}
 		if got, err := store.Stats(ctx); err != nil || got != (broker.Stats{Pending: 1, Tombstones: 1}) {
@@ -186,12 +186,12 @@ func TestTablesOf02(t *testing.T) {
 	}
 	store := open(t, url)
 	defer store.Close()
-	err := store.Change(ctx, broker.InstanceKey(id(1)), func(snapshot broker.Snapshot) (*broker.Entry, error) {
+	err := store.Change(ctx, osb.InstanceKey(id(1)), func(snapshot broker.Snapshot) (*broker.Entry, error) {
 		snapshot.Description = "extended"
 		return &snapshot.Entry, nil
 	})
 	check(t, err)
-	if snapshot, err := store.Read(ctx, broker.InstanceKey(id(1))); err != nil || snapshot.Description != "extended" {
+	if snapshot, err := store.Read(ctx, osb.InstanceKey(id(1))); err != nil || snapshot.Description != "extended" {
 		t.Errorf("got %+v and the error %v, want the description extended", snapshot, err)
 	}
 }
@@ -231,7 +231,7 @@ func TestWorkersOf03(t *testing.T) {
 		fmt.Sprintf("INSERT INTO osb_binding_workers VALUES ('%v', '%v', 8)", id(1), id(2)))
 	for n := 0; n < 2; n++ { // the second time nothing is left to do
 		store := open(t, url)
-		for _, key := range []broker.Key{broker.InstanceKey(id(2)), broker.BindingKey(id(1), id(2))} {
+		for _, key := range []broker.Key{osb.InstanceKey(id(2)), osb.BindingKey(id(1), id(2))} {
 			entry := diff.Value(store.Read(context.Background(), key))(t).Entry
 			if want := map[bool]osb.ID{true: id(9)}[n > 0]; entry.Worker != want {
 				t.Errorf("%v: got the worker %v, want %v", key, entry.Worker, want)
@@ -260,7 +260,7 @@ func TestTombstonesWithoutATime(t *testing.T) {
 	store := open(t, url) // which changes no time
 	defer store.Close()
 	for _, key := range []broker.Key{
-		broker.InstanceKey(id(3)), broker.InstanceKey(id(4)), broker.BindingKey(id(1), id(2)),
+		osb.InstanceKey(id(3)), osb.InstanceKey(id(4)), osb.BindingKey(id(1), id(2)),
 	} {
 		t.Run(key.String(), func(t *testing.T) {
 			snapshot, err := store.Read(ctx, key)
@@ -271,7 +271,7 @@ func TestTombstonesWithoutATime(t *testing.T) {
 		})
 	}
 	for _, n := range []int{1, 2} {
-		snapshot, err := store.Read(ctx, broker.InstanceKey(id(n)))
+		snapshot, err := store.Read(ctx, osb.InstanceKey(id(n)))
 		if err != nil || !snapshot.Holding.IsHeld() || snapshot.EndedAgo != 0 || snapshot.Life != 0 {
 			t.Errorf("%d: got %+v and the error %v, want an instance that is held, in life 0", n, snapshot, err)
 		}
@@ -324,7 +324,7 @@ func TestARoleThatMayNotAlter(t *testing.T) {
 	store, err := postgres.Open(context.Background(), as, 1, broker.Silent{})
 	check(t, err)
 	defer store.Close()
-	key := broker.BindingKey(id(1), id(1))
+	key := osb.BindingKey(id(1), id(1))
 	err = store.Change(context.Background(), key, func(snapshot broker.Snapshot) (*broker.Entry, error) {
 		return &snapshot.Entry, nil
 	})
@@ -391,7 +391,7 @@ func TestServerThatIsAway(t *testing.T) {
 	store, err := postgres.Open(ctx, through, 2, broker.Silent{})
 	check(t, err)
 	t.Cleanup(func() { _ = store.Close() })
-	key := broker.InstanceKey(osb.MustParseID("00000000-0000-0000-0000-000000000001"))
+	key := osb.InstanceKey(osb.MustParseID("00000000-0000-0000-0000-000000000001"))
 	change := func(text string) error { return store.Change(ctx, key, describe(text, &calls)) }
 	all := map[string]func() error{
 		"Change":       func() error { return change("away") },
@@ -431,7 +431,7 @@ func TestServerThatIsSilent(t *testing.T) {
 	store, err := postgres.Open(ctx, through, 3, broker.Silent{})
 	check(t, err)
 	t.Cleanup(func() { _ = store.Close() })
-	key := broker.InstanceKey(osb.MustParseID("00000000-0000-0000-0000-000000000001"))
+	key := osb.InstanceKey(osb.MustParseID("00000000-0000-0000-0000-000000000001"))
 	check(t, store.Change(ctx, key, describe("before", &calls)))
 	openAll(t, store, 3)
 	proxy.Hang(true)
@@ -474,7 +474,7 @@ func TestReadOfASilentServer(t *testing.T) {
 	store := open(t, through)
 	t.Cleanup(func() { _ = store.Close() })
 	instance := osb.MustParseID("00000000-0000-0000-0000-000000000001")
-	for _, key := range []broker.Key{broker.InstanceKey(instance), broker.BindingKey(instance, instance)} {
+	for _, key := range []broker.Key{osb.InstanceKey(instance), osb.BindingKey(instance, instance)} {
 		t.Run(key.String(), func(t *testing.T) {
 			check(t, store.Change(ctx, key, describe("text", &calls)))
 			if text := descriptionOf(t, store, key); text != "text" {
@@ -540,7 +540,7 @@ func TestACommitThatFails(t *testing.T) {
 			store := open(t, url)
 			defer store.Close()
 			trigger(t, url, "osb_holdings", "DEFERRABLE INITIALLY DEFERRED", test.statement)
-			key, calls := broker.InstanceKey(id(1)), 0
+			key, calls := osb.InstanceKey(id(1)), 0
 			err := store.Change(context.Background(), key, describe("x", &calls))
 			if err == nil || errors.Is(err, pg.ErrUnknownCommit) != test.isUnknown || calls != 1 {
 				t.Errorf("after %d calls: got %v, want one after 1", calls, err)
@@ -557,7 +557,7 @@ func TestACommitWhoseAnswerIsLost(t *testing.T) {
 	store := open(t, url)
 	defer store.Close()
 	proxy.Cut("COMMIT\x00")
-	key, calls := broker.InstanceKey(id(1)), 0
+	key, calls := osb.InstanceKey(id(1)), 0
 	err := store.Change(context.Background(), key, describe("x", &calls))
 	if !errors.Is(err, pg.ErrUnknownCommit) || calls != 1 { // once more could write it twice
 		t.Errorf("after %d calls: got %v, want %v after 1", calls, err, pg.ErrUnknownCommit)
@@ -586,7 +586,7 @@ func TestConflicts(t *testing.T) {
 			defer store.Close()
 			trigger(t, url, "osb_holdings", "", "IF nextval('tries') <= "+strconv.Itoa(test.fails)+
 				" THEN RAISE EXCEPTION USING ERRCODE = '"+test.code+"'; END IF;")
-			key, calls := broker.InstanceKey(id(1)), 0
+			key, calls := osb.InstanceKey(id(1)), 0
 			err = store.Change(context.Background(), key, describe("x", &calls))
 			if (err == nil) != test.isWritten || !test.isWritten && !pg.IsCode(err, test.code) || calls != test.calls {
 				t.Errorf("after %d calls: got %v, want %s after %d", calls, err, test.code, test.calls)
@@ -607,7 +607,7 @@ func TestSessionsThatTheServerEnds(t *testing.T) {
 	url := pgtest.With(t, pgtest.Schema(t, pgtest.URL(t), "osb_store_ends"), "application_name", "osb_store_ends")
 	store := open(t, url)
 	defer store.Close()
-	key, calls := broker.BindingKey(id(1), id(1)), 0
+	key, calls := osb.BindingKey(id(1), id(1)), 0
 	calling := map[string]func() error{
 		"Change":     func() error { return store.Change(context.Background(), key, describe("x", &calls)) },
 		"Read":       func() error { _, err := store.Read(context.Background(), key); return err },
@@ -633,7 +633,7 @@ func openAll(t *testing.T, store broker.Store, count int) {
 	open := func() { once.Do(func() { close(gate) }) }
 	defer open() // before the store is closed, which waits for the steps
 	for n := 0; n < count; n++ {
-		key := broker.InstanceKey(id(100 + n))
+		key := osb.InstanceKey(id(100 + n))
 		go func() {
 			done <- store.Change(context.Background(), key, func(broker.Snapshot) (*broker.Entry, error) {
 				select {
@@ -664,7 +664,7 @@ func TestALookAtARowThatIsEnded(t *testing.T) {
 	ctx, url := context.Background(), pgtest.Schema(t, pgtest.URL(t), name)
 	store := open(t, pgtest.With(t, url, "application_name", name))
 	defer store.Close()
-	key, calls := broker.InstanceKey(id(1)), 0
+	key, calls := osb.InstanceKey(id(1)), 0
 	check(t, store.Change(ctx, key, describe("before", new(int))))
 	db := pgtest.DB(t, url)
 	holder, err := db.BeginTx(ctx, nil)
@@ -694,7 +694,7 @@ func TestASessionThatEndsDuringAStep(t *testing.T) {
 	url := pgtest.With(t, pgtest.Schema(t, pgtest.URL(t), "osb_store_step"), "application_name", "osb_store_step")
 	store := open(t, url)
 	defer store.Close()
-	key := broker.InstanceKey(id(1))
+	key := osb.InstanceKey(id(1))
 	err := store.Change(context.Background(), key, func(snapshot broker.Snapshot) (*broker.Entry, error) {
 		pgtest.Exec(t, pgtest.DB(t, pgtest.URL(t)),
 			"SELECT pg_terminate_backend(pid, 5000) FROM pg_stat_activity WHERE application_name = 'osb_store_step'")
@@ -710,7 +710,7 @@ func TestASessionThatEndsDuringAStep(t *testing.T) {
 func TestAContextThatEnds(t *testing.T) {
 	store := open(t, pgtest.Schema(t, pgtest.URL(t), "osb_store_context"))
 	defer store.Close()
-	key, calls := broker.InstanceKey(id(1)), 0
+	key, calls := osb.InstanceKey(id(1)), 0
 	ctx, cancel := context.WithCancel(context.Background())
 	err := store.Change(ctx, key, func(snapshot broker.Snapshot) (*broker.Entry, error) {
 		cancel()
@@ -741,7 +741,7 @@ func TestARowThatIsGone(t *testing.T) {
 	defer store.Close()
 	pgtest.Exec(t, pgtest.DB(t, url), "CREATE RULE gone AS ON INSERT TO osb_holdings DO INSTEAD NOTHING")
 	calls := 0
-	err := store.Change(context.Background(), broker.InstanceKey(id(1)), describe("x", &calls))
+	err := store.Change(context.Background(), osb.InstanceKey(id(1)), describe("x", &calls))
 	if err == nil || !strings.Contains(err.Error(), "Never delete rows") || calls != 0 {
 		t.Errorf("after %d calls: got %v, want one before any that says what not to delete", calls, err)
 	}
@@ -756,7 +756,7 @@ func TestAChangeThatWritesNoRow(t *testing.T) {
 		"CREATE FUNCTION f() RETURNS trigger LANGUAGE plpgsql AS 'BEGIN RETURN NULL; END'",
 		"CREATE TRIGGER of_test BEFORE UPDATE ON osb_holdings FOR EACH ROW EXECUTE FUNCTION f()",
 		"CREATE TRIGGER of_test BEFORE UPDATE ON osb_bindings FOR EACH ROW EXECUTE FUNCTION f()")
-	for _, key := range []broker.Key{broker.InstanceKey(id(1)), broker.BindingKey(id(1), id(2))} {
+	for _, key := range []broker.Key{osb.InstanceKey(id(1)), osb.BindingKey(id(1), id(2))} {
 		t.Run(key.String(), func(t *testing.T) {
 			calls := 0
 			err := store.Change(context.Background(), key, describe("x", &calls))

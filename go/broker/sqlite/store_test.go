@@ -29,7 +29,7 @@ var (
 )
 
 func keyOf(n int) broker.Key {
-	return broker.InstanceKey(osb.MustParseID(fmt.Sprintf("00000000-0000-4000-8000-%012x", n)))
+	return osb.InstanceKey(osb.MustParseID(fmt.Sprintf("00000000-0000-4000-8000-%012x", n)))
 }
 
 func open(t *testing.T, path string, observer broker.Observer) *Store {
@@ -259,7 +259,7 @@ func TestTombstonesOfAnUnreadableRow(t *testing.T) {
 			s := open(t, filepath.Join(t.TempDir(), "store"), broker.Silent{})
 			key := keyOf(1)
 			if table == "bindings" {
-				key = broker.BindingKey(key.Instance, key.Instance)
+				key = osb.BindingKey(key.Instance, key.Instance)
 			}
 			check(t, s.Change(context.Background(), key, provision(key)))
 			alter(t, s, "UPDATE "+table+" SET holding = '{}', unfinished = 0")
@@ -273,7 +273,7 @@ func TestTombstonesOfAnUnreadableRow(t *testing.T) {
 // A list has no gap where an id can't be read.
 func TestListsWithAnUnreadableID(t *testing.T) {
 	s := open(t, filepath.Join(t.TempDir(), "store"), broker.Silent{})
-	key := broker.BindingKey(keyOf(1).Instance, keyOf(2).Instance)
+	key := osb.BindingKey(keyOf(1).Instance, keyOf(2).Instance)
 	check(t, s.Change(context.Background(), key, provision(key)))
 	alter(t, s, "UPDATE bindings SET binding = 'x', held = 1, unfinished = 1")
 	if ids, err := s.HeldBindings(context.Background(), key.Instance); err == nil {
@@ -327,7 +327,7 @@ func TestChangeThatIsNotWritten(t *testing.T) {
 
 // The file of a broker of version 0.3, which a lock that can be lost had given numbers of workers: they are forgotten.
 func TestWorkersOf03(t *testing.T) {
-	key := broker.BindingKey(keyOf(1).Instance, keyOf(2).Instance)
+	key := osb.BindingKey(keyOf(1).Instance, keyOf(2).Instance)
 	path := makeFile(t, append(append([]string{}, withBindings...), append(rowsWithout(marked),
 		"CREATE TABLE workers (id TEXT PRIMARY KEY, worker INTEGER NOT NULL) WITHOUT ROWID",
 		"INSERT INTO workers VALUES ('"+keyOf(1).String()+"', 7), ('"+key.String()+"', 8)")...))
@@ -453,7 +453,7 @@ const (
 
 // A tombstone without a time gets that of the migration, once. Rows without a tombstone get none.
 func TestMigrationOfTombstones(t *testing.T) {
-	binding := broker.BindingKey(keyOf(0).Instance, osb.ID{1})
+	binding := osb.BindingKey(keyOf(0).Instance, osb.ID{1})
 	text := diff.Value(bindingTombstone(t).BindingText())(t)
 	rowOfBinding := fmt.Sprintf("INSERT INTO bindings (instance, binding, holding, held, unfinished) "+
 		"VALUES ('%v', '%v', '%s', false, false)", binding.Instance, binding.Binding, text)

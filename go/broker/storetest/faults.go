@@ -147,12 +147,12 @@ func (f *faulty) prepare(t *testing.T, hasRow bool) {
 	t.Helper()
 	of := f.key.Instance
 	if f.key.IsBinding || hasRow {
-		write(t, f.beside, broker.InstanceKey(of), broker.Entry{Holding: in(t, "deleting"), Life: 2})
+		write(t, f.beside, osb.InstanceKey(of), broker.Entry{Holding: in(t, "deleting"), Life: 2})
 	}
 	if hasRow {
 		f.tombstones = 1
-		write(t, f.beside, broker.BindingKey(of, id(1<<20)), broker.Entry{Holding: in(t, "failed")})
-		write(t, f.beside, broker.BindingKey(of, id(1<<21)), broker.Entry{Holding: tombstone(t)})
+		write(t, f.beside, osb.BindingKey(of, id(1<<20)), broker.Entry{Holding: in(t, "failed")})
+		write(t, f.beside, osb.BindingKey(of, id(1<<21)), broker.Entry{Holding: tombstone(t)})
 		write(t, f.beside, f.key, entries(t, f.key)[0])
 	}
 	f.before = read(t, f.beside, f.key)
@@ -329,7 +329,7 @@ func (by Faulty) unreadable(t *testing.T) {
 		{binding(3, 3), binding(3, 3)},
 	} {
 		if test.key == test.spoiled || !test.key.IsBinding || test.spoiled == instance(2) {
-			write(t, store, broker.InstanceKey(test.key.Instance), ready(t))
+			write(t, store, osb.InstanceKey(test.key.Instance), ready(t))
 		}
 		if test.key != binding(1, 1) { // it has no row
 			write(t, store, test.key, ready(t))

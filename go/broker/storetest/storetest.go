@@ -81,9 +81,9 @@ var (
 
 func id(n int) osb.ID { return osb.MustParseID(fmt.Sprintf("00000000-0000-4000-8000-%012x", n)) }
 
-func instance(n int) broker.Key { return broker.InstanceKey(id(n)) }
+func instance(n int) broker.Key { return osb.InstanceKey(id(n)) }
 
-func binding(n, of int) broker.Key { return broker.BindingKey(id(of), id(n)) }
+func binding(n, of int) broker.Key { return osb.BindingKey(id(of), id(n)) }
 
 // in is a holding whose row is in a phase.
 func in(t *testing.T, phase string) osb.Holding {

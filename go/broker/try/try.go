@@ -128,9 +128,9 @@ func (t *trial) addBindings() error {
 		label string
 		key   broker.Key
 	}{
-		{"1", broker.BindingKey(one, first)},
-		{"2", broker.BindingKey(one, second)},
-		{"1 of instance 2", broker.BindingKey(two, first)},
+		{"1", osb.BindingKey(one, first)},
+		{"2", osb.BindingKey(one, second)},
+		{"1 of instance 2", osb.BindingKey(two, first)},
 	} {
 		request, err := bindingRequest(t.options.Plan, test.key.Instance, test.key.Binding)
 		if err != nil {
@@ -495,13 +495,13 @@ func instanceRequest(plan Plan, parameters json.RawMessage) (broker.Request, err
 	if err != nil {
 		return broker.Request{}, err
 	}
-	return requestOf(broker.InstanceKey(instance), plan, body)
+	return requestOf(osb.InstanceKey(instance), plan, body)
 }
 
 // bindingRequest returns the request of the Bind of a new binding.
 func bindingRequest(plan Plan, instance, binding osb.ID) (broker.Request, error) {
 	body := map[string]any{"service_id": plan.ServiceID, "plan_id": plan.ID}
-	return requestOf(broker.BindingKey(instance, binding), plan, body)
+	return requestOf(osb.BindingKey(instance, binding), plan, body)
 }
 
 func requestOf(key broker.Key, plan Plan, body map[string]any) (request broker.Request, err error) {

@@ -9,7 +9,6 @@ import (
 
 	"github.com/spf13/cobra"
 
-	"pippinterm/broker"
 	"pippinterm/broker/backend/postgres"
 	"pippinterm/internal/cli"
 	"pippinterm/internal/pg"
@@ -34,7 +33,7 @@ password: each binding has a role and a password of its own.`,
 			if err != nil {
 				return err
 			}
-			_, err = fmt.Fprintln(c.OutOrStdout(), postgres.PasswordOf(key, broker.InstanceKey(id)))
+			_, err = fmt.Fprintln(c.OutOrStdout(), postgres.PasswordOf(key, osb.InstanceKey(id)))
 			return err
 		},
 	}

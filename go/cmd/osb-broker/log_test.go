@@ -28,7 +28,7 @@ const (
 func TestObserverLogsARequest(t *testing.T) {
 	instance, binding := osb.MustParseID(loggedInstance), osb.MustParseID(loggedBinding)
 	whole := broker.Exchange{
-		RequestID: "an-id", Key: broker.BindingKey(instance, binding), IsNamed: true, Route: "bind", Method: "PUT",
+		RequestID: "an-id", Key: osb.BindingKey(instance, binding), IsNamed: true, Route: "bind", Method: "PUT",
 		Target: "/v2/service_instances/1/service_bindings/2", Status: 201, Reason: "why",
 		Duration: 12345 * time.Microsecond, User: "platform", Address: "192.0.2.1", Traceparent: "00-1-2-01",
 		VcapRequest: "3", Identity: "cloudfoundry",
@@ -42,7 +42,7 @@ func TestObserverLogsARequest(t *testing.T) {
 			`"route":"bind","method":"PUT","target":"/v2/service_instances/1/service_bindings/2","status":201,` +
 			`"reason":"why","milliseconds":12.3,"user":"platform","address":"192.0.2.1","traceparent":"00-1-2-01",` +
 			`"vcap_request_id":"3","originating_identity":"cloudfoundry"}`},
-		"an instance": {broker.Exchange{Key: broker.InstanceKey(instance), IsNamed: true, Route: "poll", Status: 200},
+		"an instance": {broker.Exchange{Key: osb.InstanceKey(instance), IsNamed: true, Route: "poll", Status: 200},
 			`{"time":"T","level":"info","event":"request","instance":"` + loggedInstance + `",` +
 				`"route":"poll","status":200,"milliseconds":0}`},
 		"nothing is named": {broker.Exchange{Route: "other", Status: 408, Address: "::1"},
@@ -77,7 +77,7 @@ func TestEachFieldOfAnExchangeIsLogged(t *testing.T) {
 func TestObserverLogsOtherEvents(t *testing.T) {
 	var got bytes.Buffer
 	observer := logObserver{logs.New(&got)}
-	key := broker.InstanceKey(osb.MustParseID(loggedInstance))
+	key := osb.InstanceKey(osb.MustParseID(loggedInstance))
 	why := errors.New("why")
 	observer.OnFailure(broker.Failure{Event: "store_failed", RequestID: "an-id", Key: key, IsNamed: true, Err: why})
 	observer.OnFailure(broker.Failure{Event: "sweep_failed"})

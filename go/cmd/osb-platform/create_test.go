@@ -242,7 +242,7 @@ func TestFurtherBindingThatWaits(t *testing.T) {
 			failed, again := snapshot.Entry, platform.Entry{Order: snapshot.Order, State: platform.Ordered, Since: now}
 			failed.Passing, failed.After = true, time.Hour
 			failed.Failure = platform.Reason{At: now, Kind: "bind", Status: 429, Description: "too much"}
-			again.Key, again.Names.Binding, again.Try = platform.BindingKey(one.Instance, next), next.String(), 2
+			again.Key, again.Names.Binding, again.Try = osb.BindingKey(one.Instance, next), next.String(), 2
 			again.Due = now.Add(time.Hour)
 			return &platform.Change{Entry: failed, Next: &again}, nil
 		})

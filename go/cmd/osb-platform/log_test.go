@@ -18,7 +18,7 @@ import (
 
 // observeAll reports one event of each kind to an observer.
 func observeAll(o platform.Observer) {
-	key := platform.BindingKey(osb.MustParseID("00000000-0000-0000-0000-000000000001"),
+	key := osb.BindingKey(osb.MustParseID("00000000-0000-0000-0000-000000000001"),
 		osb.MustParseID("00000000-0000-0000-0000-000000000002"))
 	exchange := platform.Exchange{RequestID: "r", Broker: "shop", Key: key, Kind: "bind", Attempt: 3}
 	o.OnRequest(exchange)

@@ -307,7 +307,7 @@ func newWaiting(t *testing.T, due, after time.Duration) (store, next string) {
 			failed, again := snapshot.Entry, snapshot.Entry
 			failed.State, failed.Since, failed.Due, failed.Passing, failed.After = platform.Gone, now, time.Time{}, true, after
 			failed.Failure = platform.Reason{At: now, Kind: "provision", Status: 503, Description: "busy"}
-			again.Key, again.Names.Instance, again.Try = platform.InstanceKey(id), id.String(), 2
+			again.Key, again.Names.Instance, again.Try = osb.InstanceKey(id), id.String(), 2
 			again.Due = now.Add(due)
 			return &platform.Change{Entry: failed, Next: &again}, nil
 		})

@@ -59,7 +59,7 @@ func (s *triedAgain) Change(ctx context.Context, key platform.Key, step platform
 		fails := func(now time.Time, snapshot platform.Snapshot) (*platform.Change, error) {
 			failed, again := snapshot.Entry, snapshot.Entry
 			failed.State, failed.Since, failed.Due = platform.Gone, now, time.Time{}
-			again.Key, again.Names.Instance, again.Try = platform.InstanceKey(s.next), s.next.String(), snapshot.Try+1
+			again.Key, again.Names.Instance, again.Try = osb.InstanceKey(s.next), s.next.String(), snapshot.Try+1
 			return &platform.Change{Entry: failed, Next: &again}, nil
 		}
 		if err := s.Store.Change(ctx, key, fails); err != nil {
@@ -85,7 +85,7 @@ func TestRemoveWhileTriedAgain(t *testing.T) {
 		if err != nil {
 			return err
 		}
-		after, err := in.Read(ctx, platform.InstanceKey(store.next))
+		after, err := in.Read(ctx, osb.InstanceKey(store.next))
 		if removed.Key != after.Key || after.State != platform.Withdrawn ||
 			!isAll(guid+" was tried again as "+after.Names.Instance+": removing that one", failed.String()) {
 			t.Errorf("got %v removed, the next in %s, and %q, want the next one withdrawn", removed.Key, after.State, failed)

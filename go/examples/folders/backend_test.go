@@ -12,7 +12,7 @@ import (
 	"pippinterm/osb"
 )
 
-var ofInstance = broker.Request{Key: broker.InstanceKey(osb.ID{15: 1})}
+var ofInstance = broker.Request{Key: osb.InstanceKey(osb.ID{15: 1})}
 
 // What Look returns is what exists, and Create and Delete begin with whatever exists.
 func TestParts(t *testing.T) {

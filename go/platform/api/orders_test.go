@@ -382,9 +382,9 @@ func (r *rig) triedAgain(ids ...string) string {
 		failed, again := snapshot.Entry, snapshot.Entry
 		failed.State, failed.Since, failed.Due, failed.Lease = platform.Gone, now, time.Time{}, platform.Lease{}
 		if again.Try++; key.IsBinding {
-			again.Key, again.Names.Binding = platform.BindingKey(key.Instance, next), next.String()
+			again.Key, again.Names.Binding = osb.BindingKey(key.Instance, next), next.String()
 		} else {
-			again.Key, again.Names.Instance = platform.InstanceKey(next), next.String()
+			again.Key, again.Names.Instance = osb.InstanceKey(next), next.String()
 		}
 		again.State, again.Since, again.Due, again.IsSent = platform.Ordered, now, now, false
 		again.Record, again.Lease = osb.Record{}, platform.Lease{}

@@ -166,18 +166,11 @@ func (r *reader) Show(ctx context.Context, instance, binding string) (Record, er
 
 // keyOf returns the key of an instance, or of one of its bindings. A text that is no id names nothing.
 func keyOf(instance, binding string) (platform.Key, error) {
-	of, err := osb.IDOfText(instance)
+	key, err := osb.KeyOfTexts(instance, binding)
 	if err != nil {
 		return platform.Key{}, ErrUnknown
 	}
-	if binding == "" {
-		return platform.InstanceKey(of), nil
-	}
-	id, err := osb.IDOfText(binding)
-	if err != nil {
-		return platform.Key{}, ErrUnknown
-	}
-	return platform.BindingKey(of, id), nil
+	return key, nil
 }
 
 // record returns an entry of a list: with so many states of its life, or without its life for 0.
@@ -439,7 +432,7 @@ func readCursor(cursor string, filter *platform.Filter) error {
 	if err != nil || json.Unmarshal(text, &written) != nil || written.Instance == nil {
 		return errCursor
 	}
-	position := &platform.Position{State: written.State, Key: platform.InstanceKey(*written.Instance)}
+	position := &platform.Position{State: written.State, Key: osb.InstanceKey(*written.Instance)}
 	if written.Since != nil {
 		position.Since = *written.Since
 	}
@@ -451,7 +444,7 @@ func readCursor(cursor string, filter *platform.Filter) error {
 		return errCursor
 	}
 	if written.Binding != nil {
-		position.Key = platform.BindingKey(*written.Instance, *written.Binding)
+		position.Key = osb.BindingKey(*written.Instance, *written.Binding)
 	}
 	filter.After, filter.AsOf = position, written.AsOf
 	return nil

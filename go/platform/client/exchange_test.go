@@ -680,9 +680,9 @@ func number(text string) osb.ID {
 
 // outgoingOf is a request to a broker of an instance, or of a binding if the names have one.
 func outgoingOf(c *Client, url string, kind osb.Kind, names platform.Names) platform.Outgoing {
-	key := platform.InstanceKey(number(names.Instance))
+	key := osb.InstanceKey(number(names.Instance))
 	if names.Binding != "" {
-		key = platform.BindingKey(number(names.Instance), number(names.Binding))
+		key = osb.BindingKey(number(names.Instance), number(names.Binding))
 	}
 	id, err := newID()
 	if err != nil {

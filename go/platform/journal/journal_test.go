@@ -224,7 +224,7 @@ func (f failing) Claim(_ context.Context, _ []string, _ int, step platform.Step)
 			return nil, err
 		}
 		if _, err := step(time.Now(), platform.Snapshot{Entry: platform.Entry{
-			Order: platform.Order{Key: platform.InstanceKey(id)},
+			Order: platform.Order{Key: osb.InstanceKey(id)},
 		}}); err != nil {
 			return nil, err
 		}
@@ -415,7 +415,7 @@ func keyOf(text string) platform.Key {
 	if err != nil {
 		panic(err)
 	}
-	return platform.InstanceKey(id)
+	return osb.InstanceKey(id)
 }
 
 // What must not stand in a journal.

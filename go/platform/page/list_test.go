@@ -23,7 +23,7 @@ import (
 
 func TestFind(t *testing.T) {
 	store := shelf()
-	named := entryOf(platform.InstanceKey(idOf(0x77)), platform.Ready)
+	named := entryOf(osb.InstanceKey(idOf(0x77)), platform.Ready)
 	named.Names.Instance = "zebra"
 	number := diff.Value(platform.ParseKey("zebra"))(t)
 	named.Key = number
@@ -49,7 +49,7 @@ func TestFind(t *testing.T) {
 func many(number int) *fake {
 	store := &fake{now: now}
 	for n := 0; n < number; n++ {
-		e := entryOf(platform.InstanceKey(idOf(number-n)), platform.State(states[n%3]))
+		e := entryOf(osb.InstanceKey(idOf(number-n)), platform.State(states[n%3]))
 		e.Since = began.Add(time.Duration(n/7) * time.Second)
 		store.rows = append(store.rows, e)
 	}
@@ -126,7 +126,7 @@ func TestPages(t *testing.T) {
 func TestPagesOfOneState(t *testing.T) {
 	store := many(300)
 	for n := 0; n < 60; n++ {
-		e := entryOf(platform.BindingKey(idOf(1), idOf(0x1000+n)), platform.Ready)
+		e := entryOf(osb.BindingKey(idOf(1), idOf(0x1000+n)), platform.Ready)
 		e.Since = began.Add(time.Duration(n) * time.Second)
 		store.rows = append(store.rows, e)
 	}
@@ -151,7 +151,7 @@ func TestFewRows(t *testing.T) {
 		}
 	}
 	store.rows = append(store.rows, many(51).rows[0]) // the second page has the oldest row alone, until it is gone
-	store.rows[50].Key, store.rows[50].Since = platform.InstanceKey(idOf(0x51)), began.Add(-time.Hour)
+	store.rows[50].Key, store.rows[50].Since = osb.InstanceKey(idOf(0x51)), began.Add(-time.Hour)
 	behind := linkOf(pageText(t, h, "/"), "page-next")
 	store.rows = store.rows[:50]
 	text := pageText(t, h, behind)
@@ -179,7 +179,7 @@ func TestTargets(t *testing.T) {
 // A page that isn't refreshed stays so by all its links but one.
 func TestStill(t *testing.T) {
 	h := pageOf(t, shelf(), Options{})
-	for _, target := range []string{"/", "/?state=ready", pageOn(platform.InstanceKey(idOf(5)))} {
+	for _, target := range []string{"/", "/?state=ready", pageOn(osb.InstanceKey(idOf(5)))} {
 		text := pageText(t, h, target)
 		has(t, text, `data-refresh="5"`, `http-equiv="refresh" content="15"`)
 		still := pageText(t, h, linkOf(text, "refresh"))
@@ -247,13 +247,13 @@ func TestOverSQLite(t *testing.T) {
 	}
 	has(t, part(t, text, "waiting"), "1 unsettled", "The broker shut rejects")
 	has(t, part(t, text, "flights"), "Provision", "worker-1")
-	has(t, pageText(t, other, pageOn(platform.InstanceKey(idOf(5)))), `id="bindings"`, "1 binding")
+	has(t, pageText(t, other, pageOn(osb.InstanceKey(idOf(5)))), `id="bindings"`, "1 binding")
 	clean := func(now time.Time, snapshot platform.Snapshot) (*platform.Change, error) {
 		snapshot.Entry.State, snapshot.Entry.Since = platform.Cleaning, now
 		return &platform.Change{Entry: snapshot.Entry}, nil
 	}
-	check(t, store.Change(background, platform.InstanceKey(idOf(5)), clean))
-	has(t, pageText(t, other, pageOn(platform.InstanceKey(idOf(5)))), "2 states", `<span class="state ready">`)
+	check(t, store.Change(background, osb.InstanceKey(idOf(5)), clean))
+	has(t, pageText(t, other, pageOn(osb.InstanceKey(idOf(5)))), "2 states", `<span class="state ready">`)
 }
 
 // While somebody turns the pages of a list, all instances in a state leave it. In each order, each instance of the first

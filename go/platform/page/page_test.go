@@ -119,8 +119,8 @@ func TestShortCleaning(t *testing.T) {
 func TestMuchWaits(t *testing.T) {
 	store := shelf()
 	for n := 0; n < 7; n++ {
-		store.rows = append(store.rows, entryOf(platform.InstanceKey(idOf(0x100+n)), platform.Unsettled))
-		store.rows = append(store.rows, flying(entryOf(platform.InstanceKey(idOf(0x200+n)), platform.Cleaning)))
+		store.rows = append(store.rows, entryOf(osb.InstanceKey(idOf(0x100+n)), platform.Unsettled))
+		store.rows = append(store.rows, flying(entryOf(osb.InstanceKey(idOf(0x200+n)), platform.Cleaning)))
 	}
 	text := pageText(t, pageOf(t, store, Options{}), "/")
 	has(t, part(t, text, "waiting"), "8 unsettled", "The first 5 of 8, the longest first",
@@ -161,7 +161,7 @@ func TestInstancePage(t *testing.T) {
 func TestChainOfTries(t *testing.T) {
 	store := &fake{now: now}
 	for n := 1; n <= 3; n++ {
-		e := entryOf(platform.InstanceKey(idOf(n)), platform.Gone)
+		e := entryOf(osb.InstanceKey(idOf(n)), platform.Gone)
 		e.Try, e.First, e.Passing = n, idOf(1), n < 3
 		e.Since = began.Add(time.Duration(n) * time.Minute)
 		if n < 3 {
@@ -180,17 +180,17 @@ func TestChainOfTries(t *testing.T) {
 
 // The tries of a binding are those of its instance, though another instance may have a binding of the same id.
 func TestChainOfBindings(t *testing.T) {
-	of := entryOf(platform.InstanceKey(idOf(7)), platform.Ready)
-	other := entryOf(platform.InstanceKey(idOf(8)), platform.Ready)
+	of := entryOf(osb.InstanceKey(idOf(7)), platform.Ready)
+	other := entryOf(osb.InstanceKey(idOf(8)), platform.Ready)
 	store := &fake{now: now, rows: []platform.Entry{of, other}}
 	for n := 1; n <= 2; n++ {
-		e := entryOf(platform.BindingKey(of.Key.Instance, idOf(n)), platform.Gone)
+		e := entryOf(osb.BindingKey(of.Key.Instance, idOf(n)), platform.Gone)
 		e.Try, e.First, e.Passing, e.Since = n, idOf(1), true, began.Add(time.Duration(n)*time.Minute)
 		e.Failure = platform.Reason{At: began, Kind: "bind", Status: 422, Error: "ConcurrencyError"}
 		e.Failure.Description = fmt.Sprint("busy ", n)
 		store.rows = append(store.rows, e)
 	}
-	alone := entryOf(platform.BindingKey(other.Key.Instance, idOf(1)), platform.Gone)
+	alone := entryOf(osb.BindingKey(other.Key.Instance, idOf(1)), platform.Gone)
 	alone.Passing = true
 	store.rows = append(store.rows, alone)
 	h := pageOf(t, store, Options{})
@@ -208,10 +208,10 @@ func TestChainOfBindings(t *testing.T) {
 
 // A further try of a binding that isn't due yet says until when it waits, and on its own page why.
 func TestWaitingTryOfBinding(t *testing.T) {
-	of := entryOf(platform.InstanceKey(idOf(7)), platform.Ready)
-	before := entryOf(platform.BindingKey(of.Key.Instance, idOf(1)), platform.Gone)
+	of := entryOf(osb.InstanceKey(idOf(7)), platform.Ready)
+	before := entryOf(osb.BindingKey(of.Key.Instance, idOf(1)), platform.Gone)
 	before.Passing, before.Failure = true, platform.Reason{At: began, Kind: "bind", Status: 503, Description: "no room"}
-	e := entryOf(platform.BindingKey(of.Key.Instance, idOf(2)), platform.Ordered)
+	e := entryOf(osb.BindingKey(of.Key.Instance, idOf(2)), platform.Ordered)
 	e.Try, e.First, e.Due = 2, idOf(1), now.Add(10*time.Minute)
 	h := pageOf(t, &fake{now: now, rows: []platform.Entry{of, before, e}}, Options{})
 	for _, target := range []string{"/?kind=bindings&state=ordered", pageOn(of.Key), pageOn(before.Key)} {
@@ -234,10 +234,10 @@ func TestWaitingTry(t *testing.T) {
 		"a first try": {1, 10 * time.Minute, 0},
 	} {
 		t.Run(name, func(t *testing.T) {
-			before := entryOf(platform.InstanceKey(idOf(1)), platform.Gone)
+			before := entryOf(osb.InstanceKey(idOf(1)), platform.Gone)
 			before.Passing = true
 			before.Failure = platform.Reason{At: began, Kind: "provision", Status: 503, Description: "no room"}
-			e := entryOf(platform.InstanceKey(idOf(2)), platform.Ordered)
+			e := entryOf(osb.InstanceKey(idOf(2)), platform.Ordered)
 			e.Try, e.First, e.Due = test.try, idOf(1), now.Add(test.wait)
 			h := pageOf(t, &fake{now: now, rows: []platform.Entry{before, e}}, Options{})
 			for target, part := range map[string]string{
@@ -275,7 +275,7 @@ func TestReasons(t *testing.T) {
 		{platform.Abandoned, shut, full, "nobody wants it"},
 	} {
 		t.Run(string(test.state)+" "+test.want, func(t *testing.T) {
-			e := entryOf(platform.InstanceKey(idOf(at+1)), test.state)
+			e := entryOf(osb.InstanceKey(idOf(at+1)), test.state)
 			e.Last, e.Failure, e.Because = test.last, test.failure, "nobody wants it"
 			h := pageOf(t, &fake{now: now, rows: []platform.Entry{e}}, Options{})
 			want := `<td role="cell" data-name="Now"><div><span>` + test.want + `</span></div></td>`
@@ -296,7 +296,7 @@ func TestFlights(t *testing.T) {
 		time.Minute: "worker-1", -200 * time.Second: "worker-1, lease ran out 3 min ago", 0: "no worker has it",
 	} {
 		t.Run(want, func(t *testing.T) {
-			e := flying(entryOf(platform.InstanceKey(idOf(1)), platform.Wanted))
+			e := flying(entryOf(osb.InstanceKey(idOf(1)), platform.Wanted))
 			if e.Lease.Until = now.Add(until); until == 0 {
 				e.Lease = platform.Lease{}
 			}
@@ -360,10 +360,10 @@ func flying(e platform.Entry) platform.Entry {
 func shelf() *fake {
 	f := &fake{now: now, lives: map[platform.Key][]platform.Stay{}}
 	for n, state := range states {
-		f.rows = append(f.rows, entryOf(platform.InstanceKey(idOf(n+1)), platform.State(state)))
+		f.rows = append(f.rows, entryOf(osb.InstanceKey(idOf(n+1)), platform.State(state)))
 	}
 	f.rows[2] = flying(f.rows[2])
-	bound := entryOf(platform.BindingKey(f.rows[4].Key.Instance, idOf(0x51)), platform.Ready)
+	bound := entryOf(osb.BindingKey(f.rows[4].Key.Instance, idOf(0x51)), platform.Ready)
 	bound.Credentials = []byte("hush")
 	f.rows = append(f.rows, bound)
 	f.lives[f.rows[4].Key] = []platform.Stay{

@@ -19,6 +19,7 @@ import (
 	"pippinterm/internal/diff"
 	"pippinterm/internal/httpserver"
 	"pippinterm/internal/waits"
+	"pippinterm/osb"
 	"pippinterm/platform"
 	"pippinterm/platform/api"
 	"pippinterm/platform/client"
@@ -28,8 +29,8 @@ import (
 func targets() []string {
 	return []string{
 		"/", "/?state=ready", "/?state=unsettled", "/?state=in-flight", "/?kind=bindings", "/?find=0",
-		pageOn(platform.InstanceKey(idOf(3))), pageOn(platform.InstanceKey(idOf(5))),
-		pageOn(platform.BindingKey(idOf(5), idOf(0x51))),
+		pageOn(osb.InstanceKey(idOf(3))), pageOn(osb.InstanceKey(idOf(5))),
+		pageOn(osb.BindingKey(idOf(5), idOf(0x51))),
 	}
 }
 
@@ -544,7 +545,7 @@ func TestHostileBroker(t *testing.T) {
 
 func testHostileBroker(t *testing.T, answer string) {
 	engine, store, logged := engineOver(t, answering(t, answerOf(200, `{"services": []}`), answer), time.Minute)
-	e := entryOf(platform.InstanceKey(idOf(1)), platform.Ordered)
+	e := entryOf(osb.InstanceKey(idOf(1)), platform.Ordered)
 	e.Names.Service, e.Names.Plan, e.Tries, e.Due = e.Service.String(), e.Plan.String(), 1, began
 	check(t, store.Insert(background, e, func(platform.Snapshot) error { return nil }))
 	check(t, engine.RunOnce(background))

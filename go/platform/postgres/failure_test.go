@@ -372,8 +372,8 @@ func TestRowsThatCannotBeRead(t *testing.T) {
 	}
 	storetest.TestUnreadable(t, store, func(t *testing.T, key platform.Key) { spoil(t, key, "record") })
 	for key, want := range map[platform.Key]platform.Names{
-		instance(4):                       {Instance: id(4).String()},
-		platform.BindingKey(id(1), id(3)): {Instance: id(1).String(), Binding: id(3).String()},
+		instance(4):                  {Instance: id(4).String()},
+		osb.BindingKey(id(1), id(3)): {Instance: id(1).String(), Binding: id(3).String()},
 	} {
 		t.Run(key.String(), func(t *testing.T) {
 			spoil(t, key, "names")

@@ -44,7 +44,7 @@ func TestStaysOfLongAgo(t *testing.T) {
 	ctx := context.Background()
 	store := diff.Value(Open(ctx, url, 1))(t)
 	defer store.Close()
-	key := platform.InstanceKey(osb.MustParseID("00000000-0000-4000-8000-000000000007"))
+	key := osb.InstanceKey(osb.MustParseID("00000000-0000-4000-8000-000000000007"))
 	check(t, store.AddBroker(ctx, platform.Broker{Name: "one", URL: "http://one"}))
 	ready := platform.Entry{Order: platform.Order{Key: key, Broker: "one", First: key.ID()}, State: platform.Ready}
 	ready.Since = time.Date(2020, 2, 3, 4, 5, 6, 0, time.UTC)

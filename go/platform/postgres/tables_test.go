@@ -41,9 +41,9 @@ const (
 
 func id(n int) osb.ID { return osb.MustParseID(fmt.Sprintf("00000000-0000-4000-8000-%012x", n)) }
 
-func instance(n int) platform.Key { return platform.InstanceKey(id(n)) }
+func instance(n int) platform.Key { return osb.InstanceKey(id(n)) }
 
-func binding(n, of int) platform.Key { return platform.BindingKey(id(of), id(n)) }
+func binding(n, of int) platform.Key { return osb.BindingKey(id(of), id(n)) }
 
 // A row02 is a row of version 0.2, and what is read of it.
 type row02 struct {
@@ -346,7 +346,7 @@ func TestMissingColumns(t *testing.T) {
 			t.Errorf("without %q: got %s, %q, %v, want a row that is ready", lost, got.State, got.Because, err)
 		}
 		bound := entry
-		entry.Key, bound.Key = instance(n+1), platform.BindingKey(id(n+1), id(n+1))
+		entry.Key, bound.Key = instance(n+1), osb.BindingKey(id(n+1), id(n+1))
 		bound.Names.Binding, bound.Credentials = "binding", []byte{0, 1}
 		for _, want := range []platform.Entry{entry, bound} {
 			check(t, store.Insert(background, want, func(platform.Snapshot) error { return nil }))

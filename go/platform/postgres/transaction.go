@@ -11,6 +11,7 @@ import (
 	"strings"
 	"time"
 
+	"pippinterm/osb"
 	"pippinterm/platform"
 )
 
@@ -214,7 +215,7 @@ func lockForInsert(ctx context.Context, tx *sql.Tx, entry platform.Entry) (snaps
 	var text []byte
 	err = tx.QueryRowContext(ctx, lockInstanceOf, key.Instance).Scan(&text)
 	if errors.Is(err, sql.ErrNoRows) {
-		return snapshot, fmt.Errorf("%w: %v", platform.ErrUnknown, platform.InstanceKey(key.Instance))
+		return snapshot, fmt.Errorf("%w: %v", platform.ErrUnknown, osb.InstanceKey(key.Instance))
 	}
 	if err != nil {
 		return snapshot, err
@@ -329,7 +330,7 @@ func (b *batch) each(statement *sql.Stmt, parameters []any, call func(*sql.Rows)
 func (b *batch) step(key platform.Key, step platform.Step) error {
 	snapshot := platform.Snapshot{Entry: b.rows[key].entry}
 	if key.IsBinding {
-		instance := b.rows[platform.InstanceKey(key.Instance)].entry
+		instance := b.rows[osb.InstanceKey(key.Instance)].entry
 		snapshot.Instance = &instance
 	} else {
 		snapshot.AllGone = func() (bool, error) { return b.allGone(key) }
@@ -367,7 +368,7 @@ func (b *batch) take(key platform.Key, change platform.Change) error {
 		b.removeBindings(key)
 	}
 	if change.WakeInstance && key.IsBinding {
-		b.wake(platform.InstanceKey(key.Instance))
+		b.wake(osb.InstanceKey(key.Instance))
 	}
 	return nil
 }

@@ -8,6 +8,7 @@ import (
 	"time"
 
 	"pippinterm/internal/sqlitefile"
+	"pippinterm/osb"
 	"pippinterm/platform"
 )
 
@@ -193,7 +194,7 @@ func (c *connection) readSnapshot(key platform.Key) (snapshot platform.Snapshot,
 
 // instance reads the row of a binding's instance.
 func (c *connection) instance(key platform.Key) (*platform.Entry, error) {
-	entry, err := c.entry(platform.InstanceKey(key.Instance))
+	entry, err := c.entry(osb.InstanceKey(key.Instance))
 	if err != nil {
 		return nil, fmt.Errorf("the instance of %v: %w", key, err)
 	}

@@ -32,7 +32,7 @@ var (
 )
 
 func keyOf(n int) platform.Key {
-	return platform.InstanceKey(osb.MustParseID(fmt.Sprintf("00000000-0000-4000-8000-%012x", n)))
+	return osb.InstanceKey(osb.MustParseID(fmt.Sprintf("00000000-0000-4000-8000-%012x", n)))
 }
 
 func open(t testing.TB, path string) *Store {
@@ -288,7 +288,7 @@ func TestMissingColumns(t *testing.T) {
 	rest := entry
 	rest.Because, rest.Space, rest.Tries, rest.Passing, rest.After = "", "", 0, false, 0
 	diff.Check(t, got, rest, "a row without the columns")
-	entry.Key = platform.BindingKey(entry.Key.Instance, keyOf(2).Instance)
+	entry.Key = osb.BindingKey(entry.Key.Instance, keyOf(2).Instance)
 	entry.Names.Binding, entry.First, entry.Credentials = "binding", entry.Key.Binding, []byte{0, 1}
 	check(t, again.Insert(background, entry, accept))
 	got = diff.Value(again.Read(background, entry.Key))(t)

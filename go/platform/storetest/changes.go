@@ -523,7 +523,7 @@ func isRemoved(instance osb.ID) bool { return instance[len(instance)-1]%2 == 0 }
 func (d *dock) Exchange(_ context.Context, out platform.Outgoing) (in platform.Incoming) {
 	key := out.Entry.Key
 	if of := key.Instance; key.IsBinding && out.Request.Kind == osb.KindDeprovision && isRemoved(of) {
-		if _, err := d.orders.Remove(background, platform.InstanceKey(of), true); err != nil {
+		if _, err := d.orders.Remove(background, osb.InstanceKey(of), true); err != nil {
 			d.t.Errorf("the removal of %v: got %v, want no error", of, err)
 		}
 	}

@@ -9,6 +9,7 @@ import (
 	"time"
 
 	"pippinterm/internal/diff"
+	"pippinterm/osb"
 	"pippinterm/platform"
 )
 
@@ -701,7 +702,7 @@ func wantNotStepped(t *testing.T, store platform.Store, rows []platform.Entry, s
 		t.Fatalf("got %v claimed, %v, want all rows", claimed, err)
 	}
 	for _, row := range claimed {
-		isSpoiled := spoiled[row.Key] || row.Key.IsBinding && spoiled[platform.InstanceKey(row.Key.Instance)]
+		isSpoiled := spoiled[row.Key] || row.Key.IsBinding && spoiled[osb.InstanceKey(row.Key.Instance)]
 		if (row.Err != nil) != isSpoiled || stepped[row.Key] == isSpoiled {
 			t.Errorf("%v: got a step %t, %v, want one unless it is spoilt", row.Key, stepped[row.Key], row.Err)
 		}

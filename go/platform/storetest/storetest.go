@@ -122,9 +122,9 @@ var brokers = []string{"one"}
 
 func id(n int) osb.ID { return osb.MustParseID(fmt.Sprintf("00000000-0000-4000-8000-%012x", n)) }
 
-func instance(n int) platform.Key { return platform.InstanceKey(id(n)) }
+func instance(n int) platform.Key { return osb.InstanceKey(id(n)) }
 
-func binding(n, of int) platform.Key { return platform.BindingKey(id(of), id(n)) }
+func binding(n, of int) platform.Key { return osb.BindingKey(id(of), id(n)) }
 
 // past is a time that was so many seconds after another one, long ago. future is a later one.
 func past(seconds int) time.Time {

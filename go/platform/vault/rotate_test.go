@@ -26,7 +26,7 @@ var (
 var instance = osb.MustParseID("00000000-0000-0000-0000-000000000001")
 
 func bindingKey(number int) platform.Key {
-	return platform.BindingKey(instance, osb.MustParseID(fmt.Sprintf("00000000-0000-0000-0001-%012d", number)))
+	return osb.BindingKey(instance, osb.MustParseID(fmt.Sprintf("00000000-0000-0000-0001-%012d", number)))
 }
 
 // A rig is a store with what a vault has sealed: the password of a broker, and the credentials of bindings.
@@ -47,7 +47,7 @@ func newRig(t *testing.T, by *Vault, bindings int) *rig {
 	check(t, store.AddBroker(background, platform.Broker{Name: "filed", URL: "https://f", PasswordFile: "/p"}))
 	_, err = store.Fingerprint(background, by.Fingerprint())
 	check(t, err)
-	r.insert(t, platform.InstanceKey(instance), nil)
+	r.insert(t, osb.InstanceKey(instance), nil)
 	for number := 1; number <= bindings; number++ {
 		key := bindingKey(number)
 		sealed := diff.Value(by.Seal([]byte(secretOf(key)), key.String()))(t)

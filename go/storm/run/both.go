@@ -161,7 +161,7 @@ func (b *BothStorm) open(ctx context.Context) (err error) {
 		return err
 	}
 	b.keys = newKeys(b.ids.NewID)
-	b.events = &events{now: b.capture.Now, keyOf: keyOf}
+	b.events = &events{now: b.capture.Now}
 	faults := b.config.Config
 	faults.Share = b.config.share()
 	b.source = faults.Source(b.config.weights())

@@ -292,7 +292,7 @@ const lookEach = 500 * time.Millisecond
 
 func (s *BrokerStorm) startRun(ctx, deleting context.Context, folder string, source *fault.Source) (*brokerRun, error) {
 	r := &brokerRun{BrokerStorm: s, capture: fault.NewCapture(), source: source, keys: newKeys(s.broker.NewID)}
-	r.events = &events{now: r.capture.Now, keyOf: keyOf}
+	r.events = &events{now: r.capture.Now}
 	restart := s.config.Commands.restart(s.address)
 	if restart != nil {
 		restart = r.noteRestarts(ctx, deleting, restart)

@@ -334,8 +334,7 @@ func (f *finds) list() report.Differences {
 // events are those of a run. Any number of goroutines use them.
 type events struct {
 	platform.Silent
-	now   func() time.Duration
-	keyOf func(platform.Key) Key
+	now func() time.Duration
 	guard
 	all   []Event
 	found []Event // the last deletion has found what was recorded as gone
@@ -360,13 +359,13 @@ func (e *events) orphans() []Event {
 
 // OnChange notes that a record is in another state now.
 func (e *events) OnChange(key platform.Key, before, after platform.State) {
-	e.add(e.keyOf(key), "record", fmt.Sprintf("%s -> %s", before, after))
+	e.add(audit.KeyOf(key), "record", fmt.Sprintf("%s -> %s", before, after))
 }
 
 // OnAnswer notes why an answer wasn't taken.
 func (e *events) OnAnswer(x platform.Exchange) {
 	if x.Lost != nil {
-		e.add(e.keyOf(x.Key), "platform", fmt.Sprintf("takes no answer to its %s: %v", x.Kind, x.Lost))
+		e.add(audit.KeyOf(x.Key), "platform", fmt.Sprintf("takes no answer to its %s: %v", x.Kind, x.Lost))
 	}
 }
 
@@ -374,7 +373,7 @@ func (e *events) OnAnswer(x platform.Exchange) {
 func (e *events) OnFailure(f platform.Failure) {
 	key := Key{}
 	if f.IsNamed {
-		key = e.keyOf(f.Key)
+		key = audit.KeyOf(f.Key)
 	}
 	e.add(key, "platform", fmt.Sprintf("%s: %v", f.Event, f.Err))
 }
@@ -385,7 +384,7 @@ func (e *events) OnOrphan(key platform.Key, status int, isFound bool) {
 		return
 	}
 	found := Event{
-		At: e.now(), Key: e.keyOf(key), Who: "platform",
+		At: e.now(), Key: audit.KeyOf(key), Who: "platform",
 		What: fmt.Sprintf("it existed though its record says gone: the last deletion was answered with %d", status),
 	}
 	e.hold(func() { e.all, e.found = append(e.all, found), append(e.found, found) })

@@ -11,7 +11,6 @@ import (
 
 	"pippinterm/internal/journalfile"
 	"pippinterm/internal/sqlitefile"
-	"pippinterm/osb"
 	"pippinterm/platform"
 	"pippinterm/platform/client"
 	"pippinterm/platform/journal"
@@ -194,7 +193,7 @@ func (b book) Bind(ctx context.Context, key Key) error {
 
 // Remove has an instance or a binding deleted.
 func (b book) Remove(ctx context.Context, key Key, withBindings bool) error {
-	numbered, err := numberOf(key)
+	numbered, err := audit.Numbered(key)
 	if err != nil {
 		return err
 	}
@@ -204,7 +203,7 @@ func (b book) Remove(ctx context.Context, key Key, withBindings bool) error {
 
 // Record returns the record of a key.
 func (b book) Record(ctx context.Context, key Key) (Record, error) {
-	numbered, err := numberOf(key)
+	numbered, err := audit.Numbered(key)
 	if err != nil {
 		return Record{}, err
 	}
@@ -226,23 +225,6 @@ func (b book) Records(ctx context.Context) (map[Key]Record, error) {
 		all[Key{Instance: entry.Names.Instance, Binding: entry.Names.Binding}] = audit.RecordOf(entry)
 	}
 	return all, nil
-}
-
-func numberOf(key Key) (platform.Key, error) {
-	instance, err := osb.IDOfText(key.Instance)
-	if err != nil || key.Binding == "" {
-		return platform.InstanceKey(instance), err
-	}
-	binding, err := osb.IDOfText(key.Binding)
-	return platform.BindingKey(instance, binding), err
-}
-
-// keyOf returns the ids of a row. They are GUIDs, so their numbers are their texts.
-func keyOf(key platform.Key) Key {
-	if key.IsBinding {
-		return Key{Instance: key.Instance.String(), Binding: key.Binding.String()}
-	}
-	return Key{Instance: key.Instance.String()}
 }
 
 // A notedBook is a book that notes how the records change. Any number of goroutines use it.

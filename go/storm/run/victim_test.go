@@ -39,7 +39,7 @@ func victimOf(t *testing.T, script string, points ...string) (v *victim, folder 
 }
 
 // silentEvents are events at no time.
-func silentEvents() *events { return &events{now: func() time.Duration { return 0 }, keyOf: keyOf} }
+func silentEvents() *events { return &events{now: func() time.Duration { return 0 }} }
 
 // runs runs a victim in its folder until a condition is met.
 func runs(t *testing.T, v *victim, folder string, until func() bool) {

@@ -127,7 +127,7 @@ func TestLocks(t *testing.T) {
 func TestUnfinishedHasFailed(t *testing.T) {
 	ctx, store := context.Background(), openEmpty(t)
 	making, deleting := holding(t, in("making"), "null", false), holding(t, in("deleting"), "null", false)
-	other := broker.InstanceKey(bound)
+	other := osb.InstanceKey(bound)
 	write(t, store, instance, making)
 	write(t, store, other, deleting)
 	usual, _, err := StoreAndLocks(ctx, "broker", store, nil)
@@ -165,7 +165,7 @@ func inFlight(t *testing.T) (platform.Store, platform.Entry) {
 	record, _ := osb.Create(one, service, now, true)
 	entry := platform.Entry{
 		Order: platform.Order{
-			Key: platform.InstanceKey(one), Broker: "b", Service: service, Plan: now, Body: json.RawMessage("{}"),
+			Key: osb.InstanceKey(one), Broker: "b", Service: service, Plan: now, Body: json.RawMessage("{}"),
 			Names:        platform.Names{Instance: one.String(), Service: service.String(), Plan: now.String()},
 			Organization: "o", Space: "s", Try: 1, Tries: 1, First: one,
 		},
@@ -489,8 +489,8 @@ var (
 	one     = osb.MustParseID("00000000-0000-0000-0000-000000000001")
 	bound   = osb.MustParseID("00000000-0000-0000-0000-0000000000f1")
 
-	instance = broker.InstanceKey(one)
-	binding  = broker.BindingKey(one, bound)
+	instance = osb.InstanceKey(one)
+	binding  = osb.BindingKey(one, bound)
 )
 
 var check = diff.Must

@@ -23,8 +23,8 @@ import (
 
 var (
 	ctx      = context.Background()
-	instance = requestOf(broker.InstanceKey(osb.MustParseID("00000000-0000-0000-0000-000000000001")))
-	binding  = requestOf(broker.BindingKey(instance.Key.Instance, osb.MustParseID("00000000-0000-0000-0000-000000000002")))
+	instance = requestOf(osb.InstanceKey(osb.MustParseID("00000000-0000-0000-0000-000000000001")))
+	binding  = requestOf(osb.BindingKey(instance.Key.Instance, osb.MustParseID("00000000-0000-0000-0000-000000000002")))
 )
 
 func requestOf(key broker.Key) broker.Request {

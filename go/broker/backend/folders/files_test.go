@@ -11,8 +11,8 @@ import (
 	"testing"
 	"time"
 
-	"pippinterm/broker"
 	"pippinterm/internal/diff"
+	"pippinterm/osb"
 )
 
 // The fsyncs happen when they have to: after the names have changed, and before the content is deleted.
@@ -66,7 +66,7 @@ func TestPartIsSyncedBeforeItIsDeleted(t *testing.T) {
 
 func TestErrorsOfFsync(t *testing.T) {
 	f := newFolders(t, t.TempDir())
-	bound := requestOf(broker.BindingKey(first.Key.Instance, other.Key.Instance))
+	bound := requestOf(osb.BindingKey(first.Key.Instance, other.Key.Instance))
 	ofTop, ofBindings := errors.New("the top is broken"), errors.New("the folder of the bindings is broken")
 	f.topSync.init(func() error { return ofTop })
 	f.bindingsSync.init(func() error { return ofBindings })

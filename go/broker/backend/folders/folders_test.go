@@ -20,8 +20,8 @@ import (
 
 var (
 	ctx   = context.Background()
-	first = requestOf(broker.InstanceKey(osb.MustParseID("00000000-0000-0000-0000-000000000001")))
-	other = requestOf(broker.InstanceKey(osb.MustParseID("00000000-0000-0000-0000-000000000002")))
+	first = requestOf(osb.InstanceKey(osb.MustParseID("00000000-0000-0000-0000-000000000001")))
+	other = requestOf(osb.InstanceKey(osb.MustParseID("00000000-0000-0000-0000-000000000002")))
 )
 
 func requestOf(key broker.Key) broker.Request {
@@ -162,7 +162,7 @@ func TestLinksAreNotFollowed(t *testing.T) {
 
 // If nobody can tell what exists, Look fails.
 func TestNobodyCanLook(t *testing.T) {
-	bound := requestOf(broker.BindingKey(first.Key.Instance, other.Key.Instance))
+	bound := requestOf(osb.BindingKey(first.Key.Instance, other.Key.Instance))
 	loop := filepath.Join(t.TempDir(), "loop")
 	check(t, os.Symlink(loop, loop))
 	f := newFolders(t, t.TempDir())
@@ -228,9 +228,9 @@ func TestLocks(t *testing.T) {
 }
 
 var (
-	bound    = requestOf(broker.BindingKey(first.Key.Instance, other.Key.Instance))
-	same     = requestOf(broker.BindingKey(other.Key.Instance, other.Key.Instance)) // of another instance
-	sameSide = requestOf(broker.BindingKey(first.Key.Instance, first.Key.Instance)) // of the same instance
+	bound    = requestOf(osb.BindingKey(first.Key.Instance, other.Key.Instance))
+	same     = requestOf(osb.BindingKey(other.Key.Instance, other.Key.Instance)) // of another instance
+	sameSide = requestOf(osb.BindingKey(first.Key.Instance, first.Key.Instance)) // of the same instance
 )
 
 // withInstances returns a backend that has sold both instances.

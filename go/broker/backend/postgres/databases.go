@@ -149,7 +149,7 @@ func (d *Databases) Credentials(ctx context.Context, request broker.Request) (js
 
 // credentials are what an application needs to use a binding.
 func (d *Databases) credentials(key broker.Key) (json.RawMessage, error) {
-	database, username := NameOf(broker.InstanceKey(key.Instance)), NameOf(key)
+	database, username := NameOf(osb.InstanceKey(key.Instance)), NameOf(key)
 	password := PasswordOf(d.options.Key, key)
 	uri := url.URL{
 		Scheme: "postgresql",
@@ -414,7 +414,7 @@ func (d *Databases) roleStatements(key broker.Key, login, verifier, store string
 			strconv.FormatInt((d.options.TempFileLimit+1023)/1024, 10)+"kB'")
 	}
 	if key.IsBinding { // what the binding's sessions create belongs to the instance's role
-		of := quote(NameOf(broker.InstanceKey(key.Instance)))
+		of := quote(NameOf(osb.InstanceKey(key.Instance)))
 		statements = append(statements, "GRANT "+of+" TO "+name, "ALTER ROLE "+name+" SET role = "+of)
 	}
 	return statements
@@ -546,7 +546,7 @@ func (d *Databases) Look(ctx context.Context, request broker.Request) (broker.Th
 // binding returns what is found of a binding, and of its instance. It fails unless both are this store's. The request
 // of a binding doesn't show whether version 0.2 created the instance.
 func binding(ctx context.Context, conn *sql.Conn, request broker.Request) (own, of existence, err error) {
-	if of, err = find(ctx, conn, broker.InstanceKey(request.Key.Instance)); err != nil {
+	if of, err = find(ctx, conn, osb.InstanceKey(request.Key.Instance)); err != nil {
 		return own, of, err
 	}
 	if err := of.check(true); err != nil {
@@ -644,7 +644,7 @@ func (d *Databases) removeBinding(ctx context.Context, conn *sql.Conn, key broke
 			return err
 		}
 		if of.hasRole {
-			if err := d.renewPassword(ctx, conn, broker.InstanceKey(key.Instance)); err != nil {
+			if err := d.renewPassword(ctx, conn, osb.InstanceKey(key.Instance)); err != nil {
 				return err
 			}
 		}

@@ -212,7 +212,7 @@ func TestBindAndUnbind(t *testing.T) {
 	r := newRig(t)
 	d := r.open()
 	it := createInstance(t, d)
-	bind := lock(t, d, broker.BindingKey(it.request.Key.Instance, randomID(t)))
+	bind := lock(t, d, osb.BindingKey(it.request.Key.Instance, randomID(t)))
 	wantThere(t, d, bind, broker.None)
 	diff.NoError(t, d.DeleteBinding(bind.ctx, bind.request), "DeleteBinding of nothing")
 	for n := 0; n < 2; n++ {
@@ -242,13 +242,13 @@ func TestBindAndUnbind(t *testing.T) {
 func TestABindingWithoutADatabase(t *testing.T) {
 	r := newRig(t)
 	d := r.open()
-	bind := lock(t, d, broker.BindingKey(randomID(t), randomID(t)))
+	bind := lock(t, d, osb.BindingKey(randomID(t), randomID(t)))
 	wantThere(t, d, bind, broker.None)
 	if _, err := d.CreateBinding(bind.ctx, bind.request); err == nil {
 		t.Error("CreateBinding: got no error, want one")
 	}
 	diff.NoError(t, d.DeleteBinding(bind.ctx, bind.request), "DeleteBinding")
-	r.wantNothing(broker.InstanceKey(bind.request.Key.Instance))
+	r.wantNothing(osb.InstanceKey(bind.request.Key.Instance))
 }
 
 // Who was bound is out at once, others go on, and what was created stays and is the instance's.
@@ -593,7 +593,7 @@ func request(key broker.Key) broker.Request {
 	return broker.Request{Key: key, Body: json.RawMessage(`{}`)}
 }
 
-func newInstance(t *testing.T) broker.Key { return broker.InstanceKey(randomID(t)) }
+func newInstance(t *testing.T) broker.Key { return osb.InstanceKey(randomID(t)) }
 
 func randomID(t *testing.T) (id osb.ID) {
 	t.Helper()
@@ -619,7 +619,7 @@ func createInstance(t *testing.T, d *postgres.Databases) lockedKey {
 // bound is a binding that exists, of an instance, under its lock, and its credentials.
 func bound(t *testing.T, d *postgres.Databases, of broker.Key) (lockedKey, credentials) {
 	t.Helper()
-	it := lock(t, d, broker.BindingKey(of.Instance, randomID(t)))
+	it := lock(t, d, osb.BindingKey(of.Instance, randomID(t)))
 	text, err := d.CreateBinding(it.ctx, it.request)
 	if err != nil {
 		t.Fatalf("CreateBinding: got %v, want no error", err)

@@ -16,6 +16,7 @@ import (
 	"pippinterm/internal/diff"
 	"pippinterm/internal/pg/pgtest"
 	"pippinterm/internal/storefaults"
+	"pippinterm/osb"
 )
 
 // Nothing that a customer leaves open or changes keeps its database from being deleted, or created anew.
@@ -467,7 +468,7 @@ func TestStatementsThatFail(t *testing.T) {
 	r.url = url
 	d := r.open()
 	instance := newInstance(t)
-	i, b := request(instance), request(broker.BindingKey(instance.Instance, randomID(t)))
+	i, b := request(instance), request(osb.BindingKey(instance.Instance, randomID(t)))
 	under := func(of broker.Request, call func(context.Context) error) func() error {
 		return func() error {
 			taken, err := d.Locks().Lock(context.Background(), of.Key) // a session that has ended may have it for a moment

@@ -87,7 +87,7 @@ func TestLongestStatementOfRekey(t *testing.T) {
 
 // What version 0.2 gives for these arguments, so that what it has sold goes on working.
 func TestAsIn02(t *testing.T) {
-	key, secret := broker.InstanceKey(one), []byte(strings.Repeat("k", 32))
+	key, secret := osb.InstanceKey(one), []byte(strings.Repeat("k", 32))
 	diff.Equal(t, NameOf(key), "osb_0f1e2d3c4b5a69788796a5b4c3d2e1f0", "the name")
 	diff.Equal(t, PasswordOf(secret, key), "Hebpcld5oYAzxf3pzzSTNFnHj02h8NQ3Hhx0CO3RHD0", "the password")
 	diff.Equal(t, numberOf(key), -5314429486776885733, "the number of the lock")
@@ -96,9 +96,9 @@ func TestAsIn02(t *testing.T) {
 // Names are unique, fit into 63 bytes, need no quoting, and name their key.
 func TestNames(t *testing.T) {
 	keys := []broker.Key{
-		broker.InstanceKey(one), broker.InstanceKey(other), broker.InstanceKey(osb.ID{}),
-		broker.BindingKey(one, other), broker.BindingKey(other, one), broker.BindingKey(one, one),
-		broker.BindingKey(one, osb.ID{}),
+		osb.InstanceKey(one), osb.InstanceKey(other), osb.InstanceKey(osb.ID{}),
+		osb.BindingKey(one, other), osb.BindingKey(other, one), osb.BindingKey(one, one),
+		osb.BindingKey(one, osb.ID{}),
 	}
 	names, passwords, numbers := map[string]bool{}, map[string]bool{}, map[int64]bool{}
 	for _, key := range keys {

@@ -12,6 +12,7 @@ import (
 	"pippinterm/internal/diff"
 	"pippinterm/internal/pg/pgtest"
 	"pippinterm/internal/storefaults"
+	"pippinterm/osb"
 )
 
 func take(t *testing.T, d *postgres.Databases, key broker.Key) broker.Lock {
@@ -30,7 +31,7 @@ func TestLocks(t *testing.T) {
 		t.Error("the lock of a session: got one that can't be lost, want one that can be")
 	}
 	id := randomID(t)
-	for _, key := range []broker.Key{broker.InstanceKey(id), broker.BindingKey(id, id)} {
+	for _, key := range []broker.Key{osb.InstanceKey(id), osb.BindingKey(id, id)} {
 		t.Run(key.String(), func(t *testing.T) {
 			taken := take(t, first, key)
 			if taken == nil {
@@ -49,8 +50,8 @@ func TestLocks(t *testing.T) {
 			again.Unlock()
 		})
 	}
-	both := []broker.Lock{take(t, first, broker.InstanceKey(id)), take(t, first, broker.BindingKey(id, id)),
-		take(t, first, broker.BindingKey(id, randomID(t)))}
+	both := []broker.Lock{take(t, first, osb.InstanceKey(id)), take(t, first, osb.BindingKey(id, id)),
+		take(t, first, osb.BindingKey(id, randomID(t)))}
 	for _, lock := range both {
 		if lock == nil {
 			t.Fatal("an instance and its bindings: got one lock, want two")
@@ -134,7 +135,7 @@ func TestCallsWithoutTheLock(t *testing.T) {
 	d := r.open()
 	it := createInstance(t, d)
 	other := lock(t, d, newInstance(t))
-	binding := request(broker.BindingKey(it.request.Key.Instance, it.request.Key.Instance))
+	binding := request(osb.BindingKey(it.request.Key.Instance, it.request.Key.Instance))
 	for _, ctx := range []context.Context{context.Background(), other.ctx} {
 		if _, err := d.Look(ctx, it.request); err == nil {
 			t.Error("Look: got no error, want one")

@@ -13,6 +13,7 @@ import (
 	pgstore "pippinterm/broker/postgres"
 	"pippinterm/internal/diff"
 	"pippinterm/internal/pg/pgtest"
+	"pippinterm/osb"
 )
 
 func TestOwner(t *testing.T) {
@@ -140,7 +141,7 @@ func (r *rig) rekey(old, new []byte) []string {
 // wantPassword sees which key the password of a role is of.
 func (r *rig) wantPassword(key broker.Key, opens, doesnt []byte) {
 	r.t.Helper()
-	database := postgres.NameOf(broker.InstanceKey(key.Instance))
+	database := postgres.NameOf(osb.InstanceKey(key.Instance))
 	diff.NoError(r.t, r.login(postgres.NameOf(key), postgres.PasswordOf(opens, key), database).Ping(), "%v", key)
 	if err := r.login(postgres.NameOf(key), postgres.PasswordOf(doesnt, key), database).Ping(); err == nil {
 		r.t.Errorf("%v with the other key: got no error, want one", key)
@@ -289,7 +290,7 @@ func wantForeign(t *testing.T, d *postgres.Databases, it lockedKey) {
 			t.Errorf("%s: got the error %v, want ErrForeign", call, err)
 		}
 	}
-	bind := lock(t, d, broker.BindingKey(it.request.Key.Instance, randomID(t)))
+	bind := lock(t, d, osb.BindingKey(it.request.Key.Instance, randomID(t)))
 	_, err = d.LookBinding(bind.ctx, bind.request)
 	_, failed := d.CreateBinding(bind.ctx, bind.request)
 	for call, err := range map[string]error{

@@ -394,7 +394,7 @@ func TestFile(t *testing.T) {
 		one: {Holding: row(t, "ready", plan)}, bound: {Holding: row(t, "ready", plan), Object: json.RawMessage(object)},
 	}
 	for key, row := range wanted {
-		numbered := diff.Value(BrokerKey(key))(t)
+		numbered := diff.Value(Numbered(key))(t)
 		entry := broker.Entry{Holding: row.Holding, Binding: row.Object}
 		step := func(broker.Snapshot) (*broker.Entry, error) { return &entry, nil }
 		check(t, store.Change(background, numbered, step))
@@ -409,8 +409,8 @@ func TestDatabases(t *testing.T) {
 	db, parsed := pgtest.DB(t, server), diff.Value(url.Parse(server))(t)
 	secret := []byte("the key of a test's passwords, long enough for that")
 	d := Databases{DB: db, Server: server, Secret: secret}
-	instance := diff.Value(BrokerKey(one))(t)
-	binding := diff.Value(BrokerKey(bound))(t)
+	instance := diff.Value(Numbered(one))(t)
+	binding := diff.Value(Numbered(bound))(t)
 	name, role, password := postgres.NameOf(instance), postgres.NameOf(binding), postgres.PasswordOf(secret, instance)
 	ours := func(id string) bool { return id == one.Instance }
 	look := func() map[Key]broker.There {

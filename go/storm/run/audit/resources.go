@@ -66,7 +66,7 @@ func (d Databases) Look(ctx context.Context, isOurs func(string) bool) (Stock, e
 
 // IsUsable reports whether the database of an instance lets its role in, and takes a table from it.
 func (d Databases) IsUsable(ctx context.Context, key Key, _ Record) (bool, error) {
-	named, err := BrokerKey(key)
+	named, err := Numbered(key)
 	if err != nil {
 		return false, err
 	}
@@ -85,7 +85,7 @@ func (d Databases) Works(ctx context.Context, key Key, credentials json.RawMessa
 	if json.Unmarshal(credentials, &given) != nil {
 		return false, nil
 	}
-	named, err := BrokerKey(key.InstanceKey())
+	named, err := Numbered(key.InstanceKey())
 	if err != nil || given.Database != postgres.NameOf(named) {
 		return false, err
 	}
@@ -107,7 +107,7 @@ func (d Databases) Clear(ctx context.Context, isOurs func(string) bool) error {
 	}
 	var databases, bindings, instances []string
 	for key := range stock.Of {
-		named, err := BrokerKey(key)
+		named, err := Numbered(key)
 		if err != nil {
 			return err
 		}
@@ -132,22 +132,19 @@ func keyOfRole(name string) (Key, bool) {
 	if !isOne {
 		return Key{}, false
 	}
-	key := Key{Instance: named.Instance.String()}
-	if named.IsBinding {
-		key.Binding = named.Binding.String()
-	}
-	return key, true
+	return KeyOf(named), true
 }
 
-// BrokerKey returns the key with the numbers of its ids.
-func BrokerKey(key Key) (named broker.Key, err error) {
-	if named.Instance, err = osb.IDOfText(key.Instance); err != nil || key.Binding == "" {
-		return named, err
+// KeyOf returns the ids of a row. They are GUIDs, so their numbers are their texts.
+func KeyOf(numbered osb.Key) Key {
+	if numbered.IsBinding {
+		return Key{Instance: numbered.Instance.String(), Binding: numbered.Binding.String()}
 	}
-	named.IsBinding = true
-	named.Binding, err = osb.IDOfText(key.Binding)
-	return named, err
+	return Key{Instance: numbered.Instance.String()}
 }
+
+// Numbered returns the key with the numbers of its ids.
+func Numbered(key Key) (osb.Key, error) { return osb.KeyOfTexts(key.Instance, key.Binding) }
 
 // takes reports whether a session that is opened so may create a table. If the server is away, it returns an error.
 func takes(ctx context.Context, address string, as pg.Options) (bool, error) {

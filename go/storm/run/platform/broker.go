@@ -186,7 +186,7 @@ func (s *shop) isWorking(ctx context.Context) (bool, error) {
 func (s *shop) findExisting(ctx context.Context, keys []report.Key) (map[report.Key]bool, error) {
 	found := map[report.Key]bool{}
 	for _, key := range keys {
-		its, err := audit.BrokerKey(key)
+		its, err := audit.Numbered(key)
 		if err != nil { // the broker accepts no such id
 			continue
 		}
