@@ -192,7 +192,7 @@ func TestPending(t *testing.T) {
 	}()
 	got := <-one.begun
 	if got.InstanceID != "i" || string(got.Member("parameters")) != `{"a":1.0}` || got.RequestID != "r-1" ||
-		got.Identity == nil || got.Identity.Platform != "cloudfoundry" || string(got.Identity.Value) != `{"user_id":"me"}` {
+		got.Identity == nil || got.Identity.Platform != "cloudfoundry" || string(got.Identity.Object) != `{"user_id":"me"}` {
 		t.Errorf("the backend got the request %+v, want that of the user me", got)
 	}
 	s.expect(t, 503, "PUT", instances+"i", bodyOf(now, `,"parameters":{"a":1.0}`))

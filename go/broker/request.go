@@ -38,16 +38,9 @@ type Request struct {
 // An Origin is who sent a request, as its headers say.
 type Origin struct {
 	// Identity is the user behind the request, or nil if the header is missing (section Originating Identity).
-	Identity *Identity `json:"originating_identity,omitempty"`
+	Identity *osb.Identity `json:"originating_identity,omitempty"`
 	// RequestID is the id of the request in the log (section Request Identity).
 	RequestID string `json:"request_identity,omitempty"`
-}
-
-// An Identity is the user behind a request: the name of the platform, such as cloudfoundry, and an object of JSON whose
-// members are the platform's.
-type Identity struct {
-	Platform string          `json:"platform"`
-	Value    json.RawMessage `json:"value"`
 }
 
 // Member is the JSON that stands under a name in the body, such as parameters, or nil if there is none.
@@ -326,8 +319,7 @@ func (h *Handler) origin(a *arrival) Origin {
 	if err != nil {
 		return origin
 	}
-	a.Identity = identity.Platform
-	origin.Identity = &Identity{Platform: identity.Platform, Value: identity.Object}
+	a.Identity, origin.Identity = identity.Platform, &identity
 	return origin
 }
 

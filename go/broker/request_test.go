@@ -224,7 +224,7 @@ func originIn(header http.Header) broker.Origin {
 	origin := broker.Origin{RequestID: header.Get(osb.RequestIdentityHeader)}
 	platform, coded, isThere := strings.Cut(header.Get(osb.OriginatingIdentityHeader), " ")
 	if object, err := base64.StdEncoding.DecodeString(coded); isThere && err == nil {
-		origin.Identity = &broker.Identity{Platform: platform, Value: object}
+		origin.Identity = &osb.Identity{Platform: platform, Object: object}
 	}
 	return origin
 }
@@ -240,7 +240,7 @@ func partsOf(origin broker.Origin) []any {
 	if origin.Identity == nil {
 		return []any{origin.RequestID}
 	}
-	return []any{origin.RequestID, origin.Identity.Platform, origin.Identity.Value}
+	return []any{origin.RequestID, origin.Identity.Platform, origin.Identity.Object}
 }
 
 // canonical is a value as JSON, in which the members of each object are in order, and numbers are as they were.

@@ -282,8 +282,8 @@ const (
 
 // An Identity is the user behind a request.
 type Identity struct {
-	Platform string          // such as cloudfoundry or kubernetes
-	Object   json.RawMessage // an object of JSON as it arrived; its members are the platform's
+	Platform string          `json:"platform"` // such as cloudfoundry or kubernetes
+	Object   json.RawMessage `json:"value"`    // an object of JSON as it arrived; its members are the platform's
 }
 
 // OriginatingIdentity reads the header X-Broker-API-Originating-Identity: the platform, a blank, and an object of JSON

@@ -424,7 +424,7 @@ func TestRequestIsTheInput(t *testing.T) {
 	request := binding
 	request.InstanceID = "a/../<é>"
 	request.Body = json.RawMessage(`{"parameters": {"size": 1.50, "name": "<x>"}}`)
-	request.Identity = &broker.Identity{Platform: "cloudfoundry", Value: json.RawMessage(`{"user_id": "u"}`)}
+	request.Identity = &osb.Identity{Platform: "cloudfoundry", Object: json.RawMessage(`{"user_id": "u"}`)}
 	request.RequestID = "r1"
 	request.Deletion = &broker.Origin{RequestID: "r2"}
 	_, _ = backend.CreateBinding(ctx, request)
