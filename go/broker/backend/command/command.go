@@ -314,7 +314,7 @@ func (b bindingsWithCredentials) Credentials(ctx context.Context, request broker
 
 // look runs a call that reports what exists.
 func (p *program) look(ctx context.Context, call string, request broker.Request) (broker.There, error) {
-	var found existence
+	var found lookResult
 	if err := p.call(ctx, call, request, &found); err != nil {
 		return broker.None, err
 	}

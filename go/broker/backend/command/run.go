@@ -15,9 +15,9 @@ import (
 	"sync"
 	"syscall"
 	"time"
-	"unsafe"
 
 	"pippinterm/broker"
+	"pippinterm/internal/child"
 	"pippinterm/internal/filelock"
 )
 
@@ -47,7 +47,7 @@ func (p *program) run(
 	}
 	if err != nil { // what the run has left must not go on after the call has failed
 		_ = syscall.Kill(-started.cmd.Process.Pid, syscall.SIGKILL)
-		if !isClosed(done, p.grace) {
+		if !child.IsClosed(done, p.grace) {
 			go started.release(done) // ends with the process that has an output open. Until then nobody gets the lock
 			return fmt.Errorf("%w; a process that left the process group still runs", err)
 		}
@@ -68,7 +68,7 @@ type process struct {
 	stdin          io.WriteCloser
 	stdout, stderr io.ReadCloser
 	output         []byte // at most a byte more than it may have
-	stderrEnd      tail
+	stderrEnd      child.Tail
 	exit           syscall.WaitStatus
 	exitErr        error // why exit isn't known
 }
@@ -82,7 +82,7 @@ func (p *program) start(ctx context.Context, call string, variables []string) (*
 	if err != nil {
 		return nil, err
 	}
-	started := &process{cmd: p.command(call, variables, lent), lent: lent}
+	started := &process{cmd: p.command(call, variables, lent), lent: lent, stderrEnd: child.Tail{Most: keptErrors}}
 	if err := started.start(); err != nil {
 		_ = lent.Close()
 		return nil, err
@@ -133,7 +133,7 @@ func (p *process) read(read func(exit) error) error {
 	if len(p.output) > mostOutput {
 		return errTooLong
 	}
-	return read(exit{exit: p.exit, output: p.output, stderr: p.stderrEnd.text})
+	return read(exit{exit: p.exit, output: p.output, stderr: p.stderrEnd.Text})
 }
 
 // waitFor returns nil once a run is done, or why it has to be killed.
@@ -150,18 +150,6 @@ func waitFor(ctx context.Context, done <-chan struct{}, limit time.Duration) err
 	}
 }
 
-// isClosed returns true once a channel is closed, or false after some time.
-func isClosed(done <-chan struct{}, within time.Duration) bool {
-	timer := time.NewTimer(within)
-	defer timer.Stop()
-	select {
-	case <-done:
-		return true
-	case <-timer.C:
-		return false
-	}
-}
-
 // tend writes the input, reads what the process writes, and waits for its exit. The channel is closed once the process
 // has exited and its outputs are closed.
 func (p *process) tend(input []byte) <-chan struct{} {
@@ -169,7 +157,7 @@ func (p *process) tend(input []byte) <-chan struct{} {
 	ended := inBackground(
 		p.readOutput,
 		func() { _, _ = io.Copy(&p.stderrEnd, p.stderr) },
-		func() { p.exit, p.exitErr = waitForExit(p.cmd.Process.Pid) },
+		func() { p.exit, p.exitErr = child.AwaitExit(p.cmd.Process.Pid) },
 	)
 	return inBackground(func() {
 		<-ended
@@ -203,40 +191,6 @@ func (p *process) readOutput() {
 	_ = p.stdout.Close()
 }
 
-// waitForExit returns how a child has exited, once it has. It leaves the child to be reaped.
-func waitForExit(pid int) (syscall.WaitStatus, error) {
-	const thisProcess, exited = 1, 1 // P_PID and CLD_EXITED of Linux, which package syscall doesn't have
-	var info struct {                // the beginning of siginfo_t, which has 128 bytes
-		signal, errno, code, _ int32
-		pid, uid, status       int32
-		_                      [100]byte
-	}
-	err := syscall.EINTR
-	for err == syscall.EINTR {
-		_, _, err = syscall.Syscall6(syscall.SYS_WAITID, thisProcess, uintptr(pid), uintptr(unsafe.Pointer(&info)),
-			syscall.WEXITED|syscall.WNOWAIT, 0, 0)
-	}
-	switch {
-	case err != 0:
-		return 0, os.NewSyscallError("waitid", err)
-	case info.code == exited:
-		return syscall.WaitStatus(info.status << 8), nil
-	}
-	return syscall.WaitStatus(info.status), nil // the number of a signal
-}
-
-// A tail is the end of what is written to it.
-type tail struct{ text []byte }
-
-// Write keeps the last keptErrors bytes.
-func (t *tail) Write(text []byte) (int, error) {
-	t.text = append(t.text, text...)
-	if over := len(t.text) - keptErrors; over > 0 {
-		t.text = append(t.text[:0], t.text[over:]...)
-	}
-	return len(text), nil
-}
-
 // The exit statuses that mean something else than "failed".
 const (
 	statusDone        = 0
@@ -260,24 +214,24 @@ type nothing struct{}
 
 func (nothing) check() error { return nil }
 
-// existence is the result of look and look-binding.
-type existence struct {
+// lookResult is the result of look and look-binding.
+type lookResult struct {
 	Exists string `json:"exists"`
 }
 
-func (e existence) check() error {
-	_, err := e.there()
+func (l lookResult) check() error {
+	_, err := l.there()
 	return err
 }
 
 // there returns what exists.
-func (e existence) there() (broker.There, error) {
+func (l lookResult) there() (broker.There, error) {
 	for _, there := range []broker.There{broker.None, broker.Part, broker.Whole} {
-		if e.Exists == there.String() {
+		if l.Exists == there.String() {
 			return there, nil
 		}
 	}
-	return broker.None, fmt.Errorf(`"exists" is %q, and not none, part or whole`, e.Exists)
+	return broker.None, fmt.Errorf(`"exists" is %q, and not none, part or whole`, l.Exists)
 }
 
 // credentialsResult is the result of create-binding and credentials.

@@ -434,8 +434,8 @@ func execAll(ctx context.Context, tx *sql.Tx, statements ...string) error {
 // changed. An operator has to look.
 var ErrForeign = errors.New("it isn't known to be of this store")
 
-// An existence is what the server has under the name of a key.
-type existence struct {
+// A resource is what the server has under the name of a key: a role, a database, both or neither.
+type resource struct {
 	name  string
 	owner owner
 
@@ -465,7 +465,7 @@ LEFT JOIN pg_database AS d ON d.datname = n.name
 `
 
 // find looks under the name of a key.
-func find(ctx context.Context, conn *sql.Conn, key broker.Key) (f existence, err error) {
+func find(ctx context.Context, conn *sql.Conn, key broker.Key) (f resource, err error) {
 	f.name = NameOf(key)
 	if f.owner, err = readOwner(ctx, conn); err != nil {
 		return f, err
@@ -491,7 +491,7 @@ func find(ctx context.Context, conn *sql.Conn, key broker.Key) (f existence, err
 // So a store that began with this version never adopts a role without a label. If two stores of version 0.2 on one
 // server have a row for the same id, and their brokers use the same role, both have adopted its database already, and
 // nobody can tell whose it is.
-func (f existence) check(mayBeUnlabelled bool) error {
+func (f resource) check(mayBeUnlabelled bool) error {
 	isLabelled := f.hasRole && f.label == labelOf(f.owner.store)
 	isOf02 := f.hasRole && f.label == "" && mayBeUnlabelled && f.owner.hasUnlabelled && f.isMember
 	switch {
@@ -509,7 +509,7 @@ func (f existence) check(mayBeUnlabelled bool) error {
 }
 
 // there is what exists of an instance. A deletion first takes the login away, and a creation gives it last.
-func (f existence) there() broker.There {
+func (f resource) there() broker.There {
 	switch {
 	case f.hasRole && f.canLogin && f.hasDatabase && f.isOpen:
 		return broker.Whole
@@ -520,7 +520,7 @@ func (f existence) there() broker.There {
 }
 
 // instance returns what is found of an instance, if it is this store's.
-func instance(ctx context.Context, conn *sql.Conn, request broker.Request) (existence, error) {
+func instance(ctx context.Context, conn *sql.Conn, request broker.Request) (resource, error) {
 	f, err := find(ctx, conn, request.Key)
 	if err != nil {
 		return f, err
@@ -545,7 +545,7 @@ func (d *Databases) Look(ctx context.Context, request broker.Request) (broker.Th
 
 // binding returns what is found of a binding, and of its instance. It fails unless both are this store's. The request
 // of a binding doesn't show whether version 0.2 created the instance.
-func binding(ctx context.Context, conn *sql.Conn, request broker.Request) (own, of existence, err error) {
+func binding(ctx context.Context, conn *sql.Conn, request broker.Request) (own, of resource, err error) {
 	if of, err = find(ctx, conn, osb.InstanceKey(request.Key.Instance)); err != nil {
 		return own, of, err
 	}
@@ -625,7 +625,7 @@ func (d *Databases) DeleteBinding(ctx context.Context, request broker.Request) e
 	return d.removeBinding(ctx, conn, request.Key, own, of)
 }
 
-func (d *Databases) removeBinding(ctx context.Context, conn *sql.Conn, key broker.Key, own, of existence) error {
+func (d *Databases) removeBinding(ctx context.Context, conn *sql.Conn, key broker.Key, own, of resource) error {
 	if !own.hasRole {
 		return nil
 	}

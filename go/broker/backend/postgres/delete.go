@@ -40,7 +40,7 @@ func (d *Databases) Delete(ctx context.Context, request broker.Request) error {
 }
 
 // remove deletes what was found of an instance. The role goes last: its label shows that the rest is this store's.
-func (d *Databases) remove(ctx context.Context, conn *sql.Conn, f existence) error {
+func (d *Databases) remove(ctx context.Context, conn *sql.Conn, f resource) error {
 	if !f.hasRole {
 		return nil // then there is no database either (check)
 	}
@@ -112,7 +112,7 @@ func isInTheWay(err error) bool {
 //
 // FORCE isn't used: with it DROP DATABASE fails if autovacuum works in the database and the broker's role isn't a
 // superuser. Without it the server ends autovacuum, and waits for sessions that are ending.
-func (d *Databases) dropDatabase(ctx context.Context, conn *sql.Conn, f existence, roles []string) error {
+func (d *Databases) dropDatabase(ctx context.Context, conn *sql.Conn, f resource, roles []string) error {
 	if err := endSessions(ctx, conn, f.name, roles, 0); err != nil {
 		return err
 	}
@@ -141,7 +141,7 @@ func checkPrepared(ctx context.Context, conn *sql.Conn, name string) error {
 }
 
 // closeStatements are the statements, in one transaction, after which nobody can connect any more.
-func closeStatements(f existence, roles []string) (statements string) {
+func closeStatements(f resource, roles []string) (statements string) {
 	for _, role := range roles {
 		statements += "ALTER ROLE " + quote(role) + " NOLOGIN;"
 	}

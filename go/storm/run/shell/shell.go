@@ -12,6 +12,8 @@ import (
 	"strings"
 	"syscall"
 	"time"
+
+	"pippinterm/internal/child"
 )
 
 // limits are those of a command: how long it may take, and how many bytes it may print on each output.
@@ -151,7 +153,7 @@ type Command struct {
 	out     io.ReadCloser // of both outputs
 	ended   chan struct{}
 	isRead  chan struct{} // is closed once nothing more is read
-	last    tail
+	last    child.Tail
 }
 
 // Start starts a command of the shell, with further variables in its environment, such as NAME=value. End ends it, and
@@ -159,7 +161,9 @@ type Command struct {
 //
 // Errors: the shell can't be started.
 func Start(command string, variables ...string) (*Command, error) {
-	c := &Command{process: shellOf(command), ended: make(chan struct{}), isRead: make(chan struct{})}
+	c := &Command{
+		process: shellOf(command), ended: make(chan struct{}), isRead: make(chan struct{}), last: child.Tail{Most: mostKept},
+	}
 	c.process.Env = append(os.Environ(), variables...)
 	var err error
 	if c.out, err = c.process.StdoutPipe(); err != nil {
@@ -175,7 +179,7 @@ func Start(command string, variables ...string) (*Command, error) {
 	}()
 	go func() {
 		defer close(c.ended)
-		awaitExit(c.process.Process.Pid)
+		_, _ = child.AwaitExit(c.process.Process.Pid)
 	}()
 	return c, nil
 }
@@ -190,14 +194,14 @@ func (c *Command) Done() <-chan struct{} {
 }
 
 // HasEnded reports whether the shell has ended.
-func (c *Command) HasEnded() bool { return isClosed(c.Done(), 0) }
+func (c *Command) HasEnded() bool { return child.IsClosed(c.Done(), 0) }
 
 // End kills the command with all processes of its group. It returns an error if the command failed before.
 func (c *Command) End() error {
 	hasEnded := c.HasEnded()
 	killAll(c.process)
 	<-c.ended
-	isClosed(c.isRead, time.Second) // a process that has left the group may keep the pipe open
+	child.IsClosed(c.isRead, time.Second) // a process that has left the group may keep the pipe open
 	_ = c.out.Close()
 	<-c.isRead
 	err := c.process.Wait()
@@ -210,8 +214,8 @@ func (c *Command) End() error {
 // LastLines returns the last lines that the command has printed on both outputs. A line of which only the end is kept
 // is left out: a secret that was cut off couldn't be found in it. Call End before.
 func (c *Command) LastLines() (lines []string) {
-	text := string(c.last.text)
-	if c.last.isCut {
+	text := string(c.last.Text)
+	if c.last.IsCut {
 		_, text, _ = strings.Cut(text, "\n")
 	}
 	if text = strings.TrimSpace(text); text == "" {
@@ -224,50 +228,8 @@ func (c *Command) LastLines() (lines []string) {
 	return lines
 }
 
-// awaitExit waits until a child has exited. It leaves the child to be reaped: until then no other process gets its id,
-// which is also that of its group.
-func awaitExit(pid int) {
-	const thisProcess = 1 // P_PID of Linux, which package syscall doesn't have
-	for err := syscall.EINTR; err == syscall.EINTR; {
-		_, _, err = syscall.Syscall6(syscall.SYS_WAITID, thisProcess, uintptr(pid), 0, syscall.WEXITED|syscall.WNOWAIT, 0, 0)
-	}
-}
-
-// isClosed reports whether a channel is closed within some time.
-func isClosed(done <-chan struct{}, within time.Duration) bool {
-	select {
-	case <-done:
-		return true
-	default:
-	}
-	timer := time.NewTimer(within)
-	defer timer.Stop()
-	select {
-	case <-done:
-		return true
-	case <-timer.C:
-		return false
-	}
-}
-
 // mostLines and mostKept are how much is kept of what a Command prints, in lines and in bytes.
 const (
 	mostLines = 20
 	mostKept  = 16 << 10
 )
-
-// A tail is the end of what is written to it.
-type tail struct {
-	text  []byte
-	isCut bool // the text begins within a line
-}
-
-// Write keeps the last mostKept bytes.
-func (t *tail) Write(text []byte) (int, error) {
-	t.text = append(t.text, text...)
-	if over := len(t.text) - mostKept; over > 0 {
-		t.isCut = t.text[over-1] != '\n'
-		t.text = append(t.text[:0], t.text[over:]...)
-	}
-	return len(text), nil
-}

@@ -11,6 +11,7 @@ import (
 	"testing"
 	"time"
 
+	"pippinterm/internal/child"
 	"pippinterm/internal/diff"
 	"pippinterm/internal/waits"
 	"pippinterm/storm/stormtest"
@@ -162,7 +163,7 @@ func TestMostPrinted(t *testing.T) {
 
 func awaitEnd(t *testing.T, c *Command) {
 	t.Helper()
-	if !isClosed(c.Done(), 10*time.Second) {
+	if !child.IsClosed(c.Done(), 10*time.Second) {
 		t.Fatal("the command: got no end in time, want one")
 	}
 }
