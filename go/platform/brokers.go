@@ -137,10 +137,10 @@ const NoStore = "none"
 
 // AcceptStore has answers taken of the store with this id, or of any for NoStore.
 //
-// Errors: a Fault if it is no id of a store.
+// Errors: a Rejection if it is no id of a store.
 func (b *Broker) AcceptStore(id string) error {
 	if !storeID.MatchString(id) {
-		return fault(Invalid, "the id of a store has 1 to 200 letters, digits, points, hyphens and underscores; %s is for "+
+		return reject(Invalid, "the id of a store has 1 to 200 letters, digits, points, hyphens and underscores; %s is for "+
 			"a broker that names none", NoStore)
 	}
 	if b.Store = id; id == NoStore {
@@ -202,7 +202,7 @@ var brokerName = regexp.MustCompile(`^[a-z0-9-]{1,63}$`)
 
 // AddBroker writes down a broker. password is in clear, or nil if PasswordFile is given.
 //
-// Errors: a Fault if the name is malformed or taken, CheckURL rejects the URL or it ends with /v2, or a password is
+// Errors: a Rejection if the name is malformed or taken, CheckURL rejects the URL or it ends with /v2, or a password is
 // given and there is no vault; those of the Store.
 func (o *Orders) AddBroker(ctx context.Context, broker Broker, password []byte) error {
 	broker.Password, broker.Catalogue, broker.CatalogueAt, broker.Reason = nil, nil, time.Time{}, Reason{}
@@ -212,7 +212,7 @@ func (o *Orders) AddBroker(ctx context.Context, broker Broker, password []byte) 
 	}
 	err := o.store.AddBroker(ctx, broker)
 	if errors.Is(err, ErrUsed) {
-		return fault(Conflict, "there is a broker %s already", broker.Name)
+		return reject(Conflict, "there is a broker %s already", broker.Name)
 	}
 	return err
 }
@@ -221,17 +221,17 @@ func (o *Orders) AddBroker(ctx context.Context, broker Broker, password []byte) 
 // one. change may be called more than once; the last call counts. If the URL or the user changes, a password that is
 // kept is sealed again. That needs the vault.
 //
-// Errors: those of AddBroker; a Fault if it is unknown, or a password that is kept can't be opened.
+// Errors: those of AddBroker; a Rejection if it is unknown, or a password that is kept can't be opened.
 func (o *Orders) SetBroker(ctx context.Context, name string, change func(*Broker) error, password []byte) error {
 	if name == "" {
-		return fault(Invalid, "name the broker to change")
+		return reject(Invalid, "name the broker to change")
 	}
 	err := o.store.ChangeBroker(ctx, name, func(broker Broker) (*Broker, error) {
 		err := o.set(&broker, change, password)
 		return &broker, err
 	})
 	if errors.Is(err, ErrUnknown) {
-		return fault(NotFound, "the broker %q is unknown", name)
+		return reject(NotFound, "the broker %q is unknown", name)
 	}
 	return err
 }
@@ -245,7 +245,7 @@ func (o *Orders) set(broker *Broker, change func(*Broker) error, password []byte
 		return err
 	}
 	if broker.Name != name {
-		return fault(Invalid, "a broker keeps its name: orders name it")
+		return reject(Invalid, "a broker keeps its name: orders name it")
 	}
 	switch {
 	case password != nil && broker.PasswordFile == file:
@@ -267,7 +267,7 @@ func (o *Orders) set(broker *Broker, change func(*Broker) error, password []byte
 // sealed for those that the broker gets back.
 func (o *Orders) sealPassword(before, after Broker) ([]byte, error) {
 	if o.vault == nil {
-		return nil, fault(Conflict, "the password of the broker %s is encrypted for its URL and its user: give the "+
+		return nil, reject(Conflict, "the password of the broker %s is encrypted for its URL and its user: give the "+
 			"program the key, or the broker its password again", before.Name)
 	}
 	password, err := o.vault.Open(before.Password, PasswordContext(before))
@@ -275,7 +275,7 @@ func (o *Orders) sealPassword(before, after Broker) ([]byte, error) {
 		password, err = o.vault.Open(before.Password, PasswordContext(after))
 	}
 	if err != nil {
-		return nil, fault(Conflict, "the password of the broker %s can't be decrypted: %v. Give it again",
+		return nil, reject(Conflict, "the password of the broker %s can't be decrypted: %v. Give it again",
 			before.Name, err)
 	}
 	return password, nil
@@ -283,14 +283,14 @@ func (o *Orders) sealPassword(before, after Broker) ([]byte, error) {
 
 // DropBroker forgets a broker of which nothing was ever ordered.
 //
-// Errors: a Fault; those of the Store.
+// Errors: a Rejection; those of the Store.
 func (o *Orders) DropBroker(ctx context.Context, name string) error {
 	err := o.store.DropBroker(ctx, name)
 	switch {
 	case errors.Is(err, ErrUnknown):
-		return fault(NotFound, "the broker %q is unknown", name)
+		return reject(NotFound, "the broker %q is unknown", name)
 	case errors.Is(err, ErrUsed):
-		return fault(Conflict, "there are orders of the broker %s: it can't be dropped", name)
+		return reject(Conflict, "there are orders of the broker %s: it can't be dropped", name)
 	}
 	return err
 }
@@ -299,7 +299,7 @@ func (o *Orders) DropBroker(ctx context.Context, name string) error {
 // that isn't new was allowed before.
 func (o *Orders) finish(broker *Broker, password []byte, needsPassword, isNewURL bool) error {
 	if !brokerName.MatchString(broker.Name) {
-		return fault(Invalid, "the name of a broker has 1 to 63 characters: a-z, 0-9 and hyphens")
+		return reject(Invalid, "the name of a broker has 1 to 63 characters: a-z, 0-9 and hyphens")
 	}
 	if isNewURL {
 		if err := CheckURL(broker.URL, o.allowsHTTP); err != nil {
@@ -311,22 +311,22 @@ func (o *Orders) finish(broker *Broker, password []byte, needsPassword, isNewURL
 	}
 	broker.URL = strings.TrimRight(broker.URL, "/")
 	if broker.User == "" || strings.ContainsAny(broker.User, ":\x00") || !utf8.ValidString(broker.User) {
-		return fault(Invalid, "the user at a broker is UTF-8, isn't empty, and has neither a colon nor a NUL")
+		return reject(Invalid, "the user at a broker is UTF-8, isn't empty, and has neither a colon nor a NUL")
 	}
 	if err := checkSettings(broker.Settings); err != nil {
 		return err
 	}
 	switch {
 	case password != nil && broker.PasswordFile != "":
-		return fault(Invalid, "give a password or a file with it, not both")
+		return reject(Invalid, "give a password or a file with it, not both")
 	case needsPassword && password == nil && broker.PasswordFile == "" && broker.Password == nil:
-		return fault(Invalid, "the broker %s has no password: give it one, or a file with it", broker.Name)
+		return reject(Invalid, "the broker %s has no password: give it one, or a file with it", broker.Name)
 	case password == nil:
 		return nil
 	case len(password) == 0:
-		return fault(Invalid, "the password is empty")
+		return reject(Invalid, "the password is empty")
 	case o.vault == nil:
-		return fault(Conflict, "there is no key to keep a password with: give the program one, or name a file")
+		return reject(Conflict, "there is no key to keep a password with: give the program one, or name a file")
 	}
 	sealed, err := o.vault.Seal(password, PasswordContext(*broker))
 	if err != nil {
@@ -346,7 +346,7 @@ func checkSettings(settings Settings) error {
 		{"longest pace", settings.LongestPace, time.Millisecond}, {"longest poll", settings.LongestPoll, time.Second},
 	} {
 		if test.set != nil && (*test.set < test.least || *test.set > longestSetting) {
-			return fault(Invalid, "the %s of a broker is between %v and a year", test.name, test.least)
+			return reject(Invalid, "the %s of a broker is between %v and a year", test.name, test.least)
 		}
 	}
 	return nil
@@ -356,15 +356,15 @@ func checkSettings(settings Settings) error {
 // stands before /v2 is given. http is allowed only if the host is this machine (localhost, or a loopback address), or
 // if allowHTTP is true: otherwise everybody on the way could read the password.
 //
-// Errors: a Fault, which says what is wrong and what to do. None contains a password that stands in the URL.
+// Errors: a Rejection, which says what is wrong and what to do. None contains a password that stands in the URL.
 func CheckURL(text string, allowHTTP bool) error {
 	if strings.Trim(text, printable) != "" {
-		return fault(Invalid, "the URL of a broker has a space, a control character, or one that isn't ASCII: "+
+		return reject(Invalid, "the URL of a broker has a space, a control character, or one that isn't ASCII: "+
 			"write it with percent-encoding")
 	}
 	read, err := url.Parse(text)
 	if err != nil {
-		return fault(Invalid, "the URL of a broker can't be read: write one such as https://broker.example/postgres")
+		return reject(Invalid, "the URL of a broker can't be read: write one such as https://broker.example/postgres")
 	}
 	if err := checkParts(text, read); err != nil {
 		return err
@@ -373,7 +373,7 @@ func CheckURL(text string, allowHTTP bool) error {
 		return err
 	}
 	if host := read.Hostname(); read.Scheme == "http" && !allowHTTP && !isHere(host) {
-		return fault(Invalid, "with http:// everybody on the way to %s reads the password: use https://, or "+
+		return reject(Invalid, "with http:// everybody on the way to %s reads the password: use https://, or "+
 			"--allow-http if that network is safe", host)
 	}
 	return nil
@@ -391,16 +391,16 @@ var printable = func() string {
 func checkParts(text string, read *url.URL) error {
 	switch {
 	case read.Scheme != "https" && read.Scheme != "http" || read.Opaque != "" || read.Hostname() == "":
-		return fault(Invalid, "the URL of a broker must begin with https:// and a host, such as "+
+		return reject(Invalid, "the URL of a broker must begin with https:// and a host, such as "+
 			"https://broker.example/postgres")
 	case read.User != nil:
-		return fault(Invalid, "the URL of a broker must have no user and no password: give them beside it")
+		return reject(Invalid, "the URL of a broker must have no user and no password: give them beside it")
 	case strings.ContainsAny(text, "?#"):
-		return fault(Invalid, "the URL of a broker must have no query and no fragment")
+		return reject(Invalid, "the URL of a broker must have no query and no fragment")
 	}
 	if port := read.Port(); port != "" || strings.HasSuffix(read.Host, ":") {
 		if number, err := strconv.ParseUint(port, 10, 16); err != nil || number == 0 {
-			return fault(Invalid, "the port in the URL of a broker must be a number from 1 to 65535")
+			return reject(Invalid, "the port in the URL of a broker must be a number from 1 to 65535")
 		}
 	}
 	return nil
@@ -413,7 +413,7 @@ func checkPath(path string) error {
 	}
 	for _, part := range strings.Split(path, "/")[1:] {
 		if plain, err := url.PathUnescape(part); err != nil || plain == "" || plain == "." || plain == ".." {
-			return fault(Invalid, "the path in the URL of a broker must have no empty part, and neither . nor .. "+
+			return reject(Invalid, "the path in the URL of a broker must have no empty part, and neither . nor .. "+
 				"as one")
 		}
 	}
@@ -424,7 +424,7 @@ func checkPath(path string) error {
 // before is kept.
 func checkEnd(text string) error {
 	if strings.HasSuffix(strings.TrimRight(text, "/"), "/v2") {
-		return fault(Invalid, "the URL of a broker ends before /v2, which each request adds: leave the /v2 out")
+		return reject(Invalid, "the URL of a broker ends before /v2, which each request adds: leave the /v2 out")
 	}
 	return nil
 }

@@ -138,11 +138,11 @@ func TestCheckURL(t *testing.T) {
 		"http://0.0.0.0":                    "reads the password",
 	} {
 		t.Run(url, func(t *testing.T) {
-			var fault *Fault
+			var rejected *Rejection
 			err := CheckURL(url, false)
-			if !errors.As(err, &fault) || fault.Kind != Invalid || !strings.Contains(fault.Text, said) ||
-				strings.Contains(fault.Text, "hunter2") {
-				t.Errorf("got %v, want a fault with %q and without the password", err, said)
+			if !errors.As(err, &rejected) || rejected.Kind != Invalid || !strings.Contains(rejected.Text, said) ||
+				strings.Contains(rejected.Text, "hunter2") {
+				t.Errorf("got %v, want a rejection with %q and without the password", err, said)
 			}
 			diff.Equal(t, CheckURL(url, true) == nil, said == "reads the password", "%q, with http:// allowed", url)
 		})
@@ -600,7 +600,7 @@ func TestSettingsOfABroker(t *testing.T) {
 					if isAllowed {
 						check(t, err)
 					} else {
-						wantFault(t, err, Invalid, "the "+name+" of a broker")
+						wantRejection(t, err, Invalid, "the "+name+" of a broker")
 					}
 				})
 			}
@@ -628,7 +628,7 @@ func TestBrokers(t *testing.T) {
 		t.Errorf("the password at the new URL: got %q, %v, want the one before", password, err)
 	}
 	toUser := func(b *Broker) error { b.User = "another"; return nil }
-	wantFault(t, NewOrders(d.store, nil).SetBroker(background, "shelf", toUser, nil), Conflict, "give the program the key")
+	wantRejection(t, NewOrders(d.store, nil).SetBroker(background, "shelf", toUser, nil), Conflict, "give the program the key")
 	check(t, d.orders.SetBroker(background, "shelf", toUser, nil))
 	changed = d.store.brokers["shelf"]
 	if password, err := (seal{}).Open(changed.Password, PasswordContext(changed)); string(password) != "secret" {
@@ -644,7 +644,7 @@ func TestBrokers(t *testing.T) {
 	toURL := func(url string) func(*Broker) error {
 		return func(b *Broker) error { b.URL = url; return nil }
 	}
-	wantFault(t, d.orders.SetBroker(background, "shelf", toURL("https://evil/v"), nil), Conflict, "Give it again")
+	wantRejection(t, d.orders.SetBroker(background, "shelf", toURL("https://evil/v"), nil), Conflict, "Give it again")
 	check(t, d.orders.SetBroker(background, "shelf", toURL("https://shelf/v"), nil)) // where it belongs
 	changed = d.store.brokers["shelf"]
 	if password, err := (seal{}).Open(changed.Password, PasswordContext(changed)); string(password) != "secret" {
@@ -660,17 +660,17 @@ func TestBrokers(t *testing.T) {
 		t.Errorf("got %+v, want the password instead of the file", changed)
 	}
 	file := Broker{Name: "file", URL: "http://there:1", User: "u", PasswordFile: "p"}
-	wantFault(t, d.orders.AddBroker(background, file, nil), Invalid, "reads the password")
+	wantRejection(t, d.orders.AddBroker(background, file, nil), Invalid, "reads the password")
 	move := func(b *Broker) error { b.URL = "http://there:2"; return nil }
-	wantFault(t, d.orders.SetBroker(background, "shelf", move, nil), Invalid, "reads the password")
+	wantRejection(t, d.orders.SetBroker(background, "shelf", move, nil), Invalid, "reads the password")
 	d.orders.AllowHTTP(true)
 	check(t, d.orders.AddBroker(background, file, nil))
 	d.orders.AllowHTTP(false) // what was allowed before stays
 	check(t, d.orders.SetBroker(background, "file", func(b *Broker) error { b.User = "me"; return nil }, nil))
 	check(t, d.orders.DropBroker(background, "file"))
-	wantFault(t, d.orders.DropBroker(background, "file"), NotFound, "unknown")
+	wantRejection(t, d.orders.DropBroker(background, "file"), NotFound, "unknown")
 	d.put(rowIn(anInstance, Gone))
-	wantFault(t, d.orders.DropBroker(background, "shelf"), Conflict, "orders")
+	wantRejection(t, d.orders.DropBroker(background, "shelf"), Conflict, "orders")
 }
 
 // A broker of version 0.2 has no password in the store, and may be changed. One that has a password keeps one.
@@ -683,7 +683,7 @@ func TestSetBrokerWithoutPassword(t *testing.T) {
 		t.Errorf("got %+v, want the new URL and no password", got)
 	}
 	forget := func(b *Broker) error { b.Password = nil; return nil }
-	wantFault(t, d.orders.SetBroker(background, "shelf", forget, nil), Invalid, "no password")
+	wantRejection(t, d.orders.SetBroker(background, "shelf", forget, nil), Invalid, "no password")
 }
 
 func TestBrokersRejected(t *testing.T) {
@@ -706,19 +706,19 @@ func TestBrokersRejected(t *testing.T) {
 		t.Run(part, func(t *testing.T) {
 			broker := good
 			change(&broker)
-			wantFault(t, d.orders.AddBroker(background, broker, []byte("p")), Invalid, part)
+			wantRejection(t, d.orders.AddBroker(background, broker, []byte("p")), Invalid, part)
 		})
 	}
-	wantFault(t, d.orders.AddBroker(background, good, nil), Invalid, "no password")
-	wantFault(t, d.orders.AddBroker(background, good, []byte{}), Invalid, "empty")
-	wantFault(t, NewOrders(d.store, nil).AddBroker(background, good, []byte("p")), Conflict, "no key")
+	wantRejection(t, d.orders.AddBroker(background, good, nil), Invalid, "no password")
+	wantRejection(t, d.orders.AddBroker(background, good, []byte{}), Invalid, "empty")
+	wantRejection(t, NewOrders(d.store, nil).AddBroker(background, good, []byte("p")), Conflict, "no key")
 	good.Name = "shelf"
-	wantFault(t, d.orders.AddBroker(background, good, []byte("p")), Conflict, "already")
+	wantRejection(t, d.orders.AddBroker(background, good, []byte("p")), Conflict, "already")
 	nothing := func(*Broker) error { return nil }
-	wantFault(t, d.orders.SetBroker(background, "x", nothing, nil), NotFound, "unknown")
-	wantFault(t, d.orders.SetBroker(background, "", nothing, nil), Invalid, "name the broker")
+	wantRejection(t, d.orders.SetBroker(background, "x", nothing, nil), NotFound, "unknown")
+	wantRejection(t, d.orders.SetBroker(background, "", nothing, nil), Invalid, "name the broker")
 	rename := func(b *Broker) error { b.Name = "y"; return nil }
-	wantFault(t, d.orders.SetBroker(background, "shelf", rename, nil), Invalid, "keeps its name")
+	wantRejection(t, d.orders.SetBroker(background, "shelf", rename, nil), Invalid, "keeps its name")
 	refused := errors.New("refused")
 	refuse := func(b *Broker) error { b.URL = "https://there"; return refused }
 	if err := d.orders.SetBroker(background, "shelf", refuse, nil); err != refused || d.store.brokers["shelf"].URL != "https://shelf" {

@@ -617,10 +617,10 @@ func TestForeignPlan(t *testing.T) {
 	for _, newInstance := range []platform.NewInstance{
 		{Service: "mysql"}, {Service: service, Plan: "huge"}, {Service: "database", Plan: "postgres-c2-id"},
 	} {
-		var fault *platform.Fault
+		var rejected *platform.Rejection
 		_, err := s.orders.Create(background, newInstance)
-		if !errors.As(err, &fault) || fault.Kind != platform.Invalid || !strings.Contains(fault.Text, "name one of") {
-			t.Errorf("%+v: got %v, want a fault that lists the plans to name", newInstance, err)
+		if !errors.As(err, &rejected) || rejected.Kind != platform.Invalid || !strings.Contains(rejected.Text, "name one of") {
+			t.Errorf("%+v: got %v, want a rejection that lists the plans to name", newInstance, err)
 		}
 	}
 	s.play(nil)
@@ -649,9 +649,9 @@ func TestForeignRefusals(t *testing.T) {
 			if waited := time.Since(begun); waited > 30*time.Second {
 				t.Errorf("%d: got a wait of %v, want at most 30 s", test.status, waited)
 			}
-			var fault *platform.Fault
-			if _, err := s.orders.Create(background, platform.NewInstance{}); !errors.As(err, &fault) {
-				t.Errorf("%d: an order: got %v, want a fault", test.status, err)
+			var rejected *platform.Rejection
+			if _, err := s.orders.Create(background, platform.NewInstance{}); !errors.As(err, &rejected) {
+				t.Errorf("%d: an order: got %v, want a rejection", test.status, err)
 			}
 			brokers := diff.Value(s.store.Brokers(background))(t)
 			if got := brokers[0].Reason; got.Status != test.status || !strings.Contains(got.Lost, test.said) {

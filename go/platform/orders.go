@@ -74,25 +74,25 @@ type NewBinding struct {
 // pass.
 const DefaultTries = 3
 
-// A Fault is an order that can't be taken. Nothing was written.
-type Fault struct {
-	Kind FaultKind
+// A Rejection is an order that can't be taken. Nothing was written.
+type Rejection struct {
+	Kind RejectionKind
 	Text string // what is wrong, and what to do
 }
 
-// A FaultKind is the kind of a fault.
-type FaultKind int
+// A RejectionKind is the kind of a rejection.
+type RejectionKind int
 
 const (
-	Invalid  FaultKind = iota // the order itself is wrong
-	NotFound                  // it names something that doesn't exist
-	Conflict                  // it isn't possible in the state in which the row is
+	Invalid  RejectionKind = iota // the order itself is wrong
+	NotFound                      // it names something that doesn't exist
+	Conflict                      // it isn't possible in the state in which the row is
 )
 
-func (f *Fault) Error() string { return f.Text }
+func (r *Rejection) Error() string { return r.Text }
 
-func fault(kind FaultKind, format string, values ...any) error {
-	return &Fault{Kind: kind, Text: fmt.Sprintf(format, values...)}
+func reject(kind RejectionKind, format string, values ...any) error {
+	return &Rejection{Kind: kind, Text: fmt.Sprintf(format, values...)}
 }
 
 // change is one transaction over the row of a key, and returns the row after it. step returns nil if the row stays as
@@ -116,15 +116,15 @@ func (o *Orders) change(ctx context.Context, key Key, step func(time.Time, Snaps
 	return after, nil
 }
 
-// noRow is the Fault of a key that has no row, or the error that is given.
+// noRow is the Rejection of a key that has no row, or the error that is given.
 func noRow(key Key, err error) error {
 	switch {
 	case !errors.Is(err, ErrUnknown):
 		return err
 	case key.IsBinding:
-		return fault(NotFound, "there is no binding of this id")
+		return reject(NotFound, "there is no binding of this id")
 	}
-	return fault(NotFound, "there is no instance of this id")
+	return reject(NotFound, "there is no instance of this id")
 }
 
 // describe is what a row is, and the id by which it was ordered.
@@ -147,11 +147,11 @@ const mostTries = 100
 // triesOf returns how often a creation is tried at most. wanted is how often somebody asks for, or 0. In that case,
 // what has a chosen id is tried once, because the next try would have another id.
 //
-// Errors: a Fault.
+// Errors: a Rejection.
 func triesOf(wanted int, isOwnID bool) (int, error) {
 	switch {
 	case wanted < 0 || wanted > mostTries:
-		return 0, fault(Invalid, "a creation is tried 1 to %d times", mostTries)
+		return 0, reject(Invalid, "a creation is tried 1 to %d times", mostTries)
 	case wanted != 0:
 		return wanted, nil
 	case isOwnID:
@@ -162,8 +162,8 @@ func triesOf(wanted int, isOwnID bool) (int, error) {
 
 // Create writes down an instance to create, and returns its row.
 //
-// Errors: a Fault if the broker, the service or the plan is unknown, the broker has given no catalogue yet, the id is
-// used, or a member isn't an object of JSON that can be sent; those of the Store.
+// Errors: a Rejection if the broker, the service or the plan is unknown, the broker has given no catalogue yet, the id
+// is used, or a member isn't an object of JSON that can be sent; those of the Store.
 func (o *Orders) Create(ctx context.Context, wanted NewInstance) (Entry, error) {
 	broker, err := o.broker(ctx, wanted.Broker)
 	if err != nil {
@@ -202,10 +202,10 @@ func (o *Orders) Create(ctx context.Context, wanted NewInstance) (Entry, error) 
 
 // Bind writes down a binding to create, and returns its row. Its instance must be recorded ready, and not be removed.
 //
-// Errors: a Fault; those of the Store.
+// Errors: a Rejection; those of the Store.
 func (o *Orders) Bind(ctx context.Context, wanted NewBinding) (Entry, error) {
 	if o.vault == nil {
-		return Entry{}, fault(Conflict, "there is no key to keep credentials with: give the program one")
+		return Entry{}, reject(Conflict, "there is no key to keep credentials with: give the program one")
 	}
 	of, err := o.bindable(ctx, wanted.Instance)
 	if err != nil {
@@ -254,26 +254,26 @@ func (o *Orders) bindable(ctx context.Context, id string) (Entry, error) {
 	return of, o.checkBindable(ctx, of)
 }
 
-// checkReady is a Fault unless an instance is recorded ready and isn't removed.
+// checkReady is a Rejection unless an instance is recorded ready and isn't removed.
 func checkReady(instance Entry) error {
 	switch {
 	case instance.Removal != NotRemoved:
-		return fault(Conflict, "%s is removed: no binding of it can be created", describe(instance))
+		return reject(Conflict, "%s is removed: no binding of it can be created", describe(instance))
 	case instance.State != Ready:
-		return fault(Conflict, "%s is %s: a binding can be created once it is ready", describe(instance), instance.State)
+		return reject(Conflict, "%s is %s: a binding can be created once it is ready", describe(instance), instance.State)
 	}
 	return nil
 }
 
-// unknownInstance is the Fault of a binding whose instance has no row, or the error that is given.
+// unknownInstance is the Rejection of a binding whose instance has no row, or the error that is given.
 func unknownInstance(id string, err error) error {
 	if errors.Is(err, ErrUnknown) {
-		return fault(NotFound, "the instance %s is unknown", id)
+		return reject(NotFound, "the instance %s is unknown", id)
 	}
 	return err
 }
 
-// checkBindable is a Fault unless the catalogue has the plan of an instance, and says that it is bindable.
+// checkBindable is a Rejection unless the catalogue has the plan of an instance, and says that it is bindable.
 func (o *Orders) checkBindable(ctx context.Context, instance Entry) error {
 	broker, err := o.broker(ctx, instance.Broker)
 	if err != nil {
@@ -286,10 +286,10 @@ func (o *Orders) checkBindable(ctx context.Context, instance Entry) error {
 	_, plan := catalogue.plan(instance.Service, instance.Plan)
 	switch {
 	case plan == nil:
-		return fault(Conflict, "the catalogue of the broker %s doesn't have the plan %q any more: no binding can be "+
+		return reject(Conflict, "the catalogue of the broker %s doesn't have the plan %q any more: no binding can be "+
 			"created until the broker offers the plan again", broker.Name, instance.Names.Plan)
 	case !plan.IsBindable:
-		return fault(Invalid, "the plan %q isn't bindable: the catalogue of the broker %s says so", instance.Names.Plan,
+		return reject(Invalid, "the plan %q isn't bindable: the catalogue of the broker %s says so", instance.Names.Plan,
 			broker.Name)
 	}
 	return nil
@@ -315,10 +315,10 @@ func (o *Orders) insert(ctx context.Context, order Order, check func(Snapshot) e
 	})
 	switch {
 	case errors.Is(err, ErrUsed):
-		return Entry{}, fault(Conflict, "the id of %s is used already, and none is used twice: choose another one",
+		return Entry{}, reject(Conflict, "the id of %s is used already, and none is used twice: choose another one",
 			describe(entry))
 	case errors.Is(err, ErrUnknown) && !order.Key.IsBinding: // dropped since it was read
-		return Entry{}, fault(NotFound, "the broker %q is unknown", order.Broker)
+		return Entry{}, reject(NotFound, "the broker %q is unknown", order.Broker)
 	case err != nil:
 		return Entry{}, unknownInstance(order.Names.Instance, err)
 	}
@@ -341,22 +341,22 @@ func (o *Orders) broker(ctx context.Context, name string) (Broker, error) {
 	}
 	switch {
 	case len(names) == 0:
-		return Broker{}, fault(NotFound, "there is no broker: add one first")
+		return Broker{}, reject(NotFound, "there is no broker: add one first")
 	case name == "":
-		return Broker{}, fault(Invalid, "there are several brokers: name one of %s", strings.Join(names, ", "))
+		return Broker{}, reject(Invalid, "there are several brokers: name one of %s", strings.Join(names, ", "))
 	}
-	return Broker{}, fault(NotFound, "the broker %q is unknown: there is %s", name, strings.Join(names, ", "))
+	return Broker{}, reject(NotFound, "the broker %q is unknown: there is %s", name, strings.Join(names, ", "))
 }
 
 // catalogueOf is the catalogue that a broker has answered last.
 func catalogueOf(broker Broker) (*Catalogue, error) {
 	if broker.Catalogue == nil {
-		return nil, fault(Conflict, "the broker %s has given no catalogue yet%s: run the platform, and try again",
+		return nil, reject(Conflict, "the broker %s has given no catalogue yet%s: run the platform, and try again",
 			broker.Name, reasonIn(broker))
 	}
 	catalogue, err := ReadCatalogue(broker.Catalogue)
 	if err != nil {
-		return nil, fault(Conflict, "the broker %s: %v", broker.Name, err)
+		return nil, reject(Conflict, "the broker %s: %v", broker.Name, err)
 	}
 	return catalogue, nil
 }
@@ -381,7 +381,7 @@ func choosePlan(broker Broker, service, plan string) (*CatalogueService, *Catalo
 		for _, service := range catalogue.Services {
 			names = append(names, service.Name)
 		}
-		return nil, nil, fault(Invalid, "the broker %s has no service %q: name one of %s", broker.Name, service,
+		return nil, nil, reject(Invalid, "the broker %s has no service %q: name one of %s", broker.Name, service,
 			strings.Join(names, ", "))
 	}
 	sold := found.Plan(plan)
@@ -390,7 +390,7 @@ func choosePlan(broker Broker, service, plan string) (*CatalogueService, *Catalo
 		for _, plan := range found.Plans {
 			names = append(names, plan.Name)
 		}
-		return nil, nil, fault(Invalid, "the service %s has no plan %q: name one of %s", found.Name, plan,
+		return nil, nil, reject(Invalid, "the service %s has no plan %q: name one of %s", found.Name, plan,
 			strings.Join(names, ", "))
 	}
 	return found, sold, nil
@@ -410,7 +410,7 @@ func (o *Orders) idOf(named string) (text string, number osb.ID, err error) {
 // namedID is the number of an id that an operator names.
 func namedID(named string) (text string, number osb.ID, err error) {
 	if named == "." || named == ".." || strings.Contains(named, "/") {
-		return "", number, fault(Invalid, "the id %q can't be used: it is . or .., or has a slash", named)
+		return "", number, reject(Invalid, "the id %q can't be used: it is . or .., or has a slash", named)
 	}
 	if number, err = osb.IDOfText(named); err != nil {
 		return "", number, noID(named)
@@ -427,10 +427,10 @@ func checkIdentity(value string) error {
 		return nil
 	}
 	if len(value) > longestIdentity {
-		return fault(Invalid, "the originating identity has %d bytes, and may have %d", len(value), longestIdentity)
+		return reject(Invalid, "the originating identity has %d bytes, and may have %d", len(value), longestIdentity)
 	}
 	if _, err := osb.OriginatingIdentity(value); err != nil {
-		return fault(Invalid, "the originating identity isn't a platform, a blank, and an object of JSON in base64")
+		return reject(Invalid, "the originating identity isn't a platform, a blank, and an object of JSON in base64")
 	}
 	return nil
 }
@@ -472,8 +472,8 @@ func orText(text, standby string) string {
 // an instance deleted first. Without that, bindings of it that were ordered and never sent are withdrawn. It returns
 // the row after that; if the row is gone or withdrawn already, it stays as it is.
 //
-// Errors: a Fault if the key is unknown, or if the instance has bindings and withBindings is false; those of the Store.
-// A binding that is abandoned doesn't count.
+// Errors: a Rejection if the key is unknown, or if the instance has bindings and withBindings is false; those of the
+// Store. A binding that is abandoned doesn't count.
 func (o *Orders) Remove(ctx context.Context, key Key, withBindings bool) (Entry, error) {
 	return o.change(ctx, key, func(now time.Time, snapshot Snapshot) (*Change, error) {
 		e := snapshot.Entry
@@ -481,7 +481,7 @@ func (o *Orders) Remove(ctx context.Context, key Key, withBindings bool) (Entry,
 		case e.State == Gone || e.State == Withdrawn:
 			return nil, nil
 		case e.State == Abandoned:
-			return nil, fault(Conflict, "%s is abandoned: nothing is sent any more", describe(e))
+			return nil, reject(Conflict, "%s is abandoned: nothing is sent any more", describe(e))
 		case !e.IsSent:
 			e.State, e.Since, e.Due, e.Removal = Withdrawn, now, time.Time{}, Removed
 			return &Change{Entry: e, WakeInstance: key.IsBinding}, nil
@@ -496,7 +496,7 @@ func (o *Orders) Remove(ctx context.Context, key Key, withBindings bool) (Entry,
 			case withBindings:
 				removal = RemovedWhole
 			case !allGone && e.Removal != RemovedWhole:
-				return nil, fault(Conflict, "%s has bindings: remove them first, or with it", describe(e))
+				return nil, reject(Conflict, "%s has bindings: remove them first, or with it", describe(e))
 			}
 		}
 		if e.Removal < removal {
@@ -509,20 +509,20 @@ func (o *Orders) Remove(ctx context.Context, key Key, withBindings bool) (Entry,
 
 // Retry has a deletion sent again that hangs in cleaning-polling, and every other step that is due later done at once.
 //
-// Errors: a Fault if the key is unknown, if nothing is to be done for it, or if it is unsettled, so that somebody has
-// to decide; those of the Store.
+// Errors: a Rejection if the key is unknown, if nothing is to be done for it, or if it is unsettled, so that somebody
+// has to decide; those of the Store.
 func (o *Orders) Retry(ctx context.Context, key Key) (Entry, error) {
 	return o.change(ctx, key, func(now time.Time, snapshot Snapshot) (*Change, error) {
 		e := snapshot.Entry
 		switch {
 		case e.Rests() && e.State == Unsettled:
-			return nil, fault(Conflict, "%s is unsettled: its creation has failed, and the broker may hold it. Nothing "+
+			return nil, reject(Conflict, "%s is unsettled: its creation has failed, and the broker may hold it. Nothing "+
 				"is sent until somebody decides: ask the broker for its last operation, and then remove it or abandon it",
 				describe(e))
 		case e.Rests():
-			return nil, fault(Conflict, "%s is %s: nothing is to be done for it", describe(e), e.State)
+			return nil, reject(Conflict, "%s is %s: nothing is to be done for it", describe(e), e.State)
 		case e.IsSent && e.Record.InFlight() != osb.KindNone && now.Before(e.Lease.Until):
-			return nil, fault(Conflict, "a request of %s is in flight: try again later", describe(e))
+			return nil, reject(Conflict, "a request of %s is in flight: try again later", describe(e))
 		case e.IsSent && e.Record.InFlight() != osb.KindNone: // its worker has ended
 			if err := e.giveUp(now); err != nil {
 				return nil, notRetried(e, err)
@@ -540,13 +540,13 @@ func (o *Orders) Retry(ctx context.Context, key Key) (Entry, error) {
 	})
 }
 
-// notRetried is a Fault if the record of a row doesn't allow a retry. A record that can't be read isn't the fault of
-// whoever asks.
+// notRetried is a Rejection if the record of a row doesn't allow a retry. A record that can't be read isn't the fault
+// of whoever asks.
 func notRetried(e Entry, err error) error {
 	if errors.Is(err, osb.ErrBadRecord) {
 		return fmt.Errorf("%s: %w", describe(e), err)
 	}
-	return fault(Conflict, "%s can't be retried: its record is %s (%v)", describe(e), StateOf(e.Record), err)
+	return reject(Conflict, "%s can't be retried: its record is %s (%v)", describe(e), StateOf(e.Record), err)
 }
 
 // Abandon ends the record as abandoned, for a reason that an operator gives. Nothing is sent any more. Nobody knows
@@ -554,18 +554,18 @@ func notRetried(e Entry, err error) error {
 // whose bindings are gone or abandoned can be removed, and it can be abandoned. Bindings of it that were ordered and
 // never sent are withdrawn.
 //
-// Errors: a Fault; those of the Store.
+// Errors: a Rejection; those of the Store.
 func (o *Orders) Abandon(ctx context.Context, key Key, because string) (Entry, error) {
 	if because == "" {
-		return Entry{}, fault(Invalid, "give a reason: whoever reads the record later sees it")
+		return Entry{}, reject(Invalid, "give a reason: whoever reads the record later sees it")
 	}
 	return o.change(ctx, key, func(now time.Time, snapshot Snapshot) (*Change, error) {
 		e := snapshot.Entry
 		switch {
 		case e.State == Gone && !e.HasLast, e.State == Withdrawn, e.State == Abandoned:
-			return nil, fault(Conflict, "%s is %s already", describe(e), e.State)
+			return nil, reject(Conflict, "%s is %s already", describe(e), e.State)
 		case !e.IsSent:
-			return nil, fault(Conflict, "%s wasn't sent yet: remove it", describe(e))
+			return nil, reject(Conflict, "%s wasn't sent yet: remove it", describe(e))
 		}
 		if !key.IsBinding {
 			allGone, err := snapshot.AllGone()
@@ -573,7 +573,7 @@ func (o *Orders) Abandon(ctx context.Context, key Key, because string) (Entry, e
 				return nil, err
 			}
 			if !allGone {
-				return nil, fault(Conflict, "a binding of %s may exist: remove its bindings first", describe(e))
+				return nil, reject(Conflict, "a binding of %s may exist: remove its bindings first", describe(e))
 			}
 		}
 		e.Because = because
@@ -588,13 +588,13 @@ func (o *Orders) Abandon(ctx context.Context, key Key, because string) (Entry, e
 
 // Credentials returns the object of a binding that is ready, as the broker has answered it.
 //
-// Errors: a Fault if the key is unknown or not ready, or there is no vault; those of the Store and the Vault.
+// Errors: a Rejection if the key is unknown or not ready, or there is no vault; those of the Store and the Vault.
 func (o *Orders) Credentials(ctx context.Context, key Key) (json.RawMessage, error) {
 	if !key.IsBinding {
-		return nil, fault(Invalid, "it is an instance: only a binding has credentials")
+		return nil, reject(Invalid, "it is an instance: only a binding has credentials")
 	}
 	if o.vault == nil {
-		return nil, fault(Conflict, "there is no key to read credentials with: give the program the right one")
+		return nil, reject(Conflict, "there is no key to read credentials with: give the program the right one")
 	}
 	e, err := o.store.Read(ctx, key)
 	if err != nil {
@@ -604,7 +604,7 @@ func (o *Orders) Credentials(ctx context.Context, key Key) (json.RawMessage, err
 		return nil, fmt.Errorf("%s can't be read: %s", describe(e), e.Unreadable)
 	}
 	if e.State != Ready {
-		return nil, fault(Conflict, "%s is %s: it has credentials while it is ready", describe(e), e.State)
+		return nil, reject(Conflict, "%s is %s: it has credentials while it is ready", describe(e), e.State)
 	}
 	if e.Credentials == nil {
 		return nil, fmt.Errorf("%s is ready, and has no credentials in the store", describe(e))
@@ -620,16 +620,16 @@ func (o *Orders) Credentials(ctx context.Context, key Key) (json.RawMessage, err
 // included. The body has one more, and is read to a depth of 127 (docs/wire.md).
 const deepest = 126
 
-// checkObject returns a Fault unless a member of a body is an object of JSON that every broker reads in the same way:
-// no name stands twice in an object, no number is above every float, and it isn't too deep.
+// checkObject returns a Rejection unless a member of a body is an object of JSON that every broker reads in the same
+// way: no name stands twice in an object, no number is above every float, and it isn't too deep.
 func checkObject(name string, text json.RawMessage) error {
 	if !json.Valid(text) || bytes.TrimSpace(text)[0] != '{' {
-		return fault(Invalid, "%s isn't an object of JSON", name)
+		return reject(Invalid, "%s isn't an object of JSON", name)
 	}
 	decoder := json.NewDecoder(bytes.NewReader(text))
 	decoder.UseNumber()
 	if err := checkValue(decoder, deepest); err != nil {
-		return fault(Invalid, "%s can't be sent: %v", name, err)
+		return reject(Invalid, "%s can't be sent: %v", name, err)
 	}
 	return nil
 }
@@ -677,10 +677,10 @@ func checkMembers(decoder *json.Decoder, isObject bool, deep int) error {
 	return err
 }
 
-// unsendable is the Fault of an order whose body can't be written.
+// unsendable is the Rejection of an order whose body can't be written.
 func unsendable(err error) error {
 	if errors.Is(err, osb.ErrNotJSON) { // checkObject has found no other reason
-		return fault(Invalid, `the order can't be sent: a text has one half of a surrogate pair, such as \ud800`)
+		return reject(Invalid, `the order can't be sent: a text has one half of a surrogate pair, such as \ud800`)
 	}
-	return fault(Invalid, "the order can't be sent: %v", err)
+	return reject(Invalid, "the order can't be sent: %v", err)
 }

@@ -44,12 +44,12 @@ func (d *desk) put(e Entry) Entry {
 	return d.store.rows[e.Key]
 }
 
-// wantFault is that an error is a Fault of a kind whose text has this in it.
-func wantFault(t *testing.T, err error, kind FaultKind, part string) {
+// wantRejection is that an error is a Rejection of a kind whose text has this in it.
+func wantRejection(t *testing.T, err error, kind RejectionKind, part string) {
 	t.Helper()
-	var fault *Fault
-	if !errors.As(err, &fault) || fault.Kind != kind || !strings.Contains(fault.Text, part) {
-		t.Errorf("got %v, want a fault of kind %d with %q", err, kind, part)
+	var rejected *Rejection
+	if !errors.As(err, &rejected) || rejected.Kind != kind || !strings.Contains(rejected.Text, part) {
+		t.Errorf("got %v, want a rejection of kind %d with %q", err, kind, part)
 	}
 }
 
@@ -106,7 +106,7 @@ func TestCreateNamed(t *testing.T) {
 		t.Errorf("the key of the name: got %[2]v, want %[1]v", e.Key, err)
 	}
 	_, err = d.orders.Create(background, NewInstance{Service: "shelf", Plan: "now", ID: "a thing"})
-	wantFault(t, err, Conflict, "used already")
+	wantRejection(t, err, Conflict, "used already")
 	e, err = d.orders.Create(background, NewInstance{Service: "shelf", Plan: "now", ID: "another thing"})
 	check(t, err)
 	if e.Tries != 1 { // the next one would have another id
@@ -120,7 +120,7 @@ func TestCreateRejected(t *testing.T) {
 	for _, test := range []struct {
 		name   string
 		wanted NewInstance
-		kind   FaultKind
+		kind   RejectionKind
 		part   string
 	}{
 		{"an unknown broker", NewInstance{Broker: "x", Service: "shelf", Plan: "now"}, NotFound, "there is shelf"},
@@ -144,7 +144,7 @@ func TestCreateRejected(t *testing.T) {
 		{"a space of no text", NewInstance{Service: "shelf", Plan: "now", Space: "\xff"}, Invalid, "can't be sent"},
 	} {
 		_, err := d.orders.Create(background, test.wanted)
-		t.Run(test.name, func(t *testing.T) { wantFault(t, err, test.kind, test.part) })
+		t.Run(test.name, func(t *testing.T) { wantRejection(t, err, test.kind, test.part) })
 	}
 	if len(d.store.rows) > 0 {
 		t.Errorf("got %d rows written, want none", len(d.store.rows))
@@ -155,13 +155,13 @@ func TestCreateRejected(t *testing.T) {
 func TestCreateWithoutCatalogue(t *testing.T) {
 	orders := NewOrders(newMemory(time.Now), seal{})
 	_, err := orders.Create(background, NewInstance{Service: "shelf"})
-	wantFault(t, err, NotFound, "add one first")
+	wantRejection(t, err, NotFound, "add one first")
 	check(t, orders.AddBroker(background, Broker{Name: "one", URL: "https://one", User: "u"}, []byte("p")))
 	_, err = orders.Create(background, NewInstance{Service: "shelf"})
-	wantFault(t, err, Conflict, "no catalogue yet")
+	wantRejection(t, err, Conflict, "no catalogue yet")
 	check(t, orders.AddBroker(background, Broker{Name: "two", URL: "https://two", User: "u"}, []byte("p")))
 	_, err = orders.Create(background, NewInstance{Service: "shelf"})
-	wantFault(t, err, Invalid, "one, two")
+	wantRejection(t, err, Invalid, "one, two")
 }
 
 // A binding is ordered only while its instance is ready and isn't removed.
@@ -186,7 +186,7 @@ func TestBind(t *testing.T) {
 					}
 					return
 				}
-				wantFault(t, err, Conflict, "instance")
+				wantRejection(t, err, Conflict, "instance")
 				diff.Equal(t, len(d.store.rows), 1, "%s", state)
 			})
 		}
@@ -220,7 +220,7 @@ func TestBindRejected(t *testing.T) {
 	name := anInstance.String()
 	for _, test := range []struct {
 		wanted NewBinding
-		kind   FaultKind
+		kind   RejectionKind
 		part   string
 	}{
 		{NewBinding{Instance: "another"}, NotFound, "unknown"},
@@ -234,21 +234,21 @@ func TestBindRejected(t *testing.T) {
 	} {
 		t.Run(test.part, func(t *testing.T) {
 			_, err := d.orders.Bind(background, test.wanted)
-			wantFault(t, err, test.kind, test.part)
+			wantRejection(t, err, test.kind, test.part)
 		})
 	}
 	_, err := NewOrders(d.store, nil).Bind(background, NewBinding{Instance: name})
-	wantFault(t, err, Conflict, "no key")
+	wantRejection(t, err, Conflict, "no key")
 	dropped := d.store.brokers["shelf"]
 	dropped.Catalogue = json.RawMessage(strings.ReplaceAll(sold, id("c1").String(), id("c9").String()))
 	d.store.brokers["shelf"] = dropped
 	_, err = d.orders.Bind(background, NewBinding{Instance: name})
-	wantFault(t, err, Conflict, `the catalogue of the broker shelf doesn't have the plan "`+id("c1").String()+`" any more`)
+	wantRejection(t, err, Conflict, `the catalogue of the broker shelf doesn't have the plan "`+id("c1").String()+`" any more`)
 	unbindable := d.store.brokers["shelf"]
 	unbindable.Catalogue = json.RawMessage(strings.ReplaceAll(sold, `"bindable": true`, `"bindable": false`))
 	d.store.brokers["shelf"] = unbindable
 	_, err = d.orders.Bind(background, NewBinding{Instance: name})
-	wantFault(t, err, Invalid, "isn't bindable")
+	wantRejection(t, err, Invalid, "isn't bindable")
 }
 
 func TestRemove(t *testing.T) {
@@ -263,7 +263,7 @@ func TestRemove(t *testing.T) {
 				now := d.dial.time()
 				switch state {
 				case Abandoned:
-					wantFault(t, err, Conflict, "abandoned")
+					wantRejection(t, err, Conflict, "abandoned")
 					return
 				case Gone, Withdrawn:
 					if err != nil || after.State != state || after.Due != before.Due || after.Removal != NotRemoved {
@@ -286,7 +286,7 @@ func TestRemove(t *testing.T) {
 		}
 	}
 	_, err := newDesk(t).orders.Remove(background, anInstance, true)
-	wantFault(t, err, NotFound, "no instance of this id")
+	wantRejection(t, err, NotFound, "no instance of this id")
 }
 
 func TestRemoveWithBindings(t *testing.T) {
@@ -296,7 +296,7 @@ func TestRemoveWithBindings(t *testing.T) {
 	d.put(with(rowIn(aBinding, Ready), func(e *Entry) { e.Due = time.Time{} }))
 	d.put(rowIn(other, Gone))
 	_, err := d.orders.Remove(background, anInstance, false)
-	wantFault(t, err, Conflict, "has bindings")
+	wantRejection(t, err, Conflict, "has bindings")
 	diff.Equal(t, d.store.rows[anInstance].Removal, NotRemoved, "the removal")
 	after, err := d.orders.Remove(background, anInstance, true)
 	check(t, err)
@@ -363,7 +363,7 @@ func TestRetry(t *testing.T) {
 			d.put(row)
 			after, err := d.orders.Retry(background, row.Key)
 			if test.want == "" {
-				wantFault(t, err, Conflict, "")
+				wantRejection(t, err, Conflict, "")
 				return
 			}
 			if err != nil || after.State != test.want || !after.Due.Equal(at(50)) || after.Unchanged != 0 {
@@ -397,7 +397,7 @@ func TestAbandon(t *testing.T) {
 				d.dial.forward(time.Minute)
 				after, err := d.orders.Abandon(background, key, "the broker was closed")
 				if state == Gone || state == Withdrawn || state == Abandoned || state == Ordered {
-					wantFault(t, err, Conflict, describe(before))
+					wantRejection(t, err, Conflict, describe(before))
 					return
 				}
 				if err != nil || after.State != Abandoned || !after.Rests() || after.Because != "the broker was closed" ||
@@ -414,11 +414,11 @@ func TestAbandon(t *testing.T) {
 	d.put(rowIn(anInstance, Cleaning))
 	d.put(rowIn(aBinding, Cleaning))
 	_, err := d.orders.Abandon(background, anInstance, "why not")
-	wantFault(t, err, Conflict, "may exist")
+	wantRejection(t, err, Conflict, "may exist")
 	_, err = d.orders.Abandon(background, anInstance, "")
-	wantFault(t, err, Invalid, "reason")
+	wantRejection(t, err, Invalid, "reason")
 	_, err = d.orders.Abandon(background, osb.InstanceKey(id("77")), "why not")
-	wantFault(t, err, NotFound, "no instance of this id")
+	wantRejection(t, err, NotFound, "no instance of this id")
 }
 
 // A binding that is abandoned doesn't keep its instance from being removed or abandoned. One that is held beside it
@@ -436,12 +436,12 @@ func TestAbandonedBinding(t *testing.T) {
 			d.put(rowIn(anInstance, Ready))
 			d.put(rowIn(aBinding, CleaningPolling))
 			_, err := end(d)
-			wantFault(t, err, Conflict, "bind")
+			wantRejection(t, err, Conflict, "bind")
 			_, err = d.orders.Abandon(background, aBinding, "it is never deleted")
 			check(t, err)
 			d.put(rowIn(held, Ready))
 			_, err = end(d)
-			wantFault(t, err, Conflict, "bind")
+			wantRejection(t, err, Conflict, "bind")
 			d.put(rowIn(held, Gone))
 			after, err := end(d)
 			if isIt := after.Removal == Removed; err != nil || isIt != (name == "removed") ||
@@ -497,7 +497,7 @@ func TestCreateWithoutBroker(t *testing.T) {
 		return id("1"), nil
 	}
 	_, err := d.orders.Create(background, NewInstance{Service: "shelf", Plan: planNames[0]})
-	wantFault(t, err, NotFound, "shelf")
+	wantRejection(t, err, NotFound, "shelf")
 	if len(d.store.rows) > 0 {
 		t.Errorf("written: got %+v, want none", d.store.rows)
 	}
@@ -521,14 +521,14 @@ func TestCredentials(t *testing.T) {
 	diff.Equal(t, string(diff.Value(d.orders.Credentials(background, aBinding))(t)), `{"credentials": 1}`,
 		"the credentials")
 	_, err = NewOrders(d.store, nil).Credentials(background, aBinding)
-	wantFault(t, err, Conflict, "no key")
+	wantRejection(t, err, Conflict, "no key")
 	_, err = d.orders.Credentials(background, anInstance)
-	wantFault(t, err, Invalid, "instance")
+	wantRejection(t, err, Invalid, "instance")
 	_, err = d.orders.Credentials(background, osb.BindingKey(id("1"), id("b2")))
-	wantFault(t, err, NotFound, "no binding of this id")
+	wantRejection(t, err, NotFound, "no binding of this id")
 	d.put(rowIn(aBinding, Cleaning))
 	_, err = d.orders.Credentials(background, aBinding)
-	wantFault(t, err, Conflict, "cleaning")
+	wantRejection(t, err, Conflict, "cleaning")
 	d.put(with(rowIn(aBinding, Ready), func(e *Entry) { e.Credentials = nil }))
 	if found, err := d.orders.Credentials(background, aBinding); err == nil {
 		t.Errorf("without any: got %s, want an error", found)
@@ -568,9 +568,9 @@ func TestObjects(t *testing.T) {
 			_, err := d.orders.Create(background, NewInstance{
 				Service: "shelf", Plan: "now", Parameters: json.RawMessage(text),
 			})
-			var fault *Fault
-			if part == "" && err != nil || part != "" && !(errors.As(err, &fault) && fault.Kind == Invalid &&
-				strings.Contains(fault.Text, part)) {
+			var rejected *Rejection
+			if part == "" && err != nil || part != "" && !(errors.As(err, &rejected) && rejected.Kind == Invalid &&
+				strings.Contains(rejected.Text, part)) {
 				t.Errorf("%.80s: got %v, want %q", text, err, part)
 			}
 		})

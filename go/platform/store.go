@@ -408,7 +408,7 @@ type Key = osb.Key
 // ParseKey reads a key as an operator writes it: the id of an instance, or that of an instance, a slash, and that of a
 // binding. Each id is any text of 1 to 255 bytes of UTF-8 without a slash.
 //
-// Errors: a Fault.
+// Errors: a Rejection.
 func ParseKey(text string) (Key, error) {
 	first, second, isBinding := strings.Cut(text, "/")
 	instance, err := osb.IDOfText(first)
@@ -425,9 +425,9 @@ func ParseKey(text string) (Key, error) {
 	return osb.BindingKey(instance, binding), nil
 }
 
-// noID is the Fault of a text that no id can be.
+// noID is the Rejection of a text that no id can be.
 func noID(text string) error {
-	return fault(Invalid, "the id %q can't be used: an id has 1 to 255 bytes of UTF-8", text)
+	return reject(Invalid, "the id %q can't be used: an id has 1 to 255 bytes of UTF-8", text)
 }
 
 // Walk calls with all rows that a filter chooses, in its order, and with so many at once at most. Which rows these are,

@@ -216,7 +216,7 @@ func TestAnswersThatAreWrittenAgain(t *testing.T) {
 	diff.NoError(t, h.failing(), "once it is written")
 }
 
-// A fault names a row by the ids by which it was ordered. Nobody knows the numbers that the database has for these.
+// A rejection names a row by the ids by which it was ordered. Nobody knows the numbers that the database has for these.
 func TestFaultsNameIDs(t *testing.T) {
 	d := newDesk(t)
 	create := NewInstance{Service: "shelf", Plan: "now", ID: "my shelf"}
@@ -269,22 +269,22 @@ func TestFaultsNameIDs(t *testing.T) {
 				set(key, change)
 			}
 			err := test.call()
-			wantFault(t, err, Conflict, test.text)
+			wantRejection(t, err, Conflict, test.text)
 			if err != nil && strings.Contains(err.Error(), e.Key.String()) {
 				t.Errorf("got the error %v, want one without the key", err)
 			}
 		})
 	}
 	_, err = d.orders.Bind(background, NewBinding{Instance: "another shelf"})
-	wantFault(t, err, NotFound, "the instance another shelf is unknown")
+	wantRejection(t, err, NotFound, "the instance another shelf is unknown")
 }
 
-// A retry that the record doesn't allow is a fault, and nothing is written.
+// A retry that the record doesn't allow is a rejection, and nothing is written.
 func TestRetryRejected(t *testing.T) {
 	d := newDesk(t)
 	before := d.put(with(rowIn(anInstance, Ready), func(e *Entry) { e.State, e.Due = CleaningPolling, at(500) }))
 	_, err := d.orders.Retry(background, anInstance)
-	wantFault(t, err, Conflict, describe(before)+" can't be retried: its record is ready")
+	wantRejection(t, err, Conflict, describe(before)+" can't be retried: its record is ready")
 	if after := d.store.rows[anInstance]; after.State != CleaningPolling || !after.Due.Equal(at(500)) {
 		t.Errorf("got %+v, want it in cleaning-polling, due later", after)
 	}
@@ -380,7 +380,7 @@ func TestParseKey(t *testing.T) {
 	}
 	for _, text := range []string{"", "/", "a/", "/b", "\xff", "a/\xff", strings.Repeat("a", 256)} {
 		_, err := ParseKey(text)
-		wantFault(t, err, Invalid, "can't be used")
+		wantRejection(t, err, Invalid, "can't be used")
 	}
 }
 

@@ -442,8 +442,8 @@ func (w *world) command() {
 // isExpected is that an order was taken or rejected, or that the database was away.
 func (w *world) isExpected(err error) {
 	w.t.Helper()
-	if _, isFault := err.(*Fault); err != nil && !isFault && !errors.Is(err, ErrAway) {
-		w.t.Fatalf("seed %d: got %v, want a fault or that the store is away", w.seed, err)
+	if _, isRejected := err.(*Rejection); err != nil && !isRejected && !errors.Is(err, ErrAway) {
+		w.t.Fatalf("seed %d: got %v, want a rejection or that the store is away", w.seed, err)
 	}
 }
 

@@ -345,7 +345,7 @@ with the names of the service and the plan, their ids, and whether the plan is b
 	}
 }
 
-// brokerOf is the broker of a name. If there is none, the error is a Fault.
+// brokerOf is the broker of a name. If there is none, the error is a Rejection.
 func brokerOf(ctx context.Context, store platform.Store, name string) (platform.Broker, error) {
 	brokers, err := store.Brokers(ctx)
 	if err != nil {
@@ -356,7 +356,7 @@ func brokerOf(ctx context.Context, store platform.Store, name string) (platform.
 			return broker, nil
 		}
 	}
-	return platform.Broker{}, &platform.Fault{
+	return platform.Broker{}, &platform.Rejection{
 		Kind: platform.NotFound, Text: fmt.Sprintf("the broker %q is unknown", name),
 	}
 }

@@ -156,15 +156,15 @@ whose member credentials has the credentials. Nothing of it stands in a log.`,
 
 // ofEarlierTry names the last try of the order of a binding, if the binding has no credentials and was tried again.
 func ofEarlierTry(ctx context.Context, store platform.Store, entry platform.Entry, err error) error {
-	var fault *platform.Fault
-	if !errors.As(err, &fault) || fault.Kind != platform.Conflict {
+	var rejected *platform.Rejection
+	if !errors.As(err, &rejected) || rejected.Kind != platform.Conflict {
 		return err
 	}
 	last, failed := lastTry(ctx, store, entry)
 	if failed != nil || last.Key == entry.Key {
 		return err
 	}
-	return &platform.Fault{Kind: fault.Kind, Text: fault.Text + ". It was tried again as " + printable(idOf(last))}
+	return &platform.Rejection{Kind: rejected.Kind, Text: rejected.Text + ". It was tried again as " + printable(idOf(last))}
 }
 
 // A waitFlag is the value of the flag --wait[=SECONDS].

@@ -280,7 +280,7 @@ func idOf(e platform.Entry) string {
 	return e.Names.Instance
 }
 
-// readEntry is the row of an id of the command line. If there is none, the error is a Fault.
+// readEntry is the row of an id of the command line. If there is none, the error is a Rejection.
 func readEntry(ctx context.Context, store platform.Store, id string) (platform.Entry, error) {
 	key, err := platform.ParseKey(id)
 	if err != nil {
@@ -288,7 +288,7 @@ func readEntry(ctx context.Context, store platform.Store, id string) (platform.E
 	}
 	entry, err := store.Read(ctx, key)
 	if errors.Is(err, platform.ErrUnknown) {
-		err = &platform.Fault{
+		err = &platform.Rejection{
 			Kind: platform.NotFound, Text: fmt.Sprintf("the %s %s is unknown", kindOf(key.IsBinding), printable(id)),
 		}
 	}

@@ -111,14 +111,14 @@ func (a *app) exit(status int) int {
 
 // withStatus marks the error of a command with its exit status.
 func (a *app) withStatus(err error) error {
-	var fault *platform.Fault
+	var rejected *platform.Rejection
 	var ended *endError
 	switch {
 	case errors.As(err, &ended):
 		a.status = ended.status
-	case errors.As(err, &fault) && fault.Kind == platform.Invalid:
+	case errors.As(err, &rejected) && rejected.Kind == platform.Invalid:
 		return cli.Unusable(err)
-	case errors.As(err, &fault):
+	case errors.As(err, &rejected):
 		a.status = statusRejected
 	case pg.IsCode(err, pg.QueryCanceled, pg.LockNotAvailable):
 		return cli.Unavailable(fmt.Errorf("the store hasn't answered in time: %w. Another session may have locked a "+

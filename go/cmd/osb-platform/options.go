@@ -284,8 +284,8 @@ func (s *runSettings) putDefault(ctx context.Context, store platform.Store, hasP
 		return err
 	}
 	before, err := brokerOf(ctx, store, defaultBroker)
-	var fault *platform.Fault
-	isNew := errors.As(err, &fault)
+	var rejected *platform.Rejection
+	isNew := errors.As(err, &rejected)
 	if err != nil && !isNew {
 		return err
 	}

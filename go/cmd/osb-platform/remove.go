@@ -127,15 +127,15 @@ func removeLast(
 
 // withHint names the option with which an instance is removed that has bindings, if these are why it can't be removed.
 func withHint(err error, before platform.Entry, withBindings bool) error {
-	var fault *platform.Fault
-	isConflict := errors.As(err, &fault) && fault.Kind == platform.Conflict
+	var rejected *platform.Rejection
+	isConflict := errors.As(err, &rejected) && rejected.Kind == platform.Conflict
 	isAbandoned := before.State == platform.Abandoned // the other reason for a conflict
 	if !isConflict || isAbandoned || withBindings || before.Key.IsBinding {
 		return err
 	}
 	text := fmt.Sprintf("the instance %s has bindings: unbind them first, or remove them with it by --bindings",
 		printable(idOf(before)))
-	return &platform.Fault{Kind: fault.Kind, Text: text}
+	return &platform.Rejection{Kind: rejected.Kind, Text: text}
 }
 
 // retryCommand has what is due later sent at once.
@@ -163,8 +163,8 @@ unsettled nothing is sent: 'ask' says which command leads on.`,
 
 // withAdvice names the commands that lead on from a row that is unsettled, if that is why it can't be retried.
 func withAdvice(err error, before platform.Entry) error {
-	var fault *platform.Fault
-	if !errors.As(err, &fault) || before.State != platform.Unsettled {
+	var rejected *platform.Rejection
+	if !errors.As(err, &rejected) || before.State != platform.Unsettled {
 		return err
 	}
 	id, remove := printable(idOf(before)), "remove"
@@ -172,8 +172,8 @@ func withAdvice(err error, before platform.Entry) error {
 		remove = "unbind"
 	}
 	text := fmt.Sprintf("%s. Run 'osb-platform ask %s', and then 'osb-platform %s %s' or 'osb-platform abandon %s "+
-		"--because TEXT'", fault.Text, id, remove, id, id)
-	return &platform.Fault{Kind: fault.Kind, Text: text}
+		"--because TEXT'", rejected.Text, id, remove, id, id)
+	return &platform.Rejection{Kind: rejected.Kind, Text: text}
 }
 
 // abandonCommand ends a record that nothing else ends.
@@ -454,8 +454,8 @@ type question struct {
 
 // question is the one about the row of an id. Nothing is sent.
 //
-// Errors: a Fault if the id is unknown, or nothing was sent for it; that the row can't be read, or that there is no key
-// to open the password with.
+// Errors: a Rejection if the id is unknown, or nothing was sent for it; that the row can't be read, or that there is no
+// key to open the password with.
 func (s session) question(ctx context.Context, id string) (question, error) {
 	entry, err := readEntry(ctx, s.store, id)
 	switch {
@@ -466,7 +466,7 @@ func (s session) question(ctx context.Context, id string) (question, error) {
 	case !entry.IsSent:
 		text := fmt.Sprintf("%s is %s: nothing was sent for it, so the broker can't know it", printable(idOf(entry)),
 			entry.State)
-		return question{}, &platform.Fault{Kind: platform.Conflict, Text: text}
+		return question{}, &platform.Rejection{Kind: platform.Conflict, Text: text}
 	}
 	broker, err := brokerOf(ctx, s.store, entry.Broker)
 	if err == nil && broker.Password != nil && s.vault == nil {
@@ -478,7 +478,7 @@ func (s session) question(ctx context.Context, id string) (question, error) {
 
 // ask asks the broker, and returns what it has answered as facts, each with its name before it.
 //
-// Errors: a Fault if there is no answer. The facts that are known are returned, too.
+// Errors: a Rejection if there is no answer. The facts that are known are returned, too.
 func (q question) ask(ctx context.Context, asking *client.Client) (facts [][2]string, err error) {
 	add := func(name, text string) {
 		if text != "" {
@@ -510,9 +510,9 @@ func (q question) ask(ctx context.Context, asking *client.Client) (facts [][2]st
 	return facts, nil
 }
 
-// noAnswer is the Fault of a broker that hasn't answered.
+// noAnswer is the Rejection of a broker that hasn't answered.
 func (q question) noAnswer(err error) error {
-	return &platform.Fault{Kind: platform.Conflict, Text: printable(fmt.Sprintf("the broker %s hasn't answered: %v",
+	return &platform.Rejection{Kind: platform.Conflict, Text: printable(fmt.Sprintf("the broker %s hasn't answered: %v",
 		q.broker.Name, err))}
 }
 

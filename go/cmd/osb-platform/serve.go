@@ -208,12 +208,12 @@ func (r *worker) api() (http.Handler, error) {
 	})
 }
 
-// checkKeyOfAPI is a platform.Fault if the key of the store was replaced since it was opened. 'rekey' rejects to run
-// beside a worker, but a 'serve' may go on with the old key.
+// checkKeyOfAPI is a platform.Rejection if the key of the store was replaced since it was opened. 'rekey' rejects to
+// run beside a worker, but a 'serve' may go on with the old key.
 func (r *worker) checkKeyOfAPI(ctx context.Context) error {
 	err := r.checkKeys(ctx)
 	if errors.Is(err, vault.ErrStoreKey) || errors.Is(err, vault.ErrRotating) {
-		return &platform.Fault{Kind: platform.Conflict, Text: "the key of the store was replaced, or is being replaced: " +
+		return &platform.Rejection{Kind: platform.Conflict, Text: "the key of the store was replaced, or is being replaced: " +
 			"start this program again with the new key, and repeat the request"}
 	}
 	return err

@@ -236,7 +236,7 @@ func useVault(ctx context.Context, store platform.Store, opened *vault.Vault, wa
 			"password again: osb-platform broker set %s --store-password", unopened.Name, unopened.Name))
 	}
 	if errors.Is(err, vault.ErrWorkers) {
-		return &platform.Fault{Kind: platform.Conflict, Text: err.Error() + ", and its passwords are encrypted as " +
+		return &platform.Rejection{Kind: platform.Conflict, Text: err.Error() + ", and its passwords are encrypted as " +
 			"version 0.3 did it: stop all workers and every 'serve' once, and run this again"}
 	}
 	return keyError(err)
@@ -351,7 +351,7 @@ func count(number int, name string) string {
 func rekeyError(err error) error {
 	switch {
 	case errors.Is(err, vault.ErrWorkers):
-		return &platform.Fault{Kind: platform.Conflict, Text: err.Error() +
+		return &platform.Rejection{Kind: platform.Conflict, Text: err.Error() +
 			": stop all workers and every 'serve', and run this again. Nothing was changed"}
 	case errors.Is(err, vault.ErrSameKey):
 		return cli.Unusable(errors.New("--new-key-file has the same key as --key-file: " +

@@ -455,8 +455,8 @@ func (a *request) key() (platform.Key, error) { return keyOf(a.values["id"], a.v
 
 // withID is an error with the id of the path, if that names nothing.
 func (a *request) withID(err error) error {
-	var fault *platform.Fault
-	isUnknown := errors.Is(err, platform.ErrUnknown) || errors.As(err, &fault) && fault.Kind == platform.NotFound
+	var rejected *platform.Rejection
+	isUnknown := errors.Is(err, platform.ErrUnknown) || errors.As(err, &rejected) && rejected.Kind == platform.NotFound
 	id, isOfOne := a.values["id"]
 	if !isUnknown || !isOfOne {
 		return err
@@ -493,7 +493,7 @@ func newProblem(status int, code, detail string) *problem {
 	return &problem{Type: "about:blank", Title: http.StatusText(status), Status: status, Code: code, Detail: detail}
 }
 
-var faultStatus = map[platform.FaultKind]struct {
+var rejectionStatus = map[platform.RejectionKind]struct {
 	status int
 	code   string
 }{
@@ -505,13 +505,13 @@ var faultStatus = map[platform.FaultKind]struct {
 // problemOf is how an error is answered. What is no fault of the client shows nothing of its cause.
 func problemOf(err error) *problem {
 	var known *problem
-	var fault *platform.Fault
+	var rejected *platform.Rejection
 	switch {
 	case errors.As(err, &known):
 		return known
-	case errors.As(err, &fault):
-		of := faultStatus[fault.Kind]
-		return newProblem(of.status, of.code, fault.Text)
+	case errors.As(err, &rejected):
+		of := rejectionStatus[rejected.Kind]
+		return newProblem(of.status, of.code, rejected.Text)
 	case errors.Is(err, platform.ErrUnknown):
 		return newProblem(http.StatusNotFound, "not_found", "there is no such instance or binding")
 	case errors.Is(err, platform.ErrAway), errors.Is(err, context.DeadlineExceeded), errors.Is(err, context.Canceled):

@@ -496,7 +496,7 @@ func TestKeyThatWasReplaced(t *testing.T) {
 		if asked++; asked < from {
 			return nil
 		}
-		return &platform.Fault{Kind: platform.Conflict, Text: "the key was replaced"}
+		return &platform.Rejection{Kind: platform.Conflict, Text: "the key was replaced"}
 	}
 	got := r.call("PUT", path, body).want(409, "conflict")
 	diff.Equal(t, got.at("detail"), "the key was replaced", "%s", got.text)
