@@ -31,8 +31,8 @@ func (r *resource) String() string {
 	return "instance " + r.label
 }
 
-// step returns the name of a step: the call, and for what it is made, such as "look instance 1" or "look-binding 1".
-func (r *resource) step(call string) string {
+// callName returns the name of a call: what is called, and for what, such as "look instance 1" or "look-binding 1".
+func (r *resource) callName(call string) string {
 	if r.request.Key.IsBinding {
 		return call + "-binding " + r.label
 	}

@@ -36,12 +36,12 @@ type Options struct {
 	LockWait time.Duration
 	// CleanUp is how long the deletions may take after the context of Run is done.
 	CleanUp time.Duration
-	// Report is called with each step, in the order of the steps.
-	Report func(Step)
+	// Report is called with each call, in their order.
+	Report func(Call)
 }
 
-// A Step is a call of the backend with its result.
-type Step struct {
+// A Call is a call of the backend with its result.
+type Call struct {
 	// Name is the call and for what it is made, such as "look instance 1" or "create-binding 2".
 	Name string
 	// Found is what the call has found, such as "whole", or empty. It has no secrets.
@@ -52,13 +52,13 @@ type Step struct {
 
 // A Result is what Run has found.
 type Result struct {
-	OK, Failed int      // numbers of steps
-	IsStopped  bool     // whether the context was done before all steps were tried
+	OK, Failed int      // numbers of calls
+	IsStopped  bool     // whether the context was done before all calls were made
 	IDs        []string // each instance and binding with its ids, such as "instance 1: ID"
 	Left       []string // those that couldn't be deleted, likewise
 }
 
-// Run tries a backend, and deletes what it has created. If a step fails, Run goes on with the steps that don't need it.
+// Run tries a backend, and deletes what it has created. If a call fails, Run goes on with the calls that don't need it.
 // If ctx is done, the call that runs is broken off and isn't reported. Then Run only deletes what may exist.
 //
 // Errors: if the parameters aren't JSON, and if there are no random bytes. Nothing was called then.
@@ -156,21 +156,21 @@ func (t *trial) capabilities() {
 			found += ". The plan isn't bindable, so no bindings are tried"
 		}
 	}
-	t.count(Step{Name: "capabilities", Found: found})
+	t.count(Call{Name: "capabilities", Found: found})
 }
 
-// count reports a step, and returns whether it succeeded.
-func (t *trial) count(step Step) bool {
-	if step.Err == nil {
+// count reports a call, and returns whether it succeeded.
+func (t *trial) count(call Call) bool {
+	if call.Err == nil {
 		t.result.OK++
 	} else {
 		t.result.Failed++
 	}
-	t.options.Report(step)
-	return step.Err == nil
+	t.options.Report(call)
+	return call.Err == nil
 }
 
-// try does a step, and returns whether it succeeded. A step that ctx has broken off isn't reported.
+// try makes a call, and returns whether it succeeded. A call that ctx has broken off isn't reported.
 func (t *trial) try(ctx context.Context, name string, do func() (found string, err error)) bool {
 	if ctx.Err() != nil {
 		return false
@@ -182,7 +182,7 @@ func (t *trial) try(ctx context.Context, name string, do func() (found string, e
 	if err != nil {
 		err = withReason(err)
 	}
-	return t.count(Step{Name: name, Found: found, Err: err})
+	return t.count(Call{Name: name, Found: found, Err: err})
 }
 
 // withReason returns the error of a rejection as an error that says what the platform would get. Other errors stay as
@@ -199,7 +199,7 @@ func withReason(err error) error {
 	return fmt.Errorf("rejected with %d%s: %s", rejected.Status, code, rejected.Description)
 }
 
-// run tries all steps.
+// run makes all calls.
 func (t *trial) run(ctx context.Context) {
 	first, second := t.instances[0], t.instances[1]
 	for _, instance := range t.instances {
@@ -257,7 +257,7 @@ func (t *trial) instanceOf(binding *resource) *resource {
 
 // look looks what exists, which has to be what is wanted.
 func (t *trial) look(ctx context.Context, r *resource, wanted broker.There) bool {
-	return t.try(ctx, r.step("look"), func() (string, error) {
+	return t.try(ctx, r.callName("look"), func() (string, error) {
 		found, err := t.calls.look(ctx, r)
 		if err == nil && found != wanted {
 			err = fmt.Errorf("%v, and not %v", found, wanted)
@@ -277,7 +277,7 @@ func (t *trial) isUntouched(ctx context.Context, r *resource) {
 func (t *trial) create(ctx context.Context, r *resource) bool {
 	t.look(ctx, r, broker.None)
 	isRejected := false
-	r.isCreated = t.try(ctx, r.step("create"), func() (found string, err error) {
+	r.isCreated = t.try(ctx, r.callName("create"), func() (found string, err error) {
 		r.mayExist = true
 		r.credentials, err = t.calls.create(ctx, r)
 		var rejected *broker.Rejection
@@ -298,7 +298,7 @@ func (t *trial) create(ctx context.Context, r *resource) bool {
 
 // createAgain creates an instance again with the same request, as a broker does after a crash.
 func (t *trial) createAgain(ctx context.Context, r *resource) {
-	t.try(ctx, r.step("create")+" again", func() (string, error) {
+	t.try(ctx, r.callName("create")+" again", func() (string, error) {
 		_, err := t.calls.create(ctx, r)
 		return "", err
 	})
@@ -323,14 +323,14 @@ func (t *trial) compareCredentials(ctx context.Context, r *resource) {
 // delete deletes a resource that may exist.
 func (t *trial) delete(ctx context.Context, r *resource) {
 	if r.mayExist {
-		t.remove(ctx, r, r.step("delete"))
+		t.remove(ctx, r, r.callName("delete"))
 	}
 }
 
 // deleteAgain repeats a deletion, as a broker does after a crash.
 func (t *trial) deleteAgain(ctx context.Context, r *resource) {
 	if r.isCreated || r.mayExist {
-		t.remove(ctx, r, r.step("delete")+" again")
+		t.remove(ctx, r, r.callName("delete")+" again")
 	}
 }
 
@@ -340,7 +340,7 @@ func (t *trial) recreate(ctx context.Context, r *resource) {
 	if !r.isCreated || r.mayExist {
 		return
 	}
-	isCreated := t.try(ctx, r.step("create")+" after its deletion", func() (string, error) {
+	isCreated := t.try(ctx, r.callName("create")+" after its deletion", func() (string, error) {
 		r.mayExist = true
 		credentials, err := t.calls.create(ctx, r)
 		if err != nil {
@@ -352,7 +352,7 @@ func (t *trial) recreate(ctx context.Context, r *resource) {
 		t.look(ctx, r, broker.Whole)
 	}
 	if r.mayExist {
-		t.remove(ctx, r, r.step("delete")+" once more")
+		t.remove(ctx, r, r.callName("delete")+" once more")
 	}
 }
 

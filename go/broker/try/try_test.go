@@ -39,7 +39,7 @@ var allSteps = []string{
 	"look instance 2: whole", "delete instance 2", "look instance 2: none",
 }
 
-// unbound are the steps that remain without bindings, after the capabilities.
+// unbound are the calls that remain without bindings, after the capabilities.
 var unbound = append(allSteps[1:12:12], allSteps[len(allSteps)-7:]...)
 
 // without returns the lines that don't contain a text.
@@ -154,7 +154,7 @@ func TestStopWithoutTime(t *testing.T) {
 		end()
 		return f.ownCreate(request)
 	}
-	result, err := Run(stop, f, locks{}, Options{Plan: bindable, Report: func(Step) {}})
+	result, err := Run(stop, f, locks{}, Options{Plan: bindable, Report: func(Call) {}})
 	wanted := []string{"instance 1: " + f.order[0].String()}
 	if err != nil || !result.IsStopped || len(f.deleted) > 0 {
 		t.Errorf("got %+v, %v, and %v deleted, want it stopped, and nothing deleted", result, err, f.deleted)
@@ -195,7 +195,7 @@ const (
 // instancesOnly is a fake that doesn't support bindings.
 func instancesOnly(f *fake) broker.Backend { return struct{ broker.Backend }{f} }
 
-// A mistake is what a backend does wrong, the steps that have to fail because of it, and what has to be named as left.
+// A mistake is what a backend does wrong, the calls that have to fail because of it, and what has to be named as left.
 type mistake struct {
 	make     func(*fake)
 	failed   []string
@@ -754,7 +754,7 @@ var bindable = Plan{ServiceID: "s", ID: "p", Service: "database", Name: "small",
 // A trialReport is what a trial has reported.
 type trialReport struct {
 	Result
-	ok, failed []string // the lines of its steps
+	ok, failed []string // the lines of its calls
 }
 
 // tries tries a backend.
@@ -762,19 +762,19 @@ func tries(ctx context.Context, t *testing.T, backend broker.Backend, locks brok
 	t.Helper()
 	var found trialReport
 	options.CleanUp, options.LockWait = time.Minute, 20*time.Millisecond
-	options.Report = func(step Step) {
+	options.Report = func(call Call) {
 		switch {
-		case step.Err != nil:
-			found.failed = append(found.failed, step.Name+": "+step.Err.Error())
-		case step.Found != "":
-			found.ok = append(found.ok, step.Name+": "+step.Found)
+		case call.Err != nil:
+			found.failed = append(found.failed, call.Name+": "+call.Err.Error())
+		case call.Found != "":
+			found.ok = append(found.ok, call.Name+": "+call.Found)
 		default:
-			found.ok = append(found.ok, step.Name)
+			found.ok = append(found.ok, call.Name)
 		}
 	}
 	found.Result = diff.Value(Run(ctx, backend, locks, options))(t)
 	if found.OK != len(found.ok) || found.Failed != len(found.failed) {
-		t.Errorf("got %+v, want the counts of the steps %q and %q", found.Result, found.ok, found.failed)
+		t.Errorf("got %+v, want the counts of the calls %q and %q", found.Result, found.ok, found.failed)
 	}
 	return found
 }

@@ -265,7 +265,7 @@ func (t *tryOptions) tryPlan(ctx context.Context, p *parts, plan try.Plan, repor
 	report.line("try", plan.String())
 	result, err := try.Run(ctx, p.backend, p.locks, try.Options{
 		Plan: plan, Parameters: json.RawMessage(t.parameters), CleanUp: t.settings.stopTime,
-		Report: report.step,
+		Report: report.call,
 	})
 	if err != nil {
 		return err
@@ -291,15 +291,15 @@ func (r *tryReport) line(word, text string) {
 	}
 }
 
-// step writes the line of a step.
-func (r *tryReport) step(step try.Step) {
+// call writes the line of a call.
+func (r *tryReport) call(call try.Call) {
 	switch {
-	case step.Err != nil:
-		r.line("FAILED", step.Name+": "+reasonOf(step.Err))
-	case step.Found != "":
-		r.line("ok", step.Name+": "+step.Found)
+	case call.Err != nil:
+		r.line("FAILED", call.Name+": "+reasonOf(call.Err))
+	case call.Found != "":
+		r.line("ok", call.Name+": "+call.Found)
 	default:
-		r.line("ok", step.Name)
+		r.line("ok", call.Name)
 	}
 }
 
