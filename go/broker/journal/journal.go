@@ -51,14 +51,14 @@ func New(to *Writer, isDoubtful func(error) bool) *Journal {
 	return &Journal{to: to, isDoubtful: isDoubtful}
 }
 
-// A life is the instance or the binding that a line is about.
-type life struct {
+// A subject is the instance or the binding that a line is about.
+type subject struct {
 	Instance string `json:"instance"`
 	Binding  string `json:"binding,omitempty"`
 }
 
-func lifeOf(key broker.Key) life {
-	it := life{Instance: key.Instance.String()}
+func subjectOf(key broker.Key) subject {
+	it := subject{Instance: key.Instance.String()}
 	if key.IsBinding {
 		it.Binding = key.Binding.String()
 	}
@@ -102,7 +102,7 @@ func (v *visitState) sees(key broker.Key, snapshot broker.Snapshot) {
 type arrivalLine struct {
 	Visit   int64  `json:"visit"`
 	Request string `json:"request"`
-	life
+	subject
 	InstanceID string `json:"instance_id,omitempty"` // as in the path, if it isn't the GUID
 	BindingID  string `json:"binding_id,omitempty"`
 	Kind       string `json:"kind"`
@@ -122,7 +122,7 @@ func (j *Journal) OnArrival(
 	}
 	it := &visitState{number: j.visits.Add(1), request: requestID, key: visit.Key}
 	line := arrivalLine{
-		Visit: it.number, Request: requestID, life: lifeOf(visit.Key), Kind: visit.Asked.Kind.String(),
+		Visit: it.number, Request: requestID, subject: subjectOf(visit.Key), Kind: visit.Asked.Kind.String(),
 		Accepts: visit.Asked.AcceptsIncomplete, Committed: j.changes.endedUpTo(),
 	}
 	line.InstanceID = other(visit.Names.Instance, line.Instance)
@@ -155,7 +155,7 @@ func other(text, known string) string {
 type answerLine struct {
 	Visit   int64  `json:"visit"`
 	Request string `json:"request"`
-	life
+	subject
 	Status      uint16  `json:"status"`
 	Body        string  `json:"body"`
 	Credentials string  `json:"credentials,omitempty"` // the digest of the binding's object, if the answer has it
@@ -167,7 +167,7 @@ type answerLine struct {
 func (j *Journal) OnAnswer(ctx context.Context, header http.Header, given broker.Response) {
 	it := visitIn(ctx)
 	line := answerLine{
-		Visit: it.number, Request: it.request, life: lifeOf(it.key), Status: given.Status, Body: given.Body.String(),
+		Visit: it.number, Request: it.request, subject: subjectOf(it.key), Status: given.Status, Body: given.Body.String(),
 		Credentials: journalfile.Digest(given.Binding),
 	}
 	if it.saw != nil && !it.isChange {

@@ -33,7 +33,7 @@ func (s store) Change(ctx context.Context, key broker.Key, step broker.Step) err
 	number := int64(0) // of the change that may be committed
 	undo := func(isDoubtful bool) {
 		if number != 0 {
-			s.journal.to.Write("undone", undoneLine{Change: number, life: lifeOf(key), IsDoubtful: isDoubtful})
+			s.journal.to.Write("undone", undoneLine{Change: number, subject: subjectOf(key), IsDoubtful: isDoubtful})
 			s.journal.changes.end(number)
 		}
 		number = 0
@@ -63,7 +63,7 @@ func isAnother(before, after broker.Entry) bool {
 // undoneLine is the line of a change that wasn't committed.
 type undoneLine struct {
 	Change int64 `json:"change"`
-	life
+	subject
 	IsDoubtful bool `json:"doubtful,omitempty"` // whether it may have been committed
 }
 
@@ -71,7 +71,7 @@ type undoneLine struct {
 type changeLine struct {
 	Change int64 `json:"change"`
 	Visit  int64 `json:"visit,omitempty"` // of the request that changes it
-	life
+	subject
 	Life        int64  `json:"life,omitempty"`
 	LifeBefore  *int64 `json:"life_before,omitempty"` // if it is another one
 	Before      string `json:"before"`
@@ -84,7 +84,7 @@ func (j *Journal) writeChange(ctx context.Context, key broker.Key, before, after
 	visit := visitIn(ctx)
 	visit.isChange = visit.isChange || key == visit.key
 	line := changeLine{
-		Change: j.changes.begin(), Visit: visit.number, life: lifeOf(key), Life: after.Life,
+		Change: j.changes.begin(), Visit: visit.number, subject: subjectOf(key), Life: after.Life,
 		Credentials: journalfile.Digest(after.Binding),
 	}
 	var err error
@@ -214,7 +214,7 @@ func (j *Journal) Backend(of broker.Backend) broker.Backend {
 
 // workLine is the line of a call of the backend.
 type workLine struct {
-	life
+	subject
 	Visit       int64  `json:"visit,omitempty"` // of the request that does the work
 	Call        string `json:"call"`
 	Stage       string `json:"stage"`
@@ -227,7 +227,7 @@ type workLine struct {
 func (j *Journal) do(
 	ctx context.Context, request broker.Request, call string, do func() (found string, made json.RawMessage, err error),
 ) {
-	line := workLine{life: lifeOf(request.Key), Visit: visitOf(ctx), Call: call, Stage: "begun"}
+	line := workLine{subject: subjectOf(request.Key), Visit: visitOf(ctx), Call: call, Stage: "begun"}
 	j.to.Write("work", line)
 	line.Stage, line.Result = "ended", "failed" // also if the call panics
 	defer func() { j.to.Write("work", line) }()

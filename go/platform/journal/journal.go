@@ -55,16 +55,16 @@ func StartMembers(version, worker string) any {
 	}{version, worker}
 }
 
-// A life is the instance or the binding that a line is about.
-type life struct {
+// A subject is the instance or the binding that a line is about.
+type subject struct {
 	Instance   string `json:"instance"`
 	Binding    string `json:"binding,omitempty"`
 	InstanceID string `json:"instance_id,omitempty"` // as it was ordered, if it isn't the GUID
 	BindingID  string `json:"binding_id,omitempty"`
 }
 
-func lifeOf(key platform.Key, names platform.Names) life {
-	it := life{Instance: key.Instance.String()}
+func subjectOf(key platform.Key, names platform.Names) subject {
+	it := subject{Instance: key.Instance.String()}
 	if key.IsBinding {
 		it.Binding = key.Binding.String()
 	}
@@ -111,7 +111,7 @@ type requestLine struct {
 // An exchange is what both lines of an exchange have.
 type exchange struct {
 	Request string `json:"request"`
-	life
+	subject
 	Broker string `json:"broker"`
 	Kind   string `json:"kind"`
 }
@@ -129,7 +129,7 @@ type answerLine struct {
 func (c client) Exchange(ctx context.Context, out platform.Outgoing) platform.Incoming {
 	request := out.Request
 	about := exchange{
-		Request: out.RequestID, life: lifeOf(out.Entry.Key, out.Entry.Names), Broker: out.Broker.Name,
+		Request: out.RequestID, subject: subjectOf(out.Entry.Key, out.Entry.Names), Broker: out.Broker.Name,
 		Kind: request.Kind.String(),
 	}
 	line := requestLine{
@@ -223,9 +223,9 @@ type transaction struct {
 
 // A pending line is that of a change that may be committed.
 type pending struct {
-	of     platform.Key // of the row that was stepped: a further order is written with it
-	number int64
-	life   life
+	of      platform.Key // of the row that was stepped: a further order is written with it
+	number  int64
+	subject subject
 }
 
 // stepping returns a step whose change is written down.
@@ -248,10 +248,10 @@ func (t *transaction) change(cause string, of platform.Key, before, after platfo
 	if before.IsSent == after.IsSent && before.Record == after.Record && before.State == after.State {
 		return
 	}
-	it := pending{of: of, number: t.journal.changes.Add(1), life: lifeOf(after.Key, after.Names)}
+	it := pending{of: of, number: t.journal.changes.Add(1), subject: subjectOf(after.Key, after.Names)}
 	t.lines = append(t.lines, it)
 	made := changeLine{
-		Change: it.number, life: it.life, Broker: after.Broker, Cause: cause,
+		Change: it.number, subject: it.subject, Broker: after.Broker, Cause: cause,
 		State: string(after.State), Service: after.Service.String(), Plan: after.Plan.String(),
 	}
 	var err error
@@ -276,7 +276,7 @@ func (t *transaction) undo(of platform.Key, isDoubtful bool) {
 	rest := t.lines[:0]
 	for _, line := range t.lines {
 		if line.of == of {
-			t.journal.to.Write("undone", undoneLine{Change: line.number, life: line.life, IsDoubtful: isDoubtful})
+			t.journal.to.Write("undone", undoneLine{Change: line.number, subject: line.subject, IsDoubtful: isDoubtful})
 		} else {
 			rest = append(rest, line)
 		}
@@ -307,7 +307,7 @@ func (t *transaction) end(err error) {
 // changeLine is the line of a change.
 type changeLine struct {
 	Change int64 `json:"change"`
-	life
+	subject
 	Broker      string `json:"broker"`
 	Cause       string `json:"cause"`
 	Attempt     uint64 `json:"attempt,omitempty"` // of the request whose answer is taken
@@ -322,7 +322,7 @@ type changeLine struct {
 // undoneLine is the line of a change that wasn't committed.
 type undoneLine struct {
 	Change int64 `json:"change"`
-	life
+	subject
 	IsDoubtful bool `json:"doubtful,omitempty"` // whether it may have been committed
 }
 
