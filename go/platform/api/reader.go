@@ -51,13 +51,13 @@ type reader struct {
 	showsCauses bool
 }
 
-// A Kind is the kind of the records of a list.
-type Kind string
+// A RecordKind is the kind of the records of a list.
+type RecordKind string
 
 const (
-	Instances Kind = "instances"
-	Bindings  Kind = "bindings"
-	Records   Kind = "records" // instances and bindings
+	Instances RecordKind = "instances"
+	Bindings  RecordKind = "bindings"
+	Records   RecordKind = "records" // instances and bindings
 )
 
 // An Ordering is the order of a list.
@@ -72,7 +72,7 @@ const (
 
 // A Query chooses the records of a List. Its zero value chooses the first page of all records.
 type Query struct {
-	Kind   Kind
+	Kind   RecordKind
 	Of     string   // with Bindings: only those of the instance with this id or number
 	States []string // empty for all
 	Broker string   // or empty for all

@@ -13,14 +13,14 @@ import (
 
 // A Report is the results of all cases, and what couldn't be deleted.
 type Report struct {
-	URL       string     `json:"url"`
-	Prefix    string     `json:"prefix"`
-	Service   string     `json:"service,omitempty"` // the names of what was ordered
-	Plan      string     `json:"plan,omitempty"`
-	Instances int        `json:"instances"`       // how many were asked for
-	Ended     string     `json:"ended,omitempty"` // why the run was ended before every case was tried, or empty
-	Results   []Result   `json:"results"`
-	Leftovers []Leftover `json:"leftovers"` // of CleanUp; the caller of Run sets them
+	URL       string       `json:"url"`
+	Prefix    string       `json:"prefix"`
+	Service   string       `json:"service,omitempty"` // the names of what was ordered
+	Plan      string       `json:"plan,omitempty"`
+	Instances int          `json:"instances"`       // how many were asked for
+	Ended     string       `json:"ended,omitempty"` // why the run was ended before every case was tried, or empty
+	Results   []CaseResult `json:"results"`
+	Leftovers []Leftover   `json:"leftovers"` // of CleanUp; the caller of Run sets them
 }
 
 func (r *Runner) report() *Report {

@@ -613,11 +613,11 @@ func (s Observation) State() string { return stateOf(s.exchange()) }
 // Fail returns the result of a case that an answer fails.
 //
 // It panics if there is no such case.
-func (s Observation) Fail(name, reason string) Result {
+func (s Observation) Fail(name, reason string) CaseResult {
 	for _, test := range Cases() {
 		if test.Name == name {
 			x := s.exchange()
-			return Result{Case: test, Grade: Fail, Reason: reason, Sent: x.requestLine(), Came: x.came()}
+			return CaseResult{Case: test, Grade: Fail, Reason: reason, Sent: x.requestLine(), Came: x.came()}
 		}
 	}
 	panic("there is no case " + name)
@@ -636,7 +636,7 @@ func (s Observation) exchange() *exchange {
 }
 
 // Judge returns the cases that an answer fails by itself, whatever was answered before.
-func (s Observation) Judge() (failed []Result) {
+func (s Observation) Judge() (failed []CaseResult) {
 	x := s.exchange()
 	if x.header == nil {
 		x.header = http.Header{}

@@ -56,7 +56,7 @@ type Runner struct {
 	prefix     string
 	candidates candidates
 	ctx        context.Context // of Run
-	results    map[string]*Result
+	results    map[string]*CaseResult
 	because    string       // why the rest of a scenario isn't run
 	ended      string       // why a request wasn't sent that a case needs, or empty
 	silent     int          // requests in a row without an answer
@@ -83,9 +83,9 @@ func New(c Config) (*Runner, error) {
 	if err != nil {
 		return nil, err
 	}
-	r := &Runner{config: c, client: made, results: map[string]*Result{}}
+	r := &Runner{config: c, client: made, results: map[string]*CaseResult{}}
 	for _, test := range Cases() {
-		r.results[test.Name] = &Result{Case: test, Grade: NotRun}
+		r.results[test.Name] = &CaseResult{Case: test, Grade: NotRun}
 	}
 	if r.prefix, err = random(4); err != nil {
 		return nil, err
@@ -268,8 +268,8 @@ const (
 	NotRun Grade = "not run"
 )
 
-// A Result is a case with its grade.
-type Result struct {
+// A CaseResult is a case with its grade.
+type CaseResult struct {
 	Case
 	Grade  Grade  `json:"verdict"`
 	Reason string `json:"reason,omitempty"` // of a case that failed or wasn't run

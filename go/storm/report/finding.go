@@ -26,23 +26,23 @@ type Finding struct {
 // A Difference is what a record and what exists disagree in, or what somebody has to compare.
 type Difference struct {
 	Key  Key
-	Kind Kind
+	Kind DifferenceKind
 	What string // in words
 }
 
-// A Kind is the kind of a Difference.
-type Kind int
+// A DifferenceKind is the kind of a Difference.
+type DifferenceKind int
 
 const (
-	Lost     Kind = iota // it exists, and the platform has no record, or one that says that nothing exists
-	False                // the record says ready, and that isn't true
-	Stuck                // the record hasn't converged
-	Disagree             // the platform's record, the broker's row and what exists disagree in something else
-	Present              // it exists, and by its requests the platform has it
+	Lost     DifferenceKind = iota // it exists, and the platform has no record, or one that says that nothing exists
+	False                          // the record says ready, and that isn't true
+	Stuck                          // the record hasn't converged
+	Disagree                       // the platform's record, the broker's row and what exists disagree in something else
+	Present                        // it exists, and by its requests the platform has it
 )
 
 // IsOneOf reports whether a kind is one of some.
-func (k Kind) IsOneOf(kinds ...Kind) bool {
+func (k DifferenceKind) IsOneOf(kinds ...DifferenceKind) bool {
 	for _, kind := range kinds {
 		if kind == k {
 			return true
@@ -55,7 +55,7 @@ func (k Kind) IsOneOf(kinds ...Kind) bool {
 type Differences []Difference
 
 // Add adds one.
-func (d *Differences) Add(key Key, kind Kind, what string) {
+func (d *Differences) Add(key Key, kind DifferenceKind, what string) {
 	*d = append(*d, Difference{key, kind, what})
 }
 
@@ -66,7 +66,7 @@ func (d Differences) InOrder() Differences {
 }
 
 // Without returns those of all other kinds.
-func (d Differences) Without(kind Kind) (rest Differences) {
+func (d Differences) Without(kind DifferenceKind) (rest Differences) {
 	for _, difference := range d {
 		if difference.Kind != kind {
 			rest = append(rest, difference)
@@ -84,7 +84,7 @@ type Run struct {
 }
 
 // Findings returns the differences of some kinds, each instance or binding once, with their lives.
-func (r Run) Findings(found []Difference, kinds ...Kind) []Finding {
+func (r Run) Findings(found []Difference, kinds ...DifferenceKind) []Finding {
 	all, at := []Finding{}, map[Key]int{}
 	for _, difference := range found {
 		switch known, is := at[difference.Key]; {
@@ -124,7 +124,7 @@ func WriteFindings(w io.Writer, title string, all []Finding) {
 
 // A Violation is a rule of the standard that a request or an answer breaks.
 type Violation struct {
-	conform.Result
+	conform.CaseResult
 	Number  string   `json:"number"`  // of the first such request
 	Count   int      `json:"count"`   // how many break the same rule
 	Numbers []string `json:"numbers"` // of all requests that have one, each once, in the order in which they were found
@@ -147,7 +147,7 @@ type Breaches struct {
 }
 
 // Add adds a request. number is empty if the request has none, and first is then what the report has in its place.
-func (b *Breaches) Add(failed conform.Result, number, first string) {
+func (b *Breaches) Add(failed conform.CaseResult, number, first string) {
 	if b.at == nil {
 		b.at, b.known = map[string]int{}, map[[2]string]bool{}
 	}
@@ -157,7 +157,7 @@ func (b *Breaches) Add(failed conform.Result, number, first string) {
 	at, isKnown := b.at[failed.Name]
 	if !isKnown {
 		at, b.at[failed.Name] = len(b.all), len(b.all)
-		b.all = append(b.all, Violation{Result: failed, Number: first, Numbers: []string{}})
+		b.all = append(b.all, Violation{CaseResult: failed, Number: first, Numbers: []string{}})
 	}
 	it := &b.all[at]
 	it.Count++

@@ -73,7 +73,7 @@ func TestDeliveriesOfALife(t *testing.T) {
 // Only a MUST that is broken counts.
 func TestBreaksMust(t *testing.T) {
 	of := func(level conform.Level) Violation {
-		return Violation{Result: conform.Result{Case: conform.Case{Level: level}}}
+		return Violation{CaseResult: conform.CaseResult{Case: conform.Case{Level: level}}}
 	}
 	if BreaksMust(nil) || BreaksMust([]Violation{of(conform.Should), of(conform.May)}) {
 		t.Error("got a MUST that is broken, want none")
@@ -89,7 +89,7 @@ func TestBreaches(t *testing.T) {
 	for _, pair := range [][2]string{
 		{"a", "1.1"}, {"b", ""}, {"a", "1.2"}, {"a", "1.1"}, {"b", ""}, {"c", ""}, {"c", "2/1.1"}, {"a", "10.3"},
 	} {
-		b.Add(conform.Result{Case: conform.Case{Name: pair[0]}}, pair[1], "none")
+		b.Add(conform.CaseResult{Case: conform.Case{Name: pair[0]}}, pair[1], "none")
 	}
 	var got []string
 	for _, violation := range b.All() {

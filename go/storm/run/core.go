@@ -121,7 +121,7 @@ type Result struct {
 }
 
 // losses are the differences in which something is lost or false.
-var losses = []report.Kind{Lost, False, Disagree}
+var losses = []report.DifferenceKind{Lost, False, Disagree}
 
 // IsLoser reports whether something was lost, or a record was false.
 func (r *Result) IsLoser() bool {
@@ -310,7 +310,7 @@ type finds struct {
 	all report.Differences
 }
 
-func (f *finds) add(key Key, kind report.Kind, what string) {
+func (f *finds) add(key Key, kind report.DifferenceKind, what string) {
 	f.hold(func() { f.all.Add(key, kind, what) })
 	f.events.add(key, "osb-storm", what)
 }

@@ -196,7 +196,7 @@ func (s *delivery) pollOperation() string {
 
 // judge returns the cases that the answer fails, by itself and by what was known before. isLost says that the thing
 // exists in the end though its record says otherwise.
-func (s *delivery) judge(isLost bool) []conform.Result {
+func (s *delivery) judge(isLost bool) []conform.CaseResult {
 	if !s.isAnswered {
 		return nil
 	}

@@ -131,7 +131,7 @@ func (r *Report) take(found *Result) {
 	r.Requests, r.Restarts, r.Ended = len(found.Exchanges), found.Restarts, found.Ended
 	r.Converged, r.Took, r.Unknown = found.Converged, found.Took.Seconds(), found.Unknown
 	r.Counts = report.CountKinds(found.Exchanges)
-	for kind, to := range map[report.Kind]*[]Finding{
+	for kind, to := range map[report.DifferenceKind]*[]Finding{
 		Lost: &r.Lost, False: &r.False, Stuck: &r.Stuck, Disagree: &r.Disagree, Present: &r.Exists,
 	} {
 		*to = r.findings(found, kind)
@@ -155,7 +155,7 @@ func (r *Report) hider(found *Result) report.Hider {
 	return report.NewHider(r.user, r.password, found.Exchanges)
 }
 
-func (r *Report) findings(found *Result, kinds ...report.Kind) []Finding {
+func (r *Report) findings(found *Result, kinds ...report.DifferenceKind) []Finding {
 	return r.runOf(found).Findings(found.Differences, kinds...)
 }
 

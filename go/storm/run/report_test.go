@@ -44,12 +44,12 @@ func hostileReport() *Report {
 		Lost: []Finding{finding}, False: []Finding{finding}, Stuck: []Finding{finding},
 		Minimum: Minimum{MinimalLost: []Finding{finding}, Minimal: []string{hostile}}, Given: []string{hostile}, Notes: []string{hostile}, Failed: []string{hostile},
 		Leftovers: []conform.Leftover{{Instance: hostile, Reason: hostile}},
-		Broken:    []Violation{brokenWith(conform.Result{Reason: hostile, Sent: hostile, Came: hostile}, hostile)},
+		Broken:    []Violation{brokenWith(conform.CaseResult{Reason: hostile, Sent: hostile, Came: hostile}, hostile)},
 	}
 }
 
-func brokenWith(result conform.Result, number string) Violation {
-	return Violation{Result: result, Number: number, Count: 1}
+func brokenWith(result conform.CaseResult, number string) Violation {
+	return Violation{CaseResult: result, Number: number, Count: 1}
 }
 
 // A broker's text is text in the page, wherever it stands. The page has no script, and needs nothing else.
@@ -147,7 +147,7 @@ func mapOf(all map[string]string) (values []string) {
 func TestIsClean(t *testing.T) {
 	clean := func() *Report { return &Report{Converged: true} }
 	diff.Equal(t, clean().IsClean(), true, "a report without a finding is clean")
-	must, should := conform.Result{Case: conform.Case{Level: conform.Must}}, conform.Result{}
+	must, should := conform.CaseResult{Case: conform.Case{Level: conform.Must}}, conform.CaseResult{}
 	for name, change := range map[string]func(*Report){
 		"lost": func(r *Report) { r.Lost = []Finding{{}} }, "false": func(r *Report) { r.False = []Finding{{}} },
 		"stuck":   func(r *Report) { r.Stuck = []Finding{{}} },

@@ -152,7 +152,7 @@ func TestCompare(t *testing.T) {
 		t.Run(name, func(t *testing.T) {
 			found := &result{views: viewsOf(test.all), calm: test.calm}
 			compare(found, []report.Key{key}, test.existing, test.listed)
-			names := map[report.Kind]string{
+			names := map[report.DifferenceKind]string{
 				run.Present: "exists", run.Lost: "abandoned", run.False: "false", run.Stuck: "stuck",
 			}
 			got := ""

@@ -134,7 +134,7 @@ func (b *breaches) add(of conform.Case, why string, x fault.Exchange) {
 	if x.Number.Request > 0 {
 		number = x.Number.String()
 	}
-	b.Add(conform.Result{
+	b.Add(conform.CaseResult{
 		Case: of, Grade: conform.Fail, Reason: why, Sent: sentBy(x), Came: conform.Printable(x.Receipt.Words),
 	}, number, "about no instance")
 }

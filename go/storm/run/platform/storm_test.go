@@ -231,8 +231,8 @@ func TestRules(t *testing.T) {
 
 // A report is clean only if nothing was found, and the run has ended.
 func TestIsClean(t *testing.T) {
-	must := report.Violation{Result: conform.Result{Case: conform.Case{Level: conform.Must}}}
-	should := report.Violation{Result: conform.Result{Case: conform.Case{Level: conform.Should}}}
+	must := report.Violation{CaseResult: conform.CaseResult{Case: conform.Case{Level: conform.Must}}}
+	should := report.Violation{CaseResult: conform.CaseResult{Case: conform.Case{Level: conform.Should}}}
 	one := []report.Finding{{}}
 	for name, test := range map[string]struct {
 		report  run.Report
