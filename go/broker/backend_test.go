@@ -38,7 +38,7 @@ func catalogueFor(t *testing.T, document string) *broker.Catalogue {
 func handlerFor(t *testing.T, service *broker.Service) *broker.Handler {
 	t.Helper()
 	users := diff.Value(broker.NewUsers(map[string][]string{"u": {"p"}}))(t)
-	handler, err := broker.NewHandler(context.Background(), service, broker.Config{
+	handler, err := broker.NewHandler(context.Background(), service, broker.HandlerOptions{
 		Users: users, LongestBody: 1000, AtOnce: 4, Touch: func(broker.Key) {}, Observer: broker.Silent{},
 	})
 	check(t, err)

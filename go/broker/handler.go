@@ -19,8 +19,8 @@ import (
 	"pippinterm/osb"
 )
 
-// A Config is what a Handler is made of, beside its service.
-type Config struct {
+// HandlerOptions are what a Handler is made of, beside its service.
+type HandlerOptions struct {
 	Users       *Users
 	LongestBody int // in bytes, 1 or more; a longer body is answered with 413
 	// ParsedAtOnce is how many bytes of bodies are parsed at once, LongestBody or more, or 0 for four times
@@ -31,7 +31,7 @@ type Config struct {
 	ParsedAtOnce int
 	// AtOnce is how many requests are carried out at once, 1 or more; others wait. Of 2 or more, a quarter, and at
 	// least one, is kept for requests that do no work. A request that may do work waits at most 30 seconds for its
-	// turn, and is answered with 503 then. Rules.LocksAtOnce should be less than three quarters.
+	// turn, and is answered with 503 then. ServiceOptions.LocksAtOnce should be less than three quarters.
 	AtOnce  int
 	Limiter Limiter // of the passwords that can be tried, or nil for no limit
 	// Touch is called with a key that somebody has to go on with: Sweeper.Touch.
@@ -43,7 +43,7 @@ type Config struct {
 // A Handler answers over HTTP. Requests are carried out with the context that it was made with: a platform that goes
 // away cancels nothing.
 type Handler struct {
-	Config
+	HandlerOptions
 	ctx         context.Context
 	service     *Service
 	bodies      *budget.Budget // bytes of bodies in memory, from before they are read until their requests are answered
@@ -60,38 +60,38 @@ type Handler struct {
 }
 
 // NewHandler makes a handler over a service.
-func NewHandler(ctx context.Context, service *Service, config Config) (*Handler, error) {
-	if config.Users == nil || config.Touch == nil || config.Observer == nil {
+func NewHandler(ctx context.Context, service *Service, options HandlerOptions) (*Handler, error) {
+	if options.Users == nil || options.Touch == nil || options.Observer == nil {
 		return nil, errors.New("broker: a handler needs Users, Touch and an Observer")
 	}
-	if config.LongestBody < 1 || config.AtOnce < 1 {
+	if options.LongestBody < 1 || options.AtOnce < 1 {
 		return nil, errors.New("broker: LongestBody and AtOnce are 1 or more")
 	}
-	if config.ParsedAtOnce == 0 {
-		config.ParsedAtOnce = 4 * config.LongestBody
+	if options.ParsedAtOnce == 0 {
+		options.ParsedAtOnce = 4 * options.LongestBody
 	}
-	if config.ParsedAtOnce < config.LongestBody {
+	if options.ParsedAtOnce < options.LongestBody {
 		return nil, fmt.Errorf("broker: at most %d bytes are parsed at once, and a body may have %d: allow more, or shorter "+
-			"bodies", config.ParsedAtOnce, config.LongestBody)
+			"bodies", options.ParsedAtOnce, options.LongestBody)
 	}
-	if config.Journal == nil {
-		config.Journal = noJournal{}
+	if options.Journal == nil {
+		options.Journal = noJournal{}
 	}
 	var named []string
 	if id := service.catalogue.store; id != "" {
 		named = []string{id}
 	}
 	return &Handler{
-		store: named, Config: config, ctx: ctx, service: service,
-		bodies: budget.New(BodiesAtOnce(config.LongestBody)), parsed: budget.New(config.ParsedAtOnce),
-		slots:   make(chan struct{}, config.AtOnce),
-		working: make(chan struct{}, mayWorkAtOnce(config.AtOnce)), patience: longestQueue,
+		store: named, HandlerOptions: options, ctx: ctx, service: service,
+		bodies: budget.New(BodiesAtOnce(options.LongestBody)), parsed: budget.New(options.ParsedAtOnce),
+		slots:   make(chan struct{}, options.AtOnce),
+		working: make(chan struct{}, mayWorkAtOnce(options.AtOnce)), patience: longestQueue,
 		stopped: make(chan struct{}),
 		first:   rand.New(rand.NewSource(time.Now().UnixNano())).Uint64(),
 	}, nil
 }
 
-// BodiesAtOnce returns how many bytes the bodies of all requests may have in memory, for this Config.LongestBody.
+// BodiesAtOnce returns how many bytes the bodies of all requests may have in memory, for a LongestBody.
 func BodiesAtOnce(longest int) int {
 	if longest > 4<<20 {
 		return 4 * longest

@@ -318,7 +318,7 @@ func (panickingBackend) Create(context.Context, broker.Request) error { panic("b
 
 // The creation of a later plan waits for its first Poll, if that is the rule, and fails after a while without one.
 func TestFirstPoll(t *testing.T) {
-	s := newTestBroker(t, setting{rules: broker.Rules{FirstPoll: true, WaitForPoll: time.Hour}})
+	s := newTestBroker(t, setting{rules: broker.ServiceOptions{FirstPoll: true, WaitForPoll: time.Hour}})
 	s.expect(t, 202, "PUT", instances+"i?accepts_incomplete=true", bodyOf(later, ""))
 	stats, err := s.store.Stats(context.Background())
 	if err != nil || stats.Waiting != 1 || s.shelf.there(keyOf("i")) != broker.None {
@@ -326,7 +326,7 @@ func TestFirstPoll(t *testing.T) {
 	}
 	s.until(t, "succeeded", "GET", instances+"i/last_operation")
 
-	s = newTestBroker(t, setting{rules: broker.Rules{FirstPoll: true}})
+	s = newTestBroker(t, setting{rules: broker.ServiceOptions{FirstPoll: true}})
 	s.expect(t, 202, "PUT", instances+"i?accepts_incomplete=true", bodyOf(later, ""))
 	for end := time.Now().Add(time.Minute); ; time.Sleep(time.Millisecond) {
 		snapshot, err := s.store.Read(context.Background(), keyOf("i"))
@@ -418,7 +418,7 @@ func TestFetchOfWhatIsNotRetrievable(t *testing.T) {
 			b := newBench(t, newShelf(calm), newMemoryLocks())
 			document := strings.Replace(document, "IS", retrievable, 1)
 			service := broker.NewService(
-				catalogueFor(t, document), b.store, newShelf(calm), newMemoryLocks(), broker.Rules{}, b.observed)
+				catalogueFor(t, document), b.store, newShelf(calm), newMemoryLocks(), broker.ServiceOptions{}, b.observed)
 			l := &loneBroker{handler: handlerFor(t, service)}
 			l.expect(t, 201, "PUT", instances+"i", bodyOf(now, ""))
 			l.expect(t, 201, "PUT", instances+"i/service_bindings/b", bodyOf(now, ""))
@@ -561,21 +561,21 @@ func (s *testBroker) hostile(t *testing.T, method, target, body string) {
 // A handler that lacks something, or has limits of 0, is rejected.
 func TestConfigsThatAreRejected(t *testing.T) {
 	service := newBench(t, newShelf(calm), newMemoryLocks()).Service
-	full := broker.Config{
+	full := broker.HandlerOptions{
 		Users: &broker.Users{}, LongestBody: 1, AtOnce: 1, Touch: func(broker.Key) {}, Observer: broker.Silent{},
 	}
-	for name, change := range map[string]func(*broker.Config){
-		"":               func(*broker.Config) {},
-		"no users":       func(c *broker.Config) { c.Users = nil },
-		"no Touch":       func(c *broker.Config) { c.Touch = nil },
-		"no Observer":    func(c *broker.Config) { c.Observer = nil },
-		"LongestBody: 0": func(c *broker.Config) { c.LongestBody = 0 },
-		"AtOnce: 0":      func(c *broker.Config) { c.AtOnce = 0 },
+	for name, change := range map[string]func(*broker.HandlerOptions){
+		"":               func(*broker.HandlerOptions) {},
+		"no users":       func(c *broker.HandlerOptions) { c.Users = nil },
+		"no Touch":       func(c *broker.HandlerOptions) { c.Touch = nil },
+		"no Observer":    func(c *broker.HandlerOptions) { c.Observer = nil },
+		"LongestBody: 0": func(c *broker.HandlerOptions) { c.LongestBody = 0 },
+		"AtOnce: 0":      func(c *broker.HandlerOptions) { c.AtOnce = 0 },
 	} {
 		t.Run(name, func(t *testing.T) {
-			config := full
-			change(&config)
-			if _, err := broker.NewHandler(context.Background(), service, config); (err == nil) != (name == "") {
+			options := full
+			change(&options)
+			if _, err := broker.NewHandler(context.Background(), service, options); (err == nil) != (name == "") {
 				t.Errorf("got %v, want an error only with a name", err)
 			}
 		})
@@ -712,9 +712,9 @@ func TestBodiesThatWaitTooLong(t *testing.T) {
 // A body that is longer than all that may be parsed at once is a mistake of the program.
 func TestParsedAtOnce(t *testing.T) {
 	s := twoUsers(t)
-	config := s.Config
-	config.ParsedAtOnce = config.LongestBody - 1
-	_, err := broker.NewHandler(context.Background(), nil, config)
+	options := s.HandlerOptions
+	options.ParsedAtOnce = options.LongestBody - 1
+	_, err := broker.NewHandler(context.Background(), nil, options)
 	diff.ErrorContains(t, err, "999 bytes", "")
 }
 

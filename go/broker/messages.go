@@ -118,7 +118,7 @@ func (h *Handler) conflictSentence(visit Visit, of noun) string {
 	row, differs := rowOf(snapshot.Holding), "other parameters"
 	switch {
 	case !snapshot.Holding.IsHeld() && snapshot.Holding.HasTombstone():
-		return of.an + " of this id has ended. " + h.service.rules.reuse()
+		return of.an + " of this id has ended. " + h.service.options.reuse()
 	case !snapshot.Holding.IsHeld():
 		return idTaken
 	case row.Service != visit.Asked.Service:

@@ -47,7 +47,7 @@ type world struct {
 	seed      int64
 	chance    *rand.Rand
 	calm      bool
-	rules     broker.Rules
+	rules     broker.ServiceOptions
 	shelf     *shelf
 	expected  *sentRequests // of the shelf
 	backend   broker.Backend
@@ -72,7 +72,7 @@ type tally struct {
 
 func newWorld(t *testing.T, seed int64, open opener, seen *tally, walks *bufio.Writer) *world {
 	w := &world{t: t, seed: seed, chance: rand.New(rand.NewSource(seed)), open: open, tally: seen}
-	w.rules = broker.Rules{FirstPoll: seed%3 != 0, WaitForPoll: time.Hour}
+	w.rules = broker.ServiceOptions{FirstPoll: seed%3 != 0, WaitForPoll: time.Hour}
 	if seed%6 == 1 {
 		w.rules.WaitForPoll = 0
 	}

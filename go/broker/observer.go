@@ -25,7 +25,7 @@ type Observer interface {
 	OnEnd(key Key, ok bool)
 }
 
-// A ReturnObserver is an Observer that gets the ids that return (Rules.IDsReturnAfter).
+// A ReturnObserver is an Observer that gets the ids that return (ServiceOptions.IDsReturnAfter).
 type ReturnObserver interface {
 	Observer
 	// OnReturn is called once a creation was let in although its id has a tombstone.

@@ -273,7 +273,7 @@ func (h hangingBackend) Create(ctx context.Context, request broker.Request) erro
 func newHanging(t *testing.T, threads int) (*testBroker, hangingBackend) {
 	t.Helper()
 	backend := hangingBackend{begun: make(chan struct{}, 100), goOn: make(chan struct{}, 100)}
-	rules := broker.Rules{FirstPoll: true, WaitForPoll: time.Hour}
+	rules := broker.ServiceOptions{FirstPoll: true, WaitForPoll: time.Hour}
 	s := newTestBroker(t, setting{atOnce: threads - 1, rules: rules, over: func(s *shelf) broker.Backend {
 		backend.shelf = s
 		return backend

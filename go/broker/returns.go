@@ -10,10 +10,10 @@ import (
 )
 
 // An id returns if a creation is let in although the id has a tombstone. That is this project's choice, and off unless
-// Rules.IDsReturnAfter is set. A life of an id begins with a creation, and ends with a tombstone. What it rests on is
-// in docs/broker-guide.md: no request of an old life arrives later than that time after its end.
+// ServiceOptions.IDsReturnAfter is set. A life of an id begins with a creation, and ends with a tombstone. What it
+// rests on is in docs/broker-guide.md: no request of an old life arrives later than that time after its end.
 
-// ShortestReturn is the least that Rules.IDsReturnAfter may be, if it isn't 0. A minute of it is longestStay.
+// ShortestReturn is the least that ServiceOptions.IDsReturnAfter may be, if it isn't 0. A minute of it is longestStay.
 // PostgreSQL ends a transaction that is idle for another minute, and the time of a tombstone is taken before its
 // commit. The other three minutes are left for a request that is under way.
 const ShortestReturn = 5 * time.Minute
@@ -29,9 +29,9 @@ var errLate = Away(errors.New("the request has waited in the broker for over a m
 
 // enter returns what a request finds. If the id returns with it, that is what is held of an id without any request, in
 // the next life of the instance.
-func (r Rules) enter(snapshot Snapshot, visit Visit) (found Snapshot, returned *Return) {
+func (o ServiceOptions) enter(snapshot Snapshot, visit Visit) (found Snapshot, returned *Return) {
 	isCreation := !visit.IsFetch && visit.Asked.Kind == osb.KindProvision
-	if r.IDsReturnAfter == 0 || !isCreation || !snapshot.Holding.HasTombstone() || snapshot.EndedAgo < r.IDsReturnAfter {
+	if o.IDsReturnAfter == 0 || !isCreation || !snapshot.Holding.HasTombstone() || snapshot.EndedAgo < o.IDsReturnAfter {
 		return snapshot, nil
 	}
 	request, _ := requestOf(visit.Key, osb.BrokerRow{}, visit.Request) // for the log alone
@@ -47,8 +47,8 @@ func (r Rules) enter(snapshot Snapshot, visit Visit) (found Snapshot, returned *
 // renewal is what is written if a deletion finds a tombstone, if ids return: the tombstone again, which the store gives
 // the time of now. Otherwise it is nil. The platform may have sent the deletion after a creation that has timed out and
 // is still under way. That creation mustn't find an old tombstone: nobody would know what it creates.
-func (r Rules) renewal(snapshot Snapshot, visit Visit) *Entry {
-	if r.IDsReturnAfter == 0 || visit.Asked.Kind != osb.KindDeprovision || !snapshot.Holding.HasTombstone() {
+func (o ServiceOptions) renewal(snapshot Snapshot, visit Visit) *Entry {
+	if o.IDsReturnAfter == 0 || visit.Asked.Kind != osb.KindDeprovision || !snapshot.Holding.HasTombstone() {
 		return nil
 	}
 	return &snapshot.Entry
@@ -57,7 +57,7 @@ func (r Rules) renewal(snapshot Snapshot, visit Visit) *Entry {
 // isLate reports whether the broker has kept a request for too long. It is asked while the row is locked, or after it
 // was read.
 func (s *Service) isLate(visit Visit) bool {
-	return s.rules.IDsReturnAfter != 0 && !visit.Arrived.IsZero() && time.Since(visit.Arrived) > s.stay
+	return s.options.IDsReturnAfter != 0 && !visit.Arrived.IsZero() && time.Since(visit.Arrived) > s.stay
 }
 
 // inLife is what is held in the life of the instance that goes on. The tombstone of a binding counts in the life of its
@@ -80,17 +80,17 @@ func (s *Service) tellReturn(it Return) {
 }
 
 // reuse is what a person reads of an id that has ended.
-func (r Rules) reuse() string {
-	if r.IDsReturnAfter == 0 {
+func (o ServiceOptions) reuse() string {
+	if o.IDsReturnAfter == 0 {
 		return "An id is never used again: choose a new one."
 	}
 	return fmt.Sprintf("The id can be used again %.0f seconds after its end: repeat the request then, or choose a new one.",
-		r.IDsReturnAfter.Seconds())
+		o.IDsReturnAfter.Seconds())
 }
 
 // document is what is served as the catalogue. If ids return, it doesn't promise that none ever does.
 func (s *Service) document() []byte {
-	if s.rules.IDsReturnAfter != 0 {
+	if s.options.IDsReturnAfter != 0 {
 		return s.catalogue.returning
 	}
 	return s.catalogue.document

@@ -87,9 +87,9 @@ type lives struct {
 	seen  *returnRecorder
 }
 
-var anHour = broker.Rules{IDsReturnAfter: time.Hour}
+var anHour = broker.ServiceOptions{IDsReturnAfter: time.Hour}
 
-func newLives(t *testing.T, backend broker.Backend, rules broker.Rules) *lives {
+func newLives(t *testing.T, backend broker.Backend, rules broker.ServiceOptions) *lives {
 	t.Helper()
 	b := newBench(t, backend, newMemoryLocks())
 	l := &lives{bench: b, clock: &clockStore{Store: b.store}, seen: &returnRecorder{recorder: b.observed}}
@@ -99,7 +99,7 @@ func newLives(t *testing.T, backend broker.Backend, rules broker.Rules) *lives {
 
 // service is one more broker over the same store.
 func (l *lives) service(
-	t *testing.T, backend broker.Backend, locks broker.Locks, rules broker.Rules,
+	t *testing.T, backend broker.Backend, locks broker.Locks, rules broker.ServiceOptions,
 ) *broker.Service {
 	t.Helper()
 	return broker.NewService(catalogueFor(t, catalogue), l.clock, backend, locks, rules, l.seen)
@@ -124,7 +124,7 @@ func (l *lives) ends(t *testing.T) {
 
 // Without the option no id returns, however old its tombstone is.
 func TestNoIDReturnsByDefault(t *testing.T) {
-	l := newLives(t, newShelf(calm), broker.Rules{})
+	l := newLives(t, newShelf(calm), broker.ServiceOptions{})
 	l.ends(t)
 	l.clock.set(1e6 * time.Hour)
 	given := l.expect(t, 409, "PUT", instances+"i", bodyOf(now, ""))
@@ -390,7 +390,7 @@ func TestALateWorkerOfTheOldLife(t *testing.T) {
 // doesn't matter how long that was.
 func TestALateRequestOfTheOldLife(t *testing.T) {
 	ctx := context.Background()
-	for _, rules := range []broker.Rules{anHour, {}} {
+	for _, rules := range []broker.ServiceOptions{anHour, {}} {
 		t.Run(fmt.Sprintf("ids return %t", rules.IDsReturnAfter > 0), func(t *testing.T) {
 			l := newLives(t, newShelf(calm), rules)
 			if given, err := l.Handle(ctx, provision(now)); err != nil || given.Status != http.StatusCreated {
@@ -417,7 +417,7 @@ func TestALateRequestOfTheOldLife(t *testing.T) {
 // A broker that gives up waiting for the first Poll does so only in the life that has waited for long.
 func TestALateEndOfWaiting(t *testing.T) {
 	ctx, one, key := context.Background(), instances+"i", keyOf("i")
-	rules := broker.Rules{IDsReturnAfter: time.Hour, FirstPoll: true, WaitForPoll: time.Minute}
+	rules := broker.ServiceOptions{IDsReturnAfter: time.Hour, FirstPoll: true, WaitForPoll: time.Minute}
 	l := newLives(t, newShelf(calm), rules)
 	l.expect(t, 202, "PUT", one+query, bodyOf(later, ""))
 	l.since(t, key, time.Hour)
@@ -455,9 +455,9 @@ func TestALateUnbindOfAFailedBinding(t *testing.T) {
 // The catalogue of a broker whose ids return doesn't say that none ever does.
 func TestCatalogueOfIDsThatReturn(t *testing.T) {
 	for _, test := range []struct {
-		rules broker.Rules
+		rules broker.ServiceOptions
 		says  string
-	}{{broker.Rules{}, `"x-osb-tombstones":true`}, {anHour, `"x-osb-tombstones":false`}} {
+	}{{broker.ServiceOptions{}, `"x-osb-tombstones":true`}, {anHour, `"x-osb-tombstones":false`}} {
 		t.Run(test.says, func(t *testing.T) {
 			l := newLives(t, newShelf(calm), test.rules)
 			given := l.expect(t, 200, "GET", "/v2/catalog", "")
@@ -472,7 +472,7 @@ func TestCatalogueOfIDsThatReturn(t *testing.T) {
 // A Fetch that a broker has kept for too long isn't answered with credentials: they may be of another life.
 func TestALateFetchOfTheOldLife(t *testing.T) {
 	bound := instances + "i/service_bindings/b"
-	for _, rules := range []broker.Rules{anHour, {}} {
+	for _, rules := range []broker.ServiceOptions{anHour, {}} {
 		t.Run(fmt.Sprintf("ids return %t", rules.IDsReturnAfter > 0), func(t *testing.T) {
 			l, status := newLives(t, newShelf(calm), rules), http.StatusOK
 			if rules.IDsReturnAfter > 0 {
@@ -493,7 +493,7 @@ func TestADeletionRenewsATombstone(t *testing.T) {
 	const pause, inexact = 100 * time.Millisecond, 10 * time.Millisecond
 	one := instances + "i"
 	bound, binding := one+"/service_bindings/b", osb.BindingKey(keyOf("i").Instance, keyOf("b").Instance)
-	for _, rules := range []broker.Rules{anHour, {}} {
+	for _, rules := range []broker.ServiceOptions{anHour, {}} {
 		t.Run(fmt.Sprintf("ids return %t", rules.IDsReturnAfter > 0), func(t *testing.T) {
 			l := newLives(t, newShelf(calm), rules)
 			l.expect(t, 201, "PUT", one, bodyOf(now, ""))

@@ -32,9 +32,9 @@ func Serve(stop context.Context, listener net.Listener, handler http.Handler, ob
 	return httpserver.Server{Sites: []httpserver.Site{site}}.Serve(stop)
 }
 
-// NewLimiter returns a Limiter for Config: of each address, 20 failed logins are free at once, and one more each 3
-// seconds. The answer to each further one waits for its turn, which an address has each half second. (The numbers are
-// this project's choice.)
+// NewLimiter returns a Limiter for HandlerOptions: of each address, 20 failed logins are free at once, and one more
+// each 3 seconds. The answer to each further one waits for its turn, which an address has each half second. (The
+// numbers are this project's choice.)
 func NewLimiter() Limiter { return limiter.New() }
 
 // CrashAt is a crash point of a backend of your own, at which something is half done. In a program that is built with

@@ -28,12 +28,12 @@ type Service struct {
 	gate      *gate // of the locks
 	worker    worker
 	observer  Observer
-	rules     Rules
+	options   ServiceOptions
 	stay      time.Duration // how long a request is kept, if ids return
 }
 
-// Rules are this project's choice (docs/instance.md).
-type Rules struct {
+// ServiceOptions are this project's choice (docs/instance.md).
+type ServiceOptions struct {
 	// FirstPoll has the creation of an asynchronous plan begin only once its last operation was polled. Any
 	// platform whose 202 is lost then has nothing that it doesn't know of.
 	FirstPoll bool
@@ -54,11 +54,11 @@ type Rules struct {
 
 // NewService makes a service. If the backend is a LockBackend, give its locks.
 func NewService(
-	catalogue *Catalogue, store Store, backend Backend, locks Locks, rules Rules, observer Observer,
+	catalogue *Catalogue, store Store, backend Backend, locks Locks, options ServiceOptions, observer Observer,
 ) *Service {
 	return &Service{
-		catalogue: catalogue, store: store, locks: locks, observer: observer, rules: rules, stay: longestStay,
-		gate:   newGate(locks, rules.LocksAtOnce),
+		catalogue: catalogue, store: store, locks: locks, observer: observer, options: options, stay: longestStay,
+		gate:   newGate(locks, options.LocksAtOnce),
 		worker: worker{backend: backend, observer: observer},
 	}
 }
@@ -354,7 +354,7 @@ func (s *Service) begin(snapshot Snapshot, visit Visit) (next *Entry, given begi
 	if s.isLate(visit) {
 		return nil, given, errLate
 	}
-	snapshot, returned := s.rules.enter(snapshot, visit)
+	snapshot, returned := s.options.enter(snapshot, visit)
 	if isAnother, err := visit.namesAnother(snapshot.Entry); err != nil || isAnother {
 		return nil, beginning{answered: visit.unknownResponse()}, err
 	}
@@ -378,7 +378,7 @@ func (s *Service) begin(snapshot Snapshot, visit Visit) (next *Entry, given begi
 		given.answered.IsUnfinished = Entry{Holding: holding}.IsUnfinished()
 	}
 	if holding == snapshot.Holding {
-		return s.rules.renewal(snapshot, visit), given, nil
+		return s.options.renewal(snapshot, visit), given, nil
 	}
 	entry := snapshot.Entry
 	entry.Holding = holding
@@ -396,7 +396,7 @@ func (s *Service) beginHolding(
 	snapshot Snapshot, visit Visit, request osb.Request,
 ) (holding osb.Holding, happened osb.Begun, isBound bool, err error) {
 	mode := s.catalogue.mode(visit.Key.IsBinding, planIDs{request.Service, request.Plan})
-	rules := osb.Rules{FirstPoll: s.rules.FirstPoll, Attributes: visit.Attributes}
+	rules := osb.Rules{FirstPoll: s.options.FirstPoll, Attributes: visit.Attributes}
 	if visit.Key.IsBinding {
 		instance, err := visit.instance(snapshot)
 		if err == nil {

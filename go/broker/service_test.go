@@ -23,7 +23,7 @@ func open(t *testing.T, folder string, backend broker.Backend) *bench {
 	it := &bench{observed: &recorder{}}
 	it.store = diff.Value(sqlite.Open(context.Background(), filepath.Join(folder, "store"), it.observed))(t)
 	it.Service = broker.NewService(
-		catalogueFor(t, catalogue), it.store, backend, newMemoryLocks(), broker.Rules{}, it.observed)
+		catalogueFor(t, catalogue), it.store, backend, newMemoryLocks(), broker.ServiceOptions{}, it.observed)
 	return it
 }
 
@@ -338,7 +338,7 @@ func TestTakeUpWhoseStoreFails(t *testing.T) {
 	b := newBench(t, newShelf(calm), newMemoryLocks())
 	breaksAfter := func(changes int) *broker.Service {
 		return broker.NewService(catalogueFor(t, catalogue), &breakingStore{b.store, changes, errScripted}, newShelf(calm),
-			newMemoryLocks(), broker.Rules{}, b.observed)
+			newMemoryLocks(), broker.ServiceOptions{}, b.observed)
 	}
 	given, err := breaksAfter(1).Handle(ctx, provision(later))
 	if !errors.Is(err, errScripted) || !b.isPending(t, key) {
@@ -375,7 +375,7 @@ func TestStoreThatIsAway(t *testing.T) {
 			t.Cleanup(func() { _ = store.Close() })
 			backend := newShelf(calm)
 			service := broker.NewService(catalogueFor(t, catalogue),
-				&breakingStore{store, test.changes, fmt.Errorf("%w: %s", test.err, secret)}, backend, newMemoryLocks(), broker.Rules{}, seen)
+				&breakingStore{store, test.changes, fmt.Errorf("%w: %s", test.err, secret)}, backend, newMemoryLocks(), broker.ServiceOptions{}, seen)
 			request := httptest.NewRequest(test.method, test.path, strings.NewReader(bodyOf(now, "")))
 			request.SetBasicAuth("u", "p")
 			request.Header.Set(osb.VersionHeader, osb.VersionSent)
@@ -527,7 +527,7 @@ func TestWorkThatWasTakenOver(t *testing.T) {
 			b := newBench(t, newShelf(calm), losableLocks{newMemoryLocks()})
 			blind := broker.NewService(catalogueFor(t, catalogue), b.store,
 				&scriptedBackend{failure: errScripted, blindness: errScripted}, losableLocks{newMemoryLocks()},
-				broker.Rules{}, b.observed)
+				broker.ServiceOptions{}, b.observed)
 			store := &racingStore{Store: b.store, then: func(key broker.Key) {
 				diff.NoError(t, b.TakeUp(ctx, key), "the other worker")
 				for _, visit := range test.then {
@@ -536,7 +536,7 @@ func TestWorkThatWasTakenOver(t *testing.T) {
 				}
 			}}
 			late := broker.NewService(catalogueFor(t, catalogue), store, newShelf(calm), losableLocks{newMemoryLocks()},
-				broker.Rules{}, b.observed)
+				broker.ServiceOptions{}, b.observed)
 			given, err := late.Handle(ctx, provision(now))
 			diff.ErrorIs(t, err, broker.ErrLostWork, "got %+v", given)
 			row, _ := b.holding(t, keyOf("i")).Row()

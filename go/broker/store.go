@@ -27,7 +27,7 @@ type Entry struct {
 	// Since is when the pending work, the operation or the waiting began, or the zero Time.
 	Since time.Time
 	// Life is how many lives of the instance have ended before this one: 0 unless its id has returned
-	// (Rules.IDsReturnAfter). Of a binding it is the Life of its instance when the entry was written.
+	// (ServiceOptions.IDsReturnAfter). Of a binding it is the Life of its instance when the entry was written.
 	Life int64
 	// Worker is the number of the latest worker of the key, which no other worker has, or the zero ID if there was
 	// none. A worker writes it in the transaction with which its work begins, and writes the end of its work only if it

@@ -82,7 +82,7 @@ func newClumsy(t *testing.T, n int, backend broker.Backend) *clumsy {
 	c := &clumsy{store: &failingStore{Store: opened, left: n}}
 	b := &bench{store: opened, observed: &recorder{}}
 	b.Service = broker.NewService(
-		catalogueFor(t, catalogue), c.store, backend, losableLocks{newMemoryLocks()}, broker.Rules{}, b.observed)
+		catalogueFor(t, catalogue), c.store, backend, losableLocks{newMemoryLocks()}, broker.ServiceOptions{}, b.observed)
 	c.loneBroker = &loneBroker{bench: b, handler: handlerFor(t, b.Service)}
 	return c
 }
@@ -164,7 +164,7 @@ func (forgetful) HeldBindings(context.Context, osb.ID) ([]osb.ID, error) { retur
 func TestFailedBindingsThatAreNotDeleted(t *testing.T) {
 	b := newBench(t, newShelf(calm), newMemoryLocks())
 	service := broker.NewService(
-		catalogueFor(t, catalogue), forgetful{b.store}, newShelf(calm), newMemoryLocks(), broker.Rules{}, b.observed)
+		catalogueFor(t, catalogue), forgetful{b.store}, newShelf(calm), newMemoryLocks(), broker.ServiceOptions{}, b.observed)
 	handler := handlerFor(t, service)
 	handler.Observer = b.observed
 	l := &loneBroker{bench: b, handler: handler}

@@ -10,7 +10,7 @@ import (
 
 // A Sweeper goes on with what is unfinished: at the start, again and again, and if a request touches it. Work that
 // hangs or fails doesn't hold up the work of other keys, and is tried again after a pause that grows
-// (Rules.LongestPause).
+// (ServiceOptions.LongestPause).
 type Sweeper struct {
 	service  *Service
 	observer Observer
@@ -31,7 +31,7 @@ type Sweeper struct {
 func NewSweeper(service *Service, observer Observer) *Sweeper {
 	s := &Sweeper{
 		service: service, observer: observer, tended: map[Key]bool{}, reasons: map[Key]string{},
-		setbacks: newSetbacks(0, service.rules.LongestPause),
+		setbacks: newSetbacks(0, service.options.LongestPause),
 	}
 	s.change = sync.NewCond(&s.turn)
 	return s
@@ -217,7 +217,7 @@ const (
 	longestSlow  = 5 * time.Second
 )
 
-// DefaultLongestPause is how long a key whose work fails again and again rests at most, if Rules don't say.
+// DefaultLongestPause is how long a key whose work fails again and again rests at most, if LongestPause is 0.
 const DefaultLongestPause = time.Minute
 
 const (

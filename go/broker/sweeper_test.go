@@ -31,7 +31,7 @@ func newBench(t *testing.T, backend broker.Backend, locks broker.Locks) *bench {
 	it := &bench{observed: &recorder{}}
 	it.store = diff.Value(sqlite.Open(context.Background(), filepath.Join(t.TempDir(), "store"), it.observed))(t)
 	t.Cleanup(func() { _ = it.store.Close() })
-	it.Service = broker.NewService(catalogueFor(t, catalogue), it.store, backend, locks, broker.Rules{}, it.observed)
+	it.Service = broker.NewService(catalogueFor(t, catalogue), it.store, backend, locks, broker.ServiceOptions{}, it.observed)
 	return it
 }
 
@@ -177,7 +177,7 @@ func TestSweeperTakesUpWhatIsOld(t *testing.T) {
 	locks, found := make(triedLocks, 20), make(chan []broker.Key)
 	b := newBench(t, newShelf(calm), locks)
 	service := broker.NewService(catalogueFor(t, catalogue), sweptStore{b.store, found}, newShelf(calm), locks,
-		broker.Rules{}, b.observed)
+		broker.ServiceOptions{}, b.observed)
 	end := runSweeper(t, broker.NewSweeper(service, b.observed), nil, found)
 	for _, test := range []struct{ found, taken []broker.Key }{
 		{[]broker.Key{one}, []broker.Key{one}},        // the first sweep takes up everything
@@ -553,7 +553,7 @@ func TestLocksThatAreSilent(t *testing.T) {
 	store := diff.Value(sqlite.Open(context.Background(), filepath.Join(t.TempDir(), "store"), broker.Silent{}))(t)
 	t.Cleanup(func() { _ = store.Close() })
 	locks := &silentLocks{memoryLocks: newMemoryLocks()}
-	rules := broker.Rules{LocksAtOnce: 2} // of the 3 threads that may do work
+	rules := broker.ServiceOptions{LocksAtOnce: 2} // of the 3 threads that may do work
 	service := broker.NewService(catalogueFor(t, catalogue), store, newShelf(calm), locks, rules, broker.Silent{})
 	handler := handlerFor(t, service)
 	ask := func(method, target, body string) int {

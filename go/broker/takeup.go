@@ -80,7 +80,7 @@ func (s *Service) takeUp(ctx context.Context, key Key) (backendResult, error) {
 // worker. A creation that had no first Poll in time ends: it has failed, and nothing of it was made. It returns the
 // entry then, or the zero Entry if there is nothing to do, which needs no transaction.
 func (s *Service) takeOver(ctx context.Context, key Key) (taken Entry, err error) {
-	if snapshot, err := s.read(ctx, key); err != nil || !s.rules.isDue(snapshot.Entry) {
+	if snapshot, err := s.read(ctx, key); err != nil || !s.options.isDue(snapshot.Entry) {
 		return Entry{}, err
 	}
 	var late *Failure
@@ -89,7 +89,7 @@ func (s *Service) takeOver(ctx context.Context, key Key) (taken Entry, err error
 		entry := snapshot.Entry
 		row, _ := entry.Holding.Row()
 		switch {
-		case !s.rules.isDue(entry):
+		case !s.options.isDue(entry):
 			return nil, nil
 		case row.Phase == osb.PhaseWaiting:
 			crash.At("wait-next")
@@ -122,10 +122,10 @@ func (s *Service) takeOver(ctx context.Context, key Key) (taken Entry, err error
 
 // isDue reports whether somebody has to go on with an entry now: work is pending, an operation runs, or a creation has
 // waited too long for its first Poll.
-func (r Rules) isDue(entry Entry) bool {
+func (o ServiceOptions) isDue(entry Entry) bool {
 	row, isHeld := entry.Holding.Row()
 	if isHeld && row.Phase == osb.PhaseWaiting {
-		return time.Since(entry.Since) >= r.WaitForPoll
+		return time.Since(entry.Since) >= o.WaitForPoll
 	}
 	return entry.IsUnfinished()
 }

@@ -32,7 +32,7 @@ type testBroker struct {
 type setting struct {
 	atOnce  int
 	over    func(*shelf) broker.Backend
-	rules   broker.Rules
+	rules   broker.ServiceOptions
 	limiter broker.Limiter
 	users   map[string][]string
 }
@@ -63,7 +63,7 @@ func newTestBroker(t *testing.T, s setting) *testBroker {
 	}
 	users, err := broker.NewUsers(s.users)
 	check(t, err)
-	it.Handler, err = broker.NewHandler(ctx, service, broker.Config{
+	it.Handler, err = broker.NewHandler(ctx, service, broker.HandlerOptions{
 		Users: users, LongestBody: 1000, AtOnce: s.atOnce + 1, Touch: sweeper.Touch, Observer: it.observed,
 		Limiter: s.limiter,
 	})

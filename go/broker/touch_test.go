@@ -21,7 +21,7 @@ func newToucher(t *testing.T, backend broker.Backend) *toucher {
 	it := &toucher{bench: newBench(t, backend, newMemoryLocks())}
 	users, err := broker.NewUsers(map[string][]string{"u": {"p"}})
 	check(t, err)
-	it.handler, err = broker.NewHandler(context.Background(), it.Service, broker.Config{
+	it.handler, err = broker.NewHandler(context.Background(), it.Service, broker.HandlerOptions{
 		Users: users, LongestBody: 1000, AtOnce: 1, Observer: broker.Silent{},
 		Touch: func(key broker.Key) { it.touched = append(it.touched, key) },
 	})

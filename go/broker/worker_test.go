@@ -353,7 +353,7 @@ func newWatchedWith(t *testing.T, backend broker.Backend, locks broker.Locks) *w
 	seen := &callObserver{calls: map[string]int{}}
 	store := diff.Value(sqlite.Open(context.Background(), filepath.Join(t.TempDir(), "store"), seen))(t)
 	t.Cleanup(func() { _ = store.Close() })
-	service := broker.NewService(catalogueFor(t, catalogue), store, backend, locks, broker.Rules{}, seen)
+	service := broker.NewService(catalogueFor(t, catalogue), store, backend, locks, broker.ServiceOptions{}, seen)
 	return &watchedBroker{service, seen, handlerFor(t, service)}
 }
 
@@ -745,7 +745,7 @@ func TestCredentialsAreWrittenWithTheRow(t *testing.T) {
 					diff.Equal(t, credentialsOf(entry.Binding), backend.credentials(key), "plan %s", plan)
 				}
 			}}
-			l.Service = broker.NewService(catalogueFor(t, catalogue), store, backend, newMemoryLocks(), broker.Rules{},
+			l.Service = broker.NewService(catalogueFor(t, catalogue), store, backend, newMemoryLocks(), broker.ServiceOptions{},
 				l.observed)
 			l.handler = handlerFor(t, l.Service)
 			l.expect(t, 201, "PUT", instances+"i", bodyOf(plan, ""))

@@ -216,17 +216,17 @@ type startPlan struct {
 }
 
 // StartMembers returns the members of the line started of a broker: of this version, with the document of its catalogue
-// and its rules, and whether a lock may end while its worker goes on (broker.Locks).
+// and its options, and whether a lock may end while its worker goes on (broker.Locks).
 //
 // Errors: the document can't be read.
-func StartMembers(version string, document []byte, rules broker.Rules, locksCanBeLost bool) (any, error) {
+func StartMembers(version string, document []byte, options broker.ServiceOptions, locksCanBeLost bool) (any, error) {
 	plans, err := plansOf(document)
 	if err != nil {
 		return nil, fmt.Errorf("the plans of the catalogue: %w", err)
 	}
 	return startLine{
-		Version: version, FirstPoll: rules.FirstPoll, WaitForPoll: rules.WaitForPoll.Seconds(),
-		IDsReturnAfter: rules.IDsReturnAfter.Seconds(), LocksCanBeLost: locksCanBeLost, Plans: plans,
+		Version: version, FirstPoll: options.FirstPoll, WaitForPoll: options.WaitForPoll.Seconds(),
+		IDsReturnAfter: options.IDsReturnAfter.Seconds(), LocksCanBeLost: locksCanBeLost, Plans: plans,
 	}, nil
 }
 

@@ -395,7 +395,7 @@ func TestOptional(t *testing.T) {
 }
 
 func TestStarted(t *testing.T) {
-	made, err := StartMembers("1.2", []byte(catalogue), broker.Rules{
+	made, err := StartMembers("1.2", []byte(catalogue), broker.ServiceOptions{
 		FirstPoll: true, WaitForPoll: 90 * time.Second, IDsReturnAfter: time.Hour,
 	}, true)
 	check(t, err)
@@ -423,7 +423,7 @@ func TestStarted(t *testing.T) {
 			}
 		})
 	}
-	_, err = StartMembers("1.2", []byte(`[]`), broker.Rules{}, false)
+	_, err = StartMembers("1.2", []byte(`[]`), broker.ServiceOptions{}, false)
 	diff.Error(t, err, "a catalogue that can't be read")
 }
 

@@ -204,11 +204,11 @@ func newTestBroker(t *testing.T) *testBroker {
 	})
 	check(t, err)
 	to := New(s.writer, func(err error) bool { return errors.Is(err, errDoubt) })
-	rules := broker.Rules{FirstPoll: true}
+	rules := broker.ServiceOptions{FirstPoll: true}
 	s.service = broker.NewService(sold, to.Store(s.store), to.Backend(s.seller), locks, rules, broker.Silent{})
 	users, err := broker.NewUsers(map[string][]string{"platform": {password}})
 	check(t, err)
-	s.Handler, err = broker.NewHandler(context.Background(), s.service, broker.Config{
+	s.Handler, err = broker.NewHandler(context.Background(), s.service, broker.HandlerOptions{
 		Users: users, LongestBody: 1000, AtOnce: 4, Touch: func(broker.Key) {}, Observer: broker.Silent{}, Journal: to,
 	})
 	check(t, err)

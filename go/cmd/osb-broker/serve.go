@@ -130,18 +130,18 @@ func (r *server) openService(ctx context.Context, catalogue *broker.Catalogue) e
 	if err != nil {
 		return err
 	}
-	service := broker.NewService(catalogue, with.store, with.backend, r.parts.locks, s.rules(), r.observer)
+	service := broker.NewService(catalogue, with.store, with.backend, r.parts.locks, s.serviceOptions(), r.observer)
 	r.sweeper = broker.NewSweeper(service, r.observer)
 	r.work, r.endWork = context.WithCancel(ctx)
-	r.handler, err = broker.NewHandler(r.work, service, broker.Config{
+	r.handler, err = broker.NewHandler(r.work, service, broker.HandlerOptions{
 		Users: r.access.users, LongestBody: s.longestBody, ParsedAtOnce: s.parsedAtOnce, AtOnce: s.threads,
 		Limiter: limiter.New(), Touch: r.sweeper.Touch, Observer: r.observer, Journal: with.journal,
 	})
 	return cli.Unusable(err)
 }
 
-func (s *settings) rules() broker.Rules {
-	return broker.Rules{
+func (s *settings) serviceOptions() broker.ServiceOptions {
+	return broker.ServiceOptions{
 		FirstPoll: s.firstPoll, WaitForPoll: s.waitForPoll, LocksAtOnce: s.locksAtOnce(), LongestPause: s.longestPause,
 		IDsReturnAfter: time.Duration(s.idsReturnAfter) * time.Second,
 	}
@@ -407,7 +407,7 @@ func (r *server) withJournal(catalogue *broker.Catalogue) (serviceParts, error) 
 	if s.journal == "" {
 		return with, nil
 	}
-	started, err := journal.StartMembers(cli.Version(), catalogue.Document(), s.rules(), r.parts.locks.CanBeLost())
+	started, err := journal.StartMembers(cli.Version(), catalogue.Document(), s.serviceOptions(), r.parts.locks.CanBeLost())
 	if err != nil {
 		return with, err
 	}

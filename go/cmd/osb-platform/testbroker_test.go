@@ -49,12 +49,12 @@ func newTestBrokerFor(t *testing.T, observer broker.Observer) *testBroker {
 	backend := diff.Value(folders.New(filepath.Join(folder, "instances")))(t)
 	store := diff.Value(sqlite.Open(ctx, filepath.Join(folder, "holdings"), broker.Silent{}))(t)
 	locks := diff.Value(broker.NewFileLocks(filepath.Join(folder, "locks")))(t)
-	service := broker.NewService(catalogue, store, backend, locks, broker.Rules{
+	service := broker.NewService(catalogue, store, backend, locks, broker.ServiceOptions{
 		FirstPoll: true, WaitForPoll: time.Minute,
 	}, broker.Silent{})
 	sweeper := broker.NewSweeper(service, broker.Silent{})
 	users := diff.Value(broker.NewUsers(map[string][]string{"platform": {"secret"}}))(t)
-	handler := diff.Value(broker.NewHandler(ctx, service, broker.Config{
+	handler := diff.Value(broker.NewHandler(ctx, service, broker.HandlerOptions{
 		Users: users, LongestBody: 1 << 20, AtOnce: 8, Touch: sweeper.Touch, Observer: observer,
 	}))(t)
 	stop, cancel := context.WithCancel(ctx)

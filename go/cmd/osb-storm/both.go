@@ -17,7 +17,7 @@ import (
 
 type bothSettings struct {
 	stormSettings
-	config run.BothConfig
+	options run.BothOptions
 }
 
 const bothHelp = `Run osb-broker and osb-platform with a network between them that loses, delays, repeats and garbles
@@ -60,50 +60,50 @@ func bothCommand(v *cli.Verdict) *cobra.Command {
 // left behind then may keep an instance from being deleted.
 func (s *bothSettings) chooseSettleTime(c *cobra.Command) {
 	const without = 40 * time.Second
-	if s.config.Without != "" && !c.Flags().Changed("settle-seconds") {
-		s.config.SettleTime = without
+	if s.options.Without != "" && !c.Flags().Changed("settle-seconds") {
+		s.options.SettleTime = without
 	}
 }
 
 func (s *bothSettings) add(made *cobra.Command) {
-	flags, config := made.Flags(), &s.config
-	flags.StringVar(&config.Broker, "broker-program", "", "the `program` osb-broker")
-	flags.StringVar(&config.Platform, "platform-program", "", "the `program` osb-platform")
-	flags.Var(cli.Count(&config.Workers, 1, 1, 16), "workers", "how many workers the platform has")
-	flags.Var(cli.Count(&config.Brokers, 1, 1, 16), "brokers",
+	flags, options := made.Flags(), &s.options
+	flags.StringVar(&options.Broker, "broker-program", "", "the `program` osb-broker")
+	flags.StringVar(&options.Platform, "platform-program", "", "the `program` osb-platform")
+	flags.Var(cli.Count(&options.Workers, 1, 1, 16), "workers", "how many workers the platform has")
+	flags.Var(cli.Count(&options.Brokers, 1, 1, 16), "brokers",
 		"how many brokers serve over one store; each request reaches one of them, by chance")
-	flags.BoolVar(&config.HAProxy, "haproxy", false, "let HAProxy stand in front of the brokers")
-	flags.Var(choiceOf(&config.Store, run.InFiles, run.InFiles, run.InPostgreSQL), "store",
+	flags.BoolVar(&options.HAProxy, "haproxy", false, "let HAProxy stand in front of the brokers")
+	flags.Var(choiceOf(&options.Store, run.InFiles, run.InFiles, run.InPostgreSQL), "store",
 		"where the records and the broker's rows are: `place`, sqlite or postgresql")
-	flags.Var(choiceOf(&config.Backend, run.AsFolders, run.AsFolders, run.InPostgreSQL), "backend",
+	flags.Var(choiceOf(&options.Backend, run.AsFolders, run.AsFolders, run.InPostgreSQL), "backend",
 		"what the broker sells: `kind`, folders or postgresql")
-	flags.StringVar(&config.PostgreSQL, "postgresql", "",
+	flags.StringVar(&options.PostgreSQL, "postgresql", "",
 		"the `URL` of a PostgreSQL server for them. The storm creates a database of its own there, and needs the rights to "+
 			"create databases and roles")
-	flags.Var(cli.Count(&config.KillDatabase, 0, 0, 100), "kill-database",
+	flags.Var(cli.Count(&options.KillDatabase, 0, 0, 100), "kill-database",
 		"how often PostgreSQL is killed, and how often it is paused. It is a server of the storm's own then")
-	flags.BoolVar(&config.Unruly, "unruly", false,
+	flags.BoolVar(&options.Unruly, "unruly", false,
 		"a second client creates and deletes bindings of any instance at any time, so only the broker's rules protect them")
-	flags.Var(choiceOf(&config.Without, "", run.Parts()...), "without",
+	flags.Var(choiceOf(&options.Without, "", run.Parts()...), "without",
 		"take a `part` of the design out, and succeed only if the storm finds what that leaves behind: "+
 			strings.Join(run.Parts(), ", ")+". The programs need the build tag storm")
-	flags.Var(cli.Count(&config.Instances, 100, 1, 10000), "instances",
+	flags.Var(cli.Count(&options.Instances, 100, 1, 10000), "instances",
 		"how many instances are created, and as many again if not everything is done after that")
-	flags.Var(cli.Seconds(&config.Time, time.Minute), "seconds", "after which the faults and the kills end")
-	flags.Var(cli.Seconds(&config.SettleTime, 2*time.Minute), "settle-seconds", "until everything has converged")
-	flags.Var(choiceOf(&config.CrashPoints, "", run.AllPoints, run.SomePoints), "crash-points",
+	flags.Var(cli.Seconds(&options.Time, time.Minute), "seconds", "after which the faults and the kills end")
+	flags.Var(cli.Seconds(&options.SettleTime, 2*time.Minute), "settle-seconds", "until everything has converged")
+	flags.Var(choiceOf(&options.CrashPoints, "", run.AllPoints, run.SomePoints), "crash-points",
 		"kill both programs and the commands at their crash points, too: `which`, all or some. With some, it is no failure "+
 			"if a crash point isn't visited")
 	flags.Lookup("crash-points").NoOptDefVal = run.AllPoints
-	flags.BoolVar(&config.Calm, "calm", false,
+	flags.BoolVar(&options.Calm, "calm", false,
 		"kill and pause nothing, and let the operator do nothing besides the lives: nothing but the faults comes")
 	s.addFaults(made)
 	s.addMinimize(made, "if something is lost, shrink the list of faults to the shortest one that still loses one in a "+
 		"calm storm, as with --calm. What needs a kill, a pause or --unruly can't be shrunk")
-	flags.Var(cli.Seconds(&config.RequestTime, 2*time.Second), "request-seconds",
+	flags.Var(cli.Seconds(&options.RequestTime, 2*time.Second), "request-seconds",
 		"for which the platform waits for an answer")
-	flags.Var(cli.Seconds(&config.Late, 6*time.Second), "late-seconds", "the bound of every delay")
-	flags.StringVar(&config.Journal, "journal", "",
+	flags.Var(cli.Seconds(&options.Late, 6*time.Second), "late-seconds", "the bound of every delay")
+	flags.StringVar(&options.Journal, "journal", "",
 		"a `directory` for the journals of both programs, which get --journal DIRECTORY/broker and DIRECTORY/platform")
 	s.addReports(made)
 }
@@ -113,15 +113,15 @@ func (s *bothSettings) open(running context.Context, _ io.Writer) (opened storm,
 	for _, test := range []struct {
 		to             *string
 		name, variable string
-	}{{&s.config.Broker, "osb-broker", "OSB_BROKER"}, {&s.config.Platform, "osb-platform", "OSB_PLATFORM"}} {
+	}{{&s.options.Broker, "osb-broker", "OSB_BROKER"}, {&s.options.Platform, "osb-platform", "OSB_PLATFORM"}} {
 		if *test.to, err = programOf(*test.to, test.name, test.variable); err != nil {
 			return opened, err
 		}
 	}
-	if err := s.fill(&s.config.Config); err != nil {
+	if err := s.fill(&s.options.Options); err != nil {
 		return opened, err
 	}
-	both, err := run.NewBoth(running, s.config)
+	both, err := run.NewBoth(running, s.options)
 	if err != nil {
 		return opened, err
 	}

@@ -14,7 +14,7 @@ import (
 
 type brokerSettings struct {
 	stormSettings
-	config run.BrokerConfig
+	options run.BrokerOptions
 }
 
 const brokerHelp = `Let a platform drive a broker through a network that loses, delays, repeats and garbles requests and
@@ -51,8 +51,8 @@ func brokerCommand(v *cli.Verdict) *cobra.Command {
 }
 
 func (s *brokerSettings) add(made *cobra.Command) {
-	flags, config, commands := made.Flags(), &s.config, &s.config.Commands
-	addTarget(flags, &config.Broker, &s.passwordFile)
+	flags, options, commands := made.Flags(), &s.options, &s.options.Commands
+	addTarget(flags, &options.Broker, &s.passwordFile)
 	flags.StringVar(&commands.List, "list-command", "",
 		"a `command` that prints the id of each instance that exists, one on a line")
 	flags.StringVar(&commands.ListBindings, "list-bindings-command", "",
@@ -61,35 +61,35 @@ func (s *brokerSettings) add(made *cobra.Command) {
 		"a `command` that kills the broker and starts it again; it is run at random moments")
 	flags.StringVar(&commands.Kill, "kill-command", "", "a `command` that kills the broker; with --start-command")
 	flags.StringVar(&commands.Start, "start-command", "", "a `command` that starts the broker; with --kill-command")
-	flags.Var(cli.Count(&config.Broker.Instances, 50, 2, 10000), "instances", "the most instances that a run creates")
-	flags.Var(cli.Seconds(&config.Time, time.Minute), "seconds", "after which the faults end")
-	flags.Var(cli.Seconds(&config.SettleTime, 2*time.Minute), "settle-seconds", "until everything has converged")
+	flags.Var(cli.Count(&options.Broker.Instances, 50, 2, 10000), "instances", "the most instances that a run creates")
+	flags.Var(cli.Seconds(&options.Time, time.Minute), "seconds", "after which the faults end")
+	flags.Var(cli.Seconds(&options.SettleTime, 2*time.Minute), "settle-seconds", "until everything has converged")
 	s.addFaults(made)
 	s.addMinimize(made, "shrink the list of faults to the shortest one that still loses one")
-	flags.Var(cli.Seconds(&config.RequestTime, 3*time.Second), "request-seconds",
+	flags.Var(cli.Seconds(&options.RequestTime, 3*time.Second), "request-seconds",
 		"for which the platform waits for an answer")
-	flags.Var(cli.Seconds(&config.Late, 6*time.Second), "late-seconds", "the bound of every delay")
-	flags.Var(cli.Seconds(&config.Broker.RequestTime, 30*time.Second), "answer-seconds",
+	flags.Var(cli.Seconds(&options.Late, 6*time.Second), "late-seconds", "the bound of every delay")
+	flags.Var(cli.Seconds(&options.Broker.RequestTime, 30*time.Second), "answer-seconds",
 		"in which the broker answers a request")
-	flags.Var(cli.Seconds(&config.Broker.OperationTime, 2*time.Minute), "operation-seconds",
+	flags.Var(cli.Seconds(&options.Broker.OperationTime, 2*time.Minute), "operation-seconds",
 		"for an asynchronous operation")
-	flags.Var(cli.Seconds(&config.Broker.Pause, time.Second/2), "poll-seconds", "between two polls of an operation")
-	flags.Var(cli.Seconds(&config.CleanUpTime, 5*time.Minute), "cleanup-seconds", "for the deletions at the end")
-	flags.StringVar(&config.Journal, "journal", "",
+	flags.Var(cli.Seconds(&options.Broker.Pause, time.Second/2), "poll-seconds", "between two polls of an operation")
+	flags.Var(cli.Seconds(&options.CleanUpTime, 5*time.Minute), "cleanup-seconds", "for the deletions at the end")
+	flags.StringVar(&options.Journal, "journal", "",
 		"a `directory`: the journal of the storm's platform is written to DIRECTORY/platform, for osb-audit")
 	s.addReports(made)
 }
 
 // open reads the password and the list of faults, and opens a storm for the settings.
 func (s *brokerSettings) open(running context.Context, stderr io.Writer) (opened storm, err error) {
-	s.config.Broker.Tell = waits(running, stderr)
-	if s.config.Broker.Password, err = passwordOf(s.passwordFile, stderr); err != nil {
+	s.options.Broker.Tell = waits(running, stderr)
+	if s.options.Broker.Password, err = passwordOf(s.passwordFile, stderr); err != nil {
 		return opened, err
 	}
-	if err := s.fill(&s.config.Config); err != nil {
+	if err := s.fill(&s.options.Options); err != nil {
 		return opened, err
 	}
-	of, err := run.NewBroker(s.config)
+	of, err := run.NewBroker(s.options)
 	if err != nil {
 		return opened, err
 	}

@@ -18,7 +18,7 @@ import (
 )
 
 type conformSettings struct {
-	config               conform.Config
+	options              conform.Options
 	passwordFile, json   string
 	except               []string
 	runTime, cleanupTime time.Duration
@@ -47,27 +47,27 @@ func conformCommand(v *cli.Verdict) *cobra.Command {
 }
 
 func (s *conformSettings) add(made *cobra.Command) {
-	flags, config := made.Flags(), &s.config
-	addTarget(flags, config, &s.passwordFile)
-	flags.Var(cli.Count(&config.Instances, 50, 1, 10000), "instances", "the most instances to order")
+	flags, options := made.Flags(), &s.options
+	addTarget(flags, options, &s.passwordFile)
+	flags.Var(cli.Count(&options.Instances, 50, 1, 10000), "instances", "the most instances to order")
 	flags.Var(cli.Seconds(&s.runTime, 10*time.Minute), "seconds", "after which no further case is tried")
-	flags.Var(cli.Seconds(&config.RequestTime, 30*time.Second), "request-seconds", "for the answer to a request")
-	flags.Var(cli.Seconds(&config.OperationTime, 2*time.Minute), "operation-seconds",
+	flags.Var(cli.Seconds(&options.RequestTime, 30*time.Second), "request-seconds", "for the answer to a request")
+	flags.Var(cli.Seconds(&options.OperationTime, 2*time.Minute), "operation-seconds",
 		"for an asynchronous operation")
-	flags.Var(cli.Seconds(&config.Pause, time.Second), "poll-seconds", "between two polls of an operation")
+	flags.Var(cli.Seconds(&options.Pause, time.Second), "poll-seconds", "between two polls of an operation")
 	flags.Var(cli.Seconds(&s.cleanupTime, 5*time.Minute), "cleanup-seconds", "for the deletions at the end")
 	flags.StringSliceVar(&s.except, "except", nil, "`cases` that don't change the exit status, separated by commas")
 	flags.StringVar(&s.json, "json", "", "a `file` to which the report is written as JSON, too")
 }
 
 // addTarget adds the options that say which broker is tested, and what is ordered at it.
-func addTarget(flags *pflag.FlagSet, config *conform.Config, passwordFile *string) {
-	flags.StringVar(&config.URL, "url", "", "the `URL` of the broker, without /v2")
-	flags.StringVar(&config.User, "user", "platform", "the `name` with which to log in")
+func addTarget(flags *pflag.FlagSet, options *conform.Options, passwordFile *string) {
+	flags.StringVar(&options.URL, "url", "", "the `URL` of the broker, without /v2")
+	flags.StringVar(&options.User, "user", "platform", "the `name` with which to log in")
 	flags.StringVar(passwordFile, "password-file", "", "a `file` with the password")
-	flags.StringVar(&config.Service, "service", "",
+	flags.StringVar(&options.Service, "service", "",
 		"the `name` or id of the service to order; with --plan. Default: the first bindable plan")
-	flags.StringVar(&config.Plan, "plan", "", "the `name` or id of the plan to order; with --service")
+	flags.StringVar(&options.Plan, "plan", "", "the `name` or id of the plan to order; with --service")
 }
 
 // run checks the broker, deletes what it has created, and writes the report. It returns the exit status.
@@ -79,7 +79,7 @@ func (s *conformSettings) run(ctx context.Context, out, stderr io.Writer) (int, 
 	defer files.close()
 	running, deleting, forget := untilSignals(ctx)
 	defer forget()
-	s.config.Tell = waits(running, stderr)
+	s.options.Tell = waits(running, stderr)
 	runner, err := s.runner(stderr)
 	if err != nil {
 		return 0, cli.Unusable(err)
@@ -106,8 +106,8 @@ func (s *conformSettings) runner(warnings io.Writer) (*conform.Runner, error) {
 	if err != nil {
 		return nil, err
 	}
-	s.config.Password = password
-	return conform.New(s.config)
+	s.options.Password = password
+	return conform.New(s.options)
 }
 
 func (s *conformSettings) checkExcept() error {

@@ -15,7 +15,7 @@ import (
 
 type platformSettings struct {
 	stormSettings
-	config platform.Config
+	options platform.Options
 }
 
 const platformHelp = `Be a broker for your platform, behind a network that loses, delays, repeats and garbles requests
@@ -57,52 +57,52 @@ func platformCommand(v *cli.Verdict) *cobra.Command {
 }
 
 func (s *platformSettings) add(made *cobra.Command) {
-	flags, config := made.Flags(), &s.config
-	flags.Var(cli.Address(&config.Address, ""), "listen",
+	flags, options := made.Flags(), &s.options
+	flags.Var(cli.Address(&options.Address, ""), "listen",
 		"where the platform reaches the broker; port 0 is any free port")
-	flags.StringVar(&config.User, "user", "platform", "the `name` with which the platform logs in")
+	flags.StringVar(&options.User, "user", "platform", "the `name` with which the platform logs in")
 	flags.StringVar(&s.passwordFile, "password-file", "", "a `file` with the password")
-	flags.BoolVar(&config.FirstPoll, "first-poll", false,
+	flags.BoolVar(&options.FirstPoll, "first-poll", false,
 		"create an instance of an asynchronous plan only once the platform has polled it")
-	flags.StringVar(&config.Commands.List, "list-command", "",
+	flags.StringVar(&options.Commands.List, "list-command", "",
 		"a `command` that prints the id of each instance that the platform has, one on a line")
-	flags.StringVar(&config.Commands.ListBindings, "list-bindings-command", "",
+	flags.StringVar(&options.Commands.ListBindings, "list-bindings-command", "",
 		"a `command` that prints the ids of the instance and the binding for each binding that the platform has")
-	flags.StringVar(&config.Commands.Order, "order-command", "",
+	flags.StringVar(&options.Commands.Order, "order-command", "",
 		"a `command` that has the platform create and delete instances and bindings at the broker OSB_STORM_URL")
-	flags.Var(cli.Seconds(&config.WaitTime, 10*time.Minute), "wait-seconds", "for the first request about an instance")
-	flags.Var(cli.Seconds(&config.Time, time.Minute), "seconds",
+	flags.Var(cli.Seconds(&options.WaitTime, 10*time.Minute), "wait-seconds", "for the first request about an instance")
+	flags.Var(cli.Seconds(&options.Time, time.Minute), "seconds",
 		"from then on until the faults end, unless --order-command ends before")
-	flags.Var(cli.Seconds(&config.SettleTime, 2*time.Minute), "settle-seconds",
+	flags.Var(cli.Seconds(&options.SettleTime, 2*time.Minute), "settle-seconds",
 		"for the platform to clean up after the faults")
 	s.addFaults(made)
 	s.addMinimize(made, "if something is abandoned or a record is false, shrink the list of faults to the shortest one that "+
 		"still loses one; with --order-command")
-	flags.Var(cli.Seconds(&config.RequestTime, time.Minute), "request-seconds",
+	flags.Var(cli.Seconds(&options.RequestTime, time.Minute), "request-seconds",
 		"for which the platform waits for an answer")
-	flags.Var(cli.Seconds(&config.Late, 6*time.Second), "late-seconds", "the bound of every delay")
-	flags.Var(cli.Seconds(&config.OperationTime, 2*time.Second), "operation-seconds",
+	flags.Var(cli.Seconds(&options.Late, 6*time.Second), "late-seconds", "the bound of every delay")
+	flags.Var(cli.Seconds(&options.OperationTime, 2*time.Second), "operation-seconds",
 		"for an asynchronous operation, at most")
-	flags.StringVar(&config.Journal, "journal", "",
+	flags.StringVar(&options.Journal, "journal", "",
 		"a `directory`: the journal of the storm's broker is written to DIRECTORY/broker, for osb-audit")
 	s.addReports(made)
 }
 
 // open reads the password and the list of faults, and starts a storm for the settings.
 func (s *platformSettings) open(running context.Context, stderr io.Writer) (opened storm, err error) {
-	if s.config.Password, err = passwordOf(s.passwordFile, stderr); err != nil {
+	if s.options.Password, err = passwordOf(s.passwordFile, stderr); err != nil {
 		return opened, err
 	}
-	s.config.Warnings = stderr
-	if err := s.fill(&s.config.Config); err != nil {
+	s.options.Warnings = stderr
+	if err := s.fill(&s.options.Options); err != nil {
 		return opened, err
 	}
-	of, err := platform.Start(running, s.config)
+	of, err := platform.Start(running, s.options)
 	if err != nil {
 		return opened, err
 	}
 	intro := fmt.Sprintf("The broker listens at %s for the user %s. The seed is %d.\n"+
-		"The faults begin with the first request about an instance.", of.URL(), s.config.User, s.seed)
+		"The faults begin with the first request about an instance.", of.URL(), s.options.User, s.seed)
 	start := func(running, _ context.Context) (*run.Report, error) { return of.Run(running), nil }
 	return storm{intro: intro, run: start, close: of.Close}, nil
 }

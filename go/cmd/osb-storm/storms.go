@@ -61,13 +61,13 @@ func (s *stormSettings) chooseSeed(c *cobra.Command) {
 	}
 }
 
-// fill writes the seed, the faults and the time for --minimize into a configuration.
-func (s *stormSettings) fill(config *run.Config) (err error) {
-	config.Seed, config.Share = s.seed, float64(s.percent)/100
+// fill writes the seed, the faults and the time for --minimize into options.
+func (s *stormSettings) fill(options *run.Options) (err error) {
+	options.Seed, options.Share = s.seed, float64(s.percent)/100
 	if s.minimize {
-		config.MinimizeTime = s.minimizeTime
+		options.MinimizeTime = s.minimizeTime
 	}
-	config.List, err = s.list()
+	options.List, err = s.list()
 	return err
 }
 

@@ -53,7 +53,7 @@ func serve(ctx, stop context.Context, listener net.Listener, state, password str
 		return err
 	}
 	sweeper := broker.NewSweeper(service, observer{})
-	handler, err := broker.NewHandler(ctx, service, broker.Config{
+	handler, err := broker.NewHandler(ctx, service, broker.HandlerOptions{
 		Users: users, LongestBody: 1 << 20, AtOnce: 16, Touch: sweeper.Touch, Observer: observer{},
 	})
 	if err != nil {
@@ -79,8 +79,8 @@ func newService(store broker.Store, state string) (*broker.Service, error) {
 		return nil, err
 	}
 	sold := backend(filepath.Join(state, "sold"))
-	rules := broker.Rules{FirstPoll: true, WaitForPoll: 10 * time.Minute}
-	return broker.NewService(catalogue, store, sold, locks, rules, observer{}), nil
+	options := broker.ServiceOptions{FirstPoll: true, WaitForPoll: 10 * time.Minute}
+	return broker.NewService(catalogue, store, sold, locks, options, observer{}), nil
 }
 
 // An observer logs what an operator has to know.

@@ -105,12 +105,12 @@ func serveBroker(t *testing.T, sold *shelf) (port string) {
 	need(t, err)
 	locks, err := broker.NewFileLocks(filepath.Join(t.TempDir(), "locks"))
 	need(t, err)
-	rules := broker.Rules{FirstPoll: true, WaitForPoll: time.Minute}
-	service := broker.NewService(catalogue, store, sold, locks, rules, broker.Silent{})
+	options := broker.ServiceOptions{FirstPoll: true, WaitForPoll: time.Minute}
+	service := broker.NewService(catalogue, store, sold, locks, options, broker.Silent{})
 	users, err := broker.NewUsers(map[string][]string{"platform": {"secret"}})
 	need(t, err)
 	sweeper := broker.NewSweeper(service, broker.Silent{})
-	handler, err := broker.NewHandler(context.Background(), service, broker.Config{
+	handler, err := broker.NewHandler(context.Background(), service, broker.HandlerOptions{
 		Users: users, LongestBody: 1 << 20, AtOnce: 4, Touch: sweeper.Touch, Observer: broker.Silent{},
 	})
 	need(t, err)

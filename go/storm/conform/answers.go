@@ -121,7 +121,7 @@ func anonymous(sent request) request {
 }
 
 func (r *Runner) wrongPassword() map[string]string {
-	return map[string]string{"Authorization": "Basic " + basic(r.config.User, wrong(r.config.Password))}
+	return map[string]string{"Authorization": "Basic " + basic(r.options.User, wrong(r.options.Password))}
 }
 
 func wrong(password string) string { return password + "-wrong" }

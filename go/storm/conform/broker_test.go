@@ -28,7 +28,7 @@ const plans = `{"services": [{
 		"x-osb-asynchronous": true}]}]}`
 
 // brokerAt returns the URL of this project's broker over SQLite, which sells folders.
-func brokerAt(t *testing.T, rules broker.Rules) string {
+func brokerAt(t *testing.T, rules broker.ServiceOptions) string {
 	t.Helper()
 	ctx, top, silent := context.Background(), t.TempDir(), broker.Silent{}
 	store := diff.Value(sqlite.Open(ctx, filepath.Join(top, "store"), silent))(t)
@@ -52,7 +52,7 @@ func serve(t *testing.T, service *broker.Service) string {
 	}()
 	t.Cleanup(func() { cancel(); <-swept })
 	users := diff.Value(broker.NewUsers(map[string][]string{"u": {"p"}}))(t)
-	handler := diff.Value(broker.NewHandler(ctx, service, broker.Config{
+	handler := diff.Value(broker.NewHandler(ctx, service, broker.HandlerOptions{
 		Users: users, LongestBody: 1 << 20, AtOnce: 8, Touch: sweeper.Touch, Observer: silent,
 	}))(t)
 	server := httptest.NewServer(handler)
@@ -77,11 +77,11 @@ func expectNothing(t *testing.T, top string) {
 func TestOurBroker(t *testing.T) {
 	const bind, again = "async-bind-during-provision", "provision-again-after-deletion"
 	for _, firstPoll := range []bool{false, true} {
-		rules := broker.Rules{FirstPoll: firstPoll, WaitForPoll: time.Hour}
+		rules := broker.ServiceOptions{FirstPoll: firstPoll, WaitForPoll: time.Hour}
 		url := brokerAt(t, rules)
 		for _, plan := range []string{"now", "later", "bind-later", "make-later"} {
 			t.Run(fmt.Sprintf("%s, first Poll %v", plan, firstPoll), func(t *testing.T) {
-				r := diff.Value(conform.New(conform.Config{
+				r := diff.Value(conform.New(conform.Options{
 					URL: url, User: "u", Password: "p", Service: "folder", Plan: plan, Instances: 50,
 					RequestTime: 20 * time.Second, OperationTime: 20 * time.Second, Pause: 5 * time.Millisecond,
 				}))(t)

@@ -250,13 +250,13 @@ func (r *Runner) choose() error {
 		all = append(all, targetsOf(service)...)
 	}
 	if len(all) == 0 {
-		r.target = Target{Pair: Pair{r.config.Service, r.config.Plan}}
-		r.target.ServiceName, r.target.PlanName = r.config.Service, r.config.Plan
+		r.target = Target{Pair: Pair{r.options.Service, r.options.Plan}}
+		r.target.ServiceName, r.target.PlanName = r.options.Service, r.options.Plan
 		return nil
 	}
 	at := r.find(all)
 	if at < 0 {
-		return fmt.Errorf("%w: service %q, plan %q", ErrNoPlan, r.config.Service, r.config.Plan)
+		return fmt.Errorf("%w: service %q, plan %q", ErrNoPlan, r.options.Service, r.options.Plan)
 	}
 	r.target = all[at]
 	for _, target := range all {
@@ -270,9 +270,9 @@ func (r *Runner) choose() error {
 	return nil
 }
 
-// find returns the index of the plan that the Config names, or -1.
+// find returns the index of the plan that the Options name, or -1.
 func (r *Runner) find(all []Target) int {
-	if r.config.Plan == "" {
+	if r.options.Plan == "" {
 		for at, target := range all {
 			if target.Bindable {
 				return at
@@ -281,8 +281,8 @@ func (r *Runner) find(all []Target) int {
 		return 0
 	}
 	for at, target := range all {
-		ofService := r.config.Service == target.ServiceName || r.config.Service == target.Service
-		if ofService && (r.config.Plan == target.PlanName || r.config.Plan == target.Plan) {
+		ofService := r.options.Service == target.ServiceName || r.options.Service == target.Service
+		if ofService && (r.options.Plan == target.PlanName || r.options.Plan == target.Plan) {
 			return at
 		}
 	}

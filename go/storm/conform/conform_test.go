@@ -28,14 +28,14 @@ func serve(t *testing.T, m *model) string {
 // password is that of the model. It stands otherwise in JSON and in a URL.
 const password = `pa"ss <word> &%41`
 
-func configFor(url string) Config {
-	return Config{
+func optionsFor(url string) Options {
+	return Options{
 		URL: url, User: "u", Password: password, Instances: 50, RequestTime: 10 * time.Second,
 		OperationTime: 10 * time.Second, Pause: time.Millisecond,
 	}
 }
 
-func runnerFor(t *testing.T, c Config) *Runner {
+func runnerFor(t *testing.T, c Options) *Runner {
 	t.Helper()
 	return diff.Value(New(c))(t)
 }
@@ -85,7 +85,7 @@ func TestModelPasses(t *testing.T) {
 	for _, async := range []bool{false, true} {
 		t.Run(fmt.Sprint(async), func(t *testing.T) {
 			m := newModel(async)
-			r := runnerFor(t, configFor(serve(t, m)))
+			r := runnerFor(t, optionsFor(serve(t, m)))
 			for _, result := range ran(t, r).Results {
 				if result.Grade == Fail || result.Grade == NotRun && result.Reason == "" {
 					t.Errorf("got %+v, want no failure, and a reason if it isn't run", result)
@@ -109,7 +109,7 @@ func TestMistakes(t *testing.T) {
 		t.Run(strings.ReplaceAll(mistake.name, " ", "-"), func(t *testing.T) {
 			m := newModel(mistake.async)
 			m.spoil = mistake.spoil
-			c := configFor(serve(t, m))
+			c := optionsFor(serve(t, m))
 			c.OperationTime = time.Second
 			r := runnerFor(t, c)
 			report := ran(t, r)
@@ -156,7 +156,7 @@ func TestReasonsWithoutCatalogue(t *testing.T) {
 			c.give(404, object{})
 		}
 	}
-	c := configFor(serve(t, m))
+	c := optionsFor(serve(t, m))
 	c.Service, c.Plan = "s", "a"
 	report := ran(t, runnerFor(t, c))
 	of := map[string]string{}

@@ -93,7 +93,7 @@ func (r *Runner) await(k key, operation string) (string, *exchange) {
 			r.judge(ofPoll(k, "last-operation-state"), x, problem)
 			r.judge(ofPoll(k, "last-operation-fields"), x, wrongLastOperation(x))
 		}
-		if state != "in progress" || r.ctx.Err() != nil || time.Since(begun) > r.config.OperationTime {
+		if state != "in progress" || r.ctx.Err() != nil || time.Since(begun) > r.options.OperationTime {
 			return state, x
 		}
 		r.pause(r.ctx)
@@ -319,7 +319,7 @@ type client struct {
 	known                map[string]bool // the secrets of credentials that hide has
 }
 
-func newClient(c Config) (*client, error) {
+func newClient(c Options) (*client, error) {
 	base, err := url.Parse(c.URL)
 	if err != nil {
 		return nil, errors.New("the URL of the broker can't be read") // the text could have a password

@@ -2,7 +2,7 @@
 // judges each answer by a case. A case names the section of the standard that it is from, and whether that section
 // says MUST, SHOULD or MAY.
 //
-// A Runner creates instances and bindings under ids of its own, never more than Config.Instances, and deletes
+// A Runner creates instances and bindings under ids of its own, never more than Options.Instances, and deletes
 // everything that it may have created.
 //
 // The package reads HTTP and JSON with Go's standard library. It doesn't use this project's library, because it judges
@@ -20,8 +20,8 @@ import (
 	"time"
 )
 
-// A Config says which broker a Runner checks, and within which limits.
-type Config struct {
+// Options say which broker a Runner checks, and within which limits.
+type Options struct {
 	URL            string // http or https; a path is a prefix of every request
 	User, Password string // of HTTP's Basic scheme
 	// Service and Plan are names or ids in the catalogue. If both are empty, the first bindable plan is taken, or else
@@ -43,7 +43,7 @@ var ErrUnreachable = errors.New("the broker can't be reached")
 // ErrLogin is the error of Run if the broker answers the first request with 401.
 var ErrLogin = errors.New("the broker rejects the user or the password")
 
-// ErrNoPlan is the error of Run if the catalogue lacks the service and the plan of the Config.
+// ErrNoPlan is the error of Run if the catalogue lacks the service and the plan of the Options.
 var ErrNoPlan = errors.New("the catalogue has no such plan")
 
 // mostSilent is how many requests in a row may have no answer. Then no further case is run.
@@ -51,7 +51,7 @@ const mostSilent = 3
 
 // A Runner runs the cases once. Use one goroutine.
 type Runner struct {
-	config     Config
+	options    Options
 	client     *client
 	prefix     string
 	candidates candidates
@@ -72,7 +72,7 @@ type Runner struct {
 //
 // Errors: the URL isn't one of http or https, or has a user, a query or a fragment; only one of Service and Plan is
 // given; a limit isn't above 0.
-func New(c Config) (*Runner, error) {
+func New(c Options) (*Runner, error) {
 	if (c.Service == "") != (c.Plan == "") {
 		return nil, errors.New("give a service and a plan, or neither")
 	}
@@ -83,7 +83,7 @@ func New(c Config) (*Runner, error) {
 	if err != nil {
 		return nil, err
 	}
-	r := &Runner{config: c, client: made, results: map[string]*CaseResult{}}
+	r := &Runner{options: c, client: made, results: map[string]*CaseResult{}}
 	for _, test := range Cases() {
 		r.results[test.Name] = &CaseResult{Case: test, Grade: NotRun}
 	}
@@ -100,7 +100,7 @@ func (r *Runner) Prefix() string { return r.prefix }
 // flight, and the rest of the cases isn't run. Call CleanUp afterwards, whatever Run returns.
 //
 // Errors: ErrUnreachable if the first request has no answer; ErrLogin if the answer to it is 401; ErrNoPlan if the
-// catalogue lacks the plan of the Config.
+// catalogue lacks the plan of the Options.
 func (r *Runner) Run(ctx context.Context) (*Report, error) {
 	r.ctx = ctx
 	if err := r.open(); err != nil {
@@ -160,8 +160,8 @@ func (r *Runner) send(sent request) *exchange {
 
 // create sends the creation of an instance or a binding, and notes it for CleanUp. The pair is that of the request.
 func (r *Runner) create(k key, p Pair, sent request) *exchange {
-	if !r.candidates.all[k.instance] && len(r.candidates.all) >= r.config.Instances {
-		err := fmt.Errorf("%d instances were ordered, which is the limit", r.config.Instances)
+	if !r.candidates.all[k.instance] && len(r.candidates.all) >= r.options.Instances {
+		err := fmt.Errorf("%d instances were ordered, which is the limit", r.options.Instances)
 		r.ended = err.Error()
 		return &exchange{request: sent, err: err, unsent: true}
 	}
@@ -214,7 +214,7 @@ func (r *Runner) skip(reason string, names ...string) {
 
 // pause waits for the time between two polls, or until ctx is done.
 func (r *Runner) pause(ctx context.Context) {
-	timer := time.NewTimer(r.config.Pause)
+	timer := time.NewTimer(r.options.Pause)
 	defer timer.Stop()
 	select {
 	case <-timer.C:
@@ -329,8 +329,8 @@ const (
 // not answered. If a creation wasn't answered, it may still arrive: CleanUp repeats its deletion for twice the time of
 // a request. If it has to wait, it reports once for what, and until when.
 func (r *Runner) CleanUp(ctx context.Context) []Leftover {
-	c := &cleanUp{Runner: r, begun: time.Now(), tell: r.config.Tell, bindings: map[string][]*removal{}}
-	c.late = c.begun.Add(2 * r.config.RequestTime)
+	c := &cleanUp{Runner: r, begun: time.Now(), tell: r.options.Tell, bindings: map[string][]*removal{}}
+	c.late = c.begun.Add(2 * r.options.RequestTime)
 	for _, candidate := range r.candidates.rest() {
 		made := &removal{candidate: candidate, reason: reasonTime}
 		c.all = append(c.all, made)
@@ -418,7 +418,7 @@ func (c *cleanUp) count(state removalState) (count int) {
 // step sends the next request for a removal.
 func (c *cleanUp) step(ctx context.Context, it *removal) {
 	if it.until.IsZero() {
-		it.until = time.Now().Add(c.config.OperationTime + 2*c.config.RequestTime)
+		it.until = time.Now().Add(c.options.OperationTime + 2*c.options.RequestTime)
 	}
 	one, cancel := context.WithDeadline(ctx, it.until)
 	defer cancel()
@@ -477,7 +477,7 @@ func (c *cleanUp) noteDeletion(it *removal) {
 	it.isPolled, it.tries = false, 0
 	if it.unanswered && it.sent.Before(c.late) {
 		it.state, it.reason = gone, reasonArrives
-		it.until = c.late.Add(c.config.OperationTime + 2*c.config.RequestTime)
+		it.until = c.late.Add(c.options.OperationTime + 2*c.options.RequestTime)
 		return
 	}
 	it.state, it.unanswered = removed, false
@@ -514,7 +514,7 @@ func (c *cleanUp) announce(ctx context.Context, isWhole, isLong bool) {
 	}
 	if open > 0 {
 		line += fmt.Sprintf(" Deletions that haven't succeeded yet: %d. They go on until %s at the latest.",
-			open, end(time.Now().Add(c.config.OperationTime+2*c.config.RequestTime)))
+			open, end(time.Now().Add(c.options.OperationTime+2*c.options.RequestTime)))
 	}
 	c.tell(line)
 	c.tell = nil

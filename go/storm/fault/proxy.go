@@ -24,8 +24,8 @@ import (
 // longestBody is how much of a request and of an answer is read, in bytes.
 const longestBody = 1 << 20
 
-// A Config is what a Proxy works with.
-type Config struct {
+// Options are what a Proxy works with.
+type Options struct {
 	Address string   // where to listen; a free port of this machine if it is empty
 	Broker  *url.URL // http or https; a path is a prefix of every request
 	// Others are further brokers over the same store. Each copy of a request reaches Broker or one of them, by chance.
@@ -55,7 +55,7 @@ type Config struct {
 
 // A Proxy listens at a port of its own. Each connection carries one request.
 type Proxy struct {
-	Config
+	Options
 	listener  net.Listener
 	upstreams []upstream
 	ctx       context.Context // of everything that the Proxy still does; cancel ends it
@@ -71,8 +71,8 @@ type Proxy struct {
 }
 
 // Listen returns a Proxy that listens. Close ends it.
-func Listen(config Config) (*Proxy, error) {
-	address := config.Address
+func Listen(options Options) (*Proxy, error) {
+	address := options.Address
 	if address == "" {
 		address = "127.0.0.1:0"
 	}
@@ -80,12 +80,12 @@ func Listen(config Config) (*Proxy, error) {
 	if err != nil {
 		return nil, err
 	}
-	if config.CatalogueHeader == nil {
-		config.CatalogueHeader = http.Header{"Content-Type": {"application/json"}}
+	if options.CatalogueHeader == nil {
+		options.CatalogueHeader = http.Header{"Content-Type": {"application/json"}}
 	}
-	p := &Proxy{Config: config, listener: listener, connections: map[net.Conn]bool{}}
-	for _, address := range append([]*url.URL{config.Broker}, config.Others...) {
-		p.upstreams = append(p.upstreams, upstream{broker: address, within: config.AnswerTime})
+	p := &Proxy{Options: options, listener: listener, connections: map[net.Conn]bool{}}
+	for _, address := range append([]*url.URL{options.Broker}, options.Others...) {
+		p.upstreams = append(p.upstreams, upstream{broker: address, within: options.AnswerTime})
 	}
 	p.ctx, p.cancel = context.WithCancel(context.Background())
 	p.group.Add(1)

@@ -64,20 +64,20 @@ func (c *countingBroker) counts() (whole, broken, hangUps int) {
 }
 
 // between returns a Proxy before a broker, with one fault for the first request.
-func between(t *testing.T, broker *countingBroker, kind Kind, change func(*Config)) *Proxy {
+func between(t *testing.T, broker *countingBroker, kind Kind, change func(*Options)) *Proxy {
 	t.Helper()
 	server := httptest.NewServer(broker)
 	t.Cleanup(server.Close)
 	at := diff.Value(url.Parse(server.URL))(t)
-	config := Config{
+	options := Options{
 		Broker: at, Capture: NewCapture(), Source: ByList(1, []Injection{{Number{Subject{1, 0}, 1}, kind}}),
 		RequestTime: requestTime, Late: late, AnswerTime: 5 * time.Second, Catalogue: []byte(`{"services": []}`),
 		Subject: func(instance, _ string) (Subject, bool) { return Subject{1, 0}, instance == "ours" },
 	}
 	if change != nil {
-		change(&config)
+		change(&options)
 	}
-	p := diff.Value(Listen(config))(t)
+	p := diff.Value(Listen(options))(t)
 	t.Cleanup(p.Close)
 	return p
 }
@@ -209,7 +209,7 @@ func startLong(t *testing.T, broker *countingBroker, kind Kind) (p *Proxy, share
 	for ; share < 0.7; seed++ {
 		share = ByList(seed+1, nil).Next(Subject{Instance: 1}).Share
 	}
-	return between(t, broker, kind, func(c *Config) {
+	return between(t, broker, kind, func(c *Options) {
 		c.Source = ByList(seed, []Injection{{Number{Subject{1, 0}, 1}, kind}})
 	}), share
 }
@@ -299,7 +299,7 @@ func TestRestarts(t *testing.T) {
 		t.Run(string(kind), func(t *testing.T) {
 			broker := &countingBroker{pause: time.Second}
 			var at time.Time
-			p := between(t, broker, kind, func(c *Config) {
+			p := between(t, broker, kind, func(c *Options) {
 				c.RequestTime = 20 * time.Second
 				c.Restart = func(context.Context) error { at = time.Now(); return errors.New("broken") }
 				c.Failed = func(err error) { diff.Equal(t, err.Error(), "broken", "the failure of the restart") }
@@ -316,7 +316,7 @@ func TestRestarts(t *testing.T) {
 	}
 }
 
-// What isn't of the run doesn't reach the broker, and the catalogue is the one of the Config.
+// What isn't of the run doesn't reach the broker, and the catalogue is that of the Options.
 func TestOthersUntouched(t *testing.T) {
 	broker := &countingBroker{}
 	p := between(t, broker, None, nil)
@@ -336,7 +336,7 @@ func TestOthersUntouched(t *testing.T) {
 // Several brokers each get some of the requests, with a subject and without one. A copy may reach another broker.
 func TestSeveralBrokers(t *testing.T) {
 	one, other := &countingBroker{}, &countingBroker{}
-	p := between(t, one, None, func(c *Config) {
+	p := between(t, one, None, func(c *Options) {
 		server := httptest.NewServer(other)
 		t.Cleanup(server.Close)
 		at := diff.Value(url.Parse(server.URL))(t)
@@ -365,7 +365,7 @@ func TestSeveralBrokers(t *testing.T) {
 
 func TestPrefix(t *testing.T) {
 	broker := &countingBroker{}
-	p := between(t, broker, None, func(c *Config) { c.Broker.Path = "/postgres/" })
+	p := between(t, broker, None, func(c *Options) { c.Broker.Path = "/postgres/" })
 	put(p, path+"?service_id=s&operation=a%2Fb")
 	diff.Equal(t, broker.paths[0], "/postgres"+path+"?service_id=s&operation=a%2Fb", "the path at the broker")
 }
@@ -373,7 +373,7 @@ func TestPrefix(t *testing.T) {
 // Close drops what is late, and waits for what the broker has.
 func TestClose(t *testing.T) {
 	broker := &countingBroker{pause: 200 * time.Millisecond}
-	p := between(t, broker, RequestLate, func(c *Config) { c.Late = time.Hour; c.RequestTime = time.Hour })
+	p := between(t, broker, RequestLate, func(c *Options) { c.Late = time.Hour; c.RequestTime = time.Hour })
 	put(p, path)
 	go put(p, path)
 	until(t, func() bool { whole, _, _ := broker.counts(); return whole == 1 })
@@ -416,7 +416,7 @@ func TestReceipts(t *testing.T) {
 // their headers without the login.
 func TestForwardsOthers(t *testing.T) {
 	broker := &countingBroker{}
-	p := between(t, broker, None, func(c *Config) {
+	p := between(t, broker, None, func(c *Options) {
 		c.ForwardsOthers, c.Source = true, BySeed(1, 1, Weights{{RequestLost, 1}})
 	})
 	others := []string{"/v2/service_instances/theirs", "/v2/x", "/v2/catalog"}

@@ -28,9 +28,9 @@ import (
 	"pippinterm/storm/run/servers"
 )
 
-// A BothConfig says which programs a storm of both is about, and within which limits.
-type BothConfig struct {
-	Config
+// BothOptions say which programs a storm of both is about, and within which limits.
+type BothOptions struct {
+	Options
 	Broker, Platform string // the programs osb-broker and osb-platform
 	Workers, Brokers int    // how many workers the platform has, and how many brokers serve over one store
 	Store, Backend   string // InFiles and AsFolders, or InPostgreSQL
@@ -47,7 +47,7 @@ type BothConfig struct {
 	password string       // of the broker; empty for a new one
 }
 
-func (c BothConfig) demands() Demands {
+func (c BothOptions) demands() Demands {
 	return Demands{
 		Conflicts: []Conflict{
 			{c.Instances < 1, "a run needs an instance"},
@@ -68,7 +68,7 @@ func (c BothConfig) demands() Demands {
 }
 
 // findPrograms returns an error if one of both programs can't be run.
-func (c BothConfig) findPrograms() error {
+func (c BothOptions) findPrograms() error {
 	for _, program := range []string{c.Broker, c.Platform} {
 		if _, err := exec.LookPath(program); err != nil {
 			return fmt.Errorf("the program can't be run: %w", err)
@@ -83,7 +83,7 @@ const (
 	SomePoints = "some" // as many as there is time for
 )
 
-func (c BothConfig) needsPostgreSQL() bool {
+func (c BothOptions) needsPostgreSQL() bool {
 	return c.Store == InPostgreSQL || c.Backend == InPostgreSQL
 }
 
@@ -91,7 +91,7 @@ func (c BothConfig) needsPostgreSQL() bool {
 const longest = 10 * time.Minute
 
 // time is how long the faults last at most.
-func (c BothConfig) time() time.Duration {
+func (c BothOptions) time() time.Duration {
 	if c.Calm {
 		return c.Time
 	}
@@ -103,7 +103,7 @@ func (c BothConfig) time() time.Duration {
 
 // A BothStorm drives osb-broker and osb-platform through faults, kills and pauses. Use one goroutine.
 type BothStorm struct {
-	config           BothConfig
+	options          BothOptions
 	folder           string
 	addresses        []*url.URL // of the brokers
 	password         string
@@ -126,12 +126,12 @@ type BothStorm struct {
 // NewBoth returns a BothStorm that runs in a new folder. Close deletes the folder.
 //
 // Errors: a limit isn't above 0; a program can't be run; those of the folder and of the platform's store.
-func NewBoth(ctx context.Context, config BothConfig) (*BothStorm, error) {
-	config.Unruly = config.Unruly || partOf(config.Without).isRule && !config.Calm
-	if err := FirstError(config.Check(config.demands()), config.findPrograms()); err != nil {
+func NewBoth(ctx context.Context, options BothOptions) (*BothStorm, error) {
+	options.Unruly = options.Unruly || partOf(options.Without).isRule && !options.Calm
+	if err := FirstError(options.Check(options.demands()), options.findPrograms()); err != nil {
 		return nil, err
 	}
-	b := &BothStorm{config: config, capture: fault.NewCapture(), password: config.password}
+	b := &BothStorm{options: options, capture: fault.NewCapture(), password: options.password}
 	if b.password == "" {
 		password := make([]byte, 16)
 		if _, err := rand.Read(password); err != nil {
@@ -147,14 +147,14 @@ func NewBoth(ctx context.Context, config BothConfig) (*BothStorm, error) {
 
 // open makes the folder and the storage, chooses the addresses and the faults, and prepares the programs.
 func (b *BothStorm) open(ctx context.Context) (err error) {
-	if b.folder, err = os.MkdirTemp(b.config.Folder, "osb-storm-"); err != nil {
+	if b.folder, err = os.MkdirTemp(b.options.Folder, "osb-storm-"); err != nil {
 		return err
 	}
-	if b.addresses, err = freeAddresses(b.config.Brokers); err != nil {
+	if b.addresses, err = freeAddresses(b.options.Brokers); err != nil {
 		return err
 	}
-	b.ids, err = conform.New(conform.Config{
-		URL: b.addresses[0].String(), User: "platform", Password: b.password, Instances: b.config.Instances,
+	b.ids, err = conform.New(conform.Options{
+		URL: b.addresses[0].String(), User: "platform", Password: b.password, Instances: b.options.Instances,
 		RequestTime: time.Second, OperationTime: time.Second, Pause: time.Second,
 	})
 	if err != nil {
@@ -162,10 +162,10 @@ func (b *BothStorm) open(ctx context.Context) (err error) {
 	}
 	b.keys = newKeys(b.ids.NewID)
 	b.events = &events{now: b.capture.Now}
-	faults := b.config.Config
-	faults.Share = b.config.share()
-	b.source = faults.Source(b.config.weights())
-	if b.storage, err = openStorage(ctx, b.config, b.folder, b.ids.Prefix()); err != nil {
+	faults := b.options.Options
+	faults.Share = b.options.share()
+	b.source = faults.Source(b.options.weights())
+	if b.storage, err = openStorage(ctx, b.options, b.folder, b.ids.Prefix()); err != nil {
 		return err
 	}
 	if err := b.openProxy(ctx); err != nil {
@@ -196,24 +196,24 @@ func freeAddresses(count int) (all []*url.URL, err error) {
 // openProxy starts the proxy, and HAProxy behind it.
 func (b *BothStorm) openProxy(ctx context.Context) (err error) {
 	first, others := b.addresses[0], b.addresses[1:]
-	if b.config.HAProxy {
+	if b.options.HAProxy {
 		if first, err = b.startHAProxy(ctx); err != nil {
 			return err
 		}
 		others = nil
 	}
-	b.proxy, err = fault.Listen(fault.Config{
+	b.proxy, err = fault.Listen(fault.Options{
 		Broker: first, Others: others, Source: b.source, Capture: b.capture, Subject: b.keys.SubjectOrNew,
-		ForwardsOthers: true, RequestTime: b.config.RequestTime, Late: b.config.Late, AnswerTime: 30 * time.Second,
+		ForwardsOthers: true, RequestTime: b.options.RequestTime, Late: b.options.Late, AnswerTime: 30 * time.Second,
 	})
 	return err
 }
 
 // writeFiles writes what the programs read: a key, the password and the catalogue.
 func (b *BothStorm) writeFiles(ctx context.Context) error {
-	key, err := exec.CommandContext(ctx, b.config.Platform, "key").Output()
+	key, err := exec.CommandContext(ctx, b.options.Platform, "key").Output()
 	if err != nil {
-		return fmt.Errorf("%s key: %w", b.config.Platform, err)
+		return fmt.Errorf("%s key: %w", b.options.Platform, err)
 	}
 	for name, text := range map[string][]byte{
 		"key": key, "password": []byte(b.password), "catalogue.json": goods.Document(),
@@ -250,7 +250,7 @@ func (b *BothStorm) addPlatform(ctx context.Context) error {
 	book := &notedBook{
 		book: book{service: goods.Service, plan: b.plan}, events: b.events, states: map[Key]platform.State{},
 	}
-	chance := fault.Chance(b.config.Seed, "commands")
+	chance := fault.Chance(b.options.Seed, "commands")
 	b.commands = newCommands(book, chance, b.platformLine(), journal, b.storage.environment)
 	b.commands.triesOf = b.tries
 	words := []string{
@@ -260,7 +260,7 @@ func (b *BothStorm) addPlatform(ctx context.Context) error {
 	if ended, err := b.commands.call(ctx, words...); err != nil || ended.status != cli.StatusDone {
 		return fmt.Errorf("the broker can't be added to the platform: %v%s", err, ended.said)
 	}
-	if b.store, err = b.storage.openStore(ctx, b.config); err != nil {
+	if b.store, err = b.storage.openStore(ctx, b.options); err != nil {
 		return err
 	}
 	b.commands.store = b.store
@@ -270,12 +270,12 @@ func (b *BothStorm) addPlatform(ctx context.Context) error {
 
 // look prepares to look at everything, and the client that keeps no rules.
 func (b *BothStorm) look() {
-	if b.config.Unruly {
+	if b.options.Unruly {
 		b.unruly = &unrulyClient{
 			url: b.proxy.URL(), password: b.password, records: b.commands.book.Records, held: b.storage.holdings.Read,
 			newID: func() string { return b.ids.NewID(0) }, client: http.Client{Timeout: unrulyRequest},
-			perSecond: float64(b.config.Instances) / 2 / b.config.Time.Seconds(),
-			chance:    fault.Chance(b.config.Seed, "unruly"), bound: map[Key]bool{}, sending: map[Key]bool{},
+			perSecond: float64(b.options.Instances) / 2 / b.options.Time.Seconds(),
+			chance:    fault.Chance(b.options.Seed, "unruly"), bound: map[Key]bool{}, sending: map[Key]bool{},
 		}
 	}
 	b.keyring = &keyring{
@@ -329,7 +329,7 @@ func (b *BothStorm) Close() error {
 
 // platformLine is the program osb-platform with the options of its store.
 func (b *BothStorm) platformLine() []string {
-	return []string{b.config.Platform, "--store", b.storage.storeName, "--key-file", b.file("key")}
+	return []string{b.options.Platform, "--store", b.storage.storeName, "--key-file", b.file("key")}
 }
 
 // tries is how many ids the order of an instance, or of a binding of it, may use up: one, or three.
@@ -350,33 +350,33 @@ func (b *BothStorm) plan(key Key) string {
 func (b *BothStorm) prepare() error {
 	for number, address := range b.addresses {
 		words := []string{
-			b.config.Broker, "serve", "--listen", address.Host, "--catalog", b.file("catalogue.json"), "--sweep-seconds", "0.5",
+			b.options.Broker, "serve", "--listen", address.Host, "--catalog", b.file("catalogue.json"), "--sweep-seconds", "0.5",
 			"--wait-for-poll", "2", "--workers", "8", "--stop-seconds", "20",
 		}
-		if partOf(b.config.Without).isUsualBroker { // it has no such rule
+		if partOf(b.options.Without).isUsualBroker { // it has no such rule
 			words = append(words, "--first-poll=false")
 		}
-		named := programNumber(number, b.config.Brokers)
+		named := programNumber(number, b.options.Brokers)
 		made, err := b.victim(whoBroker, named, append(words, b.storage.brokerWords...), "OSB_BROKER_PASSWORD="+b.password)
 		if err != nil {
 			return err
 		}
 		b.brokers = append(b.brokers, made)
 	}
-	for number := 0; number < b.config.Workers; number++ {
+	for number := 0; number < b.options.Workers; number++ {
 		words := append(b.platformLine(), "run", "--worker", fmt.Sprintf("storm-%d", number+1), "--seconds",
-			fmt.Sprint(b.config.RequestTime.Seconds()), "--look-seconds", "0.2", "--stop-seconds", "5")
-		named := programNumber(number, b.config.Workers) // a lease ends soon, with the tag storm
+			fmt.Sprint(b.options.RequestTime.Seconds()), "--look-seconds", "0.2", "--stop-seconds", "5")
+		named := programNumber(number, b.options.Workers) // a lease ends soon, with the tag storm
 		made, err := b.victim(whoPlatform, named, words, "OSB_MARGIN=1s", "OSB_PLATFORM_PASSWORD="+b.password)
 		if err != nil {
 			return err
 		}
 		b.workers = append(b.workers, made)
 	}
-	if b.config.CrashPoints != "" && !partOf(b.config.Without).isUsualBroker { // such a broker doesn't reach them
+	if b.options.CrashPoints != "" && !partOf(b.options.Without).isUsualBroker { // such a broker doesn't reach them
 		b.share(b.brokers, crash.Points())
 	}
-	if b.config.CrashPoints != "" {
+	if b.options.CrashPoints != "" {
 		b.share(b.workers, workerPoints())
 	}
 	return nil
@@ -384,10 +384,10 @@ func (b *BothStorm) prepare() error {
 
 // journalOptions returns the options with which a side writes its journal, and makes the folder of the journal.
 func (b *BothStorm) journalOptions(side string) ([]string, error) {
-	if b.config.Journal == "" {
+	if b.options.Journal == "" {
 		return nil, nil
 	}
-	folder := filepath.Join(b.config.Journal, side)
+	folder := filepath.Join(b.options.Journal, side)
 	return []string{"--journal", folder}, os.MkdirAll(folder, 0o700)
 }
 
@@ -401,7 +401,7 @@ func programNumber(at, count int) int {
 
 // share gives each of some programs its share of the crash points to visit.
 func (b *BothStorm) share(among []*victim, points []string) {
-	chance := fault.Chance(b.config.Seed, "points", among[0].name)
+	chance := fault.Chance(b.options.Seed, "points", among[0].name)
 	for at, point := range shuffle(chance, points) {
 		to := among[at%len(among)]
 		to.open = append(to.open, point)
@@ -424,10 +424,10 @@ func (b *BothStorm) victim(name string, number int, line []string, environment .
 			name: name, number: number, line: append(line, journal...), log: b.file(file),
 			environment: append(append([]string{}, b.storage.environment...), environment...),
 		},
-		chance: fault.Chance(b.config.Seed, "kills", file), events: b.events, times: usualTimes(),
+		chance: fault.Chance(b.options.Seed, "kills", file), events: b.events, times: usualTimes(),
 	}
-	made.environment = append(made.environment, b.config.withoutOf(name)...)
-	if b.config.needsPostgreSQL() {
+	made.environment = append(made.environment, b.options.withoutOf(name)...)
+	if b.options.needsPostgreSQL() {
 		made.accepted = []int{cli.StatusUnavailable}
 	}
 	return made, nil
@@ -461,7 +461,7 @@ func atOnce[T any](all []T, call func(T)) {
 // checkPoints returns an error if crash points are to be visited, and a program was built without them. A program with
 // crash points doesn't start if it is to be killed at one that it doesn't have.
 func (b *BothStorm) checkPoints(ctx context.Context) error {
-	if b.config.CrashPoints == "" {
+	if b.options.CrashPoints == "" {
 		return nil
 	}
 	for _, program := range []*victim{b.brokers[0], b.workers[0]} {
@@ -497,7 +497,7 @@ type storage struct {
 const backendKey = "the key of a storm's passwords, of which nobody has any use"
 
 // openStorage makes a new storage, with nothing in it.
-func openStorage(ctx context.Context, c BothConfig, folder, prefix string) (*storage, error) {
+func openStorage(ctx context.Context, c BothOptions, folder, prefix string) (*storage, error) {
 	s := &storage{
 		state: filepath.Join(folder, "broker"), storeName: filepath.Join(folder, "instances.sqlite"),
 		environment: append(os.Environ(), "OSB_BACKEND_KEY="+backendKey),
@@ -516,7 +516,7 @@ func openStorage(ctx context.Context, c BothConfig, folder, prefix string) (*sto
 }
 
 // openDatabase creates the database, on a server of the storm's own if that is to be killed.
-func (s *storage) openDatabase(ctx context.Context, c BothConfig, name string) (err error) {
+func (s *storage) openDatabase(ctx context.Context, c BothOptions, name string) (err error) {
 	address := c.PostgreSQL
 	if c.KillDatabase > 0 {
 		if s.server, err = servers.StartPostgres(ctx, c.Folder); err != nil {
@@ -528,8 +528,8 @@ func (s *storage) openDatabase(ctx context.Context, c BothConfig, name string) (
 	return err
 }
 
-// useDatabase has the database be the store and the backend, as the configuration says.
-func (s *storage) useDatabase(c BothConfig) {
+// useDatabase has the database be the store and the backend, as the options say.
+func (s *storage) useDatabase(c BothOptions) {
 	named, environment := s.database.ForPrograms()
 	s.environment = append(s.environment, environment...)
 	if c.Store == InPostgreSQL {
@@ -544,7 +544,7 @@ func (s *storage) useDatabase(c BothConfig) {
 	}
 }
 
-func (s *storage) openStore(ctx context.Context, c BothConfig) (store platform.Store, err error) {
+func (s *storage) openStore(ctx context.Context, c BothOptions) (store platform.Store, err error) {
 	if c.Store == InPostgreSQL {
 		const connections = 8
 		store, err = postgres.Open(ctx, s.database.URL(), connections)
@@ -558,7 +558,7 @@ func (s *storage) openStore(ctx context.Context, c BothConfig) (store platform.S
 }
 
 // describe says where the audit looks.
-func (c BothConfig) describe() string {
+func (c BothOptions) describe() string {
 	where := map[string]string{
 		AsFolders: "the folders of the broker", InPostgreSQL: "the databases and the roles of PostgreSQL",
 	}

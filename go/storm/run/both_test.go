@@ -29,13 +29,13 @@ import (
 func pidOf(v *victim) string { return strconv.Itoa(v.running.Process.Pid) }
 
 // fakes writes programs that can do no more than make a key.
-func fakes(t *testing.T) BothConfig {
+func fakes(t *testing.T) BothOptions {
 	t.Helper()
 	script := filepath.Join(t.TempDir(), "program")
 	text := "#!/bin/sh\n[ \"$1\" != key ] || echo 0123456789012345678901234567890123456789012\n"
 	check(t, os.WriteFile(script, []byte(text), 0o700))
-	return BothConfig{
-		Config: Config{
+	return BothOptions{
+		Options: Options{
 			RequestTime: time.Second, Late: time.Second, Time: time.Second, SettleTime: time.Second, Folder: t.TempDir(),
 		},
 		Broker: script, Platform: script, Brokers: 1, Workers: 1, Store: InFiles, Backend: AsFolders, Instances: 1,
@@ -43,14 +43,14 @@ func fakes(t *testing.T) BothConfig {
 }
 
 // openFakes returns a BothStorm of such programs, which ends with the test.
-func openFakes(t *testing.T, change func(*BothConfig)) *BothStorm {
+func openFakes(t *testing.T, change func(*BothOptions)) *BothStorm {
 	t.Helper()
-	config := fakes(t)
-	change(&config)
-	b := diff.Value(NewBoth(context.Background(), config))(t)
+	options := fakes(t)
+	change(&options)
+	b := diff.Value(NewBoth(context.Background(), options))(t)
 	t.Cleanup(func() {
 		diff.NoError(t, b.Close(), "Close")
-		stormtest.Empty(t, config.Folder)
+		stormtest.Empty(t, options.Folder)
 	})
 	return b
 }
@@ -58,7 +58,7 @@ func openFakes(t *testing.T, change func(*BothConfig)) *BothStorm {
 // With a folder for journals, each program gets a folder of its own below it.
 func TestJournal(t *testing.T) {
 	for _, folder := range []string{"", filepath.Join(t.TempDir(), "journals")} {
-		b := openFakes(t, func(c *BothConfig) { c.Journal = folder })
+		b := openFakes(t, func(c *BothOptions) { c.Journal = folder })
 		for name, line := range map[string][]string{"broker": b.brokers[0].line, "platform": b.workers[0].line} {
 			t.Run(name, func(t *testing.T) {
 				text, wanted := strings.Join(line, " "), " --journal "+filepath.Join(folder, name)
@@ -76,7 +76,7 @@ func TestJournal(t *testing.T) {
 
 // Each worker has a name of its own and each broker an address of its own. Each crash point is one program's to visit.
 func TestSeveralPrograms(t *testing.T) {
-	b := openFakes(t, func(c *BothConfig) { c.Brokers, c.Workers, c.CrashPoints = 3, 2, AllPoints })
+	b := openFakes(t, func(c *BothOptions) { c.Brokers, c.Workers, c.CrashPoints = 3, 2, AllPoints })
 	seen, logs, open := map[string]int{}, map[string]bool{}, 0
 	for _, program := range b.programs() {
 		line := strings.Join(program.line, " ")
@@ -107,7 +107,7 @@ func after(line, text string) string {
 
 // A storm in which nothing has happened has tried nothing: each of these is named.
 func TestUntried(t *testing.T) {
-	b := openFakes(t, func(c *BothConfig) { c.Share, c.CrashPoints = 0.4, SomePoints })
+	b := openFakes(t, func(c *BothOptions) { c.Share, c.CrashPoints = 0.4, SomePoints })
 	all := strings.Join(b.omissions(), "\n")
 	for _, part := range []string{
 		"instances that are ready were compared 0 times", "bindings that are gone were compared 0 times",
@@ -116,7 +116,7 @@ func TestUntried(t *testing.T) {
 		diff.Contains(t, all, part, "")
 	}
 	diff.Lacks(t, all, "crash points", "")
-	b.config.CrashPoints, b.config.Share = AllPoints, 0
+	b.options.CrashPoints, b.options.Share = AllPoints, 0
 	if all := strings.Join(b.omissions(), "\n"); !strings.Contains(all, "order-next") || strings.Contains(all, "the fault") {
 		t.Errorf("got %s, want the order that is left out, and no fault", all)
 	}
@@ -137,7 +137,7 @@ func TestSubjectOrNew(t *testing.T) {
 
 // The rounds of a storm have other instances.
 func TestRounds(t *testing.T) {
-	b := &BothStorm{config: BothConfig{Instances: 20, Config: Config{Time: time.Second}}}
+	b := &BothStorm{options: BothOptions{Instances: 20, Options: Options{Time: time.Second}}}
 	seen := map[int]bool{}
 	for round := 0; round < 3; round++ {
 		for _, life := range b.lives(round) {
@@ -150,28 +150,28 @@ func TestRounds(t *testing.T) {
 }
 
 func TestBothRejected(t *testing.T) {
-	for name, change := range map[string]func(*BothConfig){
-		"instances": func(c *BothConfig) { c.Instances = 0 },
-		"workers":   func(c *BothConfig) { c.Workers = 0 },
-		"brokers":   func(c *BothConfig) { c.Brokers = 0 },
-		"share":     func(c *BothConfig) { c.Share = -0.1 },
-		"time":      func(c *BothConfig) { c.Late = 0 },
-		"restart":   func(c *BothConfig) { c.List = []fault.Injection{{Kind: fault.RestartAfter}} },
-		"broker":    func(c *BothConfig) { c.Broker += "-none" },
-		"no part":   func(c *BothConfig) { c.Without = "everything" },
-		"databases": func(c *BothConfig) { c.Without, c.Backend, c.KillDatabase = "work", InPostgreSQL, 1 },
-		"no server": func(c *BothConfig) { c.Store = InPostgreSQL },
-		"away":      func(c *BothConfig) { c.Backend, c.PostgreSQL = InPostgreSQL, "postgresql://u@127.0.0.1:1/d" },
-		"database":  func(c *BothConfig) { c.KillDatabase = 1 },
-		"platform":  func(c *BothConfig) { c.Platform = "/" },
-		"key":       func(c *BothConfig) { c.Platform = "/bin/false" },
+	for name, change := range map[string]func(*BothOptions){
+		"instances": func(c *BothOptions) { c.Instances = 0 },
+		"workers":   func(c *BothOptions) { c.Workers = 0 },
+		"brokers":   func(c *BothOptions) { c.Brokers = 0 },
+		"share":     func(c *BothOptions) { c.Share = -0.1 },
+		"time":      func(c *BothOptions) { c.Late = 0 },
+		"restart":   func(c *BothOptions) { c.List = []fault.Injection{{Kind: fault.RestartAfter}} },
+		"broker":    func(c *BothOptions) { c.Broker += "-none" },
+		"no part":   func(c *BothOptions) { c.Without = "everything" },
+		"databases": func(c *BothOptions) { c.Without, c.Backend, c.KillDatabase = "work", InPostgreSQL, 1 },
+		"no server": func(c *BothOptions) { c.Store = InPostgreSQL },
+		"away":      func(c *BothOptions) { c.Backend, c.PostgreSQL = InPostgreSQL, "postgresql://u@127.0.0.1:1/d" },
+		"database":  func(c *BothOptions) { c.KillDatabase = 1 },
+		"platform":  func(c *BothOptions) { c.Platform = "/" },
+		"key":       func(c *BothOptions) { c.Platform = "/bin/false" },
 	} {
 		t.Run(name, func(t *testing.T) {
-			config := fakes(t)
-			change(&config)
-			_, err := NewBoth(context.Background(), config)
+			options := fakes(t)
+			change(&options)
+			_, err := NewBoth(context.Background(), options)
 			diff.Error(t, err, "%s", name)
-			stormtest.Empty(t, config.Folder)
+			stormtest.Empty(t, options.Folder)
 		})
 	}
 }
@@ -310,7 +310,7 @@ func TestWithout(t *testing.T) {
 		"broker": whoBroker, "platform": whoPlatform,
 	} {
 		t.Run(name, func(t *testing.T) {
-			b := openFakes(t, func(c *BothConfig) { c.Without, c.Share = name, 0.4 })
+			b := openFakes(t, func(c *BothOptions) { c.Without, c.Share = name, 0.4 })
 			for _, program := range b.programs() {
 				has := strings.HasSuffix(strings.Join(program.environment, "\n"), "\nOSB_WITHOUT="+name)
 				diff.Equal(t, has, program.name == wanted, "%q: a variable in the environment of %s", name, program)
@@ -318,11 +318,11 @@ func TestWithout(t *testing.T) {
 				diff.Equal(t, b.isKilled(program), killed, "%q: %s is killed", name, program)
 			}
 			diff.Equal(t, b.unruly != nil, name == "held", "%q: an unruly client", name)
-			usual := BothConfig{}.weights()
-			slow := b.config.share() > 0.4 && b.config.weights()[1] != usual[1] && usual[1].Kind == fault.RequestSwallowed
+			usual := BothOptions{}.weights()
+			slow := b.options.share() > 0.4 && b.options.weights()[1] != usual[1] && usual[1].Kind == fault.RequestSwallowed
 			if slow != (name == "attempts") {
-				t.Errorf("%q: got the faults %v with the share %v, want slow ones for attempts only", name, b.config.weights(),
-					b.config.share())
+				t.Errorf("%q: got the faults %v with the share %v, want slow ones for attempts only", name, b.options.weights(),
+					b.options.share())
 			}
 		})
 	}
@@ -336,7 +336,7 @@ func TestCheckTag(t *testing.T) {
 	for content, wanted := range map[string]string{text: "", strings.Replace(text, "no-such", "any", 1): "without the tag storm"} {
 		t.Run(content, func(t *testing.T) {
 			check(t, os.WriteFile(script, []byte(content), 0o700))
-			b := openFakes(t, func(c *BothConfig) { c.Broker, c.Platform, c.Without = script, script, "work" })
+			b := openFakes(t, func(c *BothOptions) { c.Broker, c.Platform, c.Without = script, script, "work" })
 			b.brokers[0].times.point, b.workers[0].times.point = 300*time.Millisecond, 300*time.Millisecond
 			got := ""
 			if err := b.checkTag(context.Background()); err != nil {
@@ -369,7 +369,7 @@ func TestReportWithout(t *testing.T) {
 
 // In a storm with both as they are usually written, each program is. Only the broker reaches no crash points.
 func TestWithoutBoth(t *testing.T) {
-	b := openFakes(t, func(c *BothConfig) { c.Without, c.CrashPoints = withoutBoth, SomePoints })
+	b := openFakes(t, func(c *BothOptions) { c.Without, c.CrashPoints = withoutBoth, SomePoints })
 	for _, program := range b.programs() {
 		last := program.environment[len(program.environment)-1]
 		diff.Equal(t, last, "OSB_WITHOUT="+program.name, "the last variable of %s", program)

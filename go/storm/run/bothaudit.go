@@ -218,12 +218,12 @@ type Programs struct {
 }
 
 func (b *BothStorm) newReport() *Report {
-	report := NewReport(b.proxy.URL(), b.config.Seed, "platform", b.password)
+	report := NewReport(b.proxy.URL(), b.options.Seed, "platform", b.password)
 	report.Prefix, report.Service, report.Plan = b.ids.Prefix(), "osb-storm", "all plans"
-	report.Inventory = b.config.describe()
+	report.Inventory = b.options.describe()
 	report.Programs = &Programs{
-		Brokers: len(b.brokers), Workers: len(b.workers), Store: b.config.Store, Backend: b.config.Backend,
-		HAProxy: b.config.HAProxy, Visited: []string{}, Unvisited: []string{}, Together: []string{}, Untried: []string{},
+		Brokers: len(b.brokers), Workers: len(b.workers), Store: b.options.Store, Backend: b.options.Backend,
+		HAProxy: b.options.HAProxy, Visited: []string{}, Unvisited: []string{}, Together: []string{}, Untried: []string{},
 		Odd: []string{},
 	}
 	return report
@@ -257,7 +257,7 @@ func (b *BothStorm) add(report *Report, found *Result) {
 	}
 	p.Compared, p.Credentials = b.auditor.counts(), len(b.keyring.all())
 	p.Together = append(p.Together, b.storage.collisions()...)
-	p.Without = b.config.Without
+	p.Without = b.options.Without
 	if b.unruly != nil {
 		p.UnrulyBindings = len(b.unruly.all())
 	}

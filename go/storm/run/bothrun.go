@@ -27,7 +27,7 @@ func (b *BothStorm) Run(ctx context.Context) (*Report, error) {
 		return b.again(ctx, *of)
 	}
 	add := func(found *Result) { b.add(into, found) }
-	err := Core{Config: b.config.Config, Report: into, Once: once, Add: add}.Run(ctx)
+	err := Core{Options: b.options.Options, Report: into, Once: once, Add: add}.Run(ctx)
 	if hasShrunk := into.MinimizeRuns > 0 || into.MinimizeEnded != ""; hasShrunk && into.Minimal == nil {
 		into.Notes = append(into.Notes, "--minimize: nothing was killed or paused in these runs")
 	}
@@ -38,7 +38,7 @@ func (b *BothStorm) once(ctx context.Context) (*Result, error) {
 	if err := b.begin(ctx); err != nil {
 		return &Result{Keys: b.keys}, err
 	}
-	b.commands.kill(b.config.CrashPoints != "")
+	b.commands.kill(b.options.CrashPoints != "")
 	found := b.course(ctx)
 	for _, all := range [][]*victim{b.workers, b.brokers} {
 		atOnce(all, (*victim).end)
@@ -48,10 +48,10 @@ func (b *BothStorm) once(ctx context.Context) (*Result, error) {
 
 // again is a further run, which is calm, with the faults of a candidate.
 func (b *BothStorm) again(ctx context.Context, of Candidate) (*Result, error) {
-	config := b.config
-	config.Calm, config.CrashPoints, config.Unruly, config.password = true, "", false, b.password
-	config.List, config.only = append([]fault.Injection{}, of.List...), of.Only
-	trial, err := NewBoth(ctx, config)
+	options := b.options
+	options.Calm, options.CrashPoints, options.Unruly, options.password = true, "", false, b.password
+	options.List, options.only = append([]fault.Injection{}, of.List...), of.Only
+	trial, err := NewBoth(ctx, options)
 	if err != nil {
 		return nil, err
 	}
@@ -65,7 +65,7 @@ func (b *BothStorm) begin(ctx context.Context) error {
 		return err
 	}
 	first, end := append([]*victim{b.workers[0]}, b.brokers...), (*victim).kill
-	if b.config.Calm {
+	if b.options.Calm {
 		end = (*victim).end
 	}
 	defer atOnce(first, end)
@@ -89,19 +89,19 @@ func (b *BothStorm) begin(ctx context.Context) error {
 
 // lives are those of a round, with numbers of their own. If only some instances are lived, all begin at once.
 func (b *BothStorm) lives(round int) (all []life) {
-	if b.config.only == nil {
+	if b.options.only == nil {
 		return b.livesOf(round, nil)
 	}
 	last := 0
-	for number := range b.config.only {
-		if of := (number - 1) / b.config.Instances; of > last {
+	for number := range b.options.only {
+		if of := (number - 1) / b.options.Instances; of > last {
 			last = of
 		}
 	}
 	for round := 0; round <= last; round++ {
 		of := map[int]bool{}
-		for number := range b.config.only {
-			of[number-round*b.config.Instances] = true
+		for number := range b.options.only {
+			of[number-round*b.options.Instances] = true
 		}
 		all = append(all, b.livesOf(round, of)...)
 	}
@@ -110,9 +110,9 @@ func (b *BothStorm) lives(round int) (all []life) {
 
 // livesOf are those of a round. If only isn't nil, they are those of these instances, by their numbers in the round.
 func (b *BothStorm) livesOf(round int, only map[int]bool) []life {
-	all := lives(b.config.Seed+int64(round), b.config.Instances, b.config.Time, true, only)
+	all := lives(b.options.Seed+int64(round), b.options.Instances, b.options.Time, true, only)
 	for at := range all {
-		all[at].number += round * b.config.Instances
+		all[at].number += round * b.options.Instances
 	}
 	return all
 }
@@ -121,7 +121,7 @@ func (b *BothStorm) remainingPoints() (points []string) {
 	for _, program := range b.programs() {
 		points = append(points, program.counts().remainingPoints()...)
 	}
-	if b.config.CrashPoints != "" {
+	if b.options.CrashPoints != "" {
 		_, _, ofCommands := b.commands.points()
 		points = append(points, ofCommands...)
 	}
@@ -136,19 +136,19 @@ func (b *BothStorm) course(ctx context.Context) *Result {
 	c := &course{
 		orders: b.commands, keys: b.keys, events: b.events, source: b.source, now: b.capture.Now, lives: b.lives,
 		isQuiet: func() bool { return b.proxy.Pending() == 0 && (b.unruly == nil || b.unruly.isDone(ctx)) },
-		time:    b.config.time(), settleTime: b.config.SettleTime,
+		time:    b.options.time(), settleTime: b.options.SettleTime,
 		look: b.auditor.look, lookEach: lookEach / 2,
 		isDone: func() bool {
-			if b.config.Calm {
+			if b.options.Calm {
 				return true
 			}
 			since := b.capture.Now() - begun
-			if since < b.config.Time || len(b.auditor.list()) > 0 {
-				return since >= b.config.Time
+			if since < b.options.Time || len(b.auditor.list()) > 0 {
+				return since >= b.options.Time
 			}
-			return b.config.Without != "" && since >= 2*b.config.Time || b.config.Without == "" && len(b.omissions()) == 0
+			return b.options.Without != "" && since >= 2*b.options.Time || b.options.Without == "" && len(b.omissions()) == 0
 		},
-		endsWhenDone: !b.config.Calm, calm: func() { b.calm(ctx, troubles) },
+		endsWhenDone: !b.options.Calm, calm: func() { b.calm(ctx, troubles) },
 	}
 	found := &Result{Keys: b.keys}
 	found.Converged, found.Took = c.run(ctx)
@@ -243,7 +243,7 @@ func (b *BothStorm) trouble(ctx context.Context) *troubles {
 	ctx, cancel := context.WithCancel(ctx)
 	t := &troubles{cancel: cancel}
 	calls := []func(context.Context){b.keyring.run}
-	if !b.config.Calm {
+	if !b.options.Calm {
 		calls = append(calls, b.meddle)
 	}
 	for _, program := range b.programs() {
@@ -253,10 +253,10 @@ func (b *BothStorm) trouble(ctx context.Context) *troubles {
 			program.startCalmly()
 		}
 	}
-	if b.storage.database != nil && !b.config.Calm {
+	if b.storage.database != nil && !b.options.Calm {
 		calls = append(calls, b.endSessions)
 	}
-	if b.storage.server != nil && !b.config.Calm {
+	if b.storage.server != nil && !b.options.Calm {
 		calls = append(calls, b.strike)
 	}
 	for _, call := range calls {
@@ -292,7 +292,7 @@ func (b *BothStorm) calm(ctx context.Context, t *troubles) {
 
 // endSessions ends a session with PostgreSQL every few seconds.
 func (b *BothStorm) endSessions(ctx context.Context) {
-	chance := fault.Chance(b.config.Seed, "sessions")
+	chance := fault.Chance(b.options.Seed, "sessions")
 	for fault.Sleep(ctx, between(chance, 500*time.Millisecond, 3*time.Second)) {
 		if isEnded, err := b.storage.database.EndSession(ctx); err == nil && isEnded {
 			b.events.add(Key{}, "osb-storm", "ends a session with PostgreSQL")
@@ -304,13 +304,13 @@ func between(chance *rand.Rand, least, most time.Duration) time.Duration {
 	return least + time.Duration(chance.Float64()*float64(most-least))
 }
 
-// strike kills PostgreSQL as often as the configuration says, and starts it again after some seconds. It pauses it as
+// strike kills PostgreSQL as often as the options say, and starts it again after some seconds. It pauses it as
 // often, for longer than a request lasts.
 func (b *BothStorm) strike(ctx context.Context) {
-	begun, chance, count := time.Now(), fault.Chance(b.config.Seed, "database"), b.config.KillDatabase
+	begun, chance, count := time.Now(), fault.Chance(b.options.Seed, "database"), b.options.KillDatabase
 	at := func(number int, least, most float64) time.Duration {
 		share := (float64(number) + least + chance.Float64()*(most-least)) / float64(count)
-		return time.Duration(share*float64(b.config.Time)) - time.Since(begun)
+		return time.Duration(share*float64(b.options.Time)) - time.Since(begun)
 	}
 	for number := 0; number < count; number++ {
 		if !fault.Sleep(ctx, at(number, 0.3, 0.4)) {
@@ -346,7 +346,7 @@ var (
 )
 
 func (b *BothStorm) meddle(ctx context.Context) {
-	chance := fault.Chance(b.config.Seed, "operator")
+	chance := fault.Chance(b.options.Seed, "operator")
 	for fault.Sleep(ctx, meddleEach) {
 		records, err := b.commands.Records(ctx)
 		if err != nil {
@@ -361,7 +361,7 @@ func (b *BothStorm) meddle(ctx context.Context) {
 
 // bindOne now and then creates a binding of an instance that is ready: half as many as there are instances.
 func (b *BothStorm) bindOne(ctx context.Context, chance *rand.Rand, records map[Key]Record) {
-	if chance.Float64() > float64(b.config.Instances)/2*float64(meddleEach)/float64(b.config.Time) {
+	if chance.Float64() > float64(b.options.Instances)/2*float64(meddleEach)/float64(b.options.Time) {
 		return
 	}
 	var ready []Key
@@ -403,7 +403,7 @@ const leastCompared = 20
 
 // omissions returns what has to happen in every storm that isn't calm, and hasn't yet, or too seldom.
 func (b *BothStorm) omissions() (all []string) {
-	if b.config.Calm {
+	if b.options.Calm {
 		return nil
 	}
 	compared := b.auditor.counts()
@@ -422,11 +422,11 @@ func (b *BothStorm) omissions() (all []string) {
 		}
 	}
 	if b.storage.server != nil {
-		if kills, pauses := b.storage.server.Counts(); kills < b.config.KillDatabase || pauses < b.config.KillDatabase {
+		if kills, pauses := b.storage.server.Counts(); kills < b.options.KillDatabase || pauses < b.options.KillDatabase {
 			all = append(all, fmt.Sprintf("PostgreSQL was killed %s and paused %s", times(kills), times(pauses)))
 		}
 	}
-	if b.config.CrashPoints == AllPoints {
+	if b.options.CrashPoints == AllPoints {
 		if points := b.remainingPoints(); len(points) > 0 {
 			all = append(all, "crash points that weren't visited: "+strings.Join(points, ", "))
 		}
@@ -435,7 +435,7 @@ func (b *BothStorm) omissions() (all []string) {
 }
 
 func (b *BothStorm) unmetFaults() (all []string) {
-	if b.config.List != nil || b.config.Share == 0 {
+	if b.options.List != nil || b.options.Share == 0 {
 		return nil
 	}
 	met := map[fault.Kind]bool{}

@@ -20,7 +20,7 @@ import (
 
 // A BrokerStorm drives a broker through faults. Use one goroutine.
 type BrokerStorm struct {
-	config        BrokerConfig
+	options       BrokerOptions
 	address       *url.URL
 	broker        *conform.Runner // asks the broker itself, without faults
 	target        conform.Target
@@ -35,27 +35,27 @@ type BrokerStorm struct {
 // NewBroker returns a BrokerStorm.
 //
 // Errors: those of conform.New; a limit isn't above 0; options contradict each other; the journal can't be opened.
-func NewBroker(config BrokerConfig) (*BrokerStorm, error) {
-	if err := config.Check(config.demands()); err != nil {
+func NewBroker(options BrokerOptions) (*BrokerStorm, error) {
+	if err := options.Check(options.demands()); err != nil {
 		return nil, err
 	}
-	address, err := url.Parse(config.Broker.URL)
+	address, err := url.Parse(options.Broker.URL)
 	if err != nil {
 		return nil, errors.New("the URL of the broker can't be read") // the text could have a password
 	}
-	journals, err := openJournals(config.Journal)
+	journals, err := openJournals(options.Journal)
 	if err != nil {
 		return nil, err
 	}
 	if journals != nil {
-		config.Broker.Transport = journals.own
+		options.Broker.Transport = journals.own
 	}
-	broker, err := conform.New(config.Broker)
+	broker, err := conform.New(options.Broker)
 	if err != nil {
 		journals.close()
 		return nil, err
 	}
-	return &BrokerStorm{config: config, address: address, broker: broker, left: map[Key]bool{}, journals: journals}, nil
+	return &BrokerStorm{options: options, address: address, broker: broker, left: map[Key]bool{}, journals: journals}, nil
 }
 
 // Prefix returns the first eight characters of each id of an instance and a binding that the storm creates.
@@ -68,9 +68,9 @@ func (s *BrokerStorm) Prefix() string { return s.broker.Prefix() }
 // Errors: those of conform's Runner.Open; ErrTrial; ErrList; what the storm itself failed at. The Report is never nil,
 // and says what couldn't be deleted.
 func (s *BrokerStorm) Run(running, deleting context.Context) (into *Report, err error) {
-	into = NewReport(s.config.Broker.URL, s.config.Seed, s.config.Broker.User, s.config.Broker.Password)
+	into = NewReport(s.options.Broker.URL, s.options.Seed, s.options.Broker.User, s.options.Broker.Password)
 	into.Prefix = s.Prefix()
-	hide := conform.NewHider(s.config.Broker.User, s.config.Broker.Password)
+	hide := conform.NewHider(s.options.Broker.User, s.options.Broker.Password)
 	defer func() {
 		into.Failed = append(into.Failed, s.journals.close()...)
 		err = hide.Error(err)
@@ -78,7 +78,7 @@ func (s *BrokerStorm) Run(running, deleting context.Context) (into *Report, err 
 	if err := s.open(running, into); err != nil {
 		return into, err
 	}
-	trial, cancel := context.WithTimeout(deleting, s.config.Broker.OperationTime+s.config.CleanUpTime)
+	trial, cancel := context.WithTimeout(deleting, s.options.Broker.OperationTime+s.options.CleanUpTime)
 	defer cancel()
 	if err := s.try(running, trial); err != nil {
 		into.Leftovers = s.cleanUp(deleting)
@@ -94,14 +94,14 @@ func (s *BrokerStorm) Run(running, deleting context.Context) (into *Report, err 
 	into.Instances++ // the one that was created without faults
 	once := func(running context.Context, of *Candidate) (*Result, error) {
 		if of == nil {
-			source := s.config.Source(fault.StandardWeights(s.config.Commands.restarts()))
+			source := s.options.Source(fault.StandardWeights(s.options.Commands.restarts()))
 			return s.once(running, deleting, source, nil)
 		}
-		found, err := s.once(running, deleting, fault.ByList(s.config.Seed, of.List), of.Only)
+		found, err := s.once(running, deleting, fault.ByList(s.options.Seed, of.List), of.Only)
 		into.Leftovers = append(into.Leftovers, found.Leftovers...)
 		return found, err
 	}
-	err = Core{Config: s.config.Config, Report: into, Once: once}.Run(running)
+	err = Core{Options: s.options.Options, Report: into, Once: once}.Run(running)
 	if running.Err() != nil {
 		err = nil
 	}
@@ -125,10 +125,10 @@ func (s *BrokerStorm) open(ctx context.Context, report *Report) error {
 	}
 	s.standard = &standardInventory{broker: s.broker, target: s.target}
 	s.inventory = s.standard
-	if s.config.Commands.List != "" {
-		s.inventory, s.isListed = listing{s.config.Commands, s.Prefix(), s.standard, s.left}, true
+	if s.options.Commands.List != "" {
+		s.inventory, s.isListed = listing{s.options.Commands, s.Prefix(), s.standard, s.left}, true
 	}
-	hide := conform.NewHider(s.config.Broker.User, s.config.Broker.Password)
+	hide := conform.NewHider(s.options.Broker.User, s.options.Broker.Password)
 	report.Service, report.Plan = hide.In(s.target.ServiceName), hide.In(s.target.PlanName)
 	return nil
 }
@@ -157,7 +157,7 @@ func (s *BrokerStorm) deletion() url.Values {
 
 // once is one run. If only isn't nil, only these instances are created.
 func (s *BrokerStorm) once(running, deleting context.Context, source *fault.Source, only map[int]bool) (*Result, error) {
-	folder, err := os.MkdirTemp(s.config.Folder, "osb-storm-")
+	folder, err := os.MkdirTemp(s.options.Folder, "osb-storm-")
 	if err != nil {
 		return &Result{Keys: newKeys(nil)}, err
 	}
@@ -174,7 +174,7 @@ func (s *BrokerStorm) once(running, deleting context.Context, source *fault.Sour
 	found.Differences = append(found.Differences, s.byDeletion(deleting, records, r.last, begun, found)...)
 	found.end = r.capture.Now()
 	found.Leftovers = s.deleteAll(running, deleting, found)
-	hide := report.NewHider(s.config.Broker.User, s.config.Broker.Password, found.Exchanges)
+	hide := report.NewHider(s.options.Broker.User, s.options.Broker.Password, found.Exchanges)
 	found.Broken = judge(found.Exchanges, found.Differences, hide)
 	found.Events, found.Given = r.events.list(), source.Faults()
 	found.Restarts, found.Unmet = r.proxy.Restarts(), source.Unmet()
@@ -219,7 +219,7 @@ func (s *BrokerStorm) byDeletion(
 			asked = append(asked, key)
 		}
 	}
-	within, cancel := context.WithTimeout(ctx, s.config.CleanUpTime)
+	within, cancel := context.WithTimeout(ctx, s.options.CleanUpTime)
 	defer cancel()
 	answers := s.deletionsOf(within, asked)
 	found.Unknown = len(asked) - len(answers)
@@ -252,15 +252,15 @@ func creationsOf(key Key, exchanges []fault.Exchange) (all []fault.Delivery) {
 	return all
 }
 
-// A BrokerConfig says which broker a BrokerStorm is about, and within which limits. Folder is that of the platform's
+// BrokerOptions say which broker a BrokerStorm is about, and within which limits. Folder is that of the platform's
 // store.
-type BrokerConfig struct {
-	Config
-	Broker      conform.Config // Instances is how many instances a run may create. Pause is the time between two polls
-	CleanUpTime time.Duration  // for the deletions at the end of each run
+type BrokerOptions struct {
+	Options
+	Broker      conform.Options // Instances is how many instances a run may create. Pause is the time between two polls
+	CleanUpTime time.Duration   // for the deletions at the end of each run
 }
 
-func (c BrokerConfig) demands() Demands {
+func (c BrokerOptions) demands() Demands {
 	return Demands{
 		Conflicts: []Conflict{{
 			c.Broker.Instances < 2, "a run needs two instances: one of them is created without faults, to try the broker",
@@ -293,15 +293,15 @@ const lookEach = 500 * time.Millisecond
 func (s *BrokerStorm) startRun(ctx, deleting context.Context, folder string, source *fault.Source) (*brokerRun, error) {
 	r := &brokerRun{BrokerStorm: s, capture: fault.NewCapture(), source: source, keys: newKeys(s.broker.NewID)}
 	r.events = &events{now: r.capture.Now}
-	restart := s.config.Commands.restart(s.address)
+	restart := s.options.Commands.restart(s.address)
 	if restart != nil {
 		restart = r.noteRestarts(ctx, deleting, restart)
 	}
 	var err error
-	r.proxy, err = fault.Listen(fault.Config{
+	r.proxy, err = fault.Listen(fault.Options{
 		Broker: s.address, Source: source, Capture: r.capture, Subject: r.keys.Subject, Catalogue: s.target.Catalogue,
 		CatalogueHeader: s.target.CatalogueHeader,
-		RequestTime:     s.config.RequestTime, Late: s.config.Late, AnswerTime: s.config.Broker.RequestTime,
+		RequestTime:     s.options.RequestTime, Late: s.options.Late, AnswerTime: s.options.Broker.RequestTime,
 		Restart: restart, Failed: func(err error) { r.fail("a restart of the broker failed: " + err.Error()) },
 	})
 	if err != nil {
@@ -309,7 +309,7 @@ func (s *BrokerStorm) startRun(ctx, deleting context.Context, folder string, sou
 	}
 	writer, err := s.journals.open(workerName)
 	if err == nil {
-		r.platform, err = startPlatform(ctx, s.config, folder, r.proxy.URL(), s.target, r.events, writer)
+		r.platform, err = startPlatform(ctx, s.options, folder, r.proxy.URL(), s.target, r.events, writer)
 	}
 	if err != nil {
 		r.proxy.Close()
@@ -344,11 +344,11 @@ func (r *brokerRun) storm(ctx, deleting context.Context, only map[int]bool) *Res
 	found := &Result{Keys: r.keys}
 	course := &course{
 		orders: r.platform, keys: r.keys, events: r.events, look: r.watch.look, source: r.source, now: r.capture.Now,
-		isQuiet: r.isQuiet, isDone: func() bool { return true }, calm: func() {}, time: r.config.Time,
-		settleTime: r.config.SettleTime, lookEach: lookEach,
+		isQuiet: r.isQuiet, isDone: func() bool { return true }, calm: func() {}, time: r.options.Time,
+		settleTime: r.options.SettleTime, lookEach: lookEach,
 	}
-	isBindable, count := r.target.Bindable && r.target.HasCatalogue, r.config.Broker.Instances-1
-	course.lives = func(int) []life { return lives(r.config.Seed, count, r.config.Time, isBindable, only) }
+	isBindable, count := r.target.Bindable && r.target.HasCatalogue, r.options.Broker.Instances-1
+	course.lives = func(int) []life { return lives(r.options.Seed, count, r.options.Time, isBindable, only) }
 	found.Converged, found.Took = course.run(ctx)
 	if err := r.platform.halt(); err != nil {
 		r.fail("the platform failed: " + err.Error())
@@ -369,7 +369,7 @@ func (r *brokerRun) storm(ctx, deleting context.Context, only map[int]bool) *Res
 // clear has the platform delete everything that these records name. It waits until that is done, for at most the time
 // to converge.
 func (r *brokerRun) clear(ctx context.Context, records map[Key]Record) error {
-	within, cancel := context.WithTimeout(ctx, r.config.SettleTime)
+	within, cancel := context.WithTimeout(ctx, r.options.SettleTime)
 	defer cancel()
 	r.events.add(Key{}, "osb-storm", "has the platform delete everything")
 	r.platform.resume()
@@ -390,7 +390,7 @@ func (r *brokerRun) isQuiet() bool { return r.proxy.Pending() == 0 }
 // earlier run has returned.
 func (s *BrokerStorm) deleteAll(running, deleting context.Context, found *Result) []conform.Leftover {
 	for _, key := range found.Keys.inOrder() {
-		if debt, isOwed := debtOf(key, found, s.config.Broker.RequestTime); isOwed {
+		if debt, isOwed := debtOf(key, found, s.options.Broker.RequestTime); isOwed {
 			s.broker.Owe(debt)
 		}
 	}
@@ -409,7 +409,7 @@ func (s *BrokerStorm) deleteAll(running, deleting context.Context, found *Result
 }
 
 func (s *BrokerStorm) cleanUp(ctx context.Context) []conform.Leftover {
-	within, cancel := context.WithTimeout(ctx, s.config.CleanUpTime)
+	within, cancel := context.WithTimeout(ctx, s.options.CleanUpTime)
 	defer cancel()
 	return s.broker.CleanUp(within)
 }
@@ -511,7 +511,7 @@ func (s *BrokerStorm) trial(ctx context.Context) (keys []Key, remove func() stri
 
 // listsBindings reports whether there is a command that lists bindings, and a plan that has some.
 func (s *BrokerStorm) listsBindings() bool {
-	return s.config.Commands.ListBindings != "" && s.target.Bindable && s.target.HasCatalogue
+	return s.options.Commands.ListBindings != "" && s.target.Bindable && s.target.HasCatalogue
 }
 
 // ends waits for the end of a creation, and returns what is wrong with it, or "".
@@ -527,11 +527,11 @@ func (s *BrokerStorm) ends(ctx context.Context, key Key, answer conform.Answer) 
 
 // trialByPlatform is trial by the platform of a run without faults.
 func (s *BrokerStorm) trialByPlatform(ctx context.Context) (keys []Key, remove func() string, problem string) {
-	folder, err := os.MkdirTemp(s.config.Folder, "osb-storm-")
+	folder, err := os.MkdirTemp(s.options.Folder, "osb-storm-")
 	if err != nil {
 		return nil, nil, err.Error()
 	}
-	r, err := s.startRun(ctx, ctx, folder, fault.ByList(s.config.Seed, []fault.Injection{}))
+	r, err := s.startRun(ctx, ctx, folder, fault.ByList(s.options.Seed, []fault.Injection{}))
 	if err != nil {
 		_ = os.RemoveAll(folder)
 		return nil, nil, err.Error()
@@ -577,7 +577,7 @@ func (s *BrokerStorm) bindByPlatform(ctx context.Context, o *operator, of Key) [
 
 // await polls until a creation has ended, and returns what is wrong, or "".
 func (s *BrokerStorm) await(ctx context.Context, key Key, operation string) string {
-	ctx, cancel := context.WithTimeout(ctx, s.config.Broker.OperationTime)
+	ctx, cancel := context.WithTimeout(ctx, s.options.Broker.OperationTime)
 	defer cancel()
 	for {
 		names := s.standard.names()
@@ -591,7 +591,7 @@ func (s *BrokerStorm) await(ctx context.Context, key Key, operation string) stri
 		case answer.Status != http.StatusOK || state != "in progress":
 			return "the last operation was answered with " + answer.Came
 		}
-		if !fault.Sleep(ctx, s.config.Broker.Pause) {
+		if !fault.Sleep(ctx, s.options.Broker.Pause) {
 			return "the creation took too long"
 		}
 	}

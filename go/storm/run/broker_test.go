@@ -20,14 +20,14 @@ import (
 	"pippinterm/storm/stormtest"
 )
 
-func configFor(t *testing.T, url string) BrokerConfig {
+func optionsFor(t *testing.T, url string) BrokerOptions {
 	t.Helper()
-	return BrokerConfig{
-		Config: Config{
+	return BrokerOptions{
+		Options: Options{
 			Seed: 1, Share: 0.5, RequestTime: 200 * time.Millisecond, Late: 400 * time.Millisecond, Time: 5 * time.Second,
 			SettleTime: 20 * time.Second, Folder: t.TempDir(),
 		},
-		Broker: conform.Config{
+		Broker: conform.Options{
 			URL: url, User: "platform", Password: password, Instances: 30, RequestTime: 5 * time.Second,
 			OperationTime: 10 * time.Second, Pause: 50 * time.Millisecond,
 		},
@@ -35,21 +35,21 @@ func configFor(t *testing.T, url string) BrokerConfig {
 	}
 }
 
-// configForModel returns a model, and the configuration of a storm against it.
-func configForModel(t *testing.T, isAsync bool, wrong mistakes) (*model, BrokerConfig) {
+// optionsForModel returns a model, and the options of a storm against it.
+func optionsForModel(t *testing.T, isAsync bool, wrong mistakes) (*model, BrokerOptions) {
 	t.Helper()
 	m, url := newModel(t, isAsync, wrong)
-	return m, configFor(t, url)
+	return m, optionsFor(t, url)
 }
 
-func openStorm(t *testing.T, config BrokerConfig) *BrokerStorm {
+func openStorm(t *testing.T, options BrokerOptions) *BrokerStorm {
 	t.Helper()
-	return diff.Value(NewBroker(config))(t)
+	return diff.Value(NewBroker(options))(t)
 }
 
-func runStorm(t *testing.T, config BrokerConfig) *Report {
+func runStorm(t *testing.T, options BrokerOptions) *Report {
 	t.Helper()
-	storm := openStorm(t, config)
+	storm := openStorm(t, options)
 	return diff.Value(storm.Run(context.Background(), context.Background()))(t)
 }
 
@@ -81,12 +81,12 @@ func TestNothingLost(t *testing.T) {
 			t.Run("", func(t *testing.T) {
 				t.Parallel()
 				stormtest.UntilEnough(t, stormtest.Tally{20, 5, 100, 30}, func(seed int64) stormtest.Tally {
-					m, config := configForModel(t, isAsync, mistakes{})
-					config.Seed, config.SettleTime, config.CleanUpTime = seed, time.Minute, time.Minute
+					m, options := optionsForModel(t, isAsync, mistakes{})
+					options.Seed, options.SettleTime, options.CleanUpTime = seed, time.Minute, time.Minute
 					if isListed {
-						config.Commands = m.commands()
+						options.Commands = m.commands()
 					}
-					report := runStorm(t, config)
+					report := runStorm(t, options)
 					if !report.IsClean() || len(report.Broken) > 0 || len(report.Failed) > 0 || len(report.Leftovers) > 0 {
 						t.Errorf("got\n%s\nwant a clean report with nothing broken, failed or left", textOf(t, report))
 					}
@@ -124,12 +124,12 @@ func TestMistakes(t *testing.T) {
 				if test.wrong.goneWhileMaking {
 					m.takes = 4 * time.Second // the platform deletes once what is late has arrived
 				}
-				config := configFor(t, url)
-				config.Seed, config.Commands = seed, m.commands()
+				options := optionsFor(t, url)
+				options.Seed, options.Commands = seed, m.commands()
 				if test.wrong.forgetsRestart {
-					config.Commands.Restart = "touch " + m.folder + "/restart"
+					options.Commands.Restart = "touch " + m.folder + "/restart"
 				}
-				report := runStorm(t, config)
+				report := runStorm(t, options)
 				text := textOf(t, report)
 				switch {
 				case test.lost != "" && !strings.Contains(stormtest.Whats(report.Lost), test.lost):
@@ -157,12 +157,12 @@ func TestByTheStandard(t *testing.T) {
 		wanted, wrong := wanted, wrong
 		t.Run(strings.ReplaceAll(wanted, " ", "-"), func(t *testing.T) {
 			t.Parallel()
-			var config BrokerConfig
+			var options BrokerOptions
 			inOneStorm(t, func(seed int64) string {
 				_, url := newModel(t, false, wrong)
-				config = configFor(t, url)
-				config.Seed, config.SettleTime = seed, 10*time.Second
-				report := runStorm(t, config)
+				options = optionsFor(t, url)
+				options.Seed, options.SettleTime = seed, 10*time.Second
+				report := runStorm(t, options)
 				if !strings.HasPrefix(report.Inventory, wanted) {
 					t.Errorf("got %s, want %s", report.Inventory, wanted)
 				}
@@ -172,8 +172,8 @@ func TestByTheStandard(t *testing.T) {
 				return ""
 			})
 			wrong.unreadLater = false
-			_, config.Broker.URL = newModel(t, false, wrong)
-			if report := runStorm(t, config); !report.IsClean() {
+			_, options.Broker.URL = newModel(t, false, wrong)
+			if report := runStorm(t, options); !report.IsClean() {
 				t.Errorf("without the mistake: got\n%s\nwant a clean report", textOf(t, report))
 			}
 		})
@@ -184,16 +184,16 @@ func TestByTheStandard(t *testing.T) {
 func TestMinimize(t *testing.T) {
 	t.Parallel()
 	inOneStorm(t, func(seed int64) string {
-		m, config := configForModel(t, false, mistakes{forgetsUnread: true})
-		config.Seed, config.Commands, config.MinimizeTime = seed, m.commands(), time.Minute
-		config.Broker.Instances = 15
-		report := runStorm(t, config)
+		m, options := optionsForModel(t, false, mistakes{forgetsUnread: true})
+		options.Seed, options.Commands, options.MinimizeTime = seed, m.commands(), time.Minute
+		options.Broker.Instances = 15
+		report := runStorm(t, options)
 		if len(report.Minimal) != 1 || len(report.MinimalLost) == 0 {
 			return fmt.Sprintf("%v is left:\n%s", report.Minimal, textOf(t, report))
 		}
 		list := listOf(t, stormtest.TextOf(t, report.WriteFaults))
-		config.List, config.MinimizeTime = list, 0
-		if again := runStorm(t, config); len(again.Lost) != 1 || len(again.Given) != 1 {
+		options.List, options.MinimizeTime = list, 0
+		if again := runStorm(t, options); len(again.Lost) != 1 || len(again.Given) != 1 {
 			return fmt.Sprintf("with %v, %s", list, textOf(t, again))
 		}
 		return ""
@@ -204,7 +204,7 @@ func TestMinimize(t *testing.T) {
 func TestNoCatalogue(t *testing.T) {
 	server := httptest.NewServer(http.NotFoundHandler())
 	defer server.Close()
-	storm := openStorm(t, configFor(t, server.URL))
+	storm := openStorm(t, optionsFor(t, server.URL))
 	_, err := storm.Run(context.Background(), context.Background())
 	if !errors.Is(err, conform.ErrNoPlan) || !strings.Contains(err.Error(), "give --service and --plan with ids") {
 		t.Errorf("got %v, want %v and which options to give", err, conform.ErrNoPlan)
@@ -214,9 +214,9 @@ func TestNoCatalogue(t *testing.T) {
 // At the first signal the storm ends, and everything is deleted, whatever was going on.
 func TestCleanUpAfterSignal(t *testing.T) {
 	t.Parallel()
-	m, config := configForModel(t, true, mistakes{})
-	config.Commands, config.Time, config.Broker.RequestTime = m.commands(), 15*time.Second, time.Second
-	storm := openStorm(t, config)
+	m, options := optionsForModel(t, true, mistakes{})
+	options.Commands, options.Time, options.Broker.RequestTime = m.commands(), 15*time.Second, time.Second
+	storm := openStorm(t, options)
 	running, signal := context.WithCancel(context.Background())
 	go func() {
 		for len(m.list(t)) < 5 {
@@ -236,15 +236,15 @@ func TestCleanUpAfterSignal(t *testing.T) {
 	if time.Since(begun) > 30*time.Second {
 		t.Errorf("got %v, want at most %v", time.Since(begun), 30*time.Second)
 	}
-	stormtest.Empty(t, config.Folder)
+	stormtest.Empty(t, options.Folder)
 }
 
 // At the second signal nothing more is deleted, and what is left is listed.
 func TestSecondSignal(t *testing.T) {
 	t.Parallel()
-	m, config := configForModel(t, false, mistakes{})
-	config.Commands, config.Time = m.commands(), 15*time.Second
-	storm := openStorm(t, config)
+	m, options := optionsForModel(t, false, mistakes{})
+	options.Commands, options.Time = m.commands(), 15*time.Second
+	storm := openStorm(t, options)
 	running, first := context.WithCancel(context.Background())
 	deleting, second := context.WithCancel(context.Background())
 	go func() {
@@ -272,9 +272,9 @@ func TestSecondSignal(t *testing.T) {
 // What others have at the broker is neither deleted nor reported, even if its id is like one of the run.
 func TestOthersUntouched(t *testing.T) {
 	t.Parallel()
-	m, config := configForModel(t, false, mistakes{})
-	config.Commands, config.Time, config.Broker.Instances = m.commands(), 2*time.Second, 8
-	storm := openStorm(t, config)
+	m, options := optionsForModel(t, false, mistakes{})
+	options.Commands, options.Time, options.Broker.Instances = m.commands(), 2*time.Second, 8
+	storm := openStorm(t, options)
 	other := "0" + storm.Prefix()[1:]
 	if other == storm.Prefix() {
 		other = "1" + storm.Prefix()[1:]
@@ -294,8 +294,8 @@ func TestOthersUntouched(t *testing.T) {
 		t.Errorf("got the error %v, want a clean report without leftovers:\n%s", err, textOf(t, report))
 	}
 	diff.Check(t, m.list(t), before, "what is left, and what was there before")
-	if report.Instances > config.Broker.Instances {
-		t.Errorf("got %d instances created, want at most %v", report.Instances, config.Broker.Instances)
+	if report.Instances > options.Broker.Instances {
+		t.Errorf("got %d instances created, want at most %v", report.Instances, options.Broker.Instances)
 	}
 }
 
@@ -308,35 +308,35 @@ func TestTrial(t *testing.T) {
 			t.Parallel()
 			m, url := newModel(t, false, mistakes{})
 			check(t, os.RemoveAll(filepath.Join(m.folder, "instances")))
-			config := configFor(t, url)
-			config.Broker.RequestTime, config.Journal = time.Second, folder
-			storm := openStorm(t, config)
+			options := optionsFor(t, url)
+			options.Broker.RequestTime, options.Journal = time.Second, folder
+			storm := openStorm(t, options)
 			_, err := storm.Run(context.Background(), context.Background())
 			diff.ErrorIs(t, err, ErrTrial, "")
 			if len(m.rows) > 0 {
 				t.Errorf("got the rows %v, want none", m.rows)
 			}
-			stormtest.Empty(t, config.Folder)
+			stormtest.Empty(t, options.Folder)
 		})
 	}
 }
 
 func TestConfigRejected(t *testing.T) {
-	for name, change := range map[string]func(*BrokerConfig){
-		"one instance":      func(c *BrokerConfig) { c.Broker.Instances = 1 },
-		"share":             func(c *BrokerConfig) { c.Share = 1.1 },
-		"time":              func(c *BrokerConfig) { c.Time = 0 },
-		"kill":              func(c *BrokerConfig) { c.Commands.Kill = "x" },
-		"start":             func(c *BrokerConfig) { c.Commands.Start = "x" },
-		"both":              func(c *BrokerConfig) { c.Commands = Commands{Restart: "x", Kill: "x", Start: "x"} },
-		"list of bindings":  func(c *BrokerConfig) { c.Commands.ListBindings = "x" },
-		"restart":           func(c *BrokerConfig) { c.List = []fault.Injection{{Kind: fault.RestartAfter}} },
-		"URL with password": func(c *BrokerConfig) { c.Broker.URL = "http://u:p@127.0.0.1" },
+	for name, change := range map[string]func(*BrokerOptions){
+		"one instance":      func(c *BrokerOptions) { c.Broker.Instances = 1 },
+		"share":             func(c *BrokerOptions) { c.Share = 1.1 },
+		"time":              func(c *BrokerOptions) { c.Time = 0 },
+		"kill":              func(c *BrokerOptions) { c.Commands.Kill = "x" },
+		"start":             func(c *BrokerOptions) { c.Commands.Start = "x" },
+		"both":              func(c *BrokerOptions) { c.Commands = Commands{Restart: "x", Kill: "x", Start: "x"} },
+		"list of bindings":  func(c *BrokerOptions) { c.Commands.ListBindings = "x" },
+		"restart":           func(c *BrokerOptions) { c.List = []fault.Injection{{Kind: fault.RestartAfter}} },
+		"URL with password": func(c *BrokerOptions) { c.Broker.URL = "http://u:p@127.0.0.1" },
 	} {
 		t.Run(name, func(t *testing.T) {
-			config := configFor(t, "http://127.0.0.1:1")
-			change(&config)
-			_, err := NewBroker(config)
+			options := optionsFor(t, "http://127.0.0.1:1")
+			change(&options)
+			_, err := NewBroker(options)
 			diff.Error(t, err, "%s", name)
 		})
 	}
@@ -474,18 +474,18 @@ func TestWrongLists(t *testing.T) {
 				name, test, isAsync, hasJournal := name, test, isAsync, hasJournal
 				t.Run(fmt.Sprint(name, isAsync, hasJournal), func(t *testing.T) {
 					t.Parallel()
-					m, config := configForModel(t, isAsync, mistakes{})
-					config.Commands, config.Time, config.Broker.Instances = test.commands, time.Second, 2
-					if config.Commands.List == "right" {
-						config.Commands.List = m.commands().List
+					m, options := optionsForModel(t, isAsync, mistakes{})
+					options.Commands, options.Time, options.Broker.Instances = test.commands, time.Second, 2
+					if options.Commands.List == "right" {
+						options.Commands.List = m.commands().List
 					}
-					if config.Commands.ListBindings == "right" {
-						config.Commands.ListBindings = m.commands().ListBindings
+					if options.Commands.ListBindings == "right" {
+						options.Commands.ListBindings = m.commands().ListBindings
 					}
 					if hasJournal {
-						config.Journal = t.TempDir()
+						options.Journal = t.TempDir()
 					}
-					storm := openStorm(t, config)
+					storm := openStorm(t, options)
 					report, err := storm.Run(context.Background(), context.Background())
 					if errors.Is(err, ErrList) != (test.wanted != "") {
 						t.Fatalf("got the error %v, want %q:\n%s", err, test.wanted, textOf(t, report))
@@ -501,7 +501,7 @@ func TestWrongLists(t *testing.T) {
 					if left := m.list(t); len(left)+len(report.Leftovers) > 0 || len(m.rows) > 0 {
 						t.Errorf("got %v %v left, want none", left, report.Leftovers)
 					}
-					stormtest.Empty(t, config.Folder)
+					stormtest.Empty(t, options.Folder)
 				})
 			}
 		}
@@ -527,11 +527,11 @@ func TestHangingCommands(t *testing.T) {
 			name, change, second := name, change, second
 			t.Run(fmt.Sprint(name, second), func(t *testing.T) {
 				t.Parallel()
-				m, config := configForModel(t, false, mistakes{})
-				config.Commands, config.Time = m.commands(), time.Minute
+				m, options := optionsForModel(t, false, mistakes{})
+				options.Commands, options.Time = m.commands(), time.Minute
 				flag := filepath.Join(t.TempDir(), "hang")
-				change(&config.Commands, "! test -e "+flag)
-				storm := openStorm(t, config)
+				change(&options.Commands, "! test -e "+flag)
+				storm := openStorm(t, options)
 				running, first := context.WithCancel(context.Background())
 				deleting, end := context.WithCancel(context.Background())
 				defer end()
@@ -577,15 +577,15 @@ func TestHangingCommands(t *testing.T) {
 
 // In a calm storm nothing is killed or has to be tried, and it ends with its lives.
 func TestCalm(t *testing.T) {
-	b := openFakes(t, func(c *BothConfig) {
+	b := openFakes(t, func(c *BothOptions) {
 		c.Calm, c.Without, c.Time, c.password = true, "held", 3*time.Second, "the password"
 	})
 	for _, program := range b.programs() {
 		diff.Equal(t, b.isKilled(program), false, "%s is killed", program)
 	}
 	diff.Equal(t, b.password, "the password", "the password")
-	if untried := b.omissions(); b.unruly != nil || len(untried) > 0 || b.config.time() != 3*time.Second {
-		t.Errorf("got unruly %v, untried %v and %v, want false, none and 3 s", b.unruly != nil, untried, b.config.time())
+	if untried := b.omissions(); b.unruly != nil || len(untried) > 0 || b.options.time() != 3*time.Second {
+		t.Errorf("got unruly %v, untried %v and %v, want false, none and 3 s", b.unruly != nil, untried, b.options.time())
 	}
 	ctx, cancel := context.WithCancel(context.Background())
 	cancel()
@@ -597,11 +597,11 @@ func TestCalm(t *testing.T) {
 				program.running != nil, its.kills, its.pauses)
 		}
 	}
-	for name, change := range map[string]func(*BothConfig){
-		"unruly": func(c *BothConfig) { c.Unruly = true }, "points": func(c *BothConfig) { c.CrashPoints = SomePoints },
+	for name, change := range map[string]func(*BothOptions){
+		"unruly": func(c *BothOptions) { c.Unruly = true }, "points": func(c *BothOptions) { c.CrashPoints = SomePoints },
 	} {
 		t.Run(name, func(t *testing.T) {
-			wrong := b.config
+			wrong := b.options
 			change(&wrong)
 			diff.Error(t, wrong.Check(wrong.demands()), "%s", name)
 		})
@@ -611,7 +611,7 @@ func TestCalm(t *testing.T) {
 // The lives of a trial are those of these instances in the storm, in whichever round, except that all begin at
 // once.
 func TestLivesOfTrial(t *testing.T) {
-	b := openFakes(t, func(c *BothConfig) { c.Instances = 3 })
+	b := openFakes(t, func(c *BothOptions) { c.Instances = 3 })
 	var wanted []life
 	for _, numbers := range [][2]int{{0, 2}, {2, 7}, {2, 9}} { // the round and the number
 		for _, of := range b.lives(numbers[0]) {
@@ -621,7 +621,7 @@ func TestLivesOfTrial(t *testing.T) {
 			}
 		}
 	}
-	b.config.only = map[int]bool{9: true, 2: true, 7: true}
+	b.options.only = map[int]bool{9: true, 2: true, 7: true}
 	diff.Equal(t, len(wanted), 3, "lives of these instances in the storm")
 	diff.Check(t, b.lives(0), wanted, "the lives of the trial")
 }

@@ -21,8 +21,8 @@ import (
 	"pippinterm/storm/run/audit"
 )
 
-// A Config says which faults a storm of any kind has, and within which limits it goes on.
-type Config struct {
+// Options say which faults a storm of any kind has, and within which limits it goes on.
+type Options struct {
 	Seed  int64
 	Share float64           // how many of all requests have a fault, from 0 to 1
 	List  []fault.Injection // the faults of the run, in place of those by the seed; or nil
@@ -53,7 +53,7 @@ type Conflict struct {
 	Reason string
 }
 
-// Demands are what the configurations of one kind of storm have to satisfy besides those of all kinds.
+// Demands are what the options of one kind of storm have to satisfy besides those of all kinds.
 type Demands struct {
 	Conflicts []Conflict
 	Limits    []time.Duration // above 0
@@ -61,7 +61,7 @@ type Demands struct {
 }
 
 // Check returns an error if options exclude each other, a limit isn't above 0, or the faults can't happen.
-func (c Config) Check(own Demands) error {
+func (c Options) Check(own Demands) error {
 	for _, conflict := range append(own.Conflicts, c.conflicts()...) {
 		if conflict.Exists {
 			return errors.New(conflict.Reason)
@@ -80,7 +80,7 @@ func (c Config) Check(own Demands) error {
 	return nil
 }
 
-func (c Config) conflicts() []Conflict {
+func (c Options) conflicts() []Conflict {
 	commands := c.Commands
 	return []Conflict{
 		{(commands.Kill == "") != (commands.Start == ""), "give a kill command and a start command, or neither"},
@@ -91,7 +91,7 @@ func (c Config) conflicts() []Conflict {
 }
 
 // Source returns the faults of the run.
-func (c Config) Source(weights fault.Weights) *fault.Source {
+func (c Options) Source(weights fault.Weights) *fault.Source {
 	if c.List != nil {
 		return fault.ByList(c.Seed, c.List)
 	}
@@ -135,7 +135,7 @@ func (r *Result) IsLoser() bool {
 
 // A Core runs a storm of any kind.
 type Core struct {
-	Config
+	Options
 	Report *Report
 	// Once is a run: the first one if the candidate is nil, or a further one with the faults of the candidate.
 	Once func(ctx context.Context, of *Candidate) (*Result, error)
@@ -163,7 +163,7 @@ func (c Core) Run(ctx context.Context) error {
 	if ctx.Err() != nil {
 		c.Report.Ended = EndedBefore
 	}
-	c.Report.takeUntried(c.Config)
+	c.Report.takeUntried(c.Options)
 	return err
 }
 

@@ -118,14 +118,14 @@ func (s *BrokerStorm) tryLists(running, ctx context.Context, keys []Key) error {
 	}
 	within, cancel := linger(running, ctx)
 	defer cancel()
-	of := listing{commands: s.config.Commands, prefix: s.Prefix()}
+	of := listing{commands: s.options.Commands, prefix: s.Prefix()}
 	for _, test := range []struct {
 		option, command, prints, what string
 		ids                           int
 	}{
-		{"--list-command", s.config.Commands.List, "the id of each instance that exists, one on a line", "instance", 1},
+		{"--list-command", s.options.Commands.List, "the id of each instance that exists, one on a line", "instance", 1},
 		{
-			"--list-bindings-command", s.config.Commands.ListBindings,
+			"--list-bindings-command", s.options.Commands.ListBindings,
 			"the ids of the instance and the binding of each binding that exists, one pair on a line", "binding", 2,
 		},
 	} {

@@ -43,7 +43,7 @@ var _ Orders = (*platformRig)(nil)
 // startPlatform starts a platform whose broker is at a URL. If writer isn't nil, the platform writes its journal to it,
 // and closes it in the end.
 func startPlatform(
-	ctx context.Context, c BrokerConfig, folder, url string, target conform.Target, observer platform.Observer,
+	ctx context.Context, c BrokerOptions, folder, url string, target conform.Target, observer platform.Observer,
 	writer *journalfile.Writer,
 ) (*platformRig, error) {
 	rig := &platformRig{book: bookOf(target), writer: writer, ended: make(chan error, 1)}
@@ -59,7 +59,7 @@ func startPlatform(
 	return rig, nil
 }
 
-func (p *platformRig) open(ctx context.Context, c BrokerConfig, folder, url string, observer platform.Observer) error {
+func (p *platformRig) open(ctx context.Context, c BrokerOptions, folder, url string, observer platform.Observer) error {
 	sealing, err := newVault()
 	if err != nil {
 		return err
@@ -91,7 +91,7 @@ func (p *platformRig) open(ctx context.Context, c BrokerConfig, folder, url stri
 
 // optionsOf are the options of the engine. What is late has arrived before a deletion is sent (Hold), as the platform
 // assumes it of every network.
-func optionsOf(c BrokerConfig) platform.Options {
+func optionsOf(c BrokerOptions) platform.Options {
 	return platform.Options{
 		Worker: workerName, Exchange: c.RequestTime, Margin: time.Second, Look: 50 * time.Millisecond,
 		FirstPace: c.Broker.Pause, LongestPace: 4 * c.Broker.Pause, LongestPoll: c.Broker.OperationTime,

@@ -103,7 +103,7 @@ func emptyReport() *Report {
 
 // takeUntried notes what the storm hasn't tried, unless it was ended before. What both programs haven't is known
 // already.
-func (r *Report) takeUntried(c Config) {
+func (r *Report) takeUntried(c Options) {
 	if r.Ended == "" && r.Programs == nil {
 		r.Untried = report.Omissions(r.given, c.Share, c.List, r.words().moreRequests)
 	}

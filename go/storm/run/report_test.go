@@ -80,9 +80,9 @@ func TestHTML(t *testing.T) {
 // No report has the password or credentials, even if the broker repeats them in its errors.
 func TestNoSecrets(t *testing.T) {
 	t.Parallel()
-	m, config := configForModel(t, false, mistakes{losesBindings: true, forgetsUnread: true, talks: true})
-	config.Commands = m.commands()
-	got := runStorm(t, config)
+	m, options := optionsForModel(t, false, mistakes{losesBindings: true, forgetsUnread: true, talks: true})
+	options.Commands = m.commands()
+	got := runStorm(t, options)
 	if !stormtest.HasBinding(got.Lost) {
 		t.Fatalf("got\n%s\nwant a binding that is lost", textOf(t, got))
 	}
@@ -113,17 +113,17 @@ func TestNoSecretsInErrors(t *testing.T) {
 	}
 	server := httptest.NewServer(http.HandlerFunc(talk))
 	defer server.Close()
-	config := configFor(t, server.URL)
-	config.Broker.Pause = time.Millisecond
-	config.Commands.List = "echo " + password + " >&2; exit 3"
-	storm := openStorm(t, config)
+	options := optionsFor(t, server.URL)
+	options.Broker.Pause = time.Millisecond
+	options.Commands.List = "echo " + password + " >&2; exit 3"
+	storm := openStorm(t, options)
 	got, failed := storm.Run(context.Background(), context.Background())
 	if !errors.Is(failed, ErrTrial) || len(got.Leftovers) != 1 {
 		t.Fatalf("got the error %v and the leftovers %v, want %v and one", failed, got.Leftovers, ErrTrial)
 	}
 	m, url := newModel(t, false, mistakes{})
-	config.Broker.URL = url
-	storm = openStorm(t, config)
+	options.Broker.URL = url
+	storm = openStorm(t, options)
 	_, listed := storm.Run(context.Background(), context.Background())
 	if !errors.Is(listed, ErrList) || len(m.list(t)) > 0 {
 		t.Fatalf("got the error %v, want %v", listed, ErrList)
@@ -216,10 +216,10 @@ func TestNoFaultIsNeeded(t *testing.T) {
 // Faults of a list that meet no request are named in each form.
 func TestUnmet(t *testing.T) {
 	t.Parallel()
-	_, config := configForModel(t, false, mistakes{})
-	config.Broker.Instances, config.Time = 2, time.Second
-	config.List = listOf(t, "99.1 answer-lost\n1.1 answer-lost\n98/1.2 hang-up")
-	for form, text := range stormtest.Forms(t, runStorm(t, config)) {
+	_, options := optionsForModel(t, false, mistakes{})
+	options.Broker.Instances, options.Time = 2, time.Second
+	options.List = listOf(t, "99.1 answer-lost\n1.1 answer-lost\n98/1.2 hang-up")
+	for form, text := range stormtest.Forms(t, runStorm(t, options)) {
 		wanted := "2 faults of the list met no request: 98/1.2 hang-up, 99.1 answer-lost"
 		if form == "JSON" {
 			wanted = "\"unmet_faults\": [\n    \"98/1.2 hang-up\",\n    \"99.1 answer-lost\"\n  ]"
@@ -254,7 +254,7 @@ func TestUntriedFaults(t *testing.T) {
 		t.Run(name, func(t *testing.T) {
 			report := emptyReport()
 			report.Converged, report.given, report.Ended = true, test.given, test.ended
-			report.takeUntried(Config{Share: test.share, List: test.list})
+			report.takeUntried(Options{Share: test.share, List: test.list})
 			if report.IsClean() != (test.says == "" && test.ended == "") {
 				t.Errorf("%s: got clean %v, want %v", name, report.IsClean(), test.says == "" && test.ended == "")
 			}
@@ -274,14 +274,14 @@ func TestUntriedFaults(t *testing.T) {
 // The storm itself counts: one whose few requests have no fault isn't clean.
 func TestStormWithoutFault(t *testing.T) {
 	t.Parallel()
-	_, config := configForModel(t, false, mistakes{})
-	config.Broker.Instances, config.Time, config.Share = 2, time.Second, 1e-9
-	report := runStorm(t, config)
+	_, options := optionsForModel(t, false, mistakes{})
+	options.Broker.Instances, options.Time, options.Share = 2, time.Second, 1e-9
+	report := runStorm(t, options)
 	if report.IsClean() || len(report.Untried) != 1 || !report.Converged || len(report.Lost) > 0 {
 		t.Errorf("got\n%s\nwant what is untried, and nothing else", textOf(t, report))
 	}
-	config.Share = 0
-	if report := runStorm(t, config); !report.IsClean() {
+	options.Share = 0
+	if report := runStorm(t, options); !report.IsClean() {
 		t.Errorf("got\n%s\nwant a clean report", textOf(t, report))
 	}
 }
@@ -289,11 +289,11 @@ func TestStormWithoutFault(t *testing.T) {
 // A storm that has found nothing is drawn, too, with the restarts of the broker.
 func TestPictureOfCleanStorm(t *testing.T) {
 	t.Parallel()
-	m, config := configForModel(t, false, mistakes{})
-	config.Commands, config.Time = m.commands(), 2*time.Second
-	config.Commands.Restart = "true"
-	config.List = listOf(t, "1.1 restart-after\n2.1 answer-lost")
-	report := runStorm(t, config)
+	m, options := optionsForModel(t, false, mistakes{})
+	options.Commands, options.Time = m.commands(), 2*time.Second
+	options.Commands.Restart = "true"
+	options.List = listOf(t, "1.1 restart-after\n2.1 answer-lost")
+	report := runStorm(t, options)
 	if !report.IsClean() || report.Restarts != 1 {
 		t.Fatalf("got\n%s\nwant a clean report and 1 restart", textOf(t, report))
 	}
@@ -366,16 +366,16 @@ func TestJournals(t *testing.T) {
 		t.Run("", func(t *testing.T) {
 			t.Parallel()
 			m, url, arrivals := newNotedModel(t, isAsync)
-			config := configFor(t, url)
-			config.Commands, config.Journal = m.commands(), filepath.Join(t.TempDir(), "journals")
-			config.Commands.ListBindings = "" // osb-storm fetches the bindings
-			report := runStorm(t, config)
+			options := optionsFor(t, url)
+			options.Commands, options.Journal = m.commands(), filepath.Join(t.TempDir(), "journals")
+			options.Commands.ListBindings = "" // osb-storm fetches the bindings
+			report := runStorm(t, options)
 			if !report.IsClean() || len(report.Failed) > 0 || len(report.Leftovers) > 0 {
 				t.Errorf("got\n%s\nwant a clean report and nothing left", textOf(t, report))
 			}
 			m.expectNothing(t)
-			stormtest.Empty(t, config.Folder)
-			lines := linesOf(t, filepath.Join(config.Journal, "platform"))
+			stormtest.Empty(t, options.Folder)
+			lines := linesOf(t, filepath.Join(options.Journal, "platform"))
 			checkRequests(t, lines, arrivals())
 			checkDeletions(t, lines, report)
 		})
@@ -457,9 +457,9 @@ func checkDeletions(t *testing.T, lines []journalLine, report *Report) {
 func TestJournalsByDeletion(t *testing.T) {
 	t.Parallel()
 	inOneStorm(t, func(seed int64) string {
-		m, config := configForModel(t, false, mistakes{blind: true, mute: true})
-		config.Seed, config.Journal = seed, t.TempDir()
-		report := runStorm(t, config)
+		m, options := optionsForModel(t, false, mistakes{blind: true, mute: true})
+		options.Seed, options.Journal = seed, t.TempDir()
+		report := runStorm(t, options)
 		if left := m.list(t); !report.IsClean() || report.Unknown > 0 || len(left) > 0 {
 			return textOf(t, report)
 		}
@@ -493,9 +493,9 @@ func TestDeletedSince(t *testing.T) {
 
 // A journal that can't be opened ends the storm before anything is created.
 func TestNoJournals(t *testing.T) {
-	_, config := configForModel(t, false, mistakes{})
-	config.Journal = filepath.Join(t.TempDir(), "file")
-	check(t, os.WriteFile(config.Journal, nil, 0o600))
-	_, err := NewBroker(config)
+	_, options := optionsForModel(t, false, mistakes{})
+	options.Journal = filepath.Join(t.TempDir(), "file")
+	check(t, os.WriteFile(options.Journal, nil, 0o600))
+	_, err := NewBroker(options)
 	diff.Error(t, err, "a file")
 }

@@ -48,7 +48,7 @@ func partOf(name string) designPart {
 
 // weights are how often the kinds of faults are chosen. Without attempts, most answers are too late or missing: then
 // the 200 to a Provision that arrived twice is taken for that to a Deprovision that was swallowed.
-func (c BothConfig) weights() fault.Weights {
+func (c BothOptions) weights() fault.Weights {
 	weights := fault.StandardWeights(false)
 	if c.Without != withoutAttempts {
 		return weights
@@ -65,7 +65,7 @@ func (c BothConfig) weights() fault.Weights {
 }
 
 // share is how many of all requests have a fault: without attempts at least 0.7.
-func (c BothConfig) share() float64 {
+func (c BothOptions) share() float64 {
 	const withoutAttemptsAtLeast = 0.7
 	if c.Without == withoutAttempts && c.Share > 0 && c.Share < withoutAttemptsAtLeast {
 		return withoutAttemptsAtLeast
@@ -76,11 +76,11 @@ func (c BothConfig) share() float64 {
 // isKilled reports whether a program is killed again and again: none is in a calm storm. A platform without attempts
 // isn't: one that is killed hears no late answer.
 func (b *BothStorm) isKilled(v *victim) bool {
-	return !b.config.Calm && (b.config.Without != withoutAttempts || v.name != whoPlatform)
+	return !b.options.Calm && (b.options.Without != withoutAttempts || v.name != whoPlatform)
 }
 
 // withoutOf returns the variable that takes the part out of a program.
-func (c BothConfig) withoutOf(program string) []string {
+func (c BothOptions) withoutOf(program string) []string {
 	of := partOf(c.Without)
 	switch {
 	case of.name == withoutBoth:
@@ -95,7 +95,7 @@ func (c BothConfig) withoutOf(program string) []string {
 // the tag doesn't start without a part that it doesn't have.
 func (b *BothStorm) checkTag(ctx context.Context) error {
 	for _, program := range []*victim{b.brokers[0], b.workers[0]} {
-		if len(b.config.withoutOf(program.name)) == 0 {
+		if len(b.options.withoutOf(program.name)) == 0 {
 			continue
 		}
 		environment := append(append([]string{}, program.environment...), "OSB_WITHOUT=no-such-part")

@@ -29,7 +29,7 @@ import (
 func TestALifeWithoutAPart(t *testing.T) {
 	for _, part := range []string{"", "available", "held", "tombstones", "work", "busy", "locks", "broker"} {
 		t.Run("without "+part, func(t *testing.T) {
-			s := newTestBroker(t, part, broker.Rules{})
+			s := newTestBroker(t, part, broker.ServiceOptions{})
 			s.provision(201, now)
 			s.provision(200, now)
 			s.bind(201, now)
@@ -49,7 +49,7 @@ func TestALifeWithoutAPart(t *testing.T) {
 func TestALaterLifeWithoutAPart(t *testing.T) {
 	for _, part := range []string{"", "tombstones", "work", "busy", "locks", "broker"} {
 		t.Run("without "+part, func(t *testing.T) {
-			s := newTestBroker(t, part, broker.Rules{})
+			s := newTestBroker(t, part, broker.ServiceOptions{})
 			s.provision(202, later) // and its operation ends in Touch
 			s.provision(200, later)
 			s.bind(202, later)
@@ -70,7 +70,7 @@ func TestUnknownPart(t *testing.T) {
 func TestTombstones(t *testing.T) {
 	for _, part := range []string{"tombstones", "broker"} {
 		t.Run(part, func(t *testing.T) {
-			s := newTestBroker(t, part, broker.Rules{})
+			s := newTestBroker(t, part, broker.ServiceOptions{})
 			s.remove(410, instance, now)
 			s.remove(410, binding, now)
 			wantHolding(t, s.store, instance, osb.Holding{})
@@ -78,7 +78,7 @@ func TestTombstones(t *testing.T) {
 			s.provision(201, now) // which a tombstone would forbid
 		})
 	}
-	s := newTestBroker(t, "", broker.Rules{})
+	s := newTestBroker(t, "", broker.ServiceOptions{})
 	s.remove(410, instance, now)
 	s.provision(409, now)
 }
@@ -87,14 +87,14 @@ func TestTombstones(t *testing.T) {
 func TestAvailable(t *testing.T) {
 	for part, statuses := range map[string][3]int{"available": {201, 200, 202}, "": {503, 410, 503}} {
 		t.Run("without "+part, func(t *testing.T) {
-			s := newTestBroker(t, part, broker.Rules{})
+			s := newTestBroker(t, part, broker.ServiceOptions{})
 			s.provision(201, now)
 			write(t, s.store, instance, osb.Holding{})
 			s.bind(statuses[0], now)
 			s.remove(statuses[1], binding, now)
 			s.remove(410, binding, now)
 			for _, firstPoll := range []bool{false, true} {
-				s = newTestBroker(t, part, broker.Rules{FirstPoll: firstPoll, WaitForPoll: time.Minute})
+				s = newTestBroker(t, part, broker.ServiceOptions{FirstPoll: firstPoll, WaitForPoll: time.Minute})
 				write(t, s.store, instance, holding(t, in("making"), "null", false))
 				s.bind(statuses[2], later)
 			}
@@ -105,7 +105,7 @@ func TestAvailable(t *testing.T) {
 func TestHeld(t *testing.T) {
 	for part, status := range map[string]int{"held": 200, "": 422} {
 		t.Run("without "+part, func(t *testing.T) {
-			s := newTestBroker(t, part, broker.Rules{})
+			s := newTestBroker(t, part, broker.ServiceOptions{})
 			s.provision(201, now)
 			s.bind(201, now)
 			s.remove(status, instance, now)
@@ -428,7 +428,7 @@ type testBroker struct {
 	store   broker.NamedStore
 }
 
-func newTestBroker(t *testing.T, part string, rules broker.Rules) *testBroker {
+func newTestBroker(t *testing.T, part string, options broker.ServiceOptions) *testBroker {
 	t.Helper()
 	ctx, s := context.Background(), &testBroker{t: t, top: t.TempDir()}
 	sold := diff.Value(folders.New(s.top))(t)
@@ -436,9 +436,9 @@ func newTestBroker(t *testing.T, part string, rules broker.Rules) *testBroker {
 	check(t, err)
 	read := diff.Value(broker.NewCatalogue(goods.Document(), true))(t)
 	users := diff.Value(broker.NewUsers(map[string][]string{"u": {"p"}}))(t)
-	made := broker.NewService(read, store, sold, locks, rules, broker.Silent{})
+	made := broker.NewService(read, store, sold, locks, options, broker.Silent{})
 	s.store = store
-	s.handler, err = broker.NewHandler(ctx, made, broker.Config{
+	s.handler, err = broker.NewHandler(ctx, made, broker.HandlerOptions{
 		Users: users, LongestBody: 1000, AtOnce: 4, Observer: broker.Silent{},
 		Touch: func(key broker.Key) { check(t, made.TakeUp(ctx, key)) },
 	})

@@ -587,7 +587,7 @@ func serviceOf(t *testing.T, backend lockingBackend, observer broker.Observer) (
 	catalogue := diff.Value(broker.NewCatalogue(document, true))(t)
 	store := diff.Value(sqlite.Open(ctx, filepath.Join(t.TempDir(), "holdings.sqlite"), broker.Silent{}))(t)
 	t.Cleanup(func() { _ = store.Close() })
-	rules := broker.Rules{WaitForPoll: time.Minute}
+	rules := broker.ServiceOptions{WaitForPoll: time.Minute}
 	return broker.NewService(catalogue, store, backend, backend.Locks(), rules, observer), store
 }
 

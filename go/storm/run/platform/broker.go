@@ -39,7 +39,7 @@ type shop struct {
 	failed []string
 }
 
-func openShop(ctx context.Context, c Config, folder string) (s *shop, err error) {
+func openShop(ctx context.Context, c Options, folder string) (s *shop, err error) {
 	s = &shop{served: make(chan error, 1)}
 	catalogue, err := broker.NewCatalogue(goods.Document(), true)
 	if err != nil {
@@ -55,15 +55,15 @@ func openShop(ctx context.Context, c Config, folder string) (s *shop, err error)
 	if s.store, err = sqlite.Open(ctx, filepath.Join(folder, "holdings.sqlite"), s); err != nil {
 		return nil, fmt.Errorf("the store of the broker: %w", err)
 	}
-	rules := broker.Rules{FirstPoll: c.FirstPoll, WaitForPoll: 10 * time.Minute}
-	lines, err := s.openJournal(c.Journal, catalogue, rules)
+	serviceOptions := broker.ServiceOptions{FirstPoll: c.FirstPoll, WaitForPoll: 10 * time.Minute}
+	lines, err := s.openJournal(c.Journal, catalogue, serviceOptions)
 	if err == nil {
 		store, sold := broker.Store(s.store), broker.Backend(s.backend)
-		config := broker.Config{Users: users, LongestBody: 1 << 20, AtOnce: 64, Observer: s}
+		options := broker.HandlerOptions{Users: users, LongestBody: 1 << 20, AtOnce: 64, Observer: s}
 		if lines != nil {
-			store, sold, config.Journal = lines.Store(store), lines.Backend(sold), lines
+			store, sold, options.Journal = lines.Store(store), lines.Backend(sold), lines
 		}
-		err = s.serve(ctx, broker.NewService(catalogue, store, sold, s.backend.Locks(), rules, s), config)
+		err = s.serve(ctx, broker.NewService(catalogue, store, sold, s.backend.Locks(), serviceOptions, s), options)
 	}
 	if err != nil {
 		return nil, run.FirstError(err, s.closeFiles())
@@ -72,11 +72,11 @@ func openShop(ctx context.Context, c Config, folder string) (s *shop, err error)
 }
 
 // openJournal opens the journal below a folder, or returns nil if its name is empty.
-func (s *shop) openJournal(below string, catalogue *broker.Catalogue, rules broker.Rules) (*journal.Journal, error) {
+func (s *shop) openJournal(below string, catalogue *broker.Catalogue, options broker.ServiceOptions) (*journal.Journal, error) {
 	if below == "" {
 		return nil, nil
 	}
-	started, err := journal.StartMembers(cli.Version(), catalogue.Document(), rules, s.backend.Locks().CanBeLost())
+	started, err := journal.StartMembers(cli.Version(), catalogue.Document(), options, s.backend.Locks().CanBeLost())
 	if err != nil {
 		return nil, err
 	}
@@ -93,10 +93,10 @@ func (s *shop) openJournal(below string, catalogue *broker.Catalogue, rules brok
 	return journal.New(s.writer, isDoubtful), nil
 }
 
-func (s *shop) serve(ctx context.Context, service *broker.Service, config broker.Config) error {
+func (s *shop) serve(ctx context.Context, service *broker.Service, options broker.HandlerOptions) error {
 	sweeper := broker.NewSweeper(service, s)
-	config.Touch = sweeper.Touch
-	handler, err := broker.NewHandler(ctx, service, config)
+	options.Touch = sweeper.Touch
+	handler, err := broker.NewHandler(ctx, service, options)
 	if err != nil {
 		return err
 	}
@@ -212,7 +212,7 @@ type backend struct {
 	takes time.Duration
 }
 
-func newBackend(c Config, folder string) (backend, error) {
+func newBackend(c Options, folder string) (backend, error) {
 	sold, err := folders.New(folder)
 	return backend{sold, c.Seed, c.OperationTime}, err
 }

@@ -36,10 +36,10 @@ done
 echo $OSB_STORM_URL >>URLS
 `
 
-// orderingConfig is a Config with an order command that creates instances, and the folder of its files.
-func orderingConfig(t *testing.T, count int, list ...string) (Config, string) {
+// orderingOptions are Options with an order command that creates instances, and the folder of its files.
+func orderingOptions(t *testing.T, count int, list ...string) (Options, string) {
 	t.Helper()
-	config, folder := configFor(t), t.TempDir()
+	options, folder := optionsFor(t), t.TempDir()
 	command := ordering
 	for name, value := range map[string]string{
 		"COUNT": fmt.Sprint(count), "SERVICE": goods.Service, "PLAN": goods.AtOnce,
@@ -48,23 +48,23 @@ func orderingConfig(t *testing.T, count int, list ...string) (Config, string) {
 		command = strings.ReplaceAll(command, name, value)
 	}
 	var err error
-	config.List, err = fault.ReadList(strings.NewReader(strings.Join(list, "\n")))
+	options.List, err = fault.ReadList(strings.NewReader(strings.Join(list, "\n")))
 	check(t, err)
-	config.List = append([]fault.Injection{}, config.List...)
-	config.Commands = run.Commands{Order: command, List: "cat " + filepath.Join(folder, "listed")}
-	config.Time, config.SettleTime = 5*time.Minute, 300*time.Millisecond
-	config.RequestTime, config.Journal = unhurried, filepath.Join(folder, "journals")
-	return config, folder
+	options.List = append([]fault.Injection{}, options.List...)
+	options.Commands = run.Commands{Order: command, List: "cat " + filepath.Join(folder, "listed")}
+	options.Time, options.SettleTime = 5*time.Minute, 300*time.Millisecond
+	options.RequestTime, options.Journal = unhurried, filepath.Join(folder, "journals")
+	return options, folder
 }
 
 // runOrders returns the report of a storm with an order command, and how long it took. Nothing is left in its folder.
-func runOrders(t *testing.T, ctx context.Context, config Config) (*run.Report, time.Duration) {
+func runOrders(t *testing.T, ctx context.Context, options Options) (*run.Report, time.Duration) {
 	t.Helper()
 	begun := time.Now()
-	storm := diff.Value(Start(context.Background(), config))(t)
+	storm := diff.Value(Start(context.Background(), options))(t)
 	report := storm.Run(ctx)
 	diff.NoError(t, storm.Close(), "")
-	stormtest.Empty(t, config.Folder)
+	stormtest.Empty(t, options.Folder)
 	return report, time.Since(begun)
 }
 
@@ -92,7 +92,7 @@ exit 3`
 	for name, test := range map[string]struct {
 		faults string
 		order  string // the order command, in which ORDERS are those of the usual one, and FOLDER is the folder of its files
-		change func(*Config)
+		change func(*Options)
 		wanted summary
 	}{
 		// Nothing is shrunk after a run that has failed. What was abandoned before stays in the report.
@@ -109,13 +109,13 @@ exit 3`
 		"outlives the broker": {
 			"1.1 answer-lost", "ORDERS while curl -s -o FOLDER/body $OSB_STORM_URL/v2/catalog; do sleep 0.05; done; " +
 				"echo gone >>FOLDER/gone; exit 7",
-			func(c *Config) {
+			func(c *Options) {
 				minimize(c)
 				c.Commands.List, c.Time = "sleep 0.5; "+c.Commands.List, 500*time.Millisecond
 			}, summary{minimal: "1.1 answer-lost", runs: 3, lost: 1},
 		},
 		// The last lines don't have the credentials that the broker has answered.
-		"prints credentials": {"", "ORDERS " + binds, func(*Config) {}, summary{
+		"prints credentials": {"", "ORDERS " + binds, func(*Options) {}, summary{
 			failed: "the order command has failed: exit status 3", bindings: 1,
 			warned: warning + `  {"credentials":{"folder":"(left out)","token":"(left out)"}}` + "\n",
 		}},
@@ -135,13 +135,13 @@ exit 3`
 		name, test := name, test
 		t.Run(name, func(t *testing.T) {
 			t.Parallel()
-			config, folder := orderingConfig(t, 1, test.faults)
-			test.change(&config)
-			config.Commands.Order = strings.NewReplacer("ORDERS", config.Commands.Order, "FOLDER", folder, "SERVICE", goods.Service,
+			options, folder := orderingOptions(t, 1, test.faults)
+			test.change(&options)
+			options.Commands.Order = strings.NewReplacer("ORDERS", options.Commands.Order, "FOLDER", folder, "SERVICE", goods.Service,
 				"PLAN", goods.AtOnce).Replace(test.order)
 			var warned bytes.Buffer
-			config.Warnings = &warned
-			report, took := runOrders(t, context.Background(), config)
+			options.Warnings = &warned
+			report, took := runOrders(t, context.Background(), options)
 			got := summary{
 				strings.Join(report.Failed, "\n"), strings.Join(report.Notes, "\n"), report.Ended, report.MinimizeEnded,
 				strings.Join(report.Minimal, "\n"), report.MinimizeRuns, len(report.Lost), report.Bindings,
@@ -157,10 +157,10 @@ exit 3`
 }
 
 // minimize has a list of faults shrunk.
-func minimize(c *Config) { c.MinimizeTime = time.Minute }
+func minimize(c *Options) { c.MinimizeTime = time.Minute }
 
 // dropLists leaves out the list commands and the list of faults.
-func dropLists(c *Config) { c.Commands, c.List = run.Commands{}, nil }
+func dropLists(c *Options) { c.Commands, c.List = run.Commands{}, nil }
 
 // The faults end with the order command, or after their time if the command goes on then. At the end of the run, the
 // command is killed with its children, and so is what a command has left behind that has ended. Neither is a failure.
@@ -175,10 +175,10 @@ func TestOrderEnds(t *testing.T) {
 		test := test
 		t.Run(name, func(t *testing.T) {
 			t.Parallel()
-			config, folder := orderingConfig(t, 1)
-			config.Commands.Order += strings.ReplaceAll(test.after, "FOLDER", folder)
-			config.Time, config.SettleTime = test.time, time.Minute
-			report, took := runOrders(t, context.Background(), config)
+			options, folder := orderingOptions(t, 1)
+			options.Commands.Order += strings.ReplaceAll(test.after, "FOLDER", folder)
+			options.Time, options.SettleTime = test.time, time.Minute
+			report, took := runOrders(t, context.Background(), options)
 			if len(report.Failed) > 0 || !report.IsClean() || !report.Converged || took > 50*time.Second {
 				t.Errorf("got an end after %v, want a clean report of a storm that has converged within 50 s:\n%s",
 					took, textOf(t, report))
@@ -203,10 +203,10 @@ func formsOf(t *testing.T, report *run.Report) map[string]string {
 // empty. With this fault alone, an instance is abandoned again. Each run has a journal.
 func TestMinimize(t *testing.T) {
 	t.Parallel()
-	config, folder := orderingConfig(t, 3, "1.1 answer-slow", "2.1 answer-lost", "3.1 request-lost")
-	minimize(&config)
-	config.Late = 100 * time.Millisecond
-	report, _ := runOrders(t, context.Background(), config)
+	options, folder := orderingOptions(t, 3, "1.1 answer-slow", "2.1 answer-lost", "3.1 request-lost")
+	minimize(&options)
+	options.Late = 100 * time.Millisecond
+	report, _ := runOrders(t, context.Background(), options)
 	if !reflect.DeepEqual(report.Minimal, []string{"2.1 answer-lost"}) || report.MinimizeEnded+report.Ended != "" {
 		t.Fatalf("got\n%s\nwant the list 2.1 answer-lost", textOf(t, report))
 	}
@@ -239,7 +239,7 @@ func TestMinimize(t *testing.T) {
 	if runs := 1 + report.MinimizeRuns; err != nil || string(urls) != strings.Repeat(report.URL+"\n", runs) {
 		t.Errorf("got %v and %d runs at %s, want each at one URL", err, runs, urls)
 	}
-	journals, err := filepath.Glob(filepath.Join(config.Journal, "broker", "broker-*.jsonl"))
+	journals, err := filepath.Glob(filepath.Join(options.Journal, "broker", "broker-*.jsonl"))
 	if err != nil || len(journals) != 1+report.MinimizeRuns {
 		t.Errorf("got %v and %d journals of %d runs, want as many", err, len(journals), 1+report.MinimizeRuns)
 	}
@@ -267,11 +267,11 @@ func TestMinimizeNotes(t *testing.T) {
 		test, isWithout := test, name == "without any"
 		t.Run(name, func(t *testing.T) {
 			t.Parallel()
-			config, folder := orderingConfig(t, 1, test.list...)
-			minimize(&config)
-			config.Late = 100 * time.Millisecond
-			config.Commands.Order += strings.ReplaceAll(test.after, "FOLDER", folder)
-			report, _ := runOrders(t, context.Background(), config)
+			options, folder := orderingOptions(t, 1, test.list...)
+			minimize(&options)
+			options.Late = 100 * time.Millisecond
+			options.Commands.Order += strings.ReplaceAll(test.after, "FOLDER", folder)
+			report, _ := runOrders(t, context.Background(), options)
 			if notes := strings.Join(report.Notes, ""); report.MinimizeRuns != test.runs || notes != test.note {
 				t.Errorf("got %d runs and %s, want %d and %q\n%s", report.MinimizeRuns, notes, test.runs, test.note, textOf(t, report))
 			}
@@ -304,9 +304,9 @@ func TestMinimizeEnds(t *testing.T) {
 		test := test
 		t.Run(name, func(t *testing.T) {
 			t.Parallel()
-			config, folder := orderingConfig(t, 1, "1.1 answer-lost", "1.2 answer-lost")
-			minimize(&config)
-			config.Commands.Order += strings.ReplaceAll("curl -s -m 5 -u platform:secret -H 'X-Broker-API-Version: 2.17' "+
+			options, folder := orderingOptions(t, 1, "1.1 answer-lost", "1.2 answer-lost")
+			minimize(&options)
+			options.Commands.Order += strings.ReplaceAll("curl -s -m 5 -u platform:secret -H 'X-Broker-API-Version: 2.17' "+
 				"$OSB_STORM_URL/v2/service_instances/$id; [ $(wc -l <FOLDER/urls) != "+test.hangs+
 				" ] || { touch FOLDER/hangs; sleep 1000; }; true", "FOLDER", folder)
 			ctx, cancel := context.WithCancel(context.Background())
@@ -314,9 +314,9 @@ func TestMinimizeEnds(t *testing.T) {
 			if test.isSignal {
 				go cancelOnce(filepath.Join(folder, "hangs"), cancel)
 			} else {
-				config.MinimizeTime = time.Second
+				options.MinimizeTime = time.Second
 			}
-			report, took := runOrders(t, ctx, config)
+			report, took := runOrders(t, ctx, options)
 			if !reflect.DeepEqual(report.Minimal, test.minimal) || report.MinimizeEnded != test.ended || took > time.Minute {
 				t.Errorf("got an end after %v, want the list %q and the end %q:\n%s",
 					took, test.minimal, test.ended, textOf(t, report))
@@ -351,18 +351,18 @@ func cancelOnce(path string, cancel func()) {
 func TestStartAgain(t *testing.T) {
 	t.Parallel()
 	taken := diff.Value(net.Listen("tcp", "127.0.0.1:0"))(t)
-	config := configFor(t)
-	config.Address = taken.Addr().String()
+	options := optionsFor(t)
+	options.Address = taken.Addr().String()
 	ctx, cancel := context.WithCancel(context.Background())
 	cancel()
 	begun := time.Now()
-	if _, err := startAgain(ctx, config); !errors.Is(err, syscall.EADDRINUSE) || time.Since(begun) > portTime/2 {
+	if _, err := startAgain(ctx, options); !errors.Is(err, syscall.EADDRINUSE) || time.Since(begun) > portTime/2 {
 		t.Errorf("got %v after %v, want %v at once", err, time.Since(begun), syscall.EADDRINUSE)
 	}
 	timer := time.AfterFunc(lookEach, func() { _ = taken.Close() })
 	defer timer.Stop()
-	storm := diff.Value(startAgain(context.Background(), config))(t)
-	if err := storm.Close(); storm.URL() != "http://"+config.Address || err != nil {
-		t.Errorf("got the error %v and the URL %s, want the address %s", err, storm.URL(), config.Address)
+	storm := diff.Value(startAgain(context.Background(), options))(t)
+	if err := storm.Close(); storm.URL() != "http://"+options.Address || err != nil {
+		t.Errorf("got the error %v and the URL %s, want the address %s", err, storm.URL(), options.Address)
 	}
 }

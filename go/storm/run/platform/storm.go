@@ -22,7 +22,7 @@ import (
 
 // A Storm lets a platform drive a broker of its own through faults. Use one goroutine.
 type Storm struct {
-	config  Config
+	options Options
 	folder  string
 	shop    *shop
 	proxy   *fault.Proxy
@@ -39,24 +39,24 @@ type Storm struct {
 //
 // Errors: a limit isn't above 0; options contradict each other; the user or the password can't be sent; those of the
 // address and of the folder.
-func Start(ctx context.Context, config Config) (s *Storm, err error) {
-	if err := config.Check(config.demands()); err != nil {
+func Start(ctx context.Context, options Options) (s *Storm, err error) {
+	if err := options.Check(options.demands()); err != nil {
 		return nil, err
 	}
 	s = &Storm{
-		config: config, capture: fault.NewCapture(), keys: run.NewKeys(), source: config.Source(fault.StandardWeights(false)),
-		restTime: 2*config.OperationTime + 10*time.Second,
+		options: options, capture: fault.NewCapture(), keys: run.NewKeys(), source: options.Source(fault.StandardWeights(false)),
+		restTime: 2*options.OperationTime + 10*time.Second,
 	}
-	if s.folder, err = os.MkdirTemp(config.Folder, "osb-storm-"); err != nil {
+	if s.folder, err = os.MkdirTemp(options.Folder, "osb-storm-"); err != nil {
 		return nil, err
 	}
-	if s.shop, err = openShop(ctx, config, s.folder); err != nil {
+	if s.shop, err = openShop(ctx, options, s.folder); err != nil {
 		return nil, run.FirstError(err, os.RemoveAll(s.folder))
 	}
-	s.proxy, err = fault.Listen(fault.Config{
-		Address: config.Address, Broker: s.shop.address, Source: s.source, Capture: s.capture, Subject: s.keys.SubjectOrNew,
-		ForwardsOthers: true, RequestTime: config.RequestTime, Late: config.Late,
-		AnswerTime: config.RequestTime + config.RequestTime/10 + config.OperationTime + time.Second,
+	s.proxy, err = fault.Listen(fault.Options{
+		Address: options.Address, Broker: s.shop.address, Source: s.source, Capture: s.capture, Subject: s.keys.SubjectOrNew,
+		ForwardsOthers: true, RequestTime: options.RequestTime, Late: options.Late,
+		AnswerTime: options.RequestTime + options.RequestTime/10 + options.OperationTime + time.Second,
 	})
 	if err != nil {
 		return nil, run.FirstError(err, s.shop.close(), os.RemoveAll(s.folder))
@@ -92,14 +92,14 @@ func (s *Storm) Run(ctx context.Context) *run.Report {
 		}
 		*to = append(*to, err.Error())
 	}
-	_ = run.Core{Config: s.config.Config, Report: into, Once: once, Stop: stop}.Run(ctx) // no first run returns an error
+	_ = run.Core{Options: s.options.Options, Report: into, Once: once, Stop: stop}.Run(ctx) // no first run returns an error
 	return into
 }
 
 func (s *Storm) newReport() *run.Report {
-	into := run.NewReport(s.URL(), s.config.Seed, s.config.User, s.config.Password)
-	into.IsOfPlatform, into.FirstPoll, into.Inventory = true, s.config.FirstPoll, knownByRequests
-	if s.config.Commands.List != "" {
+	into := run.NewReport(s.URL(), s.options.Seed, s.options.User, s.options.Password)
+	into.IsOfPlatform, into.FirstPoll, into.Inventory = true, s.options.FirstPoll, knownByRequests
+	if s.options.Commands.List != "" {
 		into.Inventory = knownByList
 	}
 	return into
@@ -115,8 +115,8 @@ func (s *Storm) once(ctx context.Context) *run.Result {
 	found := &result{Result: run.Result{Keys: s.keys, OrdersAll: true}}
 	var ordering *shell.Command // or nil
 	var err error
-	if s.config.Commands.Order != "" {
-		ordering, err = shell.Start(s.config.Commands.Order, urlVariable+"="+s.URL())
+	if s.options.Commands.Order != "" {
+		ordering, err = shell.Start(s.options.Commands.Order, urlVariable+"="+s.URL())
 	}
 	if err != nil {
 		found.Ended, found.Failed = "the order command can't be run", append(found.Failed, failedOrders(err).Error())
@@ -178,7 +178,7 @@ func (s *Storm) note(what string) {
 // storm waits for the first request, and then until the faults end. ordered is closed once the order command has ended,
 // and is nil if there is none. It returns why the run has ended before, or "".
 func (s *Storm) storm(ctx context.Context, ordered <-chan struct{}) string {
-	waiting, cancel := context.WithTimeout(ctx, s.config.WaitTime)
+	waiting, cancel := context.WithTimeout(ctx, s.options.WaitTime)
 	defer cancel()
 	select {
 	case <-s.keys.Began:
@@ -187,9 +187,9 @@ func (s *Storm) storm(ctx context.Context, ordered <-chan struct{}) string {
 			return nothingOrdered
 		}
 	case <-waiting.Done():
-		return fmt.Sprintf("no request about an instance came within %v", s.config.WaitTime)
+		return fmt.Sprintf("no request about an instance came within %v", s.options.WaitTime)
 	}
-	storming, end := context.WithTimeout(ctx, s.config.Time)
+	storming, end := context.WithTimeout(ctx, s.options.Time)
 	defer end()
 	select {
 	case <-ordered:
@@ -201,7 +201,7 @@ func (s *Storm) storm(ctx context.Context, ordered <-chan struct{}) string {
 // settle waits until nothing is open any more, at most for the time to settle. It returns how long that took, and
 // whether that happened.
 func (s *Storm) settle(ctx context.Context, calm time.Duration) (took time.Duration, settled bool) {
-	within, cancel := context.WithTimeout(ctx, s.config.SettleTime)
+	within, cancel := context.WithTimeout(ctx, s.options.SettleTime)
 	defer cancel()
 	for {
 		if s.proxy.Pending() == 0 && s.isSettled(within, calm) {
@@ -267,7 +267,7 @@ func (s *Storm) readLists(ctx context.Context) (l list, err error) {
 		to      *map[report.Key]bool
 		command string
 		ids     int
-	}{{&l.instances, s.config.Commands.List, 1}, {&l.bindings, s.config.Commands.ListBindings, 2}} {
+	}{{&l.instances, s.options.Commands.List, 1}, {&l.bindings, s.options.Commands.ListBindings, 2}} {
 		if test.command == "" {
 			continue
 		}
@@ -287,10 +287,10 @@ func (s *Storm) readLists(ctx context.Context) (l list, err error) {
 	return l, nil
 }
 
-// A Config says where a Storm listens, and within which limits. Folder is the one in which that of the broker is
+// Options say where a Storm listens, and within which limits. Folder is the one in which that of the broker is
 // created. The order command gets urlVariable in its environment.
-type Config struct {
-	run.Config
+type Options struct {
+	run.Options
 	Address        string // HOST:PORT, where the platform reaches the broker
 	User, Password string // with which the platform logs in
 	FirstPoll      bool   // the broker creates an instance of an asynchronous plan only once it is polled
@@ -299,7 +299,7 @@ type Config struct {
 	Warnings       io.Writer     // gets the last lines of an order command that fails, or orders nothing; or nil
 }
 
-func (c Config) demands() run.Demands {
+func (c Options) demands() run.Demands {
 	return run.Demands{
 		Conflicts: []run.Conflict{{
 			Exists: c.MinimizeTime > 0 && c.Commands.Order == "",
@@ -337,13 +337,13 @@ func (s *Storm) endOrders(o *shell.Command, hadEnded bool, found *result) {
 // warn writes the last lines of the order command, if there are any. The exchanges are those of the run, whose
 // credentials the command may print.
 func (s *Storm) warn(lines []string, exchanges []fault.Exchange) {
-	if len(lines) == 0 || s.config.Warnings == nil {
+	if len(lines) == 0 || s.options.Warnings == nil {
 		return
 	}
-	hide := report.NewHider(s.config.User, s.config.Password, exchanges)
-	fmt.Fprintln(s.config.Warnings, "osb-storm: the last lines that the order command has printed:")
+	hide := report.NewHider(s.options.User, s.options.Password, exchanges)
+	fmt.Fprintln(s.options.Warnings, "osb-storm: the last lines that the order command has printed:")
 	for _, line := range lines {
-		fmt.Fprintf(s.config.Warnings, "  %s\n", conform.Printable(hide.In(line)))
+		fmt.Fprintf(s.options.Warnings, "  %s\n", conform.Printable(hide.In(line)))
 	}
 }
 
@@ -355,10 +355,10 @@ var errIdle = errors.New("in a further run")
 //
 // Errors: errIdle; the run has failed; the broker can't be opened or closed.
 func (s *Storm) again(ctx context.Context, list []fault.Injection) (*run.Result, error) {
-	config := s.config
-	config.Address, config.MinimizeTime = strings.TrimPrefix(s.URL(), "http://"), 0
-	config.List = append([]fault.Injection{}, list...)
-	storm, err := startAgain(ctx, config)
+	options := s.options
+	options.Address, options.MinimizeTime = strings.TrimPrefix(s.URL(), "http://"), 0
+	options.List = append([]fault.Injection{}, list...)
+	storm, err := startAgain(ctx, options)
 	if err != nil {
 		return nil, err
 	}
@@ -381,9 +381,9 @@ const portTime = 5 * time.Second
 
 // startAgain is Start at an address that another Storm has left. The broker goes on until it is closed, and so doesn't
 // end with ctx.
-func startAgain(ctx context.Context, config Config) (*Storm, error) {
+func startAgain(ctx context.Context, options Options) (*Storm, error) {
 	for until := time.Now().Add(portTime); ; {
-		storm, err := Start(context.Background(), config)
+		storm, err := Start(context.Background(), options)
 		if !errors.Is(err, syscall.EADDRINUSE) || time.Now().After(until) || !fault.Sleep(ctx, lookEach) {
 			return storm, err
 		}

@@ -24,12 +24,12 @@ import (
 	"pippinterm/storm/stormtest"
 )
 
-// configFor is a Config of short times. A platform without a mistake settles in a second or two, and on a busy machine
-// in the time to settle.
-func configFor(t *testing.T) Config {
+// optionsFor are Options with short times. A platform without a mistake settles in a second or two, and on a busy
+// machine in the time to settle.
+func optionsFor(t *testing.T) Options {
 	t.Helper()
-	return Config{
-		Config: run.Config{
+	return Options{
+		Options: run.Options{
 			Seed: 1, Share: 0.5, RequestTime: 300 * time.Millisecond, Late: 600 * time.Millisecond, Time: 3 * time.Second,
 			SettleTime: time.Minute, Folder: t.TempDir(),
 		},
@@ -39,27 +39,27 @@ func configFor(t *testing.T) Config {
 }
 
 // runStorm returns the report of a storm for a model with these mistakes.
-func runStorm(t *testing.T, config Config, wrong mistakes, isListed bool) *run.Report {
+func runStorm(t *testing.T, options Options, wrong mistakes, isListed bool) *run.Report {
 	t.Helper()
 	lists := t.TempDir()
 	if isListed {
-		config.Commands = commandsOf(lists)
+		options.Commands = commandsOf(lists)
 	}
-	storm := diff.Value(Start(context.Background(), config))(t)
-	m := newModel(t, storm.URL(), wrong, config.RequestTime)
+	storm := diff.Value(Start(context.Background(), options))(t)
+	m := newModel(t, storm.URL(), wrong, options.RequestTime)
 	m.folder = lists
 	m.write()
 	ctx, cancel := context.WithCancel(context.Background())
 	// The last life has ended when the faults end. A request after that could arrive once the storm has seen that all
 	// is settled.
-	sending, stop := context.WithTimeout(ctx, config.Time*7/10)
+	sending, stop := context.WithTimeout(ctx, options.Time*7/10)
 	m.run(ctx, sending)
 	report := storm.Run(context.Background())
 	stop()
 	cancel()
 	m.group.Wait()
 	diff.NoError(t, storm.Close(), "")
-	stormtest.Empty(t, config.Folder)
+	stormtest.Empty(t, options.Folder)
 	if len(report.Failed) > 0 {
 		t.Errorf("got the failures %v, want none", report.Failed)
 	}
@@ -79,9 +79,9 @@ func TestNothingAbandoned(t *testing.T) {
 		t.Run(fmt.Sprint(isListed, firstPoll), func(t *testing.T) {
 			t.Parallel()
 			stormtest.UntilEnough(t, stormtest.Tally{8, 1, 40, 15}, func(seed int64) stormtest.Tally {
-				config := configFor(t)
-				config.Seed, config.FirstPoll = seed, firstPoll
-				report := runStorm(t, config, mistakes{}, isListed)
+				options := optionsFor(t)
+				options.Seed, options.FirstPoll = seed, firstPoll
+				report := runStorm(t, options, mistakes{}, isListed)
 				if !report.IsClean() || len(report.Broken) > 0 || !report.Converged {
 					t.Errorf("got\n%s\nwant a clean report that has converged", textOf(t, report))
 				}
@@ -165,13 +165,13 @@ func TestMistakes(t *testing.T) {
 		test := test
 		t.Run(name, func(t *testing.T) {
 			t.Parallel()
-			config := configFor(t)
-			config.List, config.Time, config.RequestTime = listOf(test.kinds), time.Second, unhurried
-			if report := runStorm(t, config, mistakes{}, test.isListed); !report.IsClean() || len(report.Broken) > 0 {
+			options := optionsFor(t)
+			options.List, options.Time, options.RequestTime = listOf(test.kinds), time.Second, unhurried
+			if report := runStorm(t, options, mistakes{}, test.isListed); !report.IsClean() || len(report.Broken) > 0 {
 				t.Errorf("without the mistake: got\n%s\nwant a clean report", textOf(t, report))
 			}
-			config.SettleTime = time.Second
-			report := runStorm(t, config, test.wrong, test.isListed)
+			options.SettleTime = time.Second
+			report := runStorm(t, options, test.wrong, test.isListed)
 			if missing := lacks(report, test.abandoned, test.false, test.broken); missing != "" {
 				t.Errorf("got a report without %s, want it there:\n%s", missing, textOf(t, report))
 			}
@@ -205,12 +205,12 @@ func TestRules(t *testing.T) {
 		rule, wrong := rule, wrong
 		t.Run(rule, func(t *testing.T) {
 			t.Parallel()
-			config := configFor(t)
-			config.Share, config.Time, config.RequestTime = 0, 2*time.Second, unhurried
+			options := optionsFor(t)
+			options.Share, options.Time, options.RequestTime = 0, 2*time.Second, unhurried
 			if wrong.noIDs { // the broker rejects each deletion, so nothing settles
-				config.SettleTime = time.Second
+				options.SettleTime = time.Second
 			}
-			got := runStorm(t, config, wrong, true)
+			got := runStorm(t, options, wrong, true)
 			if !stormtest.HasViolation(got.Broken, rule) {
 				t.Fatalf("got\n%s\nwant the rule broken", textOf(t, got))
 			}
@@ -265,9 +265,9 @@ func TestUntried(t *testing.T) {
 		test := test
 		t.Run(name, func(t *testing.T) {
 			t.Parallel()
-			config := configFor(t)
-			config.Share, config.List, config.Time, config.RequestTime = test.share, test.list, time.Second, unhurried
-			report := runStorm(t, config, mistakes{}, true)
+			options := optionsFor(t)
+			options.Share, options.List, options.Time, options.RequestTime = test.share, test.list, time.Second, unhurried
+			report := runStorm(t, options, mistakes{}, true)
 			if report.IsClean() != (test.says == "") || len(report.Lost)+len(report.False)+len(report.Stuck) > 0 {
 				t.Errorf("got\n%s\nwant the verdict of the list, and nothing lost, false or stuck", textOf(t, report))
 			}
@@ -285,16 +285,16 @@ func TestUntried(t *testing.T) {
 
 // If no request arrives, or the run is ended before, the report isn't clean, and nothing is left.
 func TestEnded(t *testing.T) {
-	config := configFor(t)
-	config.WaitTime, config.Share = 100*time.Millisecond, 0
-	storm := diff.Value(Start(context.Background(), config))(t)
+	options := optionsFor(t)
+	options.WaitTime, options.Share = 100*time.Millisecond, 0
+	storm := diff.Value(Start(context.Background(), options))(t)
 	report := storm.Run(context.Background())
 	if report.IsClean() || !strings.HasPrefix(report.Ended, "no request about an instance came") {
 		t.Errorf("got\n%s\nwant an end because no request came", textOf(t, report))
 	}
 	diff.NoError(t, storm.Close(), "")
-	config.WaitTime = time.Minute
-	storm = diff.Value(Start(context.Background(), config))(t)
+	options.WaitTime = time.Minute
+	storm = diff.Value(Start(context.Background(), options))(t)
 	m := newModel(t, storm.URL(), mistakes{}, unhurried)
 	body := map[string]any{
 		"service_id": goods.Service, "plan_id": goods.Later, "organization_guid": "o", "space_guid": "s",
@@ -308,16 +308,16 @@ func TestEnded(t *testing.T) {
 			sent.status, len(report.Stuck), textOf(t, report))
 	}
 	diff.NoError(t, storm.Close(), "")
-	stormtest.Empty(t, config.Folder)
+	stormtest.Empty(t, options.Folder)
 }
 
 // The faults end, and after the run no request is answered.
 func TestAfterRun(t *testing.T) {
-	config := configFor(t)
-	config.Share, config.Time, config.SettleTime = 1, 50*time.Millisecond, 50*time.Millisecond
-	storm := diff.Value(Start(context.Background(), config))(t)
+	options := optionsFor(t)
+	options.Share, options.Time, options.SettleTime = 1, 50*time.Millisecond, 50*time.Millisecond
+	storm := diff.Value(Start(context.Background(), options))(t)
 	defer storm.Close()
-	m := newModel(t, storm.URL(), mistakes{}, config.RequestTime)
+	m := newModel(t, storm.URL(), mistakes{}, options.RequestTime)
 	m.send(context.Background(), http.MethodGet, "/v2/service_instances/one/last_operation", nil)
 	if storm.source.Next(fault.Subject{Instance: 100}).Kind == fault.None {
 		t.Error("got an end of the faults before the run, want it after that")
@@ -332,9 +332,9 @@ func TestAfterRun(t *testing.T) {
 // At the end of the run, too, a list command may take longer than the broker's operations.
 func TestListIsSlow(t *testing.T) {
 	t.Parallel()
-	config, _ := orderingConfig(t, 1)
-	config.Commands.List, config.SettleTime = "sleep 0.5; "+config.Commands.List, time.Minute
-	storm := diff.Value(Start(context.Background(), config))(t)
+	options, _ := orderingOptions(t, 1)
+	options.Commands.List, options.SettleTime = "sleep 0.5; "+options.Commands.List, time.Minute
+	storm := diff.Value(Start(context.Background(), options))(t)
 	defer storm.Close()
 	storm.restTime = 200 * time.Millisecond
 	if report := storm.Run(context.Background()); len(report.Failed) > 0 || !report.Converged || !report.IsClean() {
@@ -346,13 +346,13 @@ func TestListIsSlow(t *testing.T) {
 // A signal during the last look ends the list command. The list is asked for once more, and that is no failure.
 func TestListIsCutOff(t *testing.T) {
 	t.Parallel()
-	config, folder := orderingConfig(t, 1)
-	config.Commands.List = strings.ReplaceAll(
+	options, folder := orderingOptions(t, 1)
+	options.Commands.List = strings.ReplaceAll(
 		"[ ! -e F/first ] || [ -e F/last ] || { touch F/last; sleep 1000; }; [ -e F/first ] || { touch F/first; sleep 1000; }; ",
-		"F/", folder+"/") + config.Commands.List
+		"F/", folder+"/") + options.Commands.List
 	ctx, cancel := context.WithCancel(context.Background())
 	go cancelOnce(filepath.Join(folder, "last"), cancel)
-	report, took := runOrders(t, ctx, config)
+	report, took := runOrders(t, ctx, options)
 	if len(report.Failed) > 0 || report.Ended != run.EndedBefore || report.Inventory != knownByList || took > time.Minute {
 		t.Errorf("got an end after %v with the failures %q, want one by the signal within a minute, without any:\n%s",
 			took, report.Failed, textOf(t, report))
@@ -371,9 +371,9 @@ func TestBrokerFails(t *testing.T) {
 
 // A list command that fails is reported, and no record is judged.
 func TestListFails(t *testing.T) {
-	config := configFor(t)
-	config.Commands.List, config.WaitTime = "echo broken >&2; exit 3", 50*time.Millisecond
-	storm := diff.Value(Start(context.Background(), config))(t)
+	options := optionsFor(t)
+	options.Commands.List, options.WaitTime = "echo broken >&2; exit 3", 50*time.Millisecond
+	storm := diff.Value(Start(context.Background(), options))(t)
 	defer storm.Close()
 	report := storm.Run(context.Background())
 	if len(report.Failed) != 1 || !strings.Contains(report.Failed[0], "(broken)") {
@@ -384,15 +384,15 @@ func TestListFails(t *testing.T) {
 // No report has the password, credentials, or what a platform sends in a body.
 func TestNoSecrets(t *testing.T) {
 	t.Parallel()
-	config := configFor(t)
-	config.Time, config.SettleTime, config.RequestTime = 2*time.Second, time.Second, unhurried
-	config.List = []fault.Injection{}
+	options := optionsFor(t)
+	options.Time, options.SettleTime, options.RequestTime = 2*time.Second, time.Second, unhurried
+	options.List = []fault.Injection{}
 	for instance := 1; instance <= 500; instance++ { // the broker answers with credentials, and the answers are lost
 		subject := fault.Subject{Instance: instance, Binding: 1}
 		lost := fault.Injection{Number: fault.Number{Subject: subject, Request: 1}, Kind: fault.AnswerLost}
-		config.List = append(config.List, lost)
+		options.List = append(options.List, lost)
 	}
-	report := runStorm(t, config, mistakes{forgetsTimeout: true, noType: true}, false)
+	report := runStorm(t, options, mistakes{forgetsTimeout: true, noType: true}, false)
 	if !stormtest.HasBinding(report.Lost) || len(report.Broken) == 0 {
 		t.Fatalf("got\n%s\nwant a binding that is lost, and a rule that is broken", textOf(t, report))
 	}
@@ -410,13 +410,13 @@ func TestNoSecrets(t *testing.T) {
 
 // The same list of faults gives the same requests the same faults. Those that no request has met are in each form.
 func TestList(t *testing.T) {
-	config := configFor(t)
-	config.List = []fault.Injection{
+	options := optionsFor(t)
+	options.List = []fault.Injection{
 		{Number: fault.Number{Subject: fault.Subject{Instance: 1}, Request: 1}, Kind: fault.AnswerLost},
 		{Number: fault.Number{Subject: fault.Subject{Instance: 99}, Request: 1}, Kind: fault.AnswerLost},
 	}
-	config.Time, config.SettleTime, config.RequestTime = time.Second, time.Second, unhurried
-	report := runStorm(t, config, mistakes{forgetsTimeout: true}, false)
+	options.Time, options.SettleTime, options.RequestTime = time.Second, time.Second, unhurried
+	report := runStorm(t, options, mistakes{forgetsTimeout: true}, false)
 	diff.Check(t, report.Given, []string{"1.1 answer-lost"}, "the faults")
 	if len(report.Lost) != 1 || report.Lost[0].Number != "1" {
 		t.Errorf("got\n%s\nwant instance 1 lost", textOf(t, report))
@@ -429,21 +429,21 @@ func TestList(t *testing.T) {
 }
 
 func TestConfigRejected(t *testing.T) {
-	for name, change := range map[string]func(*Config){
-		"share":            func(c *Config) { c.Share = 1.1 },
-		"time":             func(c *Config) { c.Time = 0 },
-		"list of bindings": func(c *Config) { c.Commands.ListBindings = "x" },
-		"minimize":         func(c *Config) { c.MinimizeTime = time.Minute },
-		"restart":          func(c *Config) { c.List = []fault.Injection{{Kind: fault.RestartAfter}} },
-		"user":             func(c *Config) { c.User = "a:b" },
-		"address":          func(c *Config) { c.Address = "127.0.0.1:99999" },
+	for name, change := range map[string]func(*Options){
+		"share":            func(c *Options) { c.Share = 1.1 },
+		"time":             func(c *Options) { c.Time = 0 },
+		"list of bindings": func(c *Options) { c.Commands.ListBindings = "x" },
+		"minimize":         func(c *Options) { c.MinimizeTime = time.Minute },
+		"restart":          func(c *Options) { c.List = []fault.Injection{{Kind: fault.RestartAfter}} },
+		"user":             func(c *Options) { c.User = "a:b" },
+		"address":          func(c *Options) { c.Address = "127.0.0.1:99999" },
 	} {
 		t.Run(name, func(t *testing.T) {
-			config := configFor(t)
-			change(&config)
-			_, err := Start(context.Background(), config)
+			options := optionsFor(t)
+			change(&options)
+			_, err := Start(context.Background(), options)
 			diff.Error(t, err, "%s", name)
-			stormtest.Empty(t, config.Folder)
+			stormtest.Empty(t, options.Folder)
 		})
 	}
 }
@@ -472,10 +472,10 @@ func TestDocumented(t *testing.T) {
 // changes and the calls of the backend. The journal has the plans, and its end.
 func TestJournal(t *testing.T) {
 	t.Parallel()
-	config := configFor(t)
-	config.Journal = filepath.Join(t.TempDir(), "journals")
-	report := runStorm(t, config, mistakes{}, true)
-	names, err := filepath.Glob(filepath.Join(config.Journal, "broker", "broker-*.jsonl"))
+	options := optionsFor(t)
+	options.Journal = filepath.Join(t.TempDir(), "journals")
+	report := runStorm(t, options, mistakes{}, true)
+	names, err := filepath.Glob(filepath.Join(options.Journal, "broker", "broker-*.jsonl"))
 	if err != nil || len(names) != 1 {
 		t.Fatalf("got the journals %v and the error %v, want one", names, err)
 	}
@@ -513,14 +513,14 @@ func TestJournal(t *testing.T) {
 
 // A journal that can't be opened ends the storm before it listens.
 func TestNoJournal(t *testing.T) {
-	config := configFor(t)
-	config.Journal = filepath.Join(t.TempDir(), "file")
-	check(t, os.WriteFile(config.Journal, nil, 0o600))
-	if storm, err := Start(context.Background(), config); err == nil {
+	options := optionsFor(t)
+	options.Journal = filepath.Join(t.TempDir(), "file")
+	check(t, os.WriteFile(options.Journal, nil, 0o600))
+	if storm, err := Start(context.Background(), options); err == nil {
 		_ = storm.Close()
 		t.Error("a file: got no error, want that it is no folder")
 	}
-	stormtest.Empty(t, config.Folder)
+	stormtest.Empty(t, options.Folder)
 }
 
 var check = diff.Must
