@@ -504,9 +504,7 @@ func TestCatalogueOfABrokerThatIsDropped(t *testing.T) {
 	s := newRegistry(background, p.engine, &sync.WaitGroup{})
 	broker := p.brokerNamed("shelf")
 	check(t, p.orders.DropBroker(background, "shelf"))
-	if err := s.keep(background, broker, []byte(sold), Reason{}); err != errChanged {
-		t.Errorf("got %v, want %v", err, errChanged)
-	}
+	diff.ErrorIs(t, s.keep(background, broker, []byte(sold), Reason{}), errChanged, "")
 }
 
 // Only the address, the login and the settings say whether an answer still counts. A store may return no password as an
@@ -537,8 +535,7 @@ func TestIsAskedAlike(t *testing.T) {
 
 // If nobody can say whether an instance has bindings, nothing is decided.
 func TestDecideWithoutAllGone(t *testing.T) {
-	catalogue, err := ReadCatalogue([]byte(sold))
-	check(t, err)
+	catalogue := diff.Value(ReadCatalogue([]byte(sold)))(t)
 	s := &registry{Engine: NewEngine(nil, nil, nil, Options{}, Silent{}), byName: map[string]*knownBroker{"shelf": {catalogue: catalogue}}}
 	snapshot := Snapshot{Entry: with(rowIn(anInstance, Ready), func(e *Entry) { e.Broker, e.Removal = "shelf", Removed })}
 	for _, wanted := range []error{errStore, nil} {

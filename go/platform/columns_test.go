@@ -2,7 +2,6 @@ package platform
 
 import (
 	"encoding/json"
-	"errors"
 	"fmt"
 	"reflect"
 	"testing"
@@ -57,8 +56,7 @@ func wantKept[T any](t *testing.T, columns Columns[T], want, got T) {
 		}
 	}
 	for _, column := range columns {
-		value, err := column.Value(&want)
-		check(t, err)
+		value := diff.Value(column.Value(&want))(t)
 		switch member := column.Member(&got).(type) {
 		case *string:
 			*member = value.(string)
@@ -75,7 +73,7 @@ func wantKept[T any](t *testing.T, columns Columns[T], want, got T) {
 		case Text:
 			check(t, member.UnmarshalText([]byte(value.(string))))
 		}
-		_, err = column.Value(new(T))
+		_, err := column.Value(new(T))
 		diff.NoError(t, err, "a zero %s", column.Name)
 	}
 	diff.Check(t, got, want, "what is read")
@@ -84,9 +82,7 @@ func wantKept[T any](t *testing.T, columns Columns[T], want, got T) {
 // A record that can't be written is an error, and a member of another type is a slip.
 func TestValuesThatCannotBeWritten(t *testing.T) {
 	entry := Entry{Order: Order{Key: anInstance}, IsSent: true}
-	if text, err := (*recordText)(&entry).MarshalText(); !errors.Is(err, osb.ErrBadRecord) {
-		t.Errorf("got %s, %v, want %v", text, err, osb.ErrBadRecord)
-	}
+	diff.ErrorIs(t, diff.Err((*recordText)(&entry).MarshalText()), osb.ErrBadRecord, "")
 	defer func() {
 		if recover() == nil {
 			t.Error("a float64: got a value, want a panic")

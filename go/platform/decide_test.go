@@ -349,9 +349,7 @@ func TestEveryDecision(t *testing.T) {
 			}
 		}
 	}
-	if count < 3000 {
-		t.Errorf("got only %d tried, want at least 3000", count)
-	}
+	diff.AtLeast(t, count, 3000, "")
 }
 
 var everyState = []State{

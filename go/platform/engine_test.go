@@ -186,11 +186,8 @@ func TestRun(t *testing.T) {
 			object := diff.Value(p.orders.Credentials(background, binding))(t)
 			diff.Equal(t, string(object), p.seller.object(binding), "the credentials")
 		}
-		if _, err := p.orders.Remove(background, instance, false); err == nil {
-			t.Error("an instance with bindings: got no error, want one")
-		}
-		_, err := p.orders.Remove(background, instance, true)
-		check(t, err)
+		diff.Error(t, diff.Err(p.orders.Remove(background, instance, false)), "an instance with bindings")
+		diff.Value(p.orders.Remove(background, instance, true))(t)
 		p.untilState(instance, Gone)
 		for _, binding := range bindings {
 			p.untilState(binding, Gone)

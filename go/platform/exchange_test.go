@@ -96,8 +96,7 @@ func TestObserver(t *testing.T) {
 	check(t, p.engine.RunOnce(background))
 	key := p.create(NewInstance{})
 	check(t, p.engine.RunOnce(background))
-	_, err := p.orders.Remove(background, key, false)
-	check(t, err)
+	diff.Value(p.orders.Remove(background, key, false))(t)
 	check(t, p.engine.RunOnce(background))
 	diff.Equal(t, strings.Join(p.reported, ", "), "ordered to ready, ready to gone", "")
 	if len(p.sent) != 2 || len(p.answered) != 2 {
@@ -129,9 +128,7 @@ func TestLastDeletion(t *testing.T) {
 			begun.Store(time.Now().UnixNano())
 			return Incoming{Lost: errors.New("the answer is lost")}
 		}
-		if held := time.Since(time.Unix(0, begun.Load())); held < hold {
-			t.Errorf("a deletion: got it sent after %v, want at least %v", held, hold)
-		}
+		diff.AtLeast(t, time.Since(time.Unix(0, begun.Load())), hold, "a deletion")
 		deletions.Add(1)
 		status := []int{410, 202, 404, 200}[late.Load()]
 		late.Add(1)
@@ -167,8 +164,7 @@ func TestFetchWithoutABinding(t *testing.T) {
 	p.start(background)
 	instance := p.create(NewInstance{Plan: "bind-later"})
 	p.untilState(instance, Ready)
-	bound, err := p.orders.Bind(background, NewBinding{Instance: instance.Instance.String()})
-	check(t, err)
+	bound := diff.Value(p.orders.Bind(background, NewBinding{Instance: instance.Instance.String()}))(t)
 	want := Reason{Kind: "fetch", Status: 404, Lost: "status 404: " + osb.ErrNoBinding.Error()}
 	p.until("a Fetch", func() bool {
 		e := diff.Value(p.store.Read(background, bound.Key))(t)

@@ -46,20 +46,17 @@ func seconds(count int) *time.Duration {
 }
 
 func removes(t *testing.T, s *scene) {
-	_, err := s.orders.Remove(background, s.key, false)
-	check(t, err)
+	diff.Value(s.orders.Remove(background, s.key, false))(t)
 }
 
 func retries(t *testing.T, s *scene) {
-	_, err := s.orders.Retry(background, s.key)
-	check(t, err)
+	diff.Value(s.orders.Retry(background, s.key))(t)
 }
 
 // abandons is the last way out. Until then the record says what hinders it.
 func abandons(t *testing.T, s *scene) {
 	diff.Equal(t, s.rows()[0].State, platform.Cleaning, "before it is abandoned")
-	_, err := s.orders.Abandon(background, s.key, "asked the broker's people")
-	check(t, err)
+	diff.Value(s.orders.Abandon(background, s.key, "asked the broker's people"))(t)
 }
 
 // accepts has the broker take the login again, after an hour in which only requests for the catalogue arrived.
@@ -414,9 +411,7 @@ func (s *scene) checkRow(t *testing.T, _ *scene) {
 			texts[*row.Operation] = 20_000
 		}
 		for text, most := range texts {
-			if len(text) > most {
-				t.Errorf("the text kept: got %d bytes, want at most %d: %.50s", len(text), most, text)
-			}
+			diff.AtMost(t, len(text), most, "the text kept")
 		}
 		if whole, err := json.Marshal(row); err != nil || len(whole) > 20_000 {
 			t.Errorf("the row: got %d bytes (%v), want at most 20000", len(whole), err)
@@ -438,15 +433,11 @@ func (s *scene) checkReported(t *testing.T) {
 			lost = exchange.Lost.Error()
 		}
 		for _, text := range []string{exchange.Error, exchange.Description, lost} {
-			if len(text) > 1000 {
-				t.Errorf("the text reported: got %d bytes, want at most 1000: %.50s", len(text), text)
-			}
+			diff.AtMost(t, len(text), 1000, "the text reported")
 		}
 	}
 	for _, failure := range s.failures {
-		if text := failure.Err.Error(); len(text) > 1000 {
-			t.Errorf("the error reported: got %d bytes, want at most 1000: %.50s", len(text), text)
-		}
+		diff.AtMost(t, len(failure.Err.Error()), 1000, "the error reported")
 	}
 }
 
@@ -624,9 +615,7 @@ func TestForeignPlan(t *testing.T) {
 		}
 	}
 	s.play(nil)
-	if rows := s.rows(); len(rows) > 0 {
-		t.Errorf("got %v, want none", rows)
-	}
+	diff.Empty(t, s.rows(), "")
 }
 
 // A broker of another version, or that refuses the login, rejects everything. Nothing is ordered of it, its reason is
@@ -646,9 +635,7 @@ func TestForeignRefusals(t *testing.T) {
 			if !errors.Is(err, platform.ErrUnreached) || !strings.Contains(err.Error(), test.said) {
 				t.Errorf("%d: got %v, want ErrUnreached with %q", test.status, err, test.said)
 			}
-			if waited := time.Since(begun); waited > 30*time.Second {
-				t.Errorf("%d: got a wait of %v, want at most 30 s", test.status, waited)
-			}
+			diff.AtMost(t, time.Since(begun), 30*time.Second, "%d", test.status)
 			var rejected *platform.Rejection
 			if _, err := s.orders.Create(background, platform.NewInstance{}); !errors.As(err, &rejected) {
 				t.Errorf("%d: an order: got %v, want a rejection", test.status, err)

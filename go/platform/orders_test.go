@@ -107,8 +107,7 @@ func TestCreateNamed(t *testing.T) {
 	}
 	_, err = d.orders.Create(background, NewInstance{Service: "shelf", Plan: "now", ID: "a thing"})
 	wantRejection(t, err, Conflict, "used already")
-	e, err = d.orders.Create(background, NewInstance{Service: "shelf", Plan: "now", ID: "another thing"})
-	check(t, err)
+	e = diff.Value(d.orders.Create(background, NewInstance{Service: "shelf", Plan: "now", ID: "another thing"}))(t)
 	if e.Tries != 1 { // the next one would have another id
 		t.Errorf("got %d tries, want 1", e.Tries)
 	}
@@ -146,9 +145,7 @@ func TestCreateRejected(t *testing.T) {
 		_, err := d.orders.Create(background, test.wanted)
 		t.Run(test.name, func(t *testing.T) { wantRejection(t, err, test.kind, test.part) })
 	}
-	if len(d.store.rows) > 0 {
-		t.Errorf("got %d rows written, want none", len(d.store.rows))
-	}
+	diff.Empty(t, d.store.rows, "")
 }
 
 // Without a catalogue, or a broker that is meant, nothing can be ordered.
@@ -298,8 +295,7 @@ func TestRemoveWithBindings(t *testing.T) {
 	_, err := d.orders.Remove(background, anInstance, false)
 	wantRejection(t, err, Conflict, "has bindings")
 	diff.Equal(t, d.store.rows[anInstance].Removal, NotRemoved, "the removal")
-	after, err := d.orders.Remove(background, anInstance, true)
-	check(t, err)
+	after := diff.Value(d.orders.Remove(background, anInstance, true))(t)
 	bound, ended := d.store.rows[aBinding], d.store.rows[other]
 	if after.Removal != RemovedWhole || bound.Removal != Removed || !bound.Due.Equal(d.dial.time()) ||
 		ended.Removal != NotRemoved {
@@ -323,8 +319,7 @@ func TestRemoveWhileBindingWaits(t *testing.T) {
 			d.put(rowIn(anInstance, Ready))
 			d.put(with(rowIn(osb.BindingKey(id("1"), id("b0")), Gone), func(e *Entry) { e.Due = time.Time{} }))
 			d.put(with(rowIn(aBinding, Ordered), func(e *Entry) { e.Try, e.Due = 2, d.dial.time().Add(time.Hour) }))
-			_, err := end(d.orders)
-			check(t, err)
+			diff.Value(end(d.orders))(t)
 			e := diff.Value(d.store.Read(background, aBinding))(t)
 			if e.State != Ordered || e.Removal != Removed || !e.Due.Equal(d.dial.time()) {
 				t.Errorf("got %s, removal %d, due %v, want it ordered, removed and due now", e.State, e.Removal, e.Due)
@@ -437,8 +432,7 @@ func TestAbandonedBinding(t *testing.T) {
 			d.put(rowIn(aBinding, CleaningPolling))
 			_, err := end(d)
 			wantRejection(t, err, Conflict, "bind")
-			_, err = d.orders.Abandon(background, aBinding, "it is never deleted")
-			check(t, err)
+			diff.Value(d.orders.Abandon(background, aBinding, "it is never deleted"))(t)
 			d.put(rowIn(held, Ready))
 			_, err = end(d)
 			wantRejection(t, err, Conflict, "bind")
@@ -498,9 +492,7 @@ func TestCreateWithoutBroker(t *testing.T) {
 	}
 	_, err := d.orders.Create(background, NewInstance{Service: "shelf", Plan: planNames[0]})
 	wantRejection(t, err, NotFound, "shelf")
-	if len(d.store.rows) > 0 {
-		t.Errorf("written: got %+v, want none", d.store.rows)
-	}
+	diff.Empty(t, d.store.rows, "written")
 }
 
 // A record that is gone stays so: only the deletion that would follow is abandoned.
@@ -515,12 +507,11 @@ func TestAbandonLast(t *testing.T) {
 
 func TestCredentials(t *testing.T) {
 	d := newDesk(t)
-	sealed, err := seal{}.Seal([]byte(`{"credentials": 1}`), aBinding.String())
-	check(t, err)
+	sealed := diff.Value(seal{}.Seal([]byte(`{"credentials": 1}`), aBinding.String()))(t)
 	d.put(with(rowIn(aBinding, Ready), func(e *Entry) { e.Credentials = sealed }))
 	diff.Equal(t, string(diff.Value(d.orders.Credentials(background, aBinding))(t)), `{"credentials": 1}`,
 		"the credentials")
-	_, err = NewOrders(d.store, nil).Credentials(background, aBinding)
+	_, err := NewOrders(d.store, nil).Credentials(background, aBinding)
 	wantRejection(t, err, Conflict, "no key")
 	_, err = d.orders.Credentials(background, anInstance)
 	wantRejection(t, err, Invalid, "instance")
@@ -530,9 +521,7 @@ func TestCredentials(t *testing.T) {
 	_, err = d.orders.Credentials(background, aBinding)
 	wantRejection(t, err, Conflict, "cleaning")
 	d.put(with(rowIn(aBinding, Ready), func(e *Entry) { e.Credentials = nil }))
-	if found, err := d.orders.Credentials(background, aBinding); err == nil {
-		t.Errorf("without any: got %s, want an error", found)
-	}
+	diff.Error(t, diff.Err(d.orders.Credentials(background, aBinding)), "without any")
 	d.put(with(rowIn(aBinding, Ready), func(e *Entry) { e.Credentials = []byte(`["another", ""]`) }))
 	_, err = d.orders.Credentials(background, aBinding)
 	if err == nil || !strings.Contains(err.Error(), describe(d.store.rows[aBinding])+" can't be decrypted") {
@@ -654,9 +643,7 @@ func TestBindAgain(t *testing.T) {
 			if err != nil || string(object) != b.seller.object(second.Key) {
 				t.Errorf("%d: the credentials: got %s (%v), want %s", test.status, object, err, b.seller.object(second.Key))
 			}
-			if _, err := b.orders.Credentials(background, first.Key); err == nil {
-				t.Errorf("%d: the first try: got credentials, want none", test.status)
-			}
+			diff.Error(t, diff.Err(b.orders.Credentials(background, first.Key)), "%d: the first try", test.status)
 			if !b.seller.isNone(first.Key) || !b.seller.isThere(second.Key) || len(b.tries(instance)) != 2 || b.binds != 2 {
 				t.Errorf("%d: got %s and %s after %d Binds, want the second one only, after 2", test.status, b.seller.is(first.Key),
 					b.seller.is(second.Key), b.binds)

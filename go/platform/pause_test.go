@@ -245,8 +245,7 @@ func (s *stage) takeOver(t *testing.T, resume func()) {
 	t.Helper()
 	second := s.workers[1]
 	found := second.engine.claim(background, second.registry, []string{"shelf"}, 10, nil)
-	before, err := s.store.List(background, Filter{})
-	check(t, err)
+	before := diff.Value(s.store.List(background, Filter{}))(t)
 	now := s.dial.time()
 	resume()
 	for _, entry := range before {
@@ -294,8 +293,7 @@ func (s *stage) check(t *testing.T, key Key, hold time.Duration) {
 			}
 		}
 	}
-	rows, err := s.store.List(background, Filter{})
-	check(t, err)
+	rows := diff.Value(s.store.List(background, Filter{}))(t)
 	tries := map[string]int{}
 	for _, e := range rows {
 		name := fmt.Sprint(e.First, e.Try)
@@ -476,8 +474,7 @@ func (s *stage) bind(t *testing.T, instance Key) Key {
 
 func (s *stage) remove(t *testing.T, key Key) {
 	t.Helper()
-	_, err := s.orders.Remove(background, key, false)
-	check(t, err)
+	diff.Value(s.orders.Remove(background, key, false))(t)
 }
 
 // crash has the second worker end once it has sent what is due.

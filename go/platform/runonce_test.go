@@ -126,9 +126,7 @@ func TestRunOnceRefusedAtFirst(t *testing.T) {
 		}
 		key := p.create(NewInstance{})
 		diff.ErrorIs(t, p.engine.RunOnce(background), ErrUnreached, "%d", status)
-		if waited := time.Since(begun); waited > 30*time.Second {
-			t.Errorf("%d: got a wait of %v, want at most 30 s", status, waited)
-		}
+		diff.AtMost(t, time.Since(begun), 30*time.Second, "%d", status)
 		diff.Equal(t, diff.Value(p.store.Read(background, key))(t).State, Ready,
 			"%d: the order of the other broker", status)
 	}

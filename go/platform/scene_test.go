@@ -99,8 +99,7 @@ func newScene(t *testing.T, catalogue string, settings platform.Settings, option
 	s := &scene{t: t, start: start, now: start, catalogue: catalogue}
 	server := httptest.NewServer(http.HandlerFunc(s.serve))
 	t.Cleanup(server.Close)
-	sealed, err := vault.New(make([]byte, vault.ShortestKey))
-	check(t, err)
+	sealed := diff.Value(vault.New(make([]byte, vault.ShortestKey)))(t)
 	s.Client = diff.Value(client.New(client.Options{Password: client.NewPasswords(sealed, nil).Of}))(t)
 	t.Cleanup(s.Client.Close)
 	s.store = platform.NewMemory(s.time)

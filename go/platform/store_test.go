@@ -208,9 +208,7 @@ func TestAnswersThatAreWrittenAgain(t *testing.T) {
 	}
 	other.end() // it has never been written again
 	h.nothingDue()
-	if err := h.failing(); err != failed {
-		t.Errorf("while it isn't written: got %v, want %v", err, failed)
-	}
+	diff.ErrorIs(t, h.failing(), failed, "while it isn't written")
 	one.end()
 	h.nothingDue()
 	diff.NoError(t, h.failing(), "once it is written")
@@ -220,8 +218,7 @@ func TestAnswersThatAreWrittenAgain(t *testing.T) {
 func TestFaultsNameIDs(t *testing.T) {
 	d := newDesk(t)
 	create := NewInstance{Service: "shelf", Plan: "now", ID: "my shelf"}
-	e, err := d.orders.Create(background, create)
-	check(t, err)
+	e := diff.Value(d.orders.Create(background, create))(t)
 	bound := osb.BindingKey(e.Key.Instance, id("b1"))
 	set := func(key Key, change func(*Entry)) {
 		row := with(rowIn(key, Ready), change)
@@ -248,9 +245,8 @@ func TestFaultsNameIDs(t *testing.T) {
 			return err
 		}},
 		{book, nil, nil, func() error {
+			diff.Value(d.orders.Bind(background, NewBinding{Instance: "my shelf", ID: "my book"}))(t)
 			_, err := d.orders.Bind(background, NewBinding{Instance: "my shelf", ID: "my book"})
-			check(t, err)
-			_, err = d.orders.Bind(background, NewBinding{Instance: "my shelf", ID: "my book"})
 			return err
 		}},
 		{shelf, nil, nil, func() error { _, err := d.orders.Remove(background, e.Key, false); return err }},
@@ -275,7 +271,7 @@ func TestFaultsNameIDs(t *testing.T) {
 			}
 		})
 	}
-	_, err = d.orders.Bind(background, NewBinding{Instance: "another shelf"})
+	_, err := d.orders.Bind(background, NewBinding{Instance: "another shelf"})
 	wantRejection(t, err, NotFound, "the instance another shelf is unknown")
 }
 
@@ -322,9 +318,7 @@ func TestCheckStore(t *testing.T) {
 // Passwords are sealed for this text. With another one, nobody could open those in the store.
 func TestPasswordContext(t *testing.T) {
 	got := PasswordContext(Broker{Name: "shelf", URL: "https://shelf/v", User: "u"})
-	if want := "password 5:shelf 15:https://shelf/v 1:u"; got != want {
-		t.Errorf("got %q, want %q", got, want)
-	}
+	diff.Equal(t, got, "password 5:shelf 15:https://shelf/v 1:u", "")
 }
 
 // Walk passes each row once, some at once, and leaves out those that have left the states meanwhile. An error ends it.

@@ -102,6 +102,32 @@ func Lacks(t testing.TB, text, part, format string, arguments ...any) {
 	}
 }
 
+// Empty fails the test unless a list or a map has no element, and says what was counted as Equal does.
+func Empty(t testing.TB, got any, format string, arguments ...any) {
+	t.Helper()
+	if reflect.ValueOf(got).Len() > 0 {
+		t.Errorf("%sgot %+v, want none", prefix(format, arguments), got)
+	}
+}
+
+type measure interface{ ~int | ~int64 | ~float64 }
+
+// AtMost fails the test if a number is above a bound, and says what was measured as Equal does.
+func AtMost[T measure](t testing.TB, got, bound T, format string, arguments ...any) {
+	t.Helper()
+	if got > bound {
+		t.Errorf("%sgot %v, want at most %v", prefix(format, arguments), got, bound)
+	}
+}
+
+// AtLeast fails the test if a number is below a bound, and says what was measured as Equal does.
+func AtLeast[T measure](t testing.TB, got, bound T, format string, arguments ...any) {
+	t.Helper()
+	if got < bound {
+		t.Errorf("%sgot %v, want at least %v", prefix(format, arguments), got, bound)
+	}
+}
+
 // Must ends the test at an error.
 func Must(t testing.TB, err error) {
 	t.Helper()
@@ -118,6 +144,9 @@ func Value[T any](value T, err error) func(testing.TB) T {
 		return value
 	}
 }
+
+// Err returns the error of a call that also returns a value: diff.Error(t, diff.Err(os.ReadFile(name)), "").
+func Err[T any](_ T, err error) error { return err }
 
 // Of says how got differs from want: the lines with + are what was got, and those with - what is wanted. If cmp sees no
 // difference, both are printed as a whole.

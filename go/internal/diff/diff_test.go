@@ -102,6 +102,9 @@ func TestValuesAndErrors(t *testing.T) {
 		`got "abc", want no "b" in it`:               func(t testing.TB) { Lacks(t, "abc", "b", "") },
 		`got the error wrong, want one with "no"`:    func(t testing.TB) { ErrorContains(t, wrong, "no", "") },
 		`a: got the error <nil>, want one with "no"`: func(t testing.TB) { ErrorContains(t, nil, "no", "a") },
+		"row 1: got [2], want none":                  func(t testing.TB) { Empty(t, []int{2}, "row %d", 1) },
+		"got 2s, want at most 1s":                    func(t testing.TB) { AtMost(t, 2*time.Second, time.Second, "") },
+		"calls: got 1, want at least 2":              func(t testing.TB) { AtLeast(t, 1, 2, "calls") },
 	} {
 		t.Run(want, func(t *testing.T) {
 			f := &fake{TB: t}
@@ -119,6 +122,10 @@ func TestValuesAndErrors(t *testing.T) {
 	ErrorContains(f, wrong, "ron", "x")
 	Contains(f, "abc", "bc", "x")
 	Lacks(f, "abc", "ac", "x")
+	Empty(f, map[string]int{}, "x")
+	AtMost(f, 2, 2, "x")
+	AtLeast(f, 2, 2, "x")
+	ErrorIs(f, Err(5, wrong), wrong, "x")
 	if ErrorIs(f, fmt.Errorf("of x: %w", wrong), wrong, "x"); f.failed != "" {
 		t.Errorf("got %q, want nothing", f.failed)
 	}

@@ -271,9 +271,7 @@ func TestRecordedAnswersAreDocumented(t *testing.T) {
 	text := diff.Value(os.ReadFile("../page/testdata/recorded.json"))(t)
 	var answers map[string]json.RawMessage
 	check(t, json.Unmarshal(text, &answers))
-	if len(answers) < 10 {
-		t.Errorf("got %d, want at least 10", len(answers))
-	}
+	diff.AtLeast(t, len(answers), 10, "")
 	check(t, errDescribed)
 	for target, body := range answers {
 		at := diff.Value(url.Parse(target))(t)

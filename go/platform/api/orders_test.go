@@ -195,9 +195,7 @@ func TestListInFlight(t *testing.T) {
 			t.Errorf("the list: got %s, want both with what is in flight", flying.text)
 		}
 	}
-	if few := r.call("GET", "/v1/in-flight?limit=1", "").want(200, ""); len(few.items()) > 1 {
-		t.Errorf("the list: got %s, want at most 1", few.text)
-	}
+	diff.AtMost(t, len(r.call("GET", "/v1/in-flight?limit=1", "").want(200, "").items()), 1, "the list")
 	r.call("GET", "/v1/in-flight?limit=0", "").want(400, "malformed")
 	r.call("GET", "/v1/in-flight?state=wanted", "").want(400, "malformed")
 }
@@ -405,9 +403,7 @@ func TestRemoveLastTry(t *testing.T) {
 	diff.Equal(t, removed.at("removal"), "removed", "%s", removed.text)
 	shown := r.call("GET", "/v1/instances/"+last, "").want(200, "")
 	diff.Equal(t, shown.at("removal"), "removed", "the last try, %s", shown.text)
-	if shown := r.call("GET", "/v1/instances/"+first, "").want(200, ""); shown.at("removal") != "none" {
-		t.Errorf("the first try: got %s, want it not removed", shown.text)
-	}
+	diff.Equal(t, r.call("GET", "/v1/instances/"+first, "").want(200, "").at("removal"), "none", "the first try")
 }
 
 // Whoever removes a binding by the id of an earlier try removes the last one. Its tries are listed by the first one's

@@ -73,9 +73,7 @@ func TestPausedBeforeWriting(t *testing.T) {
 		in := exchange(t, c, scheme+server.url, osb.KindProvision)
 		diff.ErrorIs(t, in.Lost, ErrNotSent, "%s", scheme)
 		diff.ErrorIs(t, in.Lost, ErrTimeOver, "%s", scheme)
-		if came := server.wait(t); len(came) > 0 {
-			t.Errorf("%s: got %d bytes, want none", scheme, len(came))
-		}
+		diff.Empty(t, server.wait(t), "%s", scheme)
 	}
 }
 
@@ -605,9 +603,7 @@ func TestNew(t *testing.T) {
 		"a certificate nowhere": {Password: password, TLS: Files{Certificate: "nowhere", Key: "nowhere"}},
 	} {
 		t.Run(what, func(t *testing.T) {
-			if _, err := New(options); err == nil {
-				t.Error("got no error, want one")
-			}
+			diff.Error(t, diff.Err(New(options)), "")
 		})
 	}
 }

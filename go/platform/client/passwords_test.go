@@ -16,8 +16,7 @@ import (
 
 // A sealed password is opened under the name, the URL and the user of its broker, and under no others.
 func TestSealedPassword(t *testing.T) {
-	safe, err := vault.New([]byte(strings.Repeat("k", vault.ShortestKey)))
-	check(t, err)
+	safe := diff.Value(vault.New([]byte(strings.Repeat("k", vault.ShortestKey))))(t)
 	broker := platform.Broker{Name: "postgres", URL: "https://one.example", User: "platform", PasswordFile: "nowhere"}
 	broker.Password = diff.Value(safe.Seal([]byte(secret), platform.PasswordContext(broker)))(t)
 	passwords := NewPasswords(safe, nil)
@@ -56,8 +55,7 @@ func TestSealedPassword(t *testing.T) {
 func TestPasswordOfOrders(t *testing.T) {
 	safe := diff.Value(vault.New([]byte(strings.Repeat("k", vault.ShortestKey))))(t)
 	ctx := context.Background()
-	store, err := sqlite.Open(ctx, filepath.Join(t.TempDir(), "store"))
-	check(t, err)
+	store := diff.Value(sqlite.Open(ctx, filepath.Join(t.TempDir(), "store")))(t)
 	defer store.Close()
 	orders := platform.NewOrders(store, safe)
 	shop := platform.Broker{Name: "shop", URL: "https://shop.example", User: "platform"}

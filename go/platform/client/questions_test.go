@@ -185,9 +185,7 @@ func TestCatalogueTime(t *testing.T) {
 	if passed := time.Since(begun); !errors.Is(err, ErrTimeOver) || status != 0 || passed > patience/2 {
 		t.Errorf("got %v after %v, want %v at its time", err, passed, ErrTimeOver)
 	}
-	if long := reason([]byte(`{"description":"` + strings.Repeat("ü", 9999) + `"}`)); len(long) > 3*longestReason {
-		t.Errorf("got %d bytes, want at most %v", len(long), 3*longestReason)
-	}
+	diff.AtMost(t, len(reason([]byte(`{"description":"` + strings.Repeat("ü", 9999) + `"}`))), 3*longestReason, "")
 	_, _, err = c.Catalogue(context.Background(), platform.Broker{Name: "postgres", URL: "broker.example"})
 	if err == nil || !strings.Contains(err.Error(), "https://") {
 		t.Errorf("got the error %v, want one that asks for https://", err)
@@ -231,8 +229,7 @@ func TestBrokenConnections(t *testing.T) {
 		"reset in TLS":      {"https", reset, inTLS},
 	} {
 		t.Run(what, func(t *testing.T) {
-			listener, err := net.Listen("tcp", "127.0.0.1:0")
-			check(t, err)
+			listener := diff.Value(net.Listen("tcp", "127.0.0.1:0"))(t)
 			test := test
 			go func() {
 				for {
@@ -246,7 +243,7 @@ func TestBrokenConnections(t *testing.T) {
 				}
 			}()
 			url := test.scheme + "://" + listener.Addr().String()
-			_, _, err = newClient(t, Options{}).Catalogue(context.Background(), at(url))
+			_, _, err := newClient(t, Options{}).Catalogue(context.Background(), at(url))
 			if err == nil || !strings.Contains(err.Error(), test.says) || strings.Contains(err.Error(), secret) {
 				t.Errorf("got %v, want %s", err, test.says)
 			}

@@ -207,8 +207,7 @@ func TestKeptOverTLS(t *testing.T) {
 func TestCutOverTLS(t *testing.T) {
 	ours := newAuthority(t)
 	ours.sign(t, "broker", here)
-	pair, err := tls.LoadX509KeyPair(ours.file("broker.crt"), ours.file("broker.key"))
-	check(t, err)
+	pair := diff.Value(tls.LoadX509KeyPair(ours.file("broker.crt"), ours.file("broker.key")))(t)
 	malformed := osb.Answer{Status: 201, Body: osb.BodyMalformed}
 	for what, row := range map[string]struct {
 		answer string
@@ -336,9 +335,7 @@ func TestNoProxy(t *testing.T) {
 	if output, err := child.CombinedOutput(); err != nil || !bytes.Contains(output, []byte("--- PASS")) {
 		t.Errorf("got %v, want a test that passes: %s", err, output)
 	}
-	if len(asked) > 0 {
-		t.Errorf("the proxy: got %q, want nothing", <-asked)
-	}
+	diff.Empty(t, asked, "the proxy")
 }
 
 // A broker with http that isn't on this machine gets no password unless that is allowed.

@@ -36,18 +36,15 @@ func TestEvents(t *testing.T) {
 	s.run()
 	want(t, "create", s.events(1), created)
 	from := len(s.lines())
-	bound, err := s.orders.Bind(background, platform.NewBinding{Instance: "one"})
-	check(t, err)
+	bound := diff.Value(s.orders.Bind(background, platform.NewBinding{Instance: "one"}))(t)
 	s.run()
 	want(t, "bind", s.events(from), created)
 	from = len(s.lines())
-	_, err = s.orders.Remove(background, bound.Key, false)
-	check(t, err)
+	diff.Value(s.orders.Remove(background, bound.Key, false))(t)
 	s.run()
 	want(t, "unbind", s.events(from), "claim cleaning; sent deprovision; answered empty; take gone")
 	from = len(s.lines())
-	_, err = s.orders.Abandon(background, key, "the test wants it")
-	check(t, err)
+	diff.Value(s.orders.Abandon(background, key, "the test wants it"))(t)
 	want(t, "abandon", s.events(from), "command abandoned")
 }
 
@@ -127,8 +124,7 @@ func TestFetch(t *testing.T) {
 		}
 		return sells(out)
 	}
-	_, err := s.orders.Bind(background, platform.NewBinding{Instance: "one"})
-	check(t, err)
+	diff.Value(s.orders.Bind(background, platform.NewBinding{Instance: "one"}))(t)
 	s.run()
 	time.Sleep(10 * time.Millisecond)
 	s.run()
@@ -236,10 +232,9 @@ func TestUndoneClaim(t *testing.T) {
 	for fails, want := range map[error]string{errFull: "undone; undone", errDoubt: "undone doubtful; undone doubtful"} {
 		t.Run(fails.Error(), func(t *testing.T) {
 			s := newTestPlatform(t)
-			w, err := Open(Options{Path: s.path + ".own", Most: 1 << 20})
-			check(t, err)
+			w := diff.Value(Open(Options{Path: s.path + ".own", Most: 1 << 20}))(t)
 			to := New(w, nil, func(err error) bool { return errors.Is(err, errDoubt) })
-			_, err = to.EngineStore(failing{s.store, fails}).Claim(background, nil, 2,
+			_, err := to.EngineStore(failing{s.store, fails}).Claim(background, nil, 2,
 				func(_ time.Time, snapshot platform.Snapshot) (*platform.Change, error) {
 					snapshot.State = platform.Withdrawn
 					return &platform.Change{Entry: snapshot.Entry}, nil
@@ -305,9 +300,7 @@ func TestOrderThatIsNotAllowed(t *testing.T) {
 		Order: platform.Order{Key: keyOf("one"), Broker: "shop", Body: json.RawMessage("{}")},
 	}, func(platform.Snapshot) error { return errFull })
 	diff.ErrorIs(t, err, errFull, "")
-	if _, err := s.store.Read(background, keyOf("one")); !errors.Is(err, platform.ErrUnknown) {
-		t.Errorf("got %v, want no row", err)
-	}
+	diff.ErrorIs(t, diff.Err(s.store.Read(background, keyOf("one"))), platform.ErrUnknown, "")
 	want(t, "no order", s.events(1), "")
 }
 
@@ -325,8 +318,7 @@ func TestStepThatWritesNothing(t *testing.T) {
 // An order that wasn't sent is withdrawn.
 func TestWithdrawn(t *testing.T) {
 	s := newTestPlatform(t)
-	_, err := s.orders.Remove(background, s.create("one"), false)
-	check(t, err)
+	diff.Value(s.orders.Remove(background, s.create("one"), false))(t)
 	want(t, "withdrawn", s.events(1), "order ordered; command withdrawn")
 }
 
@@ -339,8 +331,7 @@ func TestNextTry(t *testing.T) {
 		}
 		return sells(out)
 	}
-	made, err := s.orders.Create(background, platform.NewInstance{Service: service, Plan: plan, Tries: 2})
-	check(t, err)
+	made := diff.Value(s.orders.Create(background, platform.NewInstance{Service: service, Plan: plan, Tries: 2}))(t)
 	const first = "order ordered; claim wanted; sent provision; lost; take cleaning; " +
 		"claim cleaning; sent deprovision; answered empty; take gone; order ordered"
 	for late := time.Now().Add(10 * time.Second); !strings.HasPrefix(s.events(1), first); s.run() {
@@ -362,12 +353,10 @@ func TestRetry(t *testing.T) {
 	s.seller.answers = func(platform.Outgoing) platform.Incoming {
 		return platform.Incoming{Status: 202, Answer: osb.Answer{Status: 202, Body: osb.BodyEmpty}, RetryAfter: time.Hour}
 	}
-	_, err := s.orders.Remove(background, key, false)
-	check(t, err)
+	diff.Value(s.orders.Remove(background, key, false))(t)
 	s.run()
 	from := len(s.lines())
-	_, err = s.orders.Retry(background, key)
-	check(t, err)
+	diff.Value(s.orders.Retry(background, key))(t)
 	want(t, "retry", s.events(from), "command cleaning")
 	if it := s.last(); it.Attempt != 0 || it.Before == it.After {
 		t.Errorf("got %+v, want no attempt, and a record that has changed", it)
@@ -397,11 +386,9 @@ func TestNoSecrets(t *testing.T) {
 	s := newTestPlatform(t)
 	s.create("one")
 	s.run()
-	bound, err := s.orders.Bind(background, platform.NewBinding{Instance: "one"})
-	check(t, err)
+	bound := diff.Value(s.orders.Bind(background, platform.NewBinding{Instance: "one"}))(t)
 	s.run()
-	_, err = s.orders.Remove(background, bound.Key, false)
-	check(t, err)
+	diff.Value(s.orders.Remove(background, bound.Key, false))(t)
 	s.run()
 	text := diff.Value(os.ReadFile(s.path))(t)
 	for _, secret := range []string{password, parameter, credential} {

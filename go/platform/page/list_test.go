@@ -316,15 +316,14 @@ func large(t *testing.T) *sqlite.Store {
 		e.IsSent, e.Lease = true, platform.Lease{}
 		check(t, first.Insert(background, e, func(platform.Snapshot) error { return nil }))
 	}
-	raw, err := (&sqlite3.SQLiteDriver{}).Open("file:" + path + "?_synchronous=OFF")
-	check(t, err)
+	raw := diff.Value((&sqlite3.SQLiteDriver{}).Open("file:" + path + "?_synchronous=OFF"))(t)
 	defer raw.Close()
 	for _, text := range []string{
 		copies,
 		"INSERT INTO osb_lives SELECT id, 1, 'ordered', since - 60 FROM osb_instances",
 		"INSERT INTO osb_lives SELECT id, 2, 'wanted', since - 30 FROM osb_instances",
 	} {
-		_, err = raw.(driver.ExecerContext).ExecContext(background, text, nil) //nolint:staticcheck // no sql.DB here
+		_, err := raw.(driver.ExecerContext).ExecContext(background, text, nil) //nolint:staticcheck // no sql.DB here
 		check(t, err)
 	}
 	return first
@@ -357,9 +356,7 @@ func TestLargeStore(t *testing.T) {
 		}
 		sort.Slice(times, func(a, b int) bool { return times[a] < times[b] })
 		t.Logf("%s: %v", target, times[0])
-		if times[0] > 2*time.Second {
-			t.Errorf("%s: got %v, want at most 2 s each", target, times)
-		}
+		diff.AtMost(t, times[0], 2*time.Second, "%s", target)
 	}
 	checkEveryPage(t, h)
 }

@@ -597,9 +597,7 @@ func TestSilentConnections(t *testing.T) {
 	}
 	client := &http.Client{Timeout: 30 * time.Second}
 	answered, err := client.Get(listener.URL())
-	if err != nil {
-		t.Fatalf("beside silent connections: got %v, want no error", err)
-	}
+	diff.Must(t, err)
 	check(t, answered.Body.Close())
 	diff.Equal(t, answered.StatusCode, http.StatusOK, "")
 	client.CloseIdleConnections()

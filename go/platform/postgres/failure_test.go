@@ -284,9 +284,7 @@ func TestAway(t *testing.T) {
 	if !errors.Is(err, platform.ErrUnknown) || errors.Is(err, platform.ErrAway) {
 		t.Errorf("an unknown row: got %v, want %v", err, platform.ErrUnknown)
 	}
-	if _, err := postgres.Open(background, url, 0); err == nil {
-		t.Error("a store without connections: got no error, want one")
-	}
+	diff.Error(t, diff.Err(postgres.Open(background, url, 0)), "a store without connections")
 }
 
 // What the server may get over by itself is ErrAway: it has no space left, or a lock or a statement takes too long.
@@ -479,9 +477,7 @@ func TestAServerThatHangs(t *testing.T) {
 // wantQuick fails if the calls have waited for an answer of the server, which would take 45 seconds.
 func wantQuick(t *testing.T, begun time.Time) {
 	t.Helper()
-	if took := time.Since(begun); took > 30*time.Second {
-		t.Errorf("got %v, want at most %v", took, 30*time.Second)
-	}
+	diff.AtMost(t, time.Since(begun), 30*time.Second, "")
 }
 
 // A server hangs while the store has idle sessions, whose statements are closed with them.

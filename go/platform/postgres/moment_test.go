@@ -2,7 +2,6 @@ package postgres
 
 import (
 	"context"
-	"errors"
 	"fmt"
 	"strings"
 	"testing"
@@ -57,7 +56,6 @@ func TestStaysOfLongAgo(t *testing.T) {
 	}))
 	got := diff.Value(store.Positions(ctx, platform.Filter{AsOf: moment}))(t)
 	diff.Check(t, got, []platform.Position{{State: platform.Ready, Since: ready.Since, Key: key}}, "as of the moment")
-	if _, err := store.Positions(ctx, platform.Filter{AsOf: "1"}); !errors.Is(err, platform.ErrNoMoment) {
-		t.Errorf("half of a moment: got %v, want %v", err, platform.ErrNoMoment)
-	}
+	half := platform.Filter{AsOf: "1"}
+	diff.ErrorIs(t, diff.Err(store.Positions(ctx, half)), platform.ErrNoMoment, "half of a moment")
 }

@@ -260,9 +260,7 @@ func claimFor(t testing.TB, store platform.Store, worker string, most int) (keys
 			snapshot.Entry.Lease = platform.Lease{Worker: worker, Until: now.Add(time.Hour)}
 			return &platform.Change{Entry: snapshot.Entry}, nil
 		})
-	if err != nil {
-		t.Fatalf("Claim: got %v, want no error", err)
-	}
+	diff.Must(t, err)
 	for _, row := range claimed {
 		keys = append(keys, row.Key)
 		diff.NoError(t, row.Err, "%v", row.Key)

@@ -40,8 +40,7 @@ func TestExtensionOfTheTables(t *testing.T) {
 // A column that is added has the type that it has in the tables of version 0.3.
 func TestTypesOfColumns(t *testing.T) {
 	url := pgtest.Schema(t, pgtest.URL(t), "osb_platform_types")
-	store, err := Open(context.Background(), url, 1)
-	check(t, err)
+	store := diff.Value(Open(context.Background(), url, 1))(t)
 	defer store.Close()
 	db := pgtest.DB(t, url)
 	for _, column := range rowColumns {
@@ -56,8 +55,7 @@ func TestTypesOfColumns(t *testing.T) {
 
 // The session of a worker's right lives as long as it answers.
 func TestARightLives(t *testing.T) {
-	store, err := Open(context.Background(), pgtest.Schema(t, pgtest.URL(t), "osb_platform_right_lives"), 1)
-	check(t, err)
+	store := diff.Value(Open(context.Background(), pgtest.Schema(t, pgtest.URL(t), "osb_platform_right_lives"), 1))(t)
 	defer store.Close()
 	it := diff.Value(store.right(context.Background(), "osb_platform_right_lives"))(t)
 	for range [2]int{} {
@@ -116,10 +114,9 @@ func TestSoonest(t *testing.T) {
 func TestSealed(t *testing.T) {
 	for _, sealed := range []bytea{nil, {}, {0, 255, 7}} {
 		t.Run(fmt.Sprint(sealed), func(t *testing.T) {
-			text, err := json.Marshal(sealed)
-			check(t, err)
+			text := diff.Value(json.Marshal(sealed))(t)
 			read := bytea{1}
-			err = json.Unmarshal(text, &read)
+			err := json.Unmarshal(text, &read)
 			if err != nil || string(read) != string(sealed) || (read == nil) != (sealed == nil) {
 				t.Errorf("%[1]v, written as %[2]s: got %[3]v, %[4]v, want %[1]v", []byte(sealed), text, []byte(read), err)
 			}

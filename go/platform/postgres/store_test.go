@@ -54,8 +54,7 @@ func TestPausedWorker(t *testing.T) {
 
 func open(t testing.TB, url string) *postgres.Store {
 	t.Helper()
-	store := diff.Value(postgres.Open(background, url, 4))(t)
-	return store
+	return diff.Value(postgres.Open(background, url, 4))(t)
 }
 
 // openBroker opens and closes a broker's store.

@@ -137,9 +137,7 @@ func want02(t *testing.T, got platform.Entry, n int, it row02) {
 	body := string(got.Body)
 	got.Order.Body = nil
 	diff.Check(t, got.Order, order, "row %d: the order", n)
-	if want := orText(it.parameters, "{}"); body != want {
-		t.Errorf("row %d: got the body %s, want %s", n, body, want)
-	}
+	diff.Equal(t, body, orText(it.parameters, "{}"), "row %d", n)
 	polled, due, lease := time.Time{}, time.Time{}, platform.Lease{}
 	if it.isPolled {
 		polled = at(2)
@@ -254,12 +252,11 @@ func TestAWorkerOf02(t *testing.T) {
 	url := pgtest.Schema(t, pgtest.URL(t), "osb_platform_worker_02")
 	db := pgtest.DB(t, url)
 	pgtest.Exec(t, db, of02...)
-	conn, err := db.Conn(background)
-	check(t, err)
+	conn := diff.Value(db.Conn(background))(t)
 	defer conn.Close()
 	const name = "SELECT pg_advisory_lock(1869832816, 12345)" // as version 0.2 has it: osbp, and a digest
 	diff.Value(conn.ExecContext(background, name))(t)
-	_, err = postgres.Open(background, url, 1)
+	_, err := postgres.Open(background, url, 1)
 	if err == nil || !strings.Contains(err.Error(), "Stop all of its workers") {
 		t.Errorf("beside a worker: got %v, want one that says to stop the workers", err)
 	}
@@ -400,9 +397,7 @@ func TestReadingLocksNothing(t *testing.T) {
 	ctx, cancel := context.WithTimeout(background, 10*time.Second)
 	defer cancel()
 	second, err := postgres.Open(ctx, url, 1)
-	if err != nil {
-		t.Fatalf("Open: got %v, want no error", err)
-	}
+	diff.Must(t, err)
 	defer second.Close()
 	for name, call := range reads(second, instance(1)) {
 		done := make(chan error, 1)

@@ -80,9 +80,7 @@ func TestReadingLocksNothing(t *testing.T) {
 		t.Errorf("got an end after %v, want one within 15 s", took)
 	}
 	diff.Equal(t, diff.Value(second.Read(background, keyOf(1)))(t).Unchanged, 0, "what isn't committed")
-	if _, err := writer.Exec("COMMIT", nil); err != nil {
-		t.Errorf("the writer: got %v, want no error", err)
-	}
+	diff.NoError(t, diff.Err(writer.Exec("COMMIT", nil)), "the writer")
 }
 
 // A row that can't be read hides no other one. One without a time or an id has no position in a list.
@@ -100,17 +98,11 @@ func TestUnreadableRows(t *testing.T) {
 	storetest.TestUnreadable(t, s, func(t *testing.T, key platform.Key) { spoil(t, key, "record") })
 	check(t, s.Insert(background, order(1000), nil))
 	spoil(t, keyOf(1000), "since")
-	if entries, err := s.List(background, platform.Filter{}); err == nil {
-		t.Errorf("got %d rows listed, want an error", len(entries))
-	}
+	diff.Error(t, diff.Err(s.List(background, platform.Filter{})), "")
 	executeIn(t, path, "UPDATE osb_instances SET since = 1 WHERE since = 'x'")
-	if _, err := s.List(background, platform.Filter{}); err != nil {
-		t.Errorf("got the error %v, want none", err)
-	}
+	diff.NoError(t, diff.Err(s.List(background, platform.Filter{})), "")
 	spoil(t, keyOf(1000), "id")
-	if entries, err := s.List(background, platform.Filter{}); err == nil {
-		t.Errorf("got %d rows listed, one without an id, want an error", len(entries))
-	}
+	diff.Error(t, diff.Err(s.List(background, platform.Filter{})), "")
 }
 
 // If the time of a stay can't be read, its row has no position as of a moment at which the stay went on.
@@ -124,12 +116,8 @@ func TestUnreadableStay(t *testing.T) {
 		return &platform.Change{Entry: snapshot.Entry}, nil
 	}))
 	executeIn(t, path, "UPDATE osb_lives SET since = 'x'")
-	if positions, err := s.Positions(background, platform.Filter{AsOf: moment}); err == nil {
-		t.Errorf("got %v, want an error", positions)
-	}
-	if _, err := s.Positions(background, platform.Filter{}); err != nil {
-		t.Errorf("as of now: got %v, want no error", err)
-	}
+	diff.Error(t, diff.Err(s.Positions(background, platform.Filter{AsOf: moment})), "")
+	diff.NoError(t, diff.Err(s.Positions(background, platform.Filter{})), "as of now")
 }
 
 // No step decides by a row of which a column can't be read.
@@ -332,18 +320,14 @@ func TestAStepOfAnEngine(t *testing.T) {
 	for rows, duration := range took {
 		// No two claims are in one transaction, because each follows the answer to the one before. The end of a step
 		// may be in that of the next claim, so only the last end is one more.
-		if got := duration[1]; got < int64(rows)+1 {
-			t.Errorf("got %d transactions for %d steps, want at least one for each and one more", got, rows)
-		}
+		diff.AtLeast(t, duration[1], int64(rows)+1, "")
 	}
 	const steps = many - few
 	statements, transactions := took[many][0]-took[few][0], took[many][1]-took[few][1]
 	if statements < 4*steps || statements > 10*steps {
 		t.Errorf("%d steps: got %d statements and triggers, want 4 to 10 each", steps, statements)
 	}
-	if transactions > 3*steps {
-		t.Errorf("%d steps: got %d transactions, want at most 3 each", steps, transactions)
-	}
+	diff.AtMost(t, transactions, 3*steps, "%d steps", steps)
 	t.Logf("%d steps take %d statements and triggers in %d transactions", steps, statements, transactions)
 }
 

@@ -47,8 +47,7 @@ func open(t testing.TB, path string) *Store {
 // executeIn executes statements in a file, with the driver alone.
 func executeIn(t *testing.T, path string, statements ...string) {
 	t.Helper()
-	made, err := (&sqlite3.SQLiteDriver{}).Open("file:" + path)
-	check(t, err)
+	made := diff.Value((&sqlite3.SQLiteDriver{}).Open("file:" + path))(t)
 	defer made.Close()
 	for _, statement := range statements {
 		if _, err := made.(*sqlite3.SQLiteConn).Exec(statement, nil); err != nil {
@@ -130,9 +129,7 @@ func TestOpenExisting(t *testing.T) {
 	check(t, os.WriteFile(empty, nil, 0o600))
 	executeIn(t, bare, "PRAGMA journal_mode = WAL", "CREATE TABLE one (one)", "DROP TABLE one")
 	for _, path := range []string{missing, empty, bare} {
-		if _, err := OpenExisting(background, path); !errors.Is(err, platform.ErrNoStore) {
-			t.Errorf("%s: got %v, want ErrNoStore", path, err)
-		}
+		diff.ErrorIs(t, diff.Err(OpenExisting(background, path)), platform.ErrNoStore, "%s", path)
 	}
 	if _, err := os.Stat(missing); !os.IsNotExist(err) {
 		t.Errorf("the missing file: got %v, want none", err)
@@ -245,8 +242,7 @@ func closeAndRead(t *testing.T, path string) []byte {
 	if _, err := os.Stat(path + "-wal"); !errors.Is(err, os.ErrNotExist) {
 		t.Fatalf("a log after Close: got %v, want none", err)
 	}
-	content := diff.Value(os.ReadFile(path))(t)
-	return content
+	return diff.Value(os.ReadFile(path))(t)
 }
 
 // A file whose tables are current isn't written when it is opened.
@@ -283,8 +279,7 @@ func TestMissingColumns(t *testing.T) {
 		t.Error("got another file from opening it once more, want the same")
 	}
 	again := open(t, path)
-	got, err := again.Read(background, entry.Key)
-	check(t, err)
+	got := diff.Value(again.Read(background, entry.Key))(t)
 	rest := entry
 	rest.Because, rest.Space, rest.Tries, rest.Passing, rest.After = "", "", 0, false, 0
 	diff.Check(t, got, rest, "a row without the columns")
@@ -425,8 +420,7 @@ func TestTimes(t *testing.T) {
 func TestOnlyIsTheLockOfOldVersions(t *testing.T) {
 	path := filepath.Join(t.TempDir(), "store")
 	s := open(t, path)
-	file, err := os.Create(path + ".worker-1.lock")
-	check(t, err)
+	file := diff.Value(os.Create(path + ".worker-1.lock"))(t)
 	defer file.Close()
 	check(t, syscall.Flock(int(file.Fd()), syscall.LOCK_EX))
 	if end, _, err := s.Only(background, "worker-1"); end != nil || err != nil {
@@ -543,9 +537,7 @@ func TestOnlyFollowsNoLink(t *testing.T) {
 	if end, _, err := s.Only(background, "me"); end != nil || !errors.Is(err, syscall.ELOOP) {
 		t.Errorf("Only: got %v, want %v", err, syscall.ELOOP)
 	}
-	if _, err := os.Lstat(filepath.Join(folder, "other")); !errors.Is(err, os.ErrNotExist) {
-		t.Errorf("the link: got %v, want it not followed", err)
-	}
+	diff.ErrorIs(t, diff.Err(os.Lstat(filepath.Join(folder, "other"))), os.ErrNotExist, "the link")
 }
 
 // That nobody can see whether workers run isn't taken for none: HasWorkers fails, and nothing is migrated.
@@ -565,15 +557,12 @@ func TestWorkersThatCannotBeSeen(t *testing.T) {
 	check(t, os.Rename(folder+"-elsewhere", folder))
 	before := old(t)
 	check(t, os.Symlink("other", before+".me"+lockEnd))
-	if _, err := Open(background, before); !errors.Is(err, syscall.ELOOP) {
-		t.Errorf("the file of an older version: got %v, want %v", err, syscall.ELOOP)
-	}
+	diff.ErrorIs(t, diff.Err(Open(background, before)), syscall.ELOOP, "the file of an older version")
 }
 
 // What every store must do if one of its statements fails.
 func TestFaults(t *testing.T) {
-	folder, err := os.MkdirTemp("", "osb-sqlite")
-	check(t, err)
+	folder := diff.Value(os.MkdirTemp("", "osb-sqlite"))(t)
 	t.Cleanup(func() { _ = os.RemoveAll(folder) })
 	path := func(t *testing.T) string { return filepath.Join(folder, storetest.NameOf(t)) }
 	storetest.TestFaults(t, storetest.Faulty{
@@ -583,8 +572,7 @@ func TestFaults(t *testing.T) {
 			return store, &by.Countdown
 		},
 		Beside: func(t *testing.T) platform.Store {
-			store := diff.Value(Open(background, path(t)))(t)
-			return store
+			return diff.Value(Open(background, path(t)))(t)
 		},
 		Empty: func(t *testing.T) {
 			executeIn(t, path(t), "DELETE FROM osb_instances; DELETE FROM osb_bindings; DELETE FROM osb_lives; "+

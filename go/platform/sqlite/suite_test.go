@@ -14,12 +14,10 @@ import (
 
 // What every store must do.
 func TestStore(t *testing.T) {
-	folder, err := os.MkdirTemp("", "osb-sqlite")
-	check(t, err)
+	folder := diff.Value(os.MkdirTemp("", "osb-sqlite"))(t)
 	t.Cleanup(func() { _ = os.RemoveAll(folder) })
 	storetest.Test(t, func(t *testing.T) platform.Store {
-		store := diff.Value(sqlite.Open(context.Background(), filepath.Join(folder, storetest.NameOf(t))))(t)
-		return store
+		return diff.Value(sqlite.Open(context.Background(), filepath.Join(folder, storetest.NameOf(t))))(t)
 	})
 }
 
@@ -27,8 +25,7 @@ func TestStore(t *testing.T) {
 func TestPausedWorker(t *testing.T) {
 	folder := t.TempDir()
 	storetest.TestPausedWorker(t, func(t *testing.T) platform.Store {
-		store := diff.Value(sqlite.Open(context.Background(), filepath.Join(folder, storetest.NameOf(t))))(t)
-		return store
+		return diff.Value(sqlite.Open(context.Background(), filepath.Join(folder, storetest.NameOf(t))))(t)
 	})
 }
 

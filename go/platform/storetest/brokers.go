@@ -107,9 +107,7 @@ func testUnknownBroker(t *testing.T, open opener) {
 			entry := order(key)
 			entry.Broker = name
 			diff.ErrorIs(t, first.Insert(background, entry, accept), platform.ErrUnknown, "%v of %s", key, name)
-			if _, err := first.Read(background, key); !errors.Is(err, platform.ErrUnknown) {
-				t.Errorf("Read of %v of %s: got %v, want %v", key, name, err, platform.ErrUnknown)
-			}
+			diff.ErrorIs(t, diff.Err(first.Read(background, key)), platform.ErrUnknown, "Read of %v of %s", key, name)
 		}
 	}
 }

@@ -21,9 +21,7 @@ func claim(t *testing.T, store platform.Store, of []string, most int, until time
 		stepped = append(stepped, snapshot.Key)
 		return &platform.Change{Entry: withLease(snapshot.Entry, "a worker", until)}, nil
 	})
-	if err != nil {
-		t.Fatalf("Claim: got %v, want no error", err)
-	}
+	diff.Must(t, err)
 	keys := []platform.Key{}
 	for _, row := range claimed {
 		keys = append(keys, row.Key)

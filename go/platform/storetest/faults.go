@@ -277,9 +277,7 @@ func (by Faulty) unreadable(t *testing.T) {
 	store := openStore(t, by.Beside)
 	addBroker(t, store, "one")
 	by.Spoil(t, "one")
-	if all, err := store.Brokers(background); err == nil {
-		t.Errorf("Brokers: got %+v, want an error", all)
-	}
+	diff.Error(t, diff.Err(store.Brokers(background)), "Brokers")
 	err := store.ChangeBroker(background, "one", func(it platform.Broker) (*platform.Broker, error) {
 		t.Errorf("the change: got a call with %+v, want none", it)
 		return nil, nil

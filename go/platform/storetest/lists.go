@@ -204,8 +204,7 @@ func testPages(t *testing.T, open opener) {
 	} {
 		t.Run(fmt.Sprint(position.State, " ", position.Since.UTC(), " ", position.Key), func(t *testing.T) {
 			position := position
-			rows, err := store.List(background, platform.Filter{After: &position})
-			check(t, err)
+			rows := diff.Value(store.List(background, platform.Filter{After: &position}))(t)
 			wantKeys(t, fmt.Sprintf("after %+v", position), rows, keys[want:]...)
 			before := want // the row at a position isn't behind it in either order
 			if want > 0 && keys[want-1] == position.Key {
@@ -263,8 +262,7 @@ func testListsWhileRowsMove(t *testing.T, open opener) {
 		{States: []platform.State{platform.Ready}}, {States: states, Order: platform.ByKey, Latest: true},
 	} {
 		moved = map[platform.Key]bool{}
-		before, err := other.List(background, platform.Filter{States: filter.States})
-		check(t, err)
+		before := diff.Value(other.List(background, platform.Filter{States: filter.States}))(t)
 		seen := map[platform.Key]int{}
 		check(t, platform.Walk(background, store, filter, 3, func(rows []platform.Entry) error {
 			for _, row := range rows {
@@ -407,10 +405,9 @@ func testNoMoment(t *testing.T, open opener) {
 	store := openStore(t, open)
 	moment := diff.Value(store.Moment(background))(t)
 	for _, text := range []platform.Moment{"x", "-", "1-x", moment + "x", moment + "-", "99999999999999999999", "1; SELECT 1"} {
-		_, err := store.Positions(background, platform.Filter{AsOf: text})
-		diff.ErrorIs(t, err, platform.ErrNoMoment, "%q, Positions", text)
-		_, err = store.List(background, platform.Filter{AsOf: text})
-		diff.ErrorIs(t, err, platform.ErrNoMoment, "%q, List", text)
+		asOf := platform.Filter{AsOf: text}
+		diff.ErrorIs(t, diff.Err(store.Positions(background, asOf)), platform.ErrNoMoment, "%q, Positions", text)
+		diff.ErrorIs(t, diff.Err(store.List(background, asOf)), platform.ErrNoMoment, "%q, List", text)
 	}
 }
 

@@ -217,8 +217,8 @@ func record(t *testing.T, key platform.Key, state platform.State) osb.Record {
 	t.Helper()
 	wanted, sent := osb.Create(key.Instance, service, plan, true)
 	if key.IsBinding {
-		ready, err := wanted.Answer(sent.Attempt, osb.Answer{Status: 201, Body: osb.BodyEmpty})
-		check(t, err)
+		ready := diff.Value(wanted.Answer(sent.Attempt, osb.Answer{Status: 201, Body: osb.BodyEmpty}))(t)
+		var err error
 		wanted, _, err = ready.CreateBinding(key.Binding, true)
 		check(t, err)
 	}
@@ -231,12 +231,11 @@ func record(t *testing.T, key platform.Key, state platform.State) osb.Record {
 	if status, ok := statuses[state]; ok {
 		return answer(t, key, wanted, status)
 	}
-	cleaning, err := wanted.Timeout(1)
-	check(t, err)
+	cleaning := diff.Value(wanted.Timeout(1))(t)
 	if state != platform.CleaningPolling {
 		return cleaning
 	}
-	cleaning, _, err = cleaning.Send(key.ID())
+	cleaning, _, err := cleaning.Send(key.ID())
 	check(t, err)
 	return answer(t, key, cleaning, 202)
 }
@@ -251,8 +250,7 @@ func answer(t *testing.T, key platform.Key, record osb.Record, status uint16) os
 			return record.AnswerBinding(attempt, answer, true)
 		}
 	}
-	next := diff.Value(take(record.Attempt(), answer))(t)
-	return next
+	return diff.Value(take(record.Attempt(), answer))(t)
 }
 
 var check = diff.Must
@@ -365,9 +363,7 @@ func changeError(store platform.Store, key platform.Key, step platform.Step) (er
 func testEmpty(t *testing.T, open opener) {
 	store := openStore(t, open)
 	for _, key := range []platform.Key{instance(1), binding(2, 1)} {
-		if _, err := store.Read(background, key); !errors.Is(err, platform.ErrUnknown) {
-			t.Errorf("Read of %v: got %v, want %v", key, err, platform.ErrUnknown)
-		}
+		diff.ErrorIs(t, diff.Err(store.Read(background, key)), platform.ErrUnknown, "Read of %v", key)
 		err := store.Change(background, key, func(time.Time, platform.Snapshot) (*platform.Change, error) {
 			t.Errorf("%v: got a step, want none", key)
 			return nil, nil
@@ -501,9 +497,7 @@ func testUsed(t *testing.T, open opener) {
 	insert(t, second, order(instance(2)), order(binding(1, 1)), order(binding(2, 2))) // other keys with these numbers
 	diff.ErrorIs(t, first.Insert(background, order(binding(2, 3)), accept), platform.ErrUnknown,
 		"a binding of an unknown instance")
-	if _, err := first.Read(background, binding(2, 3)); !errors.Is(err, platform.ErrUnknown) {
-		t.Errorf("Read of the binding: got %v, want %v", err, platform.ErrUnknown)
-	}
+	diff.ErrorIs(t, diff.Err(first.Read(background, binding(2, 3))), platform.ErrUnknown, "Read of the binding")
 }
 
 func testCheck(t *testing.T, open opener) {
@@ -530,9 +524,7 @@ func testCheck(t *testing.T, open opener) {
 		} else if err == nil {
 			continue // check needs no call for an instance
 		}
-		if _, err := store.Read(background, key); !errors.Is(err, platform.ErrUnknown) {
-			t.Errorf("Read of %v: got %v, want %v", key, err, platform.ErrUnknown)
-		}
+		diff.ErrorIs(t, diff.Err(store.Read(background, key)), platform.ErrUnknown, "Read of %v", key)
 		if err := store.Insert(background, order(key), check(nil)); err != nil || !isSeen {
 			t.Errorf("Insert of %v: got %v and a check %t, want no error and one", key, err, isSeen)
 		}
@@ -597,9 +589,7 @@ func testCancelled(t *testing.T, open opener) {
 		})
 	}
 	wantEntry(t, "the row", read(t, store, instance(1)), before)
-	if _, err := store.Read(background, instance(2)); !errors.Is(err, platform.ErrUnknown) {
-		t.Errorf("Read of what wasn't inserted: got %v, want %v", err, platform.ErrUnknown)
-	}
+	diff.ErrorIs(t, diff.Err(store.Read(background, instance(2))), platform.ErrUnknown, "Read of what wasn't inserted")
 	wantBrokers(t, store, brokerOf("one"))
 	insert(t, store, order(instance(2))) // the store goes on
 }
@@ -641,9 +631,7 @@ func testClose(t *testing.T, open opener) {
 		return &platform.Change{Entry: written}, nil
 	})
 	diff.Error(t, err, "a Change after Close")
-	if _, err := store.Read(background, instance(1)); err == nil {
-		t.Error("a Read after Close: got no error, want one")
-	}
+	diff.Error(t, diff.Err(store.Read(background, instance(1))), "a Read after Close")
 }
 
 func testFingerprint(t *testing.T, open opener) {

@@ -58,8 +58,7 @@ func TestPausedWorker(t *testing.T, open func(t *testing.T) platform.Store) {
 				insert(t, first, order(instance(1)))
 				if isDeletion {
 					y.work(second, "two", nil).untilRest(second).end()
-					_, err := platform.NewOrders(second, nil).Remove(background, readyIn(t, second), false)
-					check(t, err)
+					diff.Value(platform.NewOrders(second, nil).Remove(background, readyIn(t, second), false))(t)
 				}
 				pause := &pause{point: point, gate: NewGate()}
 				defer pause.gate.Open()

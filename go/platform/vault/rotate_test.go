@@ -37,16 +37,14 @@ type rig struct {
 
 func newRig(t *testing.T, by *Vault, bindings int) *rig {
 	t.Helper()
-	store, err := sqlite.Open(background, filepath.Join(t.TempDir(), "store"))
-	check(t, err)
+	store := diff.Value(sqlite.Open(background, filepath.Join(t.TempDir(), "store")))(t)
 	t.Cleanup(func() { check(t, store.Close()) })
 	r := &rig{Store: store, bindings: bindings}
 	orders := platform.NewOrders(store, by)
 	shop := platform.Broker{Name: "shop", URL: "https://shop", User: "u"}
 	check(t, orders.AddBroker(background, shop, []byte("hunter2")))
 	check(t, store.AddBroker(background, platform.Broker{Name: "filed", URL: "https://f", PasswordFile: "/p"}))
-	_, err = store.Fingerprint(background, by.Fingerprint())
-	check(t, err)
+	diff.Value(store.Fingerprint(background, by.Fingerprint()))(t)
 	r.insert(t, osb.InstanceKey(instance), nil)
 	for number := 1; number <= bindings; number++ {
 		key := bindingKey(number)
@@ -89,8 +87,7 @@ func (r *rig) opens(t *testing.T, v *Vault) (opened int) {
 			opened++
 		}
 	}
-	brokers, err := r.Brokers(background)
-	check(t, err)
+	brokers := diff.Value(r.Brokers(background))(t)
 	for _, broker := range brokers {
 		plain, err := v.Open(broker.Password, platform.PasswordContext(broker))
 		if broker.Name == "shop" && err == nil && string(plain) == "hunter2" {
@@ -102,8 +99,7 @@ func (r *rig) opens(t *testing.T, v *Vault) (opened int) {
 
 func (r *rig) fingerprint(t *testing.T) string {
 	t.Helper()
-	written := diff.Value(r.Fingerprint(background, "never written"))(t)
-	return written
+	return diff.Value(r.Fingerprint(background, "never written"))(t)
 }
 
 // Everything is sealed again, of more rows than are read at once. A second run changes nothing.
@@ -294,9 +290,7 @@ func TestRotateInTheMiddle(t *testing.T) {
 	if old, fresh, all := r.opens(t, before), r.opens(t, after), r.opens(t, both); old != 30 || fresh != 21 || all != 51 {
 		t.Errorf("got %d of the old key, %d of the new one and %d of both, want 30, 21 and 51", old, fresh, all)
 	}
-	if _, err := newVault(t, third, one).Rotate(background, r); !errors.Is(err, ErrRotating) {
-		t.Errorf("to a third key, without the second: got %v, want %v", err, ErrRotating)
-	}
+	diff.ErrorIs(t, diff.Err(newVault(t, third, one).Rotate(background, r)), ErrRotating, "a third key alone")
 	if done, err := both.Rotate(background, r); err != nil || done.Credentials != 30 || r.opens(t, after) != 51 {
 		t.Errorf("got %+v, %v, want 30 credentials, and 51 secrets that the new key opens", done, err)
 	}
@@ -306,8 +300,7 @@ func TestRotateInTheMiddle(t *testing.T) {
 // From the middle of a rotation, one to a third key can begin.
 func TestRotateFurther(t *testing.T) {
 	r := newRig(t, newVault(t, one), 9)
-	_, err := newVault(t, other, one).Rotate(background, failing{r, nil})
-	diff.ErrorIs(t, err, errFailing, "the rotation")
+	diff.ErrorIs(t, diff.Err(newVault(t, other, one).Rotate(background, failing{r, nil})), errFailing, "the rotation")
 	diff.Equal(t, diff.Value(newVault(t, third, other, one).Rotate(background, r))(t), Rotation{9, 1}, "")
 	if last := newVault(t, third); r.opens(t, last) != 10 || r.fingerprint(t) != last.Fingerprint() {
 		t.Errorf("got %d secrets that the last key opens and the fingerprint %s, want 10 and its own",
@@ -358,9 +351,7 @@ func (s starting) HasWorkers(ctx context.Context) (bool, error) {
 func TestRotateBesideStart(t *testing.T) {
 	before := newVault(t, one)
 	r := newRig(t, before, 3)
-	if done, err := newVault(t, other, one).Rotate(background, starting{r}); !errors.Is(err, ErrWorkers) {
-		t.Errorf("got %+v, %v, want %v", done, err, ErrWorkers)
-	}
+	diff.ErrorIs(t, diff.Err(newVault(t, other, one).Rotate(background, starting{r})), ErrWorkers, "")
 	if r.opens(t, before) != 4 || r.fingerprint(t) != before.Fingerprint() {
 		t.Error("got something changed, want nothing")
 	}
@@ -413,18 +404,15 @@ func storeOf03(t *testing.T) (platform.Store, string) {
 
 func execute(t *testing.T, path, statements string) {
 	t.Helper()
-	db, err := sql.Open("sqlite3", path)
-	check(t, err)
-	_, err = db.Exec(statements)
-	check(t, err)
+	db := diff.Value(sql.Open("sqlite3", path))(t)
+	diff.Value(db.Exec(statements))(t)
 	check(t, db.Close())
 }
 
 // passwords are the passwords that a vault opens, by broker.
 func passwords(t *testing.T, store platform.Store, v *Vault) map[string]string {
 	t.Helper()
-	brokers, err := store.Brokers(background)
-	check(t, err)
+	brokers := diff.Value(store.Brokers(background))(t)
 	found := map[string]string{}
 	for _, broker := range brokers {
 		if plain, err := v.Open(broker.Password, platform.PasswordContext(broker)); err == nil {
@@ -436,8 +424,7 @@ func passwords(t *testing.T, store platform.Store, v *Vault) map[string]string {
 
 func writtenIn(t *testing.T, store platform.Store) string {
 	t.Helper()
-	found := diff.Value(store.Fingerprint(background, "never written"))(t)
-	return found
+	return diff.Value(store.Fingerprint(background, "never written"))(t)
 }
 
 // The fingerprints of the first key, of version 0.3 and of this one: HKDF-SHA256 by the package hmac of Python.
@@ -473,11 +460,9 @@ func TestRenew(t *testing.T) {
 // Renew.
 func TestRenewOnce(t *testing.T) {
 	store, path := storeOf03(t)
-	brokers, err := store.Brokers(background)
-	check(t, err)
+	brokers := diff.Value(store.Brokers(background))(t)
 	v := newVault(t, one)
-	_, err = v.Renew(background, store)
-	check(t, err)
+	diff.Value(v.Renew(background, store))(t)
 	for _, url := range []string{"http://127.0.0.1:1/v", "http://127.0.0.1:2/evil"} {
 		check(t, store.ChangeBroker(background, "shop", func(b platform.Broker) (*platform.Broker, error) {
 			b.Password, b.URL = brokers[2].Password, url
@@ -490,23 +475,19 @@ func TestRenewOnce(t *testing.T) {
 		}
 	}
 	// with another key, even the fingerprint of version 0.3 doesn't help
-	_, err = newVault(t, other, one).Rotate(background, store)
+	_, err := newVault(t, other, one).Rotate(background, store)
 	diff.ErrorIs(t, err, ErrUnopened, "") // that of shop
 	execute(t, path, "UPDATE osb_store SET fingerprint = '"+former+"'")
-	if _, err := newVault(t, other).Renew(background, store); !errors.Is(err, ErrStoreKey) {
-		t.Errorf("with the new key alone: got %v, want %v", err, ErrStoreKey)
-	}
+	diff.ErrorIs(t, diff.Err(newVault(t, other).Renew(background, store)), ErrStoreKey, "with the new key alone")
 }
 
 // A fingerprint of version 0.3 that is written back has no password accepted again, as long as one of this version is
 // there.
 func TestRenewWrittenBack(t *testing.T) {
 	store, path := storeOf03(t)
-	brokers, err := store.Brokers(background)
-	check(t, err)
+	brokers := diff.Value(store.Brokers(background))(t)
 	v := newVault(t, one)
-	_, err = v.Renew(background, store)
-	check(t, err)
+	diff.Value(v.Renew(background, store))(t)
 	check(t, store.ChangeBroker(background, "shop", func(b platform.Broker) (*platform.Broker, error) {
 		b.Password, b.URL = brokers[2].Password, "http://127.0.0.1:2/evil"
 		return &b, nil
@@ -543,9 +524,7 @@ func TestRenewUnopened(t *testing.T) {
 // A wrong key, and a worker that runs: nothing is changed.
 func TestRenewRejected(t *testing.T) {
 	store, _ := storeOf03(t)
-	if _, err := newVault(t, other).Renew(background, store); !errors.Is(err, ErrStoreKey) {
-		t.Errorf("a wrong key: got %v, want %v", err, ErrStoreKey)
-	}
+	diff.ErrorIs(t, diff.Err(newVault(t, other).Renew(background, store)), ErrStoreKey, "a wrong key")
 	end, _, err := store.Only(background, "of version 0.3")
 	check(t, err)
 	v := newVault(t, one)
@@ -586,17 +565,13 @@ func TestRenewInTheMiddle(t *testing.T) {
 			fault.Store = store
 			marks := fault.marks
 			v := newVault(t, one)
-			if _, err := v.Renew(background, &fault); !errors.Is(err, errFailing) {
-				t.Errorf("the end: got %v, want %v", err, errFailing)
-			}
+			diff.ErrorIs(t, diff.Err(v.Renew(background, &fault)), errFailing, "the end")
 			if got := writtenIn(t, store); marks > 0 && got != now+" "+former || !errors.Is(v.Fits(got), ErrOldPasswords) {
 				t.Errorf("the fingerprint: got %q, want both with %v", got, ErrOldPasswords)
 			}
 			end, _, err := store.Only(background, "of version 0.3")
 			check(t, err)
-			if _, err := v.Renew(background, store); !errors.Is(err, ErrWorkers) {
-				t.Errorf("with a worker: got %v, want %v", err, ErrWorkers)
-			}
+			diff.ErrorIs(t, diff.Err(v.Renew(background, store)), ErrWorkers, "with a worker")
 			end()
 			if _, err := v.Renew(background, store); err != nil || writtenIn(t, store) != now {
 				t.Errorf("the next one: got %v, want it done", err)
@@ -630,9 +605,7 @@ func TestRenewOverAStoreThatFails(t *testing.T) {
 func TestRenewBesideStart(t *testing.T) {
 	store, _ := storeOf03(t)
 	v := newVault(t, one)
-	if _, err := v.Renew(background, starting{store}); !errors.Is(err, ErrWorkers) {
-		t.Errorf("got %v, want %v", err, ErrWorkers)
-	}
+	diff.ErrorIs(t, diff.Err(v.Renew(background, starting{store})), ErrWorkers, "")
 	if got := writtenIn(t, store); got != former || len(passwords(t, store, v)) != 0 {
 		t.Errorf("got the fingerprint %q and the passwords %v, want %q and none", got, passwords(t, store, v), former)
 	}
@@ -659,14 +632,11 @@ func TestRenewAtOnce(t *testing.T) {
 	store, path := storeOf03(t)
 	var all sync.WaitGroup
 	for n := 0; n < 4; n++ {
-		own, err := sqlite.Open(background, path)
-		check(t, err)
+		own := diff.Value(sqlite.Open(background, path))(t)
 		all.Add(1)
 		go func() {
 			defer all.Done()
-			if _, err := newVault(t, one).Renew(background, own); err != nil {
-				t.Errorf("got the error %v, want none", err)
-			}
+			diff.NoError(t, diff.Err(newVault(t, one).Renew(background, own)), "")
 			diff.NoError(t, own.Close(), "")
 		}()
 	}
@@ -681,9 +651,7 @@ func TestRenewDuringRotation(t *testing.T) {
 	store, _ := storeOf03(t)
 	both := newVault(t, other, one)
 	check(t, store.ReplaceFingerprint(background, former, both.keys[0].former+" "+former))
-	if _, err := newVault(t, one).Renew(background, store); !errors.Is(err, ErrRotating) {
-		t.Errorf("with the old key alone: got %v, want %v", err, ErrRotating)
-	}
+	diff.ErrorIs(t, diff.Err(newVault(t, one).Renew(background, store)), ErrRotating, "with the old key alone")
 	if _, err := both.Renew(background, store); err != nil || !errors.Is(newVault(t, one).Fits(writtenIn(t, store)), ErrRotating) {
 		t.Errorf("got %v and the fingerprints %q, want both of them", err, writtenIn(t, store))
 	}

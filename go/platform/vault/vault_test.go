@@ -21,14 +21,12 @@ const here, there = "an instance/a binding", "an instance/another"
 
 func newVault(t *testing.T, keys ...[]byte) *Vault {
 	t.Helper()
-	v := diff.Value(New(keys...))(t)
-	return v
+	return diff.Value(New(keys...))(t)
 }
 
 func sealedBy(t *testing.T, v *Vault, plain string) []byte {
 	t.Helper()
-	sealed := diff.Value(v.Seal([]byte(plain), here))(t)
-	return sealed
+	return diff.Value(v.Seal([]byte(plain), here))(t)
 }
 
 // What is sealed opens, under its context, and shows nothing.
@@ -114,8 +112,7 @@ func TestTruncated(t *testing.T) {
 // What was sealed isn't changed by being opened, and neither is what is sealed.
 func TestUnchanged(t *testing.T) {
 	v, plain := newVault(t, one), []byte("a secret")
-	sealed, err := v.Seal(plain, here)
-	check(t, err)
+	sealed := diff.Value(v.Seal(plain, here))(t)
 	before := append([]byte(nil), sealed...)
 	for range [2]int{} {
 		diff.Equal(t, string(diff.Value(v.Open(sealed, here))(t)), "a secret", "")
@@ -128,13 +125,9 @@ func TestUnchanged(t *testing.T) {
 // Keys that are too short, or none.
 func TestKeys(t *testing.T) {
 	for _, keys := range [][][]byte{{one[:31]}, {{}}, {nil}, {one, one[:31]}} {
-		if _, err := New(keys...); !errors.Is(err, ErrShortKey) {
-			t.Errorf("%d keys: got %v, want %v", len(keys), err, ErrShortKey)
-		}
+		diff.ErrorIs(t, diff.Err(New(keys...)), ErrShortKey, "%d keys", len(keys))
 	}
-	if _, err := New(); err == nil {
-		t.Error("a vault without a key: got no error, want one")
-	}
+	diff.Error(t, diff.Err(New()), "a vault without a key")
 	newVault(t, one[:32])
 }
 

@@ -94,13 +94,9 @@ func TestOurBroker(t *testing.T) {
 						t.Errorf("%s, first Poll %v: got %+v, want the grade of the page", plan, firstPoll, result)
 					}
 				}
-				if passed := report.Count(conform.Must, conform.Pass); passed < 50 {
-					t.Errorf("%s: got only %d MUSTs that passed, want at least 50", plan, passed)
-				}
+				diff.AtLeast(t, report.Count(conform.Must, conform.Pass), 50, "%s", plan)
 				within, cancel := context.WithTimeout(context.Background(), time.Minute)
-				if left := r.CleanUp(within); len(left) > 0 {
-					t.Errorf("%s: got %v left, want none", plan, left)
-				}
+				diff.Empty(t, r.CleanUp(within), "%s", plan)
 				cancel()
 			})
 		}

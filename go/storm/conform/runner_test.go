@@ -223,9 +223,7 @@ func TestHangingDeletions(t *testing.T) {
 	defer cancel()
 	begun := time.Now()
 	left := r.CleanUp(within)
-	if took := time.Since(begun); took > 10*time.Second {
-		t.Errorf("got %v, want at most %v", took, 10*time.Second)
-	}
+	diff.AtMost(t, time.Since(begun), 10*time.Second, "")
 	if len(left) != exist || exist == 0 {
 		t.Errorf("got %d listed, want %d", len(left), exist)
 	}
@@ -270,8 +268,7 @@ func TestErrors(t *testing.T) {
 		t.Run(wanted.Error(), func(t *testing.T) {
 			c := optionsFor(url)
 			change(&c)
-			_, err := runnerFor(t, c).Run(context.Background())
-			diff.ErrorIs(t, err, wanted, "")
+			diff.ErrorIs(t, diff.Err(runnerFor(t, c).Run(context.Background())), wanted, "")
 		})
 	}
 }

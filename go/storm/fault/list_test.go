@@ -132,9 +132,7 @@ func TestMinimize(t *testing.T) {
 			list, isShortest := Minimize(context.Background(), numbers(100), loserOf(&calls, needed...))
 			diff.Check(t, list, needed, "what is left")
 			diff.Equal(t, isShortest, true, "it is the shortest")
-			if calls > 500 {
-				t.Errorf("got %d calls of the test, want at most 500", calls)
-			}
+			diff.AtMost(t, calls, 500, "")
 		})
 	}
 }
@@ -164,9 +162,7 @@ func TestMinimizeEnds(t *testing.T) {
 	if !loses(ctx, list) || len(list) == 2 || len(list) == 100 || isShortest {
 		t.Errorf("got %v and the shortest %v, want a shorter one, and false", list, isShortest)
 	}
-	if calls > 10 {
-		t.Errorf("got %d calls of the test, want at most 10", calls)
-	}
+	diff.AtMost(t, calls, 10, "")
 }
 
 // A list is the shortest only if each of its parts was tried to its end: also the last one.

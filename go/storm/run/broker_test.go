@@ -233,9 +233,7 @@ func TestCleanUpAfterSignal(t *testing.T) {
 		t.Errorf("got\n%s\nwant nothing lost, false or stuck before everything converged", textOf(t, report))
 	}
 	m.expectNothing(t)
-	if time.Since(begun) > 30*time.Second {
-		t.Errorf("got %v, want at most %v", time.Since(begun), 30*time.Second)
-	}
+	diff.AtMost(t, time.Since(begun), 30*time.Second, "")
 	stormtest.Empty(t, options.Folder)
 }
 
@@ -294,9 +292,7 @@ func TestOthersUntouched(t *testing.T) {
 		t.Errorf("got the error %v, want a clean report without leftovers:\n%s", err, textOf(t, report))
 	}
 	diff.Check(t, m.list(t), before, "what is left, and what was there before")
-	if report.Instances > options.Broker.Instances {
-		t.Errorf("got %d instances created, want at most %v", report.Instances, options.Broker.Instances)
-	}
+	diff.AtMost(t, report.Instances, options.Broker.Instances, "")
 }
 
 // If a creation without faults fails, nothing else is tried, whether osb-storm or the platform tries it, and nothing is
@@ -311,11 +307,8 @@ func TestTrial(t *testing.T) {
 			options := optionsFor(t, url)
 			options.Broker.RequestTime, options.Journal = time.Second, folder
 			storm := openStorm(t, options)
-			_, err := storm.Run(context.Background(), context.Background())
-			diff.ErrorIs(t, err, ErrTrial, "")
-			if len(m.rows) > 0 {
-				t.Errorf("got the rows %v, want none", m.rows)
-			}
+			diff.ErrorIs(t, diff.Err(storm.Run(context.Background(), context.Background())), ErrTrial, "")
+			diff.Empty(t, m.rows, "")
 			stormtest.Empty(t, options.Folder)
 		})
 	}

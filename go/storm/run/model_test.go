@@ -96,9 +96,7 @@ func (m *model) list(t *testing.T) (names []string) {
 
 func (m *model) expectNothing(t *testing.T) {
 	t.Helper()
-	if left := m.list(t); len(left) > 0 {
-		t.Errorf("got %v left, want none", left)
-	}
+	diff.Empty(t, m.list(t), "")
 }
 
 func (m *model) create(k Key) {

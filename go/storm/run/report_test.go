@@ -58,9 +58,7 @@ func TestHTML(t *testing.T) {
 	if strings.Contains(page, "<script") || strings.Contains(page, "alert(\"") {
 		t.Error("a text of the broker: got it as markup, want it escaped")
 	}
-	if count := strings.Count(page, "&lt;script&gt;"); count < 40 {
-		t.Errorf("the text: got it only %d times, want at least 40", count)
-	}
+	diff.AtLeast(t, strings.Count(page, "&lt;script&gt;"), 40, "the text")
 	elsewhere := regexp.MustCompile(`(src|href)=|url\(|@import`)
 	diff.Equal(t, elsewhere.FindString(page), "", "what the page has from elsewhere")
 	// Apart from the void elements, the page is XML: each element ends.
@@ -263,9 +261,7 @@ func TestUntriedFaults(t *testing.T) {
 					"JSON": "\"untried\": [\n    \"" + test.says, "text": "\nNOT TRIED: " + test.says,
 					"HTML": "<th>Wrong</th><td>NOT TRIED: " + test.says,
 				}[form]
-				if has := strings.Contains(text, wanted); has != (test.says != "") {
-					t.Errorf("%s, %s: got %s, want that it says %q", name, form, text, test.says)
-				}
+				diff.Equal(t, strings.Contains(text, wanted), test.says != "", "%s, %s: %q in %s", name, form, wanted, text)
 			}
 		})
 	}

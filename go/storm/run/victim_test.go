@@ -189,12 +189,8 @@ fatal error: four
 {"event":"request","panic":"x"}
 `
 	check(t, os.WriteFile(log, []byte(text), 0o600))
-	if found := cries(log); len(found) != 4 {
-		t.Errorf("got %q, want four", found)
-	}
-	if found := cries(log + "-none"); len(found) != 1 {
-		t.Errorf("a log that can't be read: got %q, want 1", found)
-	}
+	diff.Equal(t, len(cries(log)), 4, "")
+	diff.Equal(t, len(cries(log + "-none")), 1, "a log that can't be read")
 }
 
 // README and the page of storms say how long a storm pauses, and in which build a lease ends before that.

@@ -373,8 +373,7 @@ func TestBusyTakeOver(t *testing.T) {
 		snapshot.Worker = instance.Instance
 		return &snapshot.Entry, nil
 	}))
-	snapshot, err := store.Read(ctx, instance)
-	check(t, err)
+	snapshot := diff.Value(store.Read(ctx, instance))(t)
 	diff.Equal(t, snapshot.Worker, instance.Instance, "the worker")
 	diff.Equal(t, snapshot.Holding, pending, "what is held")
 }

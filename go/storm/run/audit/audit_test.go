@@ -384,8 +384,7 @@ func TestLabels(t *testing.T) {
 func TestFile(t *testing.T) {
 	path := filepath.Join(t.TempDir(), "holdings.sqlite")
 	diff.Equal(t, len(diff.Value(File(path).Read(background))(t)), 0, "rows without a file")
-	_, err := os.Stat(path)
-	diff.ErrorIs(t, err, os.ErrNotExist, "the file")
+	diff.ErrorIs(t, diff.Err(os.Stat(path)), os.ErrNotExist, "the file")
 	write(t, path, "")
 	diff.Equal(t, len(diff.Value(File(path).Read(background))(t)), 0, "rows without tables")
 	store := diff.Value(brokersqlite.Open(background, path, broker.Silent{}))(t)

@@ -60,9 +60,7 @@ func runStorm(t *testing.T, options Options, wrong mistakes, isListed bool) *run
 	m.group.Wait()
 	diff.NoError(t, storm.Close(), "")
 	stormtest.Empty(t, options.Folder)
-	if len(report.Failed) > 0 {
-		t.Errorf("got the failures %v, want none", report.Failed)
-	}
+	diff.Empty(t, report.Failed, "")
 	return report
 }
 
@@ -275,9 +273,7 @@ func TestUntried(t *testing.T) {
 				before := map[string]string{
 					"text": "\nNOT TRIED: ", "JSON": "\"untried\": [\n    \"", "HTML": "<th>Wrong</th><td>NOT TRIED: ",
 				}[form]
-				if strings.Contains(text, before+test.says) != (test.says != "") {
-					t.Errorf("%s: got %s, want that it says %q", form, text, test.says)
-				}
+				diff.Equal(t, strings.Contains(text, before+test.says), test.says != "", "%s: %q in %s", form, test.says, text)
 			}
 		})
 	}

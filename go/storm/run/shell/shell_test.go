@@ -72,9 +72,7 @@ func TestEndsWhole(t *testing.T) {
 				func(ctx context.Context) error { return Run(ctx, command+"; sleep 1000; touch "+marked) },
 				func(ctx context.Context) error {
 					rows, err := Rows(ctx, command, 1)
-					if len(rows) > 0 {
-						t.Errorf("%s: got the rows %v, want none", name, rows)
-					}
+					diff.Empty(t, rows, "%s", name)
 					return err
 				},
 			} {
