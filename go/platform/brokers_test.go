@@ -23,10 +23,9 @@ func TestReadCatalogue(t *testing.T) {
 	for at, want := range []struct{ works, binds bool }{{false, false}, {true, true}, {false, true}, {true, false}} {
 		t.Run(planNames[at], func(t *testing.T) {
 			plan := read.Services[0].Plans[at]
-			if plan.IsAsynchronous != want.works || plan.BindsAsynchronously != want.binds || !plan.IsBindable ||
-				plan.Name != planNames[at] {
-				t.Errorf("got %+v, want %+v", plan, want)
-			}
+			got := [3]bool{plan.IsAsynchronous, plan.BindsAsynchronously, plan.IsBindable}
+			diff.Equal(t, got, [3]bool{want.works, want.binds, true}, "asynchronous, binds asynchronously, bindable")
+			diff.Equal(t, plan.Name, planNames[at], "the name")
 		})
 	}
 }
@@ -60,8 +59,7 @@ func TestReadForeignCatalogue(t *testing.T) {
 	}
 	for _, text := range []string{``, `{}`, `[]`, `{"services": {}}`, `{"services": null}`, `{"services": [`} {
 		t.Run(text, func(t *testing.T) {
-			_, err := ReadCatalogue([]byte(text))
-			diff.Error(t, err, "%s", text)
+			diff.Error(t, diff.Err(ReadCatalogue([]byte(text))), "%s", text)
 		})
 	}
 }
@@ -79,15 +77,10 @@ func TestCatalogueNames(t *testing.T) {
 			}
 		})
 	}
-	if plan := read.Service("one").Plan("q"); plan == nil || plan.ID != "q" {
-		t.Errorf("an id that is also a name: got %+v, want the plan with that id", plan)
-	}
-	if plan := read.Service("two").Plan(""); plan == nil || plan.ID != "x" {
-		t.Errorf("no name at the only plan: got %+v, want that one", plan)
-	}
-	if plan := read.Service("one").Plan(""); plan != nil {
-		t.Errorf("no name at several plans: got %+v, want none", plan)
-	}
+	one, two := read.Service("one"), read.Service("two")
+	diff.Equal(t, one.Plan("q"), &one.Plans[1], "an id that is also a name")
+	diff.Equal(t, two.Plan(""), &two.Plans[0], "no name at the only plan")
+	diff.Equal(t, one.Plan(""), nil, "no name at several plans")
 }
 
 // Which URLs a broker can have. With http://, everybody on the way reads the password: so it leads to this machine, or
@@ -138,20 +131,16 @@ func TestCheckURL(t *testing.T) {
 		"http://0.0.0.0":                    "reads the password",
 	} {
 		t.Run(url, func(t *testing.T) {
-			var rejected *Rejection
 			err := CheckURL(url, false)
-			if !errors.As(err, &rejected) || rejected.Kind != Invalid || !strings.Contains(rejected.Text, said) ||
-				strings.Contains(rejected.Text, "hunter2") {
-				t.Errorf("got %v, want a rejection with %q and without the password", err, said)
-			}
+			wantRejection(t, err, Invalid, said)
+			diff.Lacks(t, fmt.Sprint(err), "hunter2", "the password")
 			diff.Equal(t, CheckURL(url, true) == nil, said == "reads the password", "%q, with http:// allowed", url)
 		})
 	}
 }
 
 func (p *plant) hasCatalogue() bool {
-	brokers := diff.Value(p.store.Brokers(background))(p.t)
-	return brokers[0].Catalogue != nil
+	return diff.Value(p.store.Brokers(background))(p.t)[0].Catalogue != nil
 }
 
 // After a 401 nothing is sent until the catalogue is answered, and the order isn't lost: it is tried under another id.
@@ -247,9 +236,7 @@ func TestRunAtAnotherStore(t *testing.T) {
 			}
 			later := p.create(NewInstance{})
 			time.Sleep(30 * time.Millisecond)
-			if sent.Load() != 1 {
-				t.Fatalf("got %d requests sent, want 1", sent.Load())
-			}
+			diff.Equal(t, sent.Load(), 1, "requests sent")
 			isOther.Store(false)
 			diff.Equal(t, p.untilState(later, Ready).Try, 1, "what was ordered meanwhile")
 		})
@@ -277,8 +264,7 @@ func (p *plant) refuses(status int) (isRefusing *atomic.Bool, sent *atomic.Int32
 }
 
 func (p *plant) countIn(state State) (count int) {
-	rows := diff.Value(p.store.List(background, Filter{}))(p.t)
-	for _, row := range rows {
+	for _, row := range diff.Value(p.store.List(background, Filter{}))(p.t) {
 		if row.State == state {
 			count++
 		}
@@ -301,16 +287,14 @@ func TestRunUnreached(t *testing.T) {
 	}
 	p.start(background)
 	p.until("a reason", func() bool {
-		brokers := diff.Value(p.store.Brokers(background))(t)
-		return brokers[0].Reason.Status == 503 && brokers[0].Reason.Lost == "it is down"
+		reason := p.brokerNamed("shelf").Reason
+		return reason.Status == 503 && reason.Lost == "it is down"
 	})
 	diff.Equal(t, diff.Value(p.store.Read(background, key))(t).State, Ordered, "")
 	isDown.Store(false)
 	p.untilState(key, Ready)
-	brokers := diff.Value(p.store.Brokers(background))(t)
-	if told := p.hasFailed("broker_unreached"); told != 1 || brokers[0].Reason != (Reason{}) {
-		t.Errorf("got %d reports and the reason %+v, want 1 and none", told, brokers[0].Reason)
-	}
+	diff.Equal(t, p.hasFailed("broker_unreached"), 1, "reports")
+	diff.Equal(t, p.brokerNamed("shelf").Reason, Reason{}, "the reason")
 }
 
 // A catalogue is asked for again while the engine runs. If that fails, the last one counts, and orders go on.
@@ -330,9 +314,7 @@ func TestRunCatalogueAgain(t *testing.T) {
 	failing.Store(true)
 	p.until("a reason", func() bool { return p.brokerNamed("shelf").Reason.Status == 500 })
 	p.untilState(p.create(NewInstance{}), Ready)
-	if stored := p.brokerNamed("shelf"); stored.Catalogue == nil || string(stored.Catalogue) != sold {
-		t.Errorf("the catalogue in the store: got %s, want %s", stored.Catalogue, sold)
-	}
+	diff.Equal(t, string(p.brokerNamed("shelf").Catalogue), sold, "the catalogue in the store")
 	p.set(func() {
 		p.line.catalogue = func(Broker) (string, int, error) {
 			return strings.ReplaceAll(sold, `"bindable": true`, `"bindable": false`), 200, nil
@@ -391,8 +373,7 @@ func TestCatalogueThatIsOfferedAgain(t *testing.T) {
 
 func (p *plant) brokerNamed(name string) Broker {
 	p.t.Helper()
-	brokers := diff.Value(p.store.Brokers(background))(p.t)
-	for _, broker := range brokers {
+	for _, broker := range diff.Value(p.store.Brokers(background))(p.t) {
 		if broker.Name == name {
 			return broker
 		}
@@ -483,9 +464,8 @@ func TestCatalogueThatIsNotKept(t *testing.T) {
 	s := newRegistry(background, p.engine, &sync.WaitGroup{})
 	broker := p.brokerNamed("shelf")
 	p.store.setAway(ErrAway)
-	if _, status, err := s.catalogue(background, broker); !errors.Is(err, ErrAway) {
-		t.Errorf("got %d, %v, want %v", status, err, ErrAway)
-	}
+	_, _, err := s.catalogue(background, broker)
+	diff.ErrorIs(t, err, ErrAway, "")
 	answer := p.line.catalogue
 	p.line.catalogue = func(Broker) (string, int, error) { return "", 503, errors.New("it is down") }
 	if _, status, err := s.catalogue(background, broker); status != 503 || err == nil || p.hasFailed("store_failed") != 1 {
@@ -561,9 +541,8 @@ func TestBrokersThatAreNotRead(t *testing.T) {
 	if it := s.byName["shelf"]; it == nil || it.catalogue == nil {
 		t.Errorf("got %+v, want the broker with its catalogue", it)
 	}
-	if s.refresh(nil); len(s.byName) > 0 {
-		t.Errorf("once it is dropped: got %v, want no broker", s.byName)
-	}
+	s.refresh(nil)
+	diff.Empty(t, s.byName, "once it is dropped")
 }
 
 // A broker that doesn't answer is asked less and less often, and at least every five seconds.
@@ -605,13 +584,17 @@ func TestSettingsOfABroker(t *testing.T) {
 	}
 }
 
+// passwordOf is the password of a broker, which opens at its URL and for its user only.
+func passwordOf(t *testing.T, broker Broker) string {
+	t.Helper()
+	return string(diff.Value(seal{}.Open(broker.Password, PasswordContext(broker)))(t))
+}
+
 func TestBrokers(t *testing.T) {
 	d := newDesk(t)
 	stored := d.store.brokers["shelf"]
-	password, err := seal{}.Open(stored.Password, PasswordContext(stored))
-	if err != nil || string(password) != "secret" || strings.Contains(stored.URL, "/v2") {
-		t.Errorf("the password: got %q (%v), want \"secret\" outside the URL", password, err)
-	}
+	diff.Equal(t, passwordOf(t, stored), "secret", "the password")
+	diff.Lacks(t, stored.URL, "/v2", "the URL")
 	minute, none := time.Minute, time.Duration(0)
 	check(t, d.orders.SetBroker(background, "shelf", func(b *Broker) error {
 		b.URL, b.Settings = "https://shelf/v/", Settings{Hold: &none, FirstPace: &minute}
@@ -621,16 +604,12 @@ func TestBrokers(t *testing.T) {
 	if changed.URL != "https://shelf/v" || *changed.Settings.Hold != 0 || changed.Catalogue == nil {
 		t.Errorf("got %+v, want the new URL and hold, and its catalogue", changed)
 	}
-	if password, err := (seal{}).Open(changed.Password, PasswordContext(changed)); string(password) != "secret" {
-		t.Errorf("the password at the new URL: got %q, %v, want the one before", password, err)
-	}
+	diff.Equal(t, passwordOf(t, changed), "secret", "the password at the new URL")
 	toUser := func(b *Broker) error { b.User = "another"; return nil }
 	wantRejection(t, NewOrders(d.store, nil).SetBroker(background, "shelf", toUser, nil), Conflict, "give the program the key")
 	check(t, d.orders.SetBroker(background, "shelf", toUser, nil))
 	changed = d.store.brokers["shelf"]
-	if password, err := (seal{}).Open(changed.Password, PasswordContext(changed)); string(password) != "secret" {
-		t.Errorf("the password for the new user: got %q, %v, want the one before", password, err)
-	}
+	diff.Equal(t, passwordOf(t, changed), "secret", "the password for the new user")
 	withoutKey := NewOrders(d.store, nil)
 	toSame := func(b *Broker) error { b.URL += "/"; return nil } // needs no key, as the URL stays
 	check(t, withoutKey.SetBroker(background, "shelf", toSame, nil))
@@ -644,9 +623,7 @@ func TestBrokers(t *testing.T) {
 	wantRejection(t, d.orders.SetBroker(background, "shelf", toURL("https://evil/v"), nil), Conflict, "Give it again")
 	check(t, d.orders.SetBroker(background, "shelf", toURL("https://shelf/v"), nil)) // where it belongs
 	changed = d.store.brokers["shelf"]
-	if password, err := (seal{}).Open(changed.Password, PasswordContext(changed)); string(password) != "secret" {
-		t.Errorf("the password back at its URL: got %q, %v, want the one before", password, err)
-	}
+	diff.Equal(t, passwordOf(t, changed), "secret", "the password back at its URL")
 	toFile := func(b *Broker) error { b.PasswordFile = "/run/p"; return nil }
 	check(t, d.orders.SetBroker(background, "shelf", toFile, nil))
 	if changed = d.store.brokers["shelf"]; changed.Password != nil || changed.PasswordFile != "/run/p" {
@@ -718,7 +695,6 @@ func TestBrokersRejected(t *testing.T) {
 	wantRejection(t, d.orders.SetBroker(background, "shelf", rename, nil), Invalid, "keeps its name")
 	refused := errors.New("refused")
 	refuse := func(b *Broker) error { b.URL = "https://there"; return refused }
-	if err := d.orders.SetBroker(background, "shelf", refuse, nil); err != refused || d.store.brokers["shelf"].URL != "https://shelf" {
-		t.Errorf("got %v and the URL %s, want %v and https://shelf", err, d.store.brokers["shelf"].URL, refused)
-	}
+	diff.ErrorIs(t, d.orders.SetBroker(background, "shelf", refuse, nil), refused, "")
+	diff.Equal(t, d.store.brokers["shelf"].URL, "https://shelf", "the URL")
 }

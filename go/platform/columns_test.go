@@ -73,8 +73,7 @@ func wantKept[T any](t *testing.T, columns Columns[T], want, got T) {
 		case Text:
 			check(t, member.UnmarshalText([]byte(value.(string))))
 		}
-		_, err := column.Value(new(T))
-		diff.NoError(t, err, "a zero %s", column.Name)
+		diff.NoError(t, diff.Err(column.Value(new(T))), "a zero %s", column.Name)
 	}
 	diff.Check(t, got, want, "what is read")
 }

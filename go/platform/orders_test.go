@@ -60,24 +60,16 @@ func TestCreate(t *testing.T) {
 		Parameters: json.RawMessage(`{"size": 1, "a": "<&>"}`), Context: json.RawMessage(`{"a": []}`),
 	})
 	check(t, err)
-	read := diff.Value(d.store.Read(background, e.Key))(t)
-	if e.State != Ordered || e.IsSent || !e.Due.Equal(d.dial.time()) || !e.Since.Equal(e.Due) || e.Key != read.Key {
-		t.Errorf("got %+v, and %+v stored, want it ordered and due now", e, read)
-	}
+	diff.Equal(t, diff.Value(d.store.Read(background, e.Key))(t).Key, e.Key, "what is stored")
 	number := diff.Value(osb.IDOfText(e.Names.Instance))(t)
 	want := Order{
 		Key: osb.InstanceKey(number), Broker: "shelf", Service: id("a0"), Plan: id("c2"), IsOwnID: true,
 		Names:        Names{Instance: e.Names.Instance, Service: id("a0").String(), Plan: id("c2").String()},
 		Organization: "osb-platform", Space: "osb-platform", Try: 1, Tries: 3, First: number,
 	}
-	var body map[string]any
-	check(t, json.Unmarshal(e.Body, &body))
-	if len(body) != 2 || body["parameters"].(map[string]any)["size"] != 1.0 || body["context"] == nil ||
-		!strings.Contains(string(e.Body), `"<&>"`) {
-		t.Errorf("the body: got %s, want parameters and context only", e.Body)
-	}
-	want.Body = e.Body
-	diff.Check(t, e.Order, want, "the order")
+	want.Body = json.RawMessage(`{"context":{"a":[]},"parameters":{"size":1,"a":"<&>"}}`)
+	now := d.dial.time()
+	diff.Check(t, e, Entry{Order: want, State: Ordered, Since: now, Due: now}, "the order")
 }
 
 // An order counts since now, to the millisecond: databases keep no more.
@@ -85,9 +77,8 @@ func TestSinceOfAnOrder(t *testing.T) {
 	d := newDesk(t)
 	d.dial.forward(987654321 * time.Nanosecond)
 	e := diff.Value(d.orders.Create(background, NewInstance{Service: "shelf", Plan: "later"}))(t)
-	if want := d.dial.time().Truncate(time.Millisecond); !e.Since.Equal(want) || !e.Due.Equal(want) {
-		t.Errorf("got it ordered at %v and due at %v, want both at %v", e.Since, e.Due, want)
-	}
+	want := d.dial.time().Truncate(time.Millisecond)
+	diff.Check(t, [2]time.Time{e.Since, e.Due}, [2]time.Time{want, want}, "since and due")
 }
 
 func TestCreateNamed(t *testing.T) {
@@ -102,15 +93,11 @@ func TestCreateNamed(t *testing.T) {
 		e.Identity != identity || string(e.Body) != `{}` {
 		t.Errorf("got %+v, want what was asked for", e)
 	}
-	if key, err := ParseKey("a thing"); err != nil || key != e.Key {
-		t.Errorf("the key of the name: got %[2]v, want %[1]v", e.Key, err)
-	}
+	diff.Equal(t, diff.Value(ParseKey("a thing"))(t), e.Key, "the key of the name")
 	_, err = d.orders.Create(background, NewInstance{Service: "shelf", Plan: "now", ID: "a thing"})
 	wantRejection(t, err, Conflict, "used already")
 	e = diff.Value(d.orders.Create(background, NewInstance{Service: "shelf", Plan: "now", ID: "another thing"}))(t)
-	if e.Tries != 1 { // the next one would have another id
-		t.Errorf("got %d tries, want 1", e.Tries)
-	}
+	diff.Equal(t, e.Tries, 1, "tries: the next one would have another id")
 }
 
 func TestCreateRejected(t *testing.T) {
@@ -151,14 +138,11 @@ func TestCreateRejected(t *testing.T) {
 // Without a catalogue, or a broker that is meant, nothing can be ordered.
 func TestCreateWithoutCatalogue(t *testing.T) {
 	orders := NewOrders(newMemory(time.Now), seal{})
-	_, err := orders.Create(background, NewInstance{Service: "shelf"})
-	wantRejection(t, err, NotFound, "add one first")
+	wantRejection(t, diff.Err(orders.Create(background, NewInstance{Service: "shelf"})), NotFound, "add one first")
 	check(t, orders.AddBroker(background, Broker{Name: "one", URL: "https://one", User: "u"}, []byte("p")))
-	_, err = orders.Create(background, NewInstance{Service: "shelf"})
-	wantRejection(t, err, Conflict, "no catalogue yet")
+	wantRejection(t, diff.Err(orders.Create(background, NewInstance{Service: "shelf"})), Conflict, "no catalogue yet")
 	check(t, orders.AddBroker(background, Broker{Name: "two", URL: "https://two", User: "u"}, []byte("p")))
-	_, err = orders.Create(background, NewInstance{Service: "shelf"})
-	wantRejection(t, err, Invalid, "one, two")
+	wantRejection(t, diff.Err(orders.Create(background, NewInstance{Service: "shelf"})), Invalid, "one, two")
 }
 
 // A binding is ordered only while its instance is ready and isn't removed.
@@ -174,13 +158,14 @@ func TestBind(t *testing.T) {
 				})
 				if state == Ready && removal == NotRemoved {
 					check(t, err)
-					if e.Key.Instance != anInstance.Instance || !e.Key.IsBinding || e.State != Ordered || e.Tries != 3 ||
-						e.Try != 1 || e.First != e.Key.Binding || !e.IsOwnID ||
-						e.Broker != "shelf" || e.Names.Plan != instance.Names.Plan ||
-						string(e.Body) != `{"bind_resource":{"app_guid":"1"},"parameters":{}}` ||
-						!e.Due.Equal(d.dial.time()) {
-						t.Errorf("got %+v, want a binding of the instance, ordered and due now", e)
-					}
+					names := instance.Names
+					names.Binding = e.Names.Binding
+					diff.Check(t, e, Entry{Order: Order{
+						Key: osb.BindingKey(anInstance.Instance, e.Key.Binding), Broker: "shelf", Service: instance.Service,
+						Plan: instance.Plan, IsOwnID: true, Names: names, Organization: instance.Organization,
+						Space: instance.Space, Try: 1, Tries: 3, First: e.Key.Binding,
+						Body: json.RawMessage(`{"bind_resource":{"app_guid":"1"},"parameters":{}}`),
+					}, State: Ordered, Since: d.dial.time(), Due: d.dial.time()}, "a binding of the instance")
 					return
 				}
 				wantRejection(t, err, Conflict, "instance")
@@ -230,22 +215,19 @@ func TestBindRejected(t *testing.T) {
 		{NewBinding{Instance: name, Tries: -1}, Invalid, "1 to 100"},
 	} {
 		t.Run(test.part, func(t *testing.T) {
-			_, err := d.orders.Bind(background, test.wanted)
-			wantRejection(t, err, test.kind, test.part)
+			wantRejection(t, diff.Err(d.orders.Bind(background, test.wanted)), test.kind, test.part)
 		})
 	}
-	_, err := NewOrders(d.store, nil).Bind(background, NewBinding{Instance: name})
-	wantRejection(t, err, Conflict, "no key")
+	wantRejection(t, diff.Err(NewOrders(d.store, nil).Bind(background, NewBinding{Instance: name})), Conflict, "no key")
 	dropped := d.store.brokers["shelf"]
 	dropped.Catalogue = json.RawMessage(strings.ReplaceAll(sold, id("c1").String(), id("c9").String()))
 	d.store.brokers["shelf"] = dropped
-	_, err = d.orders.Bind(background, NewBinding{Instance: name})
+	_, err := d.orders.Bind(background, NewBinding{Instance: name})
 	wantRejection(t, err, Conflict, `the catalogue of the broker shelf doesn't have the plan "`+id("c1").String()+`" any more`)
 	unbindable := d.store.brokers["shelf"]
 	unbindable.Catalogue = json.RawMessage(strings.ReplaceAll(sold, `"bindable": true`, `"bindable": false`))
 	d.store.brokers["shelf"] = unbindable
-	_, err = d.orders.Bind(background, NewBinding{Instance: name})
-	wantRejection(t, err, Invalid, "isn't bindable")
+	wantRejection(t, diff.Err(d.orders.Bind(background, NewBinding{Instance: name})), Invalid, "isn't bindable")
 }
 
 func TestRemove(t *testing.T) {
@@ -282,8 +264,7 @@ func TestRemove(t *testing.T) {
 			})
 		}
 	}
-	_, err := newDesk(t).orders.Remove(background, anInstance, true)
-	wantRejection(t, err, NotFound, "no instance of this id")
+	wantRejection(t, diff.Err(newDesk(t).orders.Remove(background, anInstance, true)), NotFound, "no instance of this id")
 }
 
 func TestRemoveWithBindings(t *testing.T) {
@@ -292,19 +273,15 @@ func TestRemoveWithBindings(t *testing.T) {
 	other := osb.BindingKey(id("1"), id("b2"))
 	d.put(with(rowIn(aBinding, Ready), func(e *Entry) { e.Due = time.Time{} }))
 	d.put(rowIn(other, Gone))
-	_, err := d.orders.Remove(background, anInstance, false)
-	wantRejection(t, err, Conflict, "has bindings")
+	wantRejection(t, diff.Err(d.orders.Remove(background, anInstance, false)), Conflict, "has bindings")
 	diff.Equal(t, d.store.rows[anInstance].Removal, NotRemoved, "the removal")
 	after := diff.Value(d.orders.Remove(background, anInstance, true))(t)
 	bound, ended := d.store.rows[aBinding], d.store.rows[other]
-	if after.Removal != RemovedWhole || bound.Removal != Removed || !bound.Due.Equal(d.dial.time()) ||
-		ended.Removal != NotRemoved {
-		t.Errorf("got %v, %v, due %v, %v, want all but the ended one removed", after.Removal, bound.Removal, bound.Due,
-			ended.Removal)
-	}
-	if after, err = d.orders.Remove(background, anInstance, false); err != nil || after.Removal != RemovedWhole {
-		t.Errorf("a second time: got %v, %v, want %v", after.Removal, err, RemovedWhole)
-	}
+	removals := [3]Removal{after.Removal, bound.Removal, ended.Removal}
+	diff.Equal(t, removals, [3]Removal{RemovedWhole, Removed, NotRemoved}, "the removals")
+	diff.Check(t, bound.Due, d.dial.time(), "the binding is due")
+	after = diff.Value(d.orders.Remove(background, anInstance, false))(t)
+	diff.Equal(t, after.Removal, RemovedWhole, "a second time")
 }
 
 // A binding that was never sent is withdrawn at once if its instance is removed or abandoned, also if it is due later.
@@ -376,9 +353,9 @@ func TestRetryAfterCrash(t *testing.T) {
 	d := newDesk(t)
 	d.dial.now = at(91)
 	d.put(inFlight(rowIn(anInstance, CleaningPolling)))
-	after, err := d.orders.Retry(background, anInstance)
-	if err != nil || after.State != Cleaning || after.Record.InFlight() != osb.KindNone || after.Last.Lost == "" {
-		t.Errorf("got %+v, %v, want it in cleaning with nothing in flight", after, err)
+	after := diff.Value(d.orders.Retry(background, anInstance))(t)
+	if after.State != Cleaning || after.Record.InFlight() != osb.KindNone || after.Last.Lost == "" {
+		t.Errorf("got %+v, want it in cleaning with nothing in flight", after)
 	}
 }
 
@@ -408,11 +385,9 @@ func TestAbandon(t *testing.T) {
 	d := newDesk(t)
 	d.put(rowIn(anInstance, Cleaning))
 	d.put(rowIn(aBinding, Cleaning))
-	_, err := d.orders.Abandon(background, anInstance, "why not")
-	wantRejection(t, err, Conflict, "may exist")
-	_, err = d.orders.Abandon(background, anInstance, "")
-	wantRejection(t, err, Invalid, "reason")
-	_, err = d.orders.Abandon(background, osb.InstanceKey(id("77")), "why not")
+	wantRejection(t, diff.Err(d.orders.Abandon(background, anInstance, "why not")), Conflict, "may exist")
+	wantRejection(t, diff.Err(d.orders.Abandon(background, anInstance, "")), Invalid, "reason")
+	_, err := d.orders.Abandon(background, osb.InstanceKey(id("77")), "why not")
 	wantRejection(t, err, NotFound, "no instance of this id")
 }
 
@@ -430,12 +405,10 @@ func TestAbandonedBinding(t *testing.T) {
 			d := newDesk(t)
 			d.put(rowIn(anInstance, Ready))
 			d.put(rowIn(aBinding, CleaningPolling))
-			_, err := end(d)
-			wantRejection(t, err, Conflict, "bind")
+			wantRejection(t, diff.Err(end(d)), Conflict, "bind")
 			diff.Value(d.orders.Abandon(background, aBinding, "it is never deleted"))(t)
 			d.put(rowIn(held, Ready))
-			_, err = end(d)
-			wantRejection(t, err, Conflict, "bind")
+			wantRejection(t, diff.Err(end(d)), Conflict, "bind")
 			d.put(rowIn(held, Gone))
 			after, err := end(d)
 			if isIt := after.Removal == Removed; err != nil || isIt != (name == "removed") ||
@@ -452,10 +425,8 @@ func TestAbandonedBesideOrdered(t *testing.T) {
 	d := newDesk(t)
 	d.put(rowIn(anInstance, Ready))
 	ordered := d.put(rowIn(aBinding, Ordered))
-	instance, err := d.orders.Abandon(background, anInstance, "the broker was closed")
-	if err != nil || instance.State != Abandoned {
-		t.Fatalf("got %s, %v, want %s", instance.State, err, Abandoned)
-	}
+	instance := diff.Value(d.orders.Abandon(background, anInstance, "the broker was closed"))(t)
+	diff.Equal(t, instance.State, Abandoned, "the instance")
 	made := decide(d.dial.time(), Snapshot{Entry: ordered, Instance: &instance}, false, terms{})
 	if made.send != nil || made.entry.State != Withdrawn || !made.entry.Rests() {
 		t.Errorf("got %s, and %+v sent, want it withdrawn", made.entry.State, made.send)
@@ -511,22 +482,17 @@ func TestCredentials(t *testing.T) {
 	d.put(with(rowIn(aBinding, Ready), func(e *Entry) { e.Credentials = sealed }))
 	diff.Equal(t, string(diff.Value(d.orders.Credentials(background, aBinding))(t)), `{"credentials": 1}`,
 		"the credentials")
-	_, err := NewOrders(d.store, nil).Credentials(background, aBinding)
-	wantRejection(t, err, Conflict, "no key")
-	_, err = d.orders.Credentials(background, anInstance)
-	wantRejection(t, err, Invalid, "instance")
-	_, err = d.orders.Credentials(background, osb.BindingKey(id("1"), id("b2")))
+	wantRejection(t, diff.Err(NewOrders(d.store, nil).Credentials(background, aBinding)), Conflict, "no key")
+	wantRejection(t, diff.Err(d.orders.Credentials(background, anInstance)), Invalid, "instance")
+	_, err := d.orders.Credentials(background, osb.BindingKey(id("1"), id("b2")))
 	wantRejection(t, err, NotFound, "no binding of this id")
 	d.put(rowIn(aBinding, Cleaning))
-	_, err = d.orders.Credentials(background, aBinding)
-	wantRejection(t, err, Conflict, "cleaning")
+	wantRejection(t, diff.Err(d.orders.Credentials(background, aBinding)), Conflict, "cleaning")
 	d.put(with(rowIn(aBinding, Ready), func(e *Entry) { e.Credentials = nil }))
 	diff.Error(t, diff.Err(d.orders.Credentials(background, aBinding)), "without any")
 	d.put(with(rowIn(aBinding, Ready), func(e *Entry) { e.Credentials = []byte(`["another", ""]`) }))
 	_, err = d.orders.Credentials(background, aBinding)
-	if err == nil || !strings.Contains(err.Error(), describe(d.store.rows[aBinding])+" can't be decrypted") {
-		t.Errorf("what was encrypted for another row: got %v, want that it can't be decrypted", err)
-	}
+	diff.ErrorContains(t, err, describe(d.store.rows[aBinding])+" can't be decrypted", "encrypted for another row")
 }
 
 // longIdentity is an identity of this platform that has 16,381 bytes more than its name.
@@ -557,11 +523,11 @@ func TestObjects(t *testing.T) {
 			_, err := d.orders.Create(background, NewInstance{
 				Service: "shelf", Plan: "now", Parameters: json.RawMessage(text),
 			})
-			var rejected *Rejection
-			if part == "" && err != nil || part != "" && !(errors.As(err, &rejected) && rejected.Kind == Invalid &&
-				strings.Contains(rejected.Text, part)) {
-				t.Errorf("%.80s: got %v, want %q", text, err, part)
+			if part == "" {
+				check(t, err)
+				return
 			}
+			wantRejection(t, err, Invalid, part)
 		})
 	}
 }
@@ -608,13 +574,10 @@ func (b *busy) answer(_ context.Context, out Outgoing) Incoming {
 
 // tries are the rows of the bindings of an instance, by their tries.
 func (b *busy) tries(instance Key) map[int]Entry {
-	rows := diff.Value(b.store.List(background, Filter{}))(b.t)
 	found := map[int]Entry{}
-	for _, e := range rows {
+	for _, e := range diff.Value(b.store.List(background, Filter{}))(b.t) {
 		if e.Key.IsBinding && e.Key.Instance == instance.Instance {
-			if _, isTwice := found[e.Try]; isTwice {
-				b.t.Errorf("try %d: got it twice, want it once", e.Try)
-			}
+			diff.Equal(b.t, found[e.Try].Key, Key{}, "try %d stands before", e.Try)
 			found[e.Try] = e
 		}
 	}
@@ -635,14 +598,11 @@ func TestBindAgain(t *testing.T) {
 			b.untilState(first.Key, Gone)
 			second, isOrdered := b.tries(instance)[2]
 			if !isOrdered {
-				t.Errorf("%d: got %+v, want a second try", test.status, b.tries(instance))
-				return
+				t.Fatalf("%d: got %+v, want a second try", test.status, b.tries(instance))
 			}
 			b.untilState(second.Key, Ready)
-			object, err := b.orders.Credentials(background, second.Key)
-			if err != nil || string(object) != b.seller.object(second.Key) {
-				t.Errorf("%d: the credentials: got %s (%v), want %s", test.status, object, err, b.seller.object(second.Key))
-			}
+			object := diff.Value(b.orders.Credentials(background, second.Key))(t)
+			diff.Equal(t, string(object), b.seller.object(second.Key), "%d: the credentials", test.status)
 			diff.Error(t, diff.Err(b.orders.Credentials(background, first.Key)), "%d: the first try", test.status)
 			if !b.seller.isNone(first.Key) || !b.seller.isThere(second.Key) || len(b.tries(instance)) != 2 || b.binds != 2 {
 				t.Errorf("%d: got %s and %s after %d Binds, want the second one only, after 2", test.status, b.seller.is(first.Key),
@@ -685,14 +645,8 @@ func TestBindNotAgain(t *testing.T) {
 // Once the instance or the binding is to be removed, no further binding is ordered, and none is created.
 func TestBindAgainWhileRemoved(t *testing.T) {
 	for name, remove := range map[string]func(*busy, Key, Key) error{
-		"the instance": func(b *busy, instance, _ Key) error {
-			_, err := b.orders.Remove(background, instance, true)
-			return err
-		},
-		"the binding": func(b *busy, _, binding Key) error {
-			_, err := b.orders.Remove(background, binding, false)
-			return err
-		},
+		"the instance": func(b *busy, key, _ Key) error { return diff.Err(b.orders.Remove(background, key, true)) },
+		"the binding":  func(b *busy, _, key Key) error { return diff.Err(b.orders.Remove(background, key, false)) },
 	} {
 		t.Run(name, func(t *testing.T) {
 			b, instance := newBusy(t, 422, `{"error": "ConcurrencyError"}`)
@@ -744,9 +698,7 @@ func TestDueSince(t *testing.T) {
 		for _, answer := range []exchangeResult{
 			try.answer(404, object), try.answer(410, object), try.answer(200, `{"state": "in progress"}`),
 		} {
-			if e := try.take(t, answer).Entry; !e.DueSince.IsZero() {
-				t.Errorf("%s: got it due since %[3]v, after %[2]d, want no such time", row.State, answer.Status, e.DueSince)
-			}
+			diff.Check(t, try.take(t, answer).Entry.DueSince, time.Time{}, "%s: since when, after %d", row.State, answer.Status)
 		}
 	}
 }

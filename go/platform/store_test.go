@@ -113,15 +113,15 @@ func (s *failingStore) DropBroker(ctx context.Context, name string) error {
 func TestOrdersOverAStoreThatFails(t *testing.T) {
 	wanted := NewInstance{Broker: "shelf", Service: "shelf", Plan: "now"}
 	for name, call := range map[string]func(*Orders) error{
-		"Create": func(o *Orders) error { _, err := o.Create(background, wanted); return err },
+		"Create": func(o *Orders) error { return diff.Err(o.Create(background, wanted)) },
 		"Bind": func(o *Orders) error {
 			_, err := o.Bind(background, NewBinding{Instance: anInstance.String()})
 			return err
 		},
-		"Remove":      func(o *Orders) error { _, err := o.Remove(background, anInstance, true); return err },
-		"Retry":       func(o *Orders) error { _, err := o.Retry(background, osb.InstanceKey(id("9"))); return err },
-		"Abandon":     func(o *Orders) error { _, err := o.Abandon(background, osb.InstanceKey(id("8")), "so"); return err },
-		"Credentials": func(o *Orders) error { _, err := o.Credentials(background, aBinding); return err },
+		"Remove":      func(o *Orders) error { return diff.Err(o.Remove(background, anInstance, true)) },
+		"Retry":       func(o *Orders) error { return diff.Err(o.Retry(background, osb.InstanceKey(id("9")))) },
+		"Abandon":     func(o *Orders) error { return diff.Err(o.Abandon(background, osb.InstanceKey(id("8")), "so")) },
+		"Credentials": func(o *Orders) error { return diff.Err(o.Credentials(background, aBinding)) },
 		"AddBroker": func(o *Orders) error {
 			return o.AddBroker(background, Broker{Name: "b", URL: "https://b", User: "u"}, []byte("secret"))
 		},
@@ -235,7 +235,7 @@ func TestFaultsNameIDs(t *testing.T) {
 		instance, binding func(*Entry)
 		call              func() error
 	}{
-		{shelf, nil, nil, func() error { _, err := d.orders.Create(background, create); return err }},
+		{shelf, nil, nil, func() error { return diff.Err(d.orders.Create(background, create)) }},
 		{shelf, as(Gone), nil, func() error {
 			_, err := d.orders.Bind(background, NewBinding{Instance: "my shelf"})
 			return err
@@ -249,13 +249,13 @@ func TestFaultsNameIDs(t *testing.T) {
 			_, err := d.orders.Bind(background, NewBinding{Instance: "my shelf", ID: "my book"})
 			return err
 		}},
-		{shelf, nil, nil, func() error { _, err := d.orders.Remove(background, e.Key, false); return err }},
-		{book, nil, as(Abandoned), func() error { _, err := d.orders.Remove(background, bound, false); return err }},
-		{shelf, as(Ready), nil, func() error { _, err := d.orders.Retry(background, e.Key); return err }},
-		{book, nil, as(Gone), func() error { _, err := d.orders.Retry(background, bound); return err }},
-		{shelf, nil, nil, func() error { _, err := d.orders.Abandon(background, e.Key, "so"); return err }},
-		{book, nil, as(Withdrawn), func() error { _, err := d.orders.Abandon(background, bound, "so"); return err }},
-		{book, nil, as(Gone), func() error { _, err := d.orders.Credentials(background, bound); return err }},
+		{shelf, nil, nil, func() error { return diff.Err(d.orders.Remove(background, e.Key, false)) }},
+		{book, nil, as(Abandoned), func() error { return diff.Err(d.orders.Remove(background, bound, false)) }},
+		{shelf, as(Ready), nil, func() error { return diff.Err(d.orders.Retry(background, e.Key)) }},
+		{book, nil, as(Gone), func() error { return diff.Err(d.orders.Retry(background, bound)) }},
+		{shelf, nil, nil, func() error { return diff.Err(d.orders.Abandon(background, e.Key, "so")) }},
+		{book, nil, as(Withdrawn), func() error { return diff.Err(d.orders.Abandon(background, bound, "so")) }},
+		{book, nil, as(Gone), func() error { return diff.Err(d.orders.Credentials(background, bound)) }},
 	} {
 		t.Run(test.text, func(t *testing.T) {
 			for key, change := range map[Key]func(*Entry){e.Key: test.instance, bound: test.binding} {
@@ -266,9 +266,7 @@ func TestFaultsNameIDs(t *testing.T) {
 			}
 			err := test.call()
 			wantRejection(t, err, Conflict, test.text)
-			if err != nil && strings.Contains(err.Error(), e.Key.String()) {
-				t.Errorf("got the error %v, want one without the key", err)
-			}
+			diff.Lacks(t, fmt.Sprint(err), e.Key.String(), "the key")
 		})
 	}
 	_, err := d.orders.Bind(background, NewBinding{Instance: "another shelf"})
@@ -353,8 +351,7 @@ func TestWalk(t *testing.T) {
 	} {
 		store, failure := &failingStore{memory: d.store}, error(nil)
 		fails(store, &failure)
-		err := Walk(background, store, Filter{}, 2, func([]Entry) error { return failure })
-		diff.ErrorIs(t, err, errStore, "")
+		diff.ErrorIs(t, Walk(background, store, Filter{}, 2, func([]Entry) error { return failure }), errStore, "")
 	}
 }
 
@@ -373,8 +370,7 @@ func TestParseKey(t *testing.T) {
 		})
 	}
 	for _, text := range []string{"", "/", "a/", "/b", "\xff", "a/\xff", strings.Repeat("a", 256)} {
-		_, err := ParseKey(text)
-		wantRejection(t, err, Invalid, "can't be used")
+		wantRejection(t, diff.Err(ParseKey(text)), Invalid, "can't be used")
 	}
 }
 

@@ -95,8 +95,7 @@ func TestHosts(t *testing.T) {
 		"", "*", "*.", ".", ".x", "*x.example", "a b", "http://x", "x:", "x:port", "10.0.0.0/33", "x/8", "a,b", "x:123456",
 	} {
 		t.Run(text, func(t *testing.T) {
-			_, err := ParseHosts([]string{"ok.example", text})
-			diff.Error(t, err, "the host %q", text)
+			diff.Error(t, diff.Err(ParseHosts([]string{"ok.example", text})), "the host %q", text)
 		})
 	}
 }

@@ -31,10 +31,7 @@ func init() {
 		}
 		return err
 	})
-	openapi3.DefineStringFormatCallback("uuid", func(text string) error {
-		_, err := osb.ParseID(text)
-		return err
-	})
+	openapi3.DefineStringFormatCallback("uuid", func(text string) error { return diff.Err(osb.ParseID(text)) })
 }
 
 // checkText checks a text of JSON.

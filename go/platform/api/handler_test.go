@@ -543,14 +543,11 @@ func TestNewHandler(t *testing.T) {
 	orders := platform.NewOrders(store, nil)
 	token := tokenOfText("a", all, Read)
 	for name, make := range map[string]func() error{
-		"no store":  func() error { _, err := NewHandler(orders, nil, Options{Tokens: []Token{token}}); return err },
-		"no orders": func() error { _, err := NewHandler(nil, store, Options{Tokens: []Token{token}}); return err },
-		"no token":  func() error { _, err := NewHandler(orders, store, Options{}); return err },
-		"two": func() error {
-			_, err := NewHandler(orders, store, Options{Tokens: []Token{token, token}})
-			return err
-		},
-		"no name": func() error { _, err := NewHandler(orders, store, Options{Tokens: []Token{{}}}); return err },
+		"no store":  func() error { return diff.Err(NewHandler(orders, nil, Options{Tokens: []Token{token}})) },
+		"no orders": func() error { return diff.Err(NewHandler(nil, store, Options{Tokens: []Token{token}})) },
+		"no token":  func() error { return diff.Err(NewHandler(orders, store, Options{})) },
+		"two":       func() error { return diff.Err(NewHandler(orders, store, Options{Tokens: []Token{token, token}})) },
+		"no name":   func() error { return diff.Err(NewHandler(orders, store, Options{Tokens: []Token{{}}})) },
 		"a limit": func() error {
 			_, err := NewHandler(orders, store, Options{Tokens: []Token{token}, LongestBody: -1})
 			return err
@@ -560,8 +557,7 @@ func TestNewHandler(t *testing.T) {
 			diff.Error(t, make(), "")
 		})
 	}
-	_, err := NewHandler(orders, store, Options{Tokens: []Token{token}})
-	diff.NoError(t, err, "")
+	diff.NoError(t, diff.Err(NewHandler(orders, store, Options{Tokens: []Token{token}})), "")
 }
 
 // hostile has what a terminal carries out, or what turns a text round: DEL, the C1 controls such as CSI, marks of

@@ -185,7 +185,7 @@ func TestCatalogueTime(t *testing.T) {
 	if passed := time.Since(begun); !errors.Is(err, ErrTimeOver) || status != 0 || passed > patience/2 {
 		t.Errorf("got %v after %v, want %v at its time", err, passed, ErrTimeOver)
 	}
-	diff.AtMost(t, len(reason([]byte(`{"description":"` + strings.Repeat("ü", 9999) + `"}`))), 3*longestReason, "")
+	diff.AtMost(t, len(reason([]byte(`{"description":"`+strings.Repeat("ü", 9999)+`"}`))), 3*longestReason, "")
 	_, _, err = c.Catalogue(context.Background(), platform.Broker{Name: "postgres", URL: "broker.example"})
 	if err == nil || !strings.Contains(err.Error(), "https://") {
 		t.Errorf("got the error %v, want one that asks for https://", err)
@@ -265,10 +265,7 @@ func asks(t *testing.T, c *Client, of platform.Broker) map[string]func() error {
 	}
 	type question = func(context.Context, platform.Broker, platform.Entry) (Answer, error)
 	asked := func(ask question, e platform.Entry) func() error {
-		return func() error {
-			_, err := ask(context.Background(), of, e)
-			return err
-		}
+		return func() error { return diff.Err(ask(context.Background(), of, e)) }
 	}
 	return map[string]func() error{
 		"a Provision":   exchanged(osb.KindProvision, ofInstance, false),

@@ -405,8 +405,7 @@ func TestNewHandler(t *testing.T) {
 		"at once": {timeless{}, Options{AtOnce: -1}}, "timeout": {timeless{}, Options{Timeout: -1}},
 	} {
 		t.Run(name, func(t *testing.T) {
-			_, err := NewHandler(test.reader, test.options)
-			diff.Error(t, err, "")
+			diff.Error(t, diff.Err(NewHandler(test.reader, test.options)), "")
 		})
 	}
 }

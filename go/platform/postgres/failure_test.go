@@ -213,7 +213,7 @@ func TestAContextThatEndsWhileReading(t *testing.T) {
 	defer store.Close()
 	run(t, tx, "LOCK TABLE osb_instances IN ACCESS EXCLUSIVE MODE")
 	for of, call := range map[string]func(context.Context) error{
-		"Read":   func(ctx context.Context) error { _, err := store.Read(ctx, instance(1)); return err },
+		"Read":   func(ctx context.Context) error { return diff.Err(store.Read(ctx, instance(1))) },
 		"Change": func(ctx context.Context) error { return store.Change(ctx, instance(1), count(new(int))) },
 	} {
 		t.Run(of, func(t *testing.T) {
@@ -459,7 +459,7 @@ func TestAServerThatHangs(t *testing.T) {
 	begun := time.Now()
 	for name, call := range map[string]func(context.Context) error{
 		"Change":  func(ctx context.Context) error { return store.Change(ctx, instance(1), step) },
-		"Claim":   func(ctx context.Context) error { _, err := store.Claim(ctx, []string{"one"}, 1, step); return err },
+		"Claim":   func(ctx context.Context) error { return diff.Err(store.Claim(ctx, []string{"one"}, 1, step)) },
 		"NextDue": func(ctx context.Context) error { _, _, err := store.NextDue(ctx, []string{"one"}); return err },
 	} {
 		t.Run(name, func(t *testing.T) {
@@ -544,13 +544,10 @@ func calls(store platform.Store, key, of platform.Key) map[string]func() error {
 			}
 			return store.Change(background, key, rest)
 		},
-		"Claim": func() error {
-			_, err := store.Claim(background, []string{"one"}, 10, rest)
-			return err
-		},
+		"Claim":       func() error { return diff.Err(store.Claim(background, []string{"one"}, 10, rest)) },
 		"Free":        func() error { return store.Free(background, "me") },
 		"Ready":       func() error { return store.Ready(background) },
-		"Fingerprint": func() error { _, err := store.Fingerprint(background, "x"); return err },
+		"Fingerprint": func() error { return diff.Err(store.Fingerprint(background, "x")) },
 		"ReplaceFingerprint": func() error {
 			was, err := store.Fingerprint(background, "x")
 			if err != nil {
@@ -558,7 +555,7 @@ func calls(store platform.Store, key, of platform.Key) map[string]func() error {
 			}
 			return store.ReplaceFingerprint(background, was, was)
 		},
-		"HasWorkers": func() error { _, err := store.HasWorkers(background); return err },
+		"HasWorkers": func() error { return diff.Err(store.HasWorkers(background)) },
 		"AddBroker, ChangeBroker and DropBroker": func() error {
 			if err := store.AddBroker(background, platform.Broker{Name: "b", URL: "http://b"}); err != nil {
 				return err
@@ -588,14 +585,14 @@ func calls(store platform.Store, key, of platform.Key) map[string]func() error {
 // reads are the calls of a store that only read.
 func reads(store platform.Store, key platform.Key) map[string]func() error {
 	return map[string]func() error{
-		"Read":     func() error { _, err := store.Read(background, key); return err },
-		"List":     func() error { _, err := store.List(background, platform.Filter{}); return err },
-		"Moment":   func() error { _, err := store.Moment(background); return err },
-		"Life":     func() error { _, err := store.Life(background, key); return err },
-		"Counts":   func() error { _, err := store.Counts(background); return err },
-		"InFlight": func() error { _, err := store.InFlight(background, 10); return err },
+		"Read":     func() error { return diff.Err(store.Read(background, key)) },
+		"List":     func() error { return diff.Err(store.List(background, platform.Filter{})) },
+		"Moment":   func() error { return diff.Err(store.Moment(background)) },
+		"Life":     func() error { return diff.Err(store.Life(background, key)) },
+		"Counts":   func() error { return diff.Err(store.Counts(background)) },
+		"InFlight": func() error { return diff.Err(store.InFlight(background, 10)) },
 		"NextDue":  func() error { _, _, err := store.NextDue(background, []string{"one"}); return err },
-		"Brokers":  func() error { _, err := store.Brokers(background); return err },
+		"Brokers":  func() error { return diff.Err(store.Brokers(background)) },
 	}
 }
 

@@ -276,7 +276,7 @@ func TestRoundTrips(t *testing.T) {
 		}},
 		{"a new binding", 5, func() error { return store.Insert(background, order(binding(99, 1)), accept) }},
 		{"a new instance", 4, func() error { return store.Insert(background, order(instance(99)), accept) }},
-		{"reading", 1, func() error { _, err := store.Read(background, instance(1)); return err }},
+		{"reading", 1, func() error { return diff.Err(store.Read(background, instance(1))) }},
 		{"when the next is due", 1, func() error {
 			_, _, err := store.NextDue(background, []string{"one"})
 			return err

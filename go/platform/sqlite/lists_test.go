@@ -44,19 +44,16 @@ func TestLongestDue(t *testing.T) {
 // reads are the calls of a store that only read.
 func reads(s *Store, key platform.Key) map[string]func(context.Context) error {
 	return map[string]func(context.Context) error{
-		"Read":     func(ctx context.Context) error { _, err := s.Read(ctx, key); return err },
-		"List":     func(ctx context.Context) error { _, err := s.List(ctx, platform.Filter{}); return err },
-		"Moment":   func(ctx context.Context) error { _, err := s.Moment(ctx); return err },
-		"Life":     func(ctx context.Context) error { _, err := s.Life(ctx, key); return err },
-		"Counts":   func(ctx context.Context) error { _, err := s.Counts(ctx); return err },
-		"InFlight": func(ctx context.Context) error { _, err := s.InFlight(ctx, 10); return err },
-		"NextDue":  func(ctx context.Context) error { _, _, err := s.NextDue(ctx, []string{"one"}); return err },
-		"Brokers":  func(ctx context.Context) error { _, err := s.Brokers(ctx); return err },
-		"HasWorkers": func(ctx context.Context) error {
-			_, err := s.HasWorkers(ctx)
-			return err
-		},
-		"Fingerprint": func(ctx context.Context) error { _, err := s.Fingerprint(ctx, ""); return err },
+		"Read":        func(ctx context.Context) error { return diff.Err(s.Read(ctx, key)) },
+		"List":        func(ctx context.Context) error { return diff.Err(s.List(ctx, platform.Filter{})) },
+		"Moment":      func(ctx context.Context) error { return diff.Err(s.Moment(ctx)) },
+		"Life":        func(ctx context.Context) error { return diff.Err(s.Life(ctx, key)) },
+		"Counts":      func(ctx context.Context) error { return diff.Err(s.Counts(ctx)) },
+		"InFlight":    func(ctx context.Context) error { return diff.Err(s.InFlight(ctx, 10)) },
+		"NextDue":     func(ctx context.Context) error { _, _, err := s.NextDue(ctx, []string{"one"}); return err },
+		"Brokers":     func(ctx context.Context) error { return diff.Err(s.Brokers(ctx)) },
+		"HasWorkers":  func(ctx context.Context) error { return diff.Err(s.HasWorkers(ctx)) },
+		"Fingerprint": func(ctx context.Context) error { return diff.Err(s.Fingerprint(ctx, "")) },
 	}
 }
 
@@ -188,10 +185,7 @@ func writes(s *Store) map[string]func(context.Context) error {
 	}
 	return map[string]func(context.Context) error{
 		"Insert": func(ctx context.Context) error { return s.Insert(ctx, order(2), nil) },
-		"Claim": func(ctx context.Context) error {
-			_, err := s.Claim(ctx, []string{"one"}, 10, gone)
-			return err
-		},
+		"Claim":  func(ctx context.Context) error { return diff.Err(s.Claim(ctx, []string{"one"}, 10, gone)) },
 		"Change": func(ctx context.Context) error { return s.Change(ctx, keyOf(1), gone) },
 		"Free":   func(ctx context.Context) error { return s.Free(ctx, "me") },
 		"Ready":  s.Ready,
@@ -468,12 +462,12 @@ func BenchmarkReading(b *testing.B) {
 		s := fill(b, rows)
 		for name, call := range map[string]func() error{
 			"NextDue": func() error { _, _, err := s.NextDue(background, []string{"one"}); return err },
-			"Counts":  func() error { _, err := s.Counts(background); return err },
+			"Counts":  func() error { return diff.Err(s.Counts(background)) },
 			"List of 50": func() error {
 				_, err := s.List(background, platform.Filter{Most: 50, States: []platform.State{platform.Ready}})
 				return err
 			},
-			"InFlight": func() error { _, err := s.InFlight(background, 50); return err },
+			"InFlight": func() error { return diff.Err(s.InFlight(background, 50)) },
 		} {
 			b.Run(fmt.Sprint(name, " ", rows, " rows"), func(b *testing.B) {
 				for n := 0; n < b.N; n++ {

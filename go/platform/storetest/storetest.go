@@ -569,12 +569,9 @@ func testCancelled(t *testing.T, open opener) {
 		return &platform.Change{Entry: snapshot.Entry}, nil
 	}
 	calls := map[string]func() error{
-		"Insert": func() error { return store.Insert(ctx, order(instance(2)), accept) },
-		"Change": func() error { return store.Change(ctx, instance(1), step) },
-		"Claim": func() error {
-			_, err := store.Claim(ctx, brokers, 10, step)
-			return err
-		},
+		"Insert":    func() error { return store.Insert(ctx, order(instance(2)), accept) },
+		"Change":    func() error { return store.Change(ctx, instance(1), step) },
+		"Claim":     func() error { return diff.Err(store.Claim(ctx, brokers, 10, step)) },
 		"AddBroker": func() error { return store.AddBroker(ctx, platform.Broker{Name: "two", URL: "http://two"}) },
 		"ChangeBroker": func() error {
 			return store.ChangeBroker(ctx, "one", func(broker platform.Broker) (*platform.Broker, error) {

@@ -27,8 +27,7 @@ func TestListRejected(t *testing.T) {
 		"1/.1 hang-up", "1.1 hang-up twice", "1.1 hang-up\n1.1 repeated", "-1.1 hang-up",
 	} {
 		t.Run(line, func(t *testing.T) {
-			_, err := ReadList(strings.NewReader(line))
-			diff.Error(t, err, "%q", line)
+			diff.Error(t, diff.Err(ReadList(strings.NewReader(line))), "%q", line)
 		})
 	}
 }

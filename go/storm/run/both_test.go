@@ -66,8 +66,7 @@ func TestJournal(t *testing.T) {
 					t.Errorf("%q: got %s, want that it ends with %q only if there is a folder", folder, text, wanted)
 				}
 				if folder != "" {
-					_, err := os.Stat(filepath.Join(folder, name))
-					diff.NoError(t, err, "the folder of the journal")
+					diff.NoError(t, diff.Err(os.Stat(filepath.Join(folder, name))), "the folder of the journal")
 				}
 			})
 		}
@@ -169,8 +168,7 @@ func TestBothRejected(t *testing.T) {
 		t.Run(name, func(t *testing.T) {
 			options := fakes(t)
 			change(&options)
-			_, err := NewBoth(context.Background(), options)
-			diff.Error(t, err, "%s", name)
+			diff.Error(t, diff.Err(NewBoth(context.Background(), options)), "%s", name)
 			stormtest.Empty(t, options.Folder)
 		})
 	}

@@ -329,8 +329,7 @@ func TestConfigRejected(t *testing.T) {
 		t.Run(name, func(t *testing.T) {
 			options := optionsFor(t, "http://127.0.0.1:1")
 			change(&options)
-			_, err := NewBroker(options)
-			diff.Error(t, err, "%s", name)
+			diff.Error(t, diff.Err(NewBroker(options)), "%s", name)
 		})
 	}
 }

@@ -492,6 +492,5 @@ func TestNoJournals(t *testing.T) {
 	_, options := optionsForModel(t, false, mistakes{})
 	options.Journal = filepath.Join(t.TempDir(), "file")
 	check(t, os.WriteFile(options.Journal, nil, 0o600))
-	_, err := NewBroker(options)
-	diff.Error(t, err, "a file")
+	diff.Error(t, diff.Err(NewBroker(options)), "a file")
 }

@@ -190,7 +190,7 @@ fatal error: four
 `
 	check(t, os.WriteFile(log, []byte(text), 0o600))
 	diff.Equal(t, len(cries(log)), 4, "")
-	diff.Equal(t, len(cries(log + "-none")), 1, "a log that can't be read")
+	diff.Equal(t, len(cries(log+"-none")), 1, "a log that can't be read")
 }
 
 // README and the page of storms say how long a storm pauses, and in which build a lease ends before that.

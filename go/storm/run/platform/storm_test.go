@@ -437,8 +437,7 @@ func TestConfigRejected(t *testing.T) {
 		t.Run(name, func(t *testing.T) {
 			options := optionsFor(t)
 			change(&options)
-			_, err := Start(context.Background(), options)
-			diff.Error(t, err, "%s", name)
+			diff.Error(t, diff.Err(Start(context.Background(), options)), "%s", name)
 			stormtest.Empty(t, options.Folder)
 		})
 	}

@@ -127,10 +127,8 @@ func TestForPrograms(t *testing.T) {
 // What isn't there is an error that says so, and leaves nothing.
 func TestNoServer(t *testing.T) {
 	ctx, folder := context.Background(), t.TempDir()
-	_, err := Create(ctx, "postgresql://u@127.0.0.1:1/d", "x")
-	diff.Error(t, err, "a server that isn't there")
-	_, err = Create(ctx, "nowhere", "x")
-	diff.Error(t, err, "no server")
+	diff.Error(t, diff.Err(Create(ctx, "postgresql://u@127.0.0.1:1/d", "x")), "a server that isn't there")
+	diff.Error(t, diff.Err(Create(ctx, "nowhere", "x")), "no server")
 	if _, err := StartHAProxy(ctx, folder, "not an address", nil); err == nil || !strings.Contains(err.Error(), "haproxy") {
 		t.Errorf("haproxy at no address: got %v, want an error that names it", err)
 	}

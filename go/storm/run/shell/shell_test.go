@@ -93,8 +93,7 @@ func TestKillsGroup(t *testing.T) {
 	pids := filepath.Join(t.TempDir(), "pids")
 	ctx, cancel := context.WithTimeout(context.Background(), time.Second)
 	defer cancel()
-	_, err := Rows(ctx, "sleep 1000 & echo $! >"+pids+"; sleep 1000", 1)
-	diff.Error(t, err, "a command that was killed")
+	diff.Error(t, diff.Err(Rows(ctx, "sleep 1000 & echo $! >"+pids+"; sleep 1000", 1)), "a command that was killed")
 	text := diff.Value(os.ReadFile(pids))(t)
 	pid := diff.Value(strconv.Atoi(strings.TrimSpace(string(text))))(t)
 	t.Cleanup(func() {
@@ -115,10 +114,7 @@ func TestLimit(t *testing.T) {
 			_, _, err := short.run(context.Background(), "sleep 1000 | cat", false)
 			return err
 		},
-		"Rows": func() error {
-			_, err := short.rows(context.Background(), "sleep 1000 | cat", 1)
-			return err
-		},
+		"Rows": func() error { return diff.Err(short.rows(context.Background(), "sleep 1000 | cat", 1)) },
 	} {
 		t.Run(name, func(t *testing.T) {
 			begun := time.Now()
