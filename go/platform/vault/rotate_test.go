@@ -87,8 +87,7 @@ func (r *rig) opens(t *testing.T, v *Vault) (opened int) {
 			opened++
 		}
 	}
-	brokers := diff.Value(r.Brokers(background))(t)
-	for _, broker := range brokers {
+	for _, broker := range diff.Value(r.Brokers(background))(t) {
 		plain, err := v.Open(broker.Password, platform.PasswordContext(broker))
 		if broker.Name == "shop" && err == nil && string(plain) == "hunter2" {
 			opened++
@@ -97,33 +96,22 @@ func (r *rig) opens(t *testing.T, v *Vault) (opened int) {
 	return opened
 }
 
-func (r *rig) fingerprint(t *testing.T) string {
-	t.Helper()
-	return diff.Value(r.Fingerprint(background, "never written"))(t)
-}
-
 // Everything is sealed again, of more rows than are read at once. A second run changes nothing.
 func TestRotate(t *testing.T) {
 	before, both, after := newVault(t, one), newVault(t, other, one), newVault(t, other)
 	r := newRig(t, before, page+3)
-	done, err := both.Rotate(background, r)
-	if want := (Rotation{page + 3, 1}); err != nil || done != want {
-		t.Fatalf("got %+v, %v, want %+v", done, err, want)
+	diff.Equal(t, diff.Value(both.Rotate(background, r))(t), Rotation{page + 3, 1}, "what is done")
+	diff.Equal(t, r.opens(t, before), 0, "the old key")
+	diff.Equal(t, r.opens(t, after), page+4, "the new key")
+	written := writtenIn(t, r)
+	diff.Equal(t, written, after.Fingerprint(), "the fingerprint")
+	diff.NoError(t, after.Fits(written), "the new key")
+	diff.ErrorIs(t, before.Fits(written), ErrStoreKey, "the old key")
+	filed := diff.Value(r.Brokers(background))(t)[0]
+	if filed.Name != "filed" || filed.Password != nil || filed.PasswordFile != "/p" {
+		t.Errorf("got %+v, want the broker filed with its file and without a password", filed)
 	}
-	if old, fresh := r.opens(t, before), r.opens(t, after); old != 0 || fresh != page+4 {
-		t.Errorf("got %d of the old key, and %d of the new one, want none and all", old, fresh)
-	}
-	if written := r.fingerprint(t); written != after.Fingerprint() || after.Fits(written) != nil ||
-		!errors.Is(before.Fits(written), ErrStoreKey) {
-		t.Errorf("got the fingerprint %s, want that of the new key alone", written)
-	}
-	brokers, err := r.Brokers(background)
-	if err != nil || brokers[0].Name != "filed" || brokers[0].Password != nil || brokers[0].PasswordFile != "/p" {
-		t.Errorf("got %+v, %v, want the broker filed with its file and without a password", brokers, err)
-	}
-	if done, err = both.Rotate(background, r); err != nil || done != (Rotation{}) {
-		t.Errorf("the second time: got %+v, %v, want nothing done", done, err)
-	}
+	diff.Equal(t, diff.Value(both.Rotate(background, r))(t), Rotation{}, "the second time")
 }
 
 // A dropping store has a broker that is dropped once it was listed.
@@ -139,9 +127,8 @@ func TestBrokerThatIsDropped(t *testing.T) {
 	r := newRig(t, newVault(t, one), 1)
 	diff.Equal(t, diff.Value(newVault(t, other, one).Rotate(background, dropping{r}))(t), Rotation{1, 1}, "Rotate")
 	store, _ := storeOf03(t)
-	if _, err := newVault(t, one).Renew(background, dropping{store}); err != nil || writtenIn(t, store) != now {
-		t.Errorf("Renew: got %v and the fingerprint %q, want %q", err, writtenIn(t, store), now)
-	}
+	diff.NoError(t, diff.Err(newVault(t, one).Renew(background, dropping{store})), "Renew")
+	diff.Equal(t, writtenIn(t, store), now, "the fingerprint")
 }
 
 // A failing is a store that fails after some changes.
@@ -171,10 +158,16 @@ func (secretive) ReplaceFingerprint(context.Context, string, string) error { ret
 func TestRotateThatCanNotBegin(t *testing.T) {
 	before, both := newVault(t, one), newVault(t, other, one)
 	r := newRig(t, before, 3)
-	if done, err := both.Rotate(background, secretive{r}); !errors.Is(err, errFailing) || done != (Rotation{}) {
-		t.Errorf("got %+v, %v, want %v", done, err, errFailing)
-	}
+	wantNone(t, both, secretive{r}, errFailing)
 	diff.Equal(t, r.opens(t, before), 4, "the old key")
+}
+
+// wantNone is that a rotation fails with an error, and does nothing.
+func wantNone(t *testing.T, v *Vault, store platform.Store, want error) {
+	t.Helper()
+	done, err := v.Rotate(background, store)
+	diff.ErrorIs(t, err, want, "the rotation")
+	diff.Equal(t, done, Rotation{}, "what is done")
 }
 
 // A failingOnce store fails at one of its calls.
@@ -257,9 +250,8 @@ func TestRotateOverAStoreThatFails(t *testing.T) {
 			t.Errorf("call %d of the store has failed: got %v, want %v", n, err, errFailing)
 		}
 		diff.Equal(t, r.opens(t, both), 3, "call %d of the store has failed: of both keys", n)
-		if _, err := both.Rotate(background, r); err != nil || r.opens(t, after) != 3 {
-			t.Errorf("after call %d of the store has failed: got %v, want it done", n, err)
-		}
+		diff.NoError(t, diff.Err(both.Rotate(background, r)), "after call %d of the store has failed", n)
+		diff.Equal(t, r.opens(t, after), 3, "after call %d of the store has failed", n)
 	}
 }
 
@@ -271,10 +263,10 @@ func TestRotateInTheMiddle(t *testing.T) {
 	for range [20]int{} {
 		left <- struct{}{}
 	}
-	if done, err := both.Rotate(background, failing{r, left}); !errors.Is(err, errFailing) || done.Credentials != 20 {
-		t.Fatalf("got %+v, %v, want 20 credentials, %v", done, err, errFailing)
-	}
-	written := r.fingerprint(t)
+	done, err := both.Rotate(background, failing{r, left})
+	diff.ErrorIs(t, err, errFailing, "the rotation")
+	diff.Equal(t, done.Credentials, 20, "credentials")
+	written := writtenIn(t, r)
 	for name, test := range map[string]struct {
 		vault *Vault
 		want  error
@@ -287,14 +279,11 @@ func TestRotateInTheMiddle(t *testing.T) {
 			diff.ErrorIs(t, test.vault.Fits(written), test.want, "")
 		})
 	}
-	if old, fresh, all := r.opens(t, before), r.opens(t, after), r.opens(t, both); old != 30 || fresh != 21 || all != 51 {
-		t.Errorf("got %d of the old key, %d of the new one and %d of both, want 30, 21 and 51", old, fresh, all)
-	}
+	opened := [3]int{r.opens(t, before), r.opens(t, after), r.opens(t, both)}
+	diff.Equal(t, opened, [3]int{30, 21, 51}, "the old key, the new one and both")
 	diff.ErrorIs(t, diff.Err(newVault(t, third, one).Rotate(background, r)), ErrRotating, "a third key alone")
-	if done, err := both.Rotate(background, r); err != nil || done.Credentials != 30 || r.opens(t, after) != 51 {
-		t.Errorf("got %+v, %v, want 30 credentials, and 51 secrets that the new key opens", done, err)
-	}
-	diff.Equal(t, r.fingerprint(t), after.Fingerprint(), "the fingerprint")
+	diff.Equal(t, diff.Value(both.Rotate(background, r))(t).Credentials, 30, "credentials")
+	r.isOf(t, after, 51)
 }
 
 // From the middle of a rotation, one to a third key can begin.
@@ -302,10 +291,14 @@ func TestRotateFurther(t *testing.T) {
 	r := newRig(t, newVault(t, one), 9)
 	diff.ErrorIs(t, diff.Err(newVault(t, other, one).Rotate(background, failing{r, nil})), errFailing, "the rotation")
 	diff.Equal(t, diff.Value(newVault(t, third, other, one).Rotate(background, r))(t), Rotation{9, 1}, "")
-	if last := newVault(t, third); r.opens(t, last) != 10 || r.fingerprint(t) != last.Fingerprint() {
-		t.Errorf("got %d secrets that the last key opens and the fingerprint %s, want 10 and its own",
-			r.opens(t, last), r.fingerprint(t))
-	}
+	r.isOf(t, newVault(t, third), 10)
+}
+
+// isOf is that the store has the fingerprint of a vault, which opens so many secrets.
+func (r *rig) isOf(t *testing.T, v *Vault, opened int) {
+	t.Helper()
+	diff.Equal(t, r.opens(t, v), opened, "secrets that the key opens")
+	diff.Equal(t, writtenIn(t, r), v.Fingerprint(), "the fingerprint")
 }
 
 // A wrong key, the same key, and a worker that runs: nothing is changed.
@@ -320,20 +313,14 @@ func TestRotateRejected(t *testing.T) {
 		"one key": {before, ErrSameKey},
 	} {
 		t.Run(name, func(t *testing.T) {
-			if done, err := test.vault.Rotate(background, r); !errors.Is(err, test.want) || done != (Rotation{}) {
-				t.Errorf("got %+v, %v, want nothing, %v", done, err, test.want)
-			}
+			wantNone(t, test.vault, r, test.want)
 		})
 	}
 	end, _, err := r.Only(background, "one")
 	check(t, err)
-	if done, err := newVault(t, other, one).Rotate(background, r); !errors.Is(err, ErrWorkers) || done != (Rotation{}) {
-		t.Errorf("with a worker: got %+v, %v, want nothing done and %v", done, err, ErrWorkers)
-	}
+	wantNone(t, newVault(t, other, one), r, ErrWorkers)
 	end()
-	if r.opens(t, before) != 4 || r.fingerprint(t) != before.Fingerprint() {
-		t.Error("got something changed, want nothing")
-	}
+	r.isOf(t, before, 4)
 }
 
 // A starting is a store of which a worker starts just after it was asked for workers.
@@ -352,9 +339,7 @@ func TestRotateBesideStart(t *testing.T) {
 	before := newVault(t, one)
 	r := newRig(t, before, 3)
 	diff.ErrorIs(t, diff.Err(newVault(t, other, one).Rotate(background, starting{r})), ErrWorkers, "")
-	if r.opens(t, before) != 4 || r.fingerprint(t) != before.Fingerprint() {
-		t.Error("got something changed, want nothing")
-	}
+	r.isOf(t, before, 4)
 }
 
 // What can't be opened is named, and everything else is sealed again. The rotation hasn't ended then.
@@ -369,17 +354,14 @@ func TestRotateUnopened(t *testing.T) {
 	}))
 	done, err := both.Rotate(background, r)
 	want := ErrUnopened.Error() + ": the credentials of the binding " + lost.String() + " (" + ErrOtherKey.Error() + ")"
-	if !errors.Is(err, ErrUnopened) || err.Error() != want || done != (Rotation{3, 1}) {
-		t.Errorf("got %+v, %v, want %+v, %s", done, err, Rotation{3, 1}, want)
-	}
-	if written := r.fingerprint(t); after.Fits(written) == nil || both.Fits(written) != nil || r.opens(t, after) != 4 {
+	diff.ErrorIs(t, err, ErrUnopened, "")
+	diff.Equal(t, fmt.Sprint(err), want, "the error")
+	diff.Equal(t, done, Rotation{3, 1}, "what is done")
+	if written := writtenIn(t, r); after.Fits(written) == nil || both.Fits(written) != nil || r.opens(t, after) != 4 {
 		t.Errorf("got the fingerprint %s, want one that fits both keys but not the new one, which opens 4 secrets", written)
 	}
 	diff.Equal(t, diff.Value(newVault(t, other, third, one).Rotate(background, r))(t), Rotation{1, 0}, "")
-	if r.opens(t, after) != 5 || r.fingerprint(t) != after.Fingerprint() {
-		t.Errorf("got %d secrets that the new key opens and the fingerprint %s, want 5 and its own",
-			r.opens(t, after), r.fingerprint(t))
-	}
+	r.isOf(t, after, 5)
 }
 
 // A store that was never used with a key gets the new one.
@@ -412,9 +394,8 @@ func execute(t *testing.T, path, statements string) {
 // passwords are the passwords that a vault opens, by broker.
 func passwords(t *testing.T, store platform.Store, v *Vault) map[string]string {
 	t.Helper()
-	brokers := diff.Value(store.Brokers(background))(t)
 	found := map[string]string{}
-	for _, broker := range brokers {
+	for _, broker := range diff.Value(store.Brokers(background))(t) {
 		if plain, err := v.Open(broker.Password, platform.PasswordContext(broker)); err == nil {
 			found[broker.Name] = string(plain)
 		}
@@ -425,6 +406,14 @@ func passwords(t *testing.T, store platform.Store, v *Vault) map[string]string {
 func writtenIn(t *testing.T, store platform.Store) string {
 	t.Helper()
 	return diff.Value(store.Fingerprint(background, "never written"))(t)
+}
+
+// wantRenewed is that a store has the fingerprint of this version, and all its passwords.
+func wantRenewed(t *testing.T, store platform.Store, what string) {
+	t.Helper()
+	diff.Equal(t, writtenIn(t, store), now, "%s: the fingerprint", what)
+	both := map[string]string{"shop": "hunter2", "other": "other"}
+	diff.Check(t, passwords(t, store, newVault(t, one)), both, "%s: the passwords", what)
 }
 
 // The fingerprints of the first key, of version 0.3 and of this one: HKDF-SHA256 by the package hmac of Python.
@@ -445,15 +434,9 @@ func TestRenew(t *testing.T) {
 		done.Brokers[1].URL != "http://127.0.0.1:1/v" || len(done.Unopened) != 0 {
 		t.Errorf("got %+v, %v, want both brokers done", done, err)
 	}
-	if got := passwords(t, store, v); len(got) != 2 || got["shop"] != "hunter2" || got["other"] != "other" {
-		t.Errorf("the passwords: got %v, want both", got)
-	}
-	if got := writtenIn(t, store); got != now || v.Fits(got) != nil {
-		t.Errorf("the fingerprint: got %q, want %q", got, now)
-	}
-	if done, err = v.Renew(background, store); err != nil || len(done.Brokers) != 0 {
-		t.Errorf("the second time: got %+v, %v, want nothing done", done, err)
-	}
+	wantRenewed(t, store, "the first time")
+	diff.NoError(t, v.Fits(now), "the fingerprint")
+	diff.Empty(t, diff.Value(v.Renew(background, store))(t).Brokers, "the second time")
 }
 
 // What version 0.3 has sealed isn't accepted any more: neither written back, nor at another URL, nor by a further
@@ -468,11 +451,8 @@ func TestRenewOnce(t *testing.T) {
 			b.Password, b.URL = brokers[2].Password, url
 			return &b, nil
 		}))
-		done := diff.Value(v.Renew(background, store))(t)
-		diff.Equal(t, len(done.Brokers), 0, "%s", url)
-		if got := passwords(t, store, v); got["shop"] != "" || got["other"] != "other" {
-			t.Errorf("%s: the passwords: got %v, want that of other alone", url, got)
-		}
+		diff.Empty(t, diff.Value(v.Renew(background, store))(t).Brokers, "%s", url)
+		diff.Check(t, passwords(t, store, v), map[string]string{"other": "other"}, "%s: the passwords", url)
 	}
 	// with another key, even the fingerprint of version 0.3 doesn't help
 	_, err := newVault(t, other, one).Rotate(background, store)
@@ -494,14 +474,13 @@ func TestRenewWrittenBack(t *testing.T) {
 	}))
 	execute(t, path, "UPDATE osb_store SET fingerprint = '"+former+"'")
 	done, err := v.Renew(background, store)
-	if !errors.Is(err, ErrWrittenBack) || len(done.Brokers) != 0 || writtenIn(t, store) != former {
-		t.Errorf("got %+v, %v, want %v", done, err, ErrWrittenBack)
-	}
+	diff.ErrorIs(t, err, ErrWrittenBack, "")
+	diff.Empty(t, done.Brokers, "what is done")
+	diff.Equal(t, writtenIn(t, store), former, "the fingerprint")
 	diff.Equal(t, passwords(t, store, v)["shop"], "", "the passwords")
 	execute(t, path, "UPDATE osb_store SET fingerprint = NULL")
-	if _, err := v.Renew(background, store); err != nil || writtenIn(t, store) != now {
-		t.Errorf("without a fingerprint: got %v and %q, want no error and %q", err, writtenIn(t, store), now)
-	}
+	diff.NoError(t, diff.Err(v.Renew(background, store)), "without a fingerprint")
+	diff.Equal(t, writtenIn(t, store), now, "without a fingerprint")
 	diff.Equal(t, passwords(t, store, v)["shop"], "", "without a fingerprint")
 }
 
@@ -516,9 +495,7 @@ func TestRenewUnopened(t *testing.T) {
 	if err != nil || len(done.Brokers) != 1 || len(done.Unopened) != 1 || done.Unopened[0].Name != "other" {
 		t.Errorf("got %+v, %v, want one done, and other unopened", done, err)
 	}
-	if got := passwords(t, store, v); len(got) != 1 || got["shop"] != "hunter2" {
-		t.Errorf("the passwords: got %v, want that of shop", got)
-	}
+	diff.Check(t, passwords(t, store, v), map[string]string{"shop": "hunter2"}, "the passwords")
 }
 
 // A wrong key, and a worker that runs: nothing is changed.
@@ -528,11 +505,10 @@ func TestRenewRejected(t *testing.T) {
 	end, _, err := store.Only(background, "of version 0.3")
 	check(t, err)
 	v := newVault(t, one)
-	if _, err := v.Renew(background, store); !errors.Is(err, ErrWorkers) || writtenIn(t, store) != former {
-		t.Errorf("with a worker: got %v and %q, want %v and %q", err, writtenIn(t, store), ErrWorkers, former)
-	}
+	diff.ErrorIs(t, diff.Err(v.Renew(background, store)), ErrWorkers, "with a worker")
+	diff.Equal(t, writtenIn(t, store), former, "the fingerprint")
 	end()
-	diff.Equal(t, len(passwords(t, store, v)), 0, "encrypted again")
+	diff.Empty(t, passwords(t, store, v), "encrypted again")
 }
 
 // A breaking is a store whose calls of one kind fail after so many.
@@ -573,12 +549,8 @@ func TestRenewInTheMiddle(t *testing.T) {
 			check(t, err)
 			diff.ErrorIs(t, diff.Err(v.Renew(background, store)), ErrWorkers, "with a worker")
 			end()
-			if _, err := v.Renew(background, store); err != nil || writtenIn(t, store) != now {
-				t.Errorf("the next one: got %v, want it done", err)
-			}
-			if got := passwords(t, store, v); len(got) != 2 || got["shop"] != "hunter2" {
-				t.Errorf("the passwords: got %v, want both", got)
-			}
+			diff.NoError(t, diff.Err(v.Renew(background, store)), "the next one")
+			wantRenewed(t, store, "the next one")
 		})
 	}
 }
@@ -592,12 +564,8 @@ func TestRenewOverAStoreThatFails(t *testing.T) {
 		if failed = store.failed; failed != errors.Is(err, errFailing) {
 			t.Errorf("call %d of the store has failed: got %v, want %v", n, err, errFailing)
 		}
-		if _, err := v.Renew(background, whole); err != nil || writtenIn(t, whole) != now {
-			t.Errorf("after call %d has failed: got %v and the fingerprint %q, want %q", n, err, writtenIn(t, whole), now)
-		}
-		if got := passwords(t, whole, v); len(got) != 2 || got["shop"] != "hunter2" {
-			t.Errorf("after call %d has failed: got the passwords %v, want both", n, got)
-		}
+		diff.NoError(t, diff.Err(v.Renew(background, whole)), "after call %d has failed", n)
+		wantRenewed(t, whole, fmt.Sprintf("after call %d has failed", n))
 	}
 }
 
@@ -606,9 +574,8 @@ func TestRenewBesideStart(t *testing.T) {
 	store, _ := storeOf03(t)
 	v := newVault(t, one)
 	diff.ErrorIs(t, diff.Err(v.Renew(background, starting{store})), ErrWorkers, "")
-	if got := writtenIn(t, store); got != former || len(passwords(t, store, v)) != 0 {
-		t.Errorf("got the fingerprint %q and the passwords %v, want %q and none", got, passwords(t, store, v), former)
-	}
+	diff.Equal(t, writtenIn(t, store), former, "the fingerprint")
+	diff.Empty(t, passwords(t, store, v), "encrypted again")
 }
 
 // A contestedStore store has another fingerprint whenever one is to be replaced: other processes renew it, too.
@@ -622,9 +589,8 @@ func (contestedStore) ReplaceFingerprint(context.Context, string, string) error 
 func TestRenewContested(t *testing.T) {
 	store, _ := storeOf03(t)
 	v := newVault(t, one)
-	if _, err := v.Renew(background, contestedStore{store}); !errors.Is(err, ErrRotating) || len(passwords(t, store, v)) != 0 {
-		t.Errorf("got %v and the passwords %v, want %v and none", err, passwords(t, store, v), ErrRotating)
-	}
+	diff.ErrorIs(t, diff.Err(v.Renew(background, contestedStore{store})), ErrRotating, "")
+	diff.Empty(t, passwords(t, store, v), "encrypted again")
 }
 
 // Any number of processes bring a store up to date at once.
@@ -641,9 +607,7 @@ func TestRenewAtOnce(t *testing.T) {
 		}()
 	}
 	all.Wait()
-	if got := passwords(t, store, newVault(t, one)); len(got) != 2 || writtenIn(t, store) != now {
-		t.Errorf("got the passwords %v and the fingerprint %q, want both and the new one", got, writtenIn(t, store))
-	}
+	wantRenewed(t, store, "all")
 }
 
 // A rotation that version 0.3 has begun goes on, and begins anew with the passwords of this version.
@@ -652,9 +616,8 @@ func TestRenewDuringRotation(t *testing.T) {
 	both := newVault(t, other, one)
 	check(t, store.ReplaceFingerprint(background, former, both.keys[0].former+" "+former))
 	diff.ErrorIs(t, diff.Err(newVault(t, one).Renew(background, store)), ErrRotating, "with the old key alone")
-	if _, err := both.Renew(background, store); err != nil || !errors.Is(newVault(t, one).Fits(writtenIn(t, store)), ErrRotating) {
-		t.Errorf("got %v and the fingerprints %q, want both of them", err, writtenIn(t, store))
-	}
+	diff.NoError(t, diff.Err(both.Renew(background, store)), "with both keys")
+	diff.ErrorIs(t, newVault(t, one).Fits(writtenIn(t, store)), ErrRotating, "the fingerprints")
 	diff.Equal(t, diff.Value(both.Rotate(background, store))(t).Passwords, 2, "the passwords")
 	diff.Equal(t, len(passwords(t, store, newVault(t, other))), 2, "the new key")
 }
