@@ -136,15 +136,13 @@ func TestTaken(t *testing.T) {
 			if row.due == rest {
 				want = time.Time{}
 			}
-			if e.State != row.want || !e.Due.Equal(want) || e.Lease != (Lease{}) {
-				t.Errorf("got %s, due %v, %v; want %s, %v", e.State, e.Due, e.Lease, row.want, want)
-			}
-			if failed := e.Failure != (Reason{}); e.Passing != row.passing || failed != row.failed {
-				t.Errorf("got passing %v, failed %v, want %v, %v", e.Passing, failed, row.passing, row.failed)
-			}
-			if e.Last.Status != row.status || !e.Last.At.Equal(at(11)) {
-				t.Errorf("the reason: got %+v, want the status %d", e.Last, row.status)
-			}
+			diff.Equal(t, e.State, row.want, "the state")
+			diff.Check(t, e.Due, want, "due")
+			diff.Equal(t, e.Lease, Lease{}, "the lease")
+			diff.Equal(t, e.Passing, row.passing, "whether it passes")
+			diff.Equal(t, e.Failure != (Reason{}), row.failed, "whether it has failed")
+			diff.Equal(t, e.Last.Status, row.status, "the status of the reason")
+			diff.Check(t, e.Last.At, at(11), "the time of the reason")
 			diff.Equal(t, e.Credentials != nil, e.Key.IsBinding && e.State == Ready, "whether there are credentials")
 			diff.Equal(t, change.WakeInstance, e.Key.IsBinding && e.State == Gone, "the instance is woken")
 		})
@@ -178,9 +176,7 @@ func TestTakenByAnother(t *testing.T) {
 		"given up": later, "abandoned": abandoned, "unsent": rowIn(anInstance, Ordered),
 	} {
 		t.Run(name, func(t *testing.T) {
-			if change, err := takeAnswer(at(102), Snapshot{Entry: row}, try.sent, result); change != nil || err != nil {
-				t.Errorf("got the change %v and the error %v, want neither", change, err)
-			}
+			diff.Equal(t, diff.Value(takeAnswer(at(102), Snapshot{Entry: row}, try.sent, result))(t), nil, "the change")
 		})
 	}
 }
@@ -191,9 +187,9 @@ func TestTakenInDoubt(t *testing.T) {
 	try := newTrial(t, rowIn(anInstance, Ordered), plain())
 	try.sent.unsure = errors.New("the connection broke")
 	lost := exchangeResult{kind: "provision", Incoming: Incoming{Lost: errUnsure}}
-	if e := try.take(t, lost).Entry; e.State != Cleaning || e.Lease != (Lease{}) {
-		t.Errorf("got %s and %v, want %s and %v", e.State, e.Lease, Cleaning, (Lease{}))
-	}
+	e := try.take(t, lost).Entry
+	diff.Equal(t, e.State, Cleaning, "the state")
+	diff.Equal(t, e.Lease, Lease{}, "the lease")
 	for _, lease := range []Lease{
 		{}, {Worker: "other", Until: try.row.Lease.Until},
 		{Worker: "one", Until: try.row.Lease.Until.Add(time.Millisecond)},
@@ -201,9 +197,7 @@ func TestTakenInDoubt(t *testing.T) {
 		t.Run(fmt.Sprintf("leased by %v", lease), func(t *testing.T) {
 			lease.Claim = try.row.Lease.Claim
 			row := with(try.row, func(e *Entry) { e.Lease = lease })
-			if change, err := takeAnswer(at(12), Snapshot{Entry: row}, try.sent, lost); change != nil || err != nil {
-				t.Errorf("leased by %v: got %v and %v, want none and no error", lease, change, err)
-			}
+			diff.Equal(t, diff.Value(takeAnswer(at(12), Snapshot{Entry: row}, try.sent, lost))(t), nil, "leased by %v", lease)
 		})
 	}
 }
@@ -221,38 +215,27 @@ func TestTakenAndRemoved(t *testing.T) {
 		t.Run(fmt.Sprint(test.row.State, " ", test.status), func(t *testing.T) {
 			try := newTrial(t, test.row, wait())
 			remove(&try.row)
-			if e := try.take(t, try.answer(test.status, test.body)).Entry; !e.Due.Equal(at(11)) {
-				t.Errorf("%d: got %s due %v, want it due at once", test.status, e.State, e.Due)
-			}
+			diff.Check(t, try.take(t, try.answer(test.status, test.body)).Entry.Due, at(11), "%d: due", test.status)
 		})
 	}
 	try := newTrial(t, rowIn(anInstance, Ordered), wait())
-	if e := try.take(t, try.answer(409, `{}`)).Entry; !e.Rests() {
-		t.Errorf("unsettled: got it due %v, want it at rest", e.Due)
-	}
+	diff.Check(t, try.take(t, try.answer(409, `{}`)).Entry.Due, time.Time{}, "unsettled: due")
 }
 
 // A deletion is due once the hold is over, and polling ends at the time for which it may go on.
 func TestTakenDue(t *testing.T) {
 	try := newTrial(t, rowIn(anInstance, Ordered), usualTerms())
-	if e := try.take(t, try.answer(500, `{}`)).Entry; !e.Due.Equal(at(10 + 60 + 300)) {
-		t.Errorf("the deletion: got it due %v, want it after the hold", e.Due)
-	}
+	diff.Check(t, try.take(t, try.answer(500, `{}`)).Entry.Due, at(10+60+300), "the deletion, after the hold")
 	short := plain()
 	short.longestPoll = 12 * time.Second
 	try = newTrial(t, rowIn(anInstance, Polling), short)
-	if e := try.take(t, try.answer(200, `{"state": "in progress"}`)).Entry; !e.Due.Equal(at(12)) {
-		t.Errorf("the end of the polling: got it due %v, want it at its end", e.Due)
-	}
+	due := try.take(t, try.answer(200, `{"state": "in progress"}`)).Entry.Due
+	diff.Check(t, due, at(12), "the end of the polling")
 	try = newTrial(t, rowIn(anInstance, CleaningPolling), short)
-	if e := try.take(t, try.answer(500, `{}`)).Entry; !e.Due.Equal(at(12)) {
-		t.Errorf("the end of the polling of the deletion: got it due %v, want it at its end", e.Due)
-	}
+	diff.Check(t, try.take(t, try.answer(500, `{}`)).Entry.Due, at(12), "the end of the polling of the deletion")
 	for unchanged, want := range []int{4, 8, 16, 32, 64, 120, 120} {
 		try := newTrial(t, with(rowIn(anInstance, Cleaning), func(e *Entry) { e.Unchanged = unchanged }), plain())
-		if e := try.take(t, try.answer(500, `{}`)).Entry; !e.Due.Equal(at(11 + want)) {
-			t.Errorf("after %d: got it due %v, want it %v later", unchanged, e.Due, want)
-		}
+		diff.Check(t, try.take(t, try.answer(500, `{}`)).Entry.Due, at(11+want), "after %d", unchanged)
 	}
 }
 
@@ -338,9 +321,8 @@ func TestTakenKept(t *testing.T) {
 	if *kept.Operation != "task 1" || kept.Dashboard != "https://d.example" || !kept.PolledSince.Equal(at(11)) {
 		t.Errorf("got %+v, want the first operation and dashboard", kept)
 	}
-	if done := polled.take(t, polled.answer(200, `{"state": "succeeded"}`)).Entry; done.Operation != nil {
-		t.Errorf("after the operation: got %q, want none", *done.Operation)
-	}
+	done := polled.take(t, polled.answer(200, `{"state": "succeeded"}`)).Entry
+	diff.Equal(t, done.Operation, nil, "after the operation")
 }
 
 // A long Retry-After counts for an hour, and a long description for its front.
@@ -434,9 +416,7 @@ func TestTakenLast(t *testing.T) {
 		t.Errorf("no answer: got last %v, due %v, want one more soon", e.HasLast, e.Due)
 	}
 	try.row.Lease.Until = try.row.Lease.Until.Add(time.Second)
-	if change := try.take(t, try.answer(410, `{}`)); change != nil {
-		t.Errorf("another worker's lease: got %v, want no change", change)
-	}
+	diff.Equal(t, try.take(t, try.answer(410, `{}`)), nil, "another worker's lease")
 }
 
 // The next try is ordered with the end of one that has failed for a passing reason, of an instance as of a binding.
@@ -461,16 +441,11 @@ func TestNextTry(t *testing.T) {
 			t.Run(fmt.Sprintf("%s, binding %v", test.name, key.IsBinding), func(t *testing.T) {
 				try := newTrial(t, test.row, plain())
 				next := try.take(t, try.answer(410, `{}`)).Next
-				if test.due == rest || next == nil {
-					if test.due != rest || next != nil {
-						t.Errorf("got %+v, want no next try", next)
-					}
+				if diff.Equal(t, next != nil, test.due != rest, "a next try"); next == nil {
 					return
 				}
-				diff.Check(t, next.Order, orderAgain(test.row.Order), "the order")
-				if next.State != Ordered || next.IsSent || !next.Due.Equal(at(11+test.due)) {
-					t.Errorf("got %s, due %v, want it ordered, due %v later", next.State, next.Due, test.due)
-				}
+				order := orderAgain(test.row.Order)
+				diff.Check(t, *next, Entry{Order: order, State: Ordered, Since: at(11), Due: at(11 + test.due)}, "")
 			})
 		}
 	}
@@ -504,9 +479,7 @@ func TestNextTryOfUnsettled(t *testing.T) {
 	for _, key := range []Key{anInstance, aBinding} {
 		row := with(rowIn(key, Unsettled), func(e *Entry) { e.Passing = true })
 		try := newTrial(t, row, plain())
-		if next := try.take(t, try.answer(200, `{}`)).Next; next == nil {
-			t.Errorf("%v: got no next try, want one", key)
-		}
+		diff.Equal(t, try.take(t, try.answer(200, `{}`)).Next != nil, true, "%v: a next try", key)
 	}
 }
 
@@ -522,20 +495,16 @@ func TestNextTryOfBinding(t *testing.T) {
 				check(t, err)
 				diff.Equal(t, change.Next != nil, state == Ready && removal == NotRemoved,
 					"a next try with the instance in %s, removal %d", state, removal)
-				if change.Entry.State != Gone || !change.WakeInstance {
-					t.Errorf("the instance in %s: got the binding in %s, want it gone and the instance woken", state,
-						change.Entry.State)
-				}
+				diff.Equal(t, change.Entry.State, Gone, "the binding with the instance in %s", state)
+				diff.Equal(t, change.WakeInstance, true, "the instance in %s is woken", state)
 				count++
 			})
 		}
 	}
 	diff.Equal(t, count, 3*len(everyState), "tried")
 	try := newTrial(t, failedTry(aBinding), plain())
-	change, err := takeAnswer(at(11), Snapshot{Entry: try.row}, try.sent, try.answer(200, `{}`))
-	if err != nil || change.Next != nil {
-		t.Errorf("without a row of the instance: got %+v, %v, want no next try", change.Next, err)
-	}
+	change := diff.Value(takeAnswer(at(11), Snapshot{Entry: try.row}, try.sent, try.answer(200, `{}`)))(t)
+	diff.Equal(t, change.Next, nil, "a next try without a row of the instance")
 }
 
 // A binding whose credentials can't be sealed isn't ordered again: another one would end the same.
@@ -574,13 +543,10 @@ func TestTakenInDoubtOfTheSameMillisecond(t *testing.T) {
 		}
 		first, second := newTrial(t, row, terms), newTrial(t, row, terms)
 		first.sent.unsure = errors.New("the disk is full")
-		if change, err := takeAnswer(at(12), Snapshot{Entry: second.row}, first.sent, lost); change != nil || err != nil {
-			t.Errorf("%s: got the next claim in %s with %v (%v), want no change of it", row.State, change.Entry.State,
-				change.Entry.Lease, err)
-		}
-		if change, err := takeAnswer(at(12), Snapshot{Entry: first.row}, first.sent, lost); change == nil || err != nil {
-			t.Errorf("%s: got its own claim kept (%v), want it given up", row.State, err)
-		}
+		change := diff.Value(takeAnswer(at(12), Snapshot{Entry: second.row}, first.sent, lost))(t)
+		diff.Equal(t, change, nil, "%s: a change of the next claim", row.State)
+		change = diff.Value(takeAnswer(at(12), Snapshot{Entry: first.row}, first.sent, lost))(t)
+		diff.Equal(t, change != nil, true, "%s: its own claim is given up", row.State)
 	}
 }
 
@@ -661,12 +627,9 @@ func TestWritesFail(t *testing.T) {
 	for _, key := range keys {
 		p.untilState(key, Ready)
 	}
-	if took := time.Since(begun); took > time.Minute { // a lease holds for a minute and a half
-		t.Errorf("the orders: got an end after %v, want one within a minute", took)
-	}
-	if err := p.engine.Ready(); err != nil || p.hasFailed("store_failed") != 1 {
-		t.Errorf("got %v, and %d failures, want none and 1", err, p.hasFailed("store_failed"))
-	}
+	diff.AtMost(t, time.Since(begun), time.Minute, "the orders") // a lease holds for a minute and a half
+	diff.NoError(t, p.engine.Ready(), "Ready")
+	diff.Equal(t, p.hasFailed("store_failed"), 1, "reports")
 }
 
 // The engine is ready again once another worker has done what this one couldn't write.

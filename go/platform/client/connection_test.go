@@ -197,9 +197,8 @@ func TestCancelled(t *testing.T) {
 		t.Errorf("got %+v, want context.Canceled without ErrNotSent, within half the patience", in)
 	}
 	in = c.Exchange(ctx, outgoingOf(c, server.url, osb.KindProvision, ofInstance))
-	if !errors.Is(in.Lost, context.Canceled) || !errors.Is(in.Lost, ErrNotSent) {
-		t.Errorf("got %+v, want context.Canceled and ErrNotSent", in)
-	}
+	diff.ErrorIs(t, in.Lost, context.Canceled, "")
+	diff.ErrorIs(t, in.Lost, ErrNotSent, "")
 }
 
 // patient is a client whose connections wait for longer than a test takes.
@@ -237,30 +236,23 @@ func TestPausedOnAKeptConnection(t *testing.T) {
 		return clock.now()
 	}
 	for range [2]int{} {
-		if in := exchange(t, c, server.url, osb.KindDeprovision); in.Lost != nil {
-			t.Fatalf("got %v, want an answer", in.Lost)
-		}
+		diff.Must(t, exchange(t, c, server.url, osb.KindDeprovision).Lost)
 	}
 	if !hasQuiet(c) {
 		t.Fatal("got no connection that is kept, want one")
 	}
 	reads = 0
 	in := exchange(t, c, server.url, osb.KindProvision)
-	if !errors.Is(in.Lost, ErrNotSent) || !errors.Is(in.Lost, ErrTimeOver) {
-		t.Errorf("got %+v, want ErrNotSent and ErrTimeOver", in)
-	}
-	if requests, connections := server.arrivals(); len(requests) != 2 || connections != 2 {
-		t.Errorf("got %d requests on %d connections, want 2 on 2", len(requests), connections)
-	}
+	diff.ErrorIs(t, in.Lost, ErrNotSent, "")
+	diff.ErrorIs(t, in.Lost, ErrTimeOver, "")
+	server.wantArrivals(t, 2, 2)
 }
 
 // Nothing is sent for one that is cancelled before it begins, on a connection that was kept either.
 func TestCancelledBefore(t *testing.T) {
 	server, c := serve(t, returning("200 OK", "{}")), patient(t)
 	for range [2]int{} {
-		if in := exchange(t, c, server.url, osb.KindDeprovision); in.Lost != nil {
-			t.Fatalf("got %v, want an answer", in.Lost)
-		}
+		diff.Must(t, exchange(t, c, server.url, osb.KindDeprovision).Lost)
 	}
 	ctx, cancel := context.WithCancel(context.Background())
 	cancel()
@@ -271,9 +263,8 @@ func TestCancelledBefore(t *testing.T) {
 			t.Errorf("got %+v, want context.Canceled and ErrNotSent, without ErrUnreachable", in)
 		}
 	}
-	if requests, _ := server.arrivals(); len(requests) != 2 {
-		t.Errorf("got %d requests, want 2", len(requests))
-	}
+	requests, _ := server.arrivals()
+	diff.Equal(t, len(requests), 2, "requests")
 }
 
 var kinds = []osb.Kind{osb.KindProvision, osb.KindPoll, osb.KindDeprovision}
@@ -300,17 +291,13 @@ func TestNoSecondTry(t *testing.T) {
 				})
 				c := patient(t)
 				for range [2]int{} {
-					if in := exchange(t, c, server.url, osb.KindDeprovision); in.Lost != nil {
-						t.Fatalf("got %v, want an answer", in.Lost)
-					}
+					diff.Must(t, exchange(t, c, server.url, osb.KindDeprovision).Lost)
 				}
 				in := exchange(t, c, server.url, kind)
 				if in.Lost == nil || errors.Is(in.Lost, ErrNotSent) {
 					t.Errorf("%v, %s: got %+v, want an error without ErrNotSent", kind, what, in)
 				}
-				if requests, connections := server.arrivals(); len(requests) != 3 || connections != 2 {
-					t.Errorf("%v, %s: got %d requests on %d connections, want 3 on 2", kind, what, len(requests), connections)
-				}
+				server.wantArrivals(t, 3, 2)
 			})
 		}
 	}
@@ -343,10 +330,7 @@ func TestKept(t *testing.T) {
 			for range [6]int{} {
 				diff.NoError(t, exchange(t, c, server.url, osb.KindDeprovision).Lost, "")
 			}
-			requests, connections := server.arrivals()
-			if len(requests) != 6 || connections != row.connections {
-				t.Errorf("got %d requests on %d connections, want %d", len(requests), connections, row.connections)
-			}
+			server.wantArrivals(t, 6, row.connections)
 		})
 	}
 }
@@ -371,9 +355,7 @@ func TestKeptWithoutIdentity(t *testing.T) {
 			t.Errorf("request %d: got %+v, want 410 and no answer", n, in)
 		}
 	}
-	if requests, connections := server.arrivals(); len(requests) != 5 || connections != 4 {
-		t.Errorf("got %d requests on %d connections, want 5 on 4", len(requests), connections)
-	}
+	server.wantArrivals(t, 5, 4)
 }
 
 // What follows an answer is never taken for the answer to the next request, whether it arrives at once or later.
@@ -401,18 +383,16 @@ func TestAnsweredTwice(t *testing.T) {
 			c := patient(t)
 			for n := 1; n <= 4; n++ {
 				in := exchange(t, c, server.url, osb.KindDeprovision)
-				if in.Lost != nil || in.Status != 200 {
-					t.Errorf("request %d: got %+v, want 200", n, in)
-				}
+				diff.NoError(t, in.Lost, "request %d", n)
+				diff.Equal(t, in.Status, 200, "request %d", n)
 				if n == 2 {
 					goOn <- true
 					next(t, came)
 					until(t, what, func() bool { return !hasQuiet(c) })
 				}
 			}
-			if _, connections := server.arrivals(); connections != 3 {
-				t.Errorf("got %d connections, want 3", connections)
-			}
+			_, connections := server.arrivals()
+			diff.Equal(t, connections, 3, "connections")
 		})
 	}
 }
@@ -470,9 +450,7 @@ func TestIdle(t *testing.T) {
 			}()
 			c := newClient(t, Options{})
 			for range [2]int{} {
-				if in := exchange(t, c, "http://"+listener.Addr().String(), osb.KindDeprovision); in.Lost != nil {
-					t.Fatalf("got %v, want an answer", in.Lost)
-				}
+				diff.Must(t, exchange(t, c, "http://"+listener.Addr().String(), osb.KindDeprovision).Lost)
 			}
 			end(c)
 			until(t, what, func() bool { return atomic.LoadInt32(&open) == 0 })
@@ -541,9 +519,7 @@ func TestConnections(t *testing.T) {
 	next(t, arrived)
 	close(goOn)
 	group.Wait()
-	if requests, connections := server.arrivals(); len(requests) != 3 || connections != 3 {
-		t.Errorf("got %d requests on %d connections, want 3 on 3", len(requests), connections)
-	}
+	server.wantArrivals(t, 3, 3)
 }
 
 // Many goroutines use a client, and each gets the answer to its own request.
@@ -569,9 +545,8 @@ func TestTogether(t *testing.T) {
 		}()
 	}
 	group.Wait()
-	if requests, _ := server.arrivals(); len(requests) != 400 {
-		t.Errorf("got %d requests, want 400", len(requests))
-	}
+	requests, _ := server.arrivals()
+	diff.Equal(t, len(requests), 400, "requests")
 }
 
 // The clock goes on, and is that of the machine.
@@ -614,9 +589,9 @@ func TestWriteThatFails(t *testing.T) {
 	near.Close()
 	far.Close()
 	conn := &timedConn{Conn: near, now: time.Now, until: time.Now().Add(5 * time.Second)}
-	if count, err := conn.Write([]byte("x")); !errors.Is(err, io.ErrClosedPipe) || count != 0 {
-		t.Errorf("got %d, %v, want %v", count, err, io.ErrClosedPipe)
-	}
+	count, err := conn.Write([]byte("x"))
+	diff.ErrorIs(t, err, io.ErrClosedPipe, "")
+	diff.Equal(t, count, 0, "bytes written")
 }
 
 // A slowConn takes a second for each write, by its clock.
@@ -634,9 +609,9 @@ func (s *slowConn) Write(text []byte) (int, error) {
 func TestALongRequestWhoseTimeIsOver(t *testing.T) {
 	slow := &slowConn{now: time.Unix(0, 0)}
 	conn := &timedConn{Conn: slow, now: func() time.Time { return slow.now }, until: time.Unix(2, 0)}
-	if written, err := conn.Write(make([]byte, 5*piece)); err != ErrTimeOver || written != 2*piece {
-		t.Errorf("got %d bytes written, %v, want %d, %v", written, err, 2*piece, ErrTimeOver)
-	}
+	written, err := conn.Write(make([]byte, 5*piece))
+	diff.ErrorIs(t, err, ErrTimeOver, "")
+	diff.Equal(t, written, 2*piece, "bytes written")
 }
 
 // Where the URLs lead that a broker can have. What platform.CheckURL rejects leads nowhere.

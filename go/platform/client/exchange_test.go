@@ -96,9 +96,7 @@ func TestTaken(t *testing.T) {
 			if (in.Operation != nil) != (row.operation != "") || in.Operation != nil && *in.Operation != row.operation {
 				t.Errorf("got the operation %v, want %q", in.Operation, row.operation)
 			}
-			if hasMetadata := strings.Contains(row.bound, "metadata"); (in.Metadata != nil) != hasMetadata {
-				t.Errorf("got the metadata %s, want some: %v", in.Metadata, hasMetadata)
-			}
+			diff.Equal(t, in.Metadata != nil, strings.Contains(row.bound, "metadata"), "whether there are metadata")
 		})
 	}
 }
@@ -170,9 +168,8 @@ func TestLost(t *testing.T) {
 			if in.Lost != nil && (in.Answer != (osb.Answer{}) || strings.Contains(in.Lost.Error(), secret)) {
 				t.Errorf("got %+v, want no answer, and an error without the secret", in)
 			}
-			if requests, _ := server.arrivals(); len(requests) != 1 {
-				t.Errorf("got %d requests, want 1", len(requests))
-			}
+			requests, _ := server.arrivals()
+			diff.Equal(t, len(requests), 1, "requests")
 		})
 	}
 }
@@ -200,9 +197,8 @@ func TestNotLost(t *testing.T) {
 				return false
 			})
 			in := exchange(t, newClient(t, Options{LongestAnswer: 1000}), server.url, osb.KindProvision)
-			if in.Lost != nil || in.Answer != (osb.Answer{Status: 201, Body: osb.BodyEmpty}) {
-				t.Errorf("got %+v, want the answer 201 without members", in)
-			}
+			diff.NoError(t, in.Lost, "the answer")
+			diff.Equal(t, in.Answer, osb.Answer{Status: 201, Body: osb.BodyEmpty}, "the answer")
 		})
 	}
 }
@@ -398,9 +394,7 @@ func TestSent(t *testing.T) {
 				diff.Equal(t, value, wanted[name], "the header %s", name)
 				delete(wanted, name)
 			}
-			if len(wanted) > 0 {
-				t.Errorf("got it without %v, want all of them", wanted)
-			}
+			diff.Empty(t, wanted, "what is missing")
 		})
 	}
 }
@@ -461,9 +455,7 @@ func TestNotWritten(t *testing.T) {
 			}
 		})
 	}
-	if requests, connections := server.arrivals(); len(requests) > 0 || connections > 0 {
-		t.Errorf("got %d connections, %q, want none", connections, requests)
-	}
+	server.wantArrivals(t, 0, 0)
 }
 
 // A broker without a user gets no password.
@@ -472,12 +464,9 @@ func TestNoUser(t *testing.T) {
 	c := newClient(t, Options{})
 	out := outgoingOf(c, server.url, osb.KindDeprovision, ofInstance)
 	out.Broker = platform.Broker{Name: "open", URL: server.url}
-	if in := c.Exchange(context.Background(), out); in.Lost != nil {
-		t.Fatalf("got %v, want an answer", in.Lost)
-	}
-	if requests, _ := server.arrivals(); strings.Contains(requests[0], "Authorization") {
-		t.Errorf("got %q, want no Authorization", requests[0])
-	}
+	diff.Must(t, c.Exchange(context.Background(), out).Lost)
+	requests, _ := server.arrivals()
+	diff.Lacks(t, requests[0], "Authorization", "")
 }
 
 // The password of each request is asked for anew.
@@ -491,9 +480,7 @@ func TestPasswordOfEachRequest(t *testing.T) {
 	})
 	c := newClient(t, Options{Password: func(platform.Broker) (string, error) { return password, nil }})
 	for _, password = range []string{"old", "new"} {
-		if in := exchange(t, c, server.url, osb.KindDeprovision); in.Lost != nil {
-			t.Fatalf("got %v, want an answer", in.Lost)
-		}
+		diff.Must(t, exchange(t, c, server.url, osb.KindDeprovision).Lost)
 	}
 	diff.Equal(t, strings.Join(given, " "), "old new", "the passwords")
 }
@@ -622,6 +609,13 @@ func (s *raw) arrivals() (requests []string, connections int) {
 	s.mutex.Lock()
 	defer s.mutex.Unlock()
 	return append([]string(nil), s.requests...), s.connections
+}
+
+// wantArrivals is that so many requests have arrived, on so many connections.
+func (s *raw) wantArrivals(t *testing.T, requests, connections int) {
+	t.Helper()
+	got, on := s.arrivals()
+	diff.Equal(t, [2]int{len(got), on}, [2]int{requests, connections}, "requests and connections")
 }
 
 // text is an answer with a length. If id isn't empty, it has the header with the identity of the request.

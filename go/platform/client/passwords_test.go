@@ -20,9 +20,7 @@ func TestSealedPassword(t *testing.T) {
 	broker := platform.Broker{Name: "postgres", URL: "https://one.example", User: "platform", PasswordFile: "nowhere"}
 	broker.Password = diff.Value(safe.Seal([]byte(secret), platform.PasswordContext(broker)))(t)
 	passwords := NewPasswords(safe, nil)
-	if got, err := passwords.Of(broker); got != secret || err != nil {
-		t.Errorf("got %q, %v, want %q", got, err, secret)
-	}
+	diff.Equal(t, diff.Value(passwords.Of(broker))(t), secret, "")
 	for what, change := range map[string]func(*platform.Broker){
 		"another name": func(b *platform.Broker) { b.Name = "another" },
 		"another URL":  func(b *platform.Broker) { b.URL = "https://two.example" },
@@ -65,9 +63,7 @@ func TestPasswordOfOrders(t *testing.T) {
 		if err != nil || len(brokers) != 1 {
 			t.Fatalf("got %v, %v, want one broker", brokers, err)
 		}
-		if got, err := NewPasswords(safe, nil).Of(brokers[0]); got != want || err != nil {
-			t.Errorf("got %q, %v, want %q", got, err, want)
-		}
+		diff.Equal(t, diff.Value(NewPasswords(safe, nil).Of(brokers[0]))(t), want, "")
 		nothing := func(*platform.Broker) error { return nil }
 		check(t, orders.SetBroker(ctx, "shop", nothing, []byte("another")))
 	}
@@ -112,9 +108,7 @@ func TestPasswordFile(t *testing.T) {
 		{"still readable by all", "four", func() error { return nil }, 4},
 	} {
 		check(t, step.do())
-		if got, err := passwords.Of(broker); got != step.wanted || err != nil {
-			t.Errorf("%s: got %q, %v, want %q", step.what, got, err, step.wanted)
-		}
+		diff.Equal(t, diff.Value(passwords.Of(broker))(t), step.wanted, "%s", step.what)
 		diff.Equal(t, len(warnings), step.warnings, "%s", step.what)
 	}
 	for _, warning := range warnings {

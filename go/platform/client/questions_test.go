@@ -82,9 +82,7 @@ func TestQuestions(t *testing.T) {
 			for _, text := range []string{"Authorization: Basic ", "X-Broker-Api-Version: 2.17\r\n"} {
 				diff.Contains(t, head, text, "")
 			}
-			if !strings.HasSuffix(head, "\r\n\r\n") {
-				t.Errorf("got %q, want no body", head)
-			}
+			diff.Equal(t, strings.HasSuffix(head, "\r\n\r\n"), true, "no body in %q", head)
 		})
 	}
 }
@@ -131,9 +129,9 @@ func TestCatalogue(t *testing.T) {
 	server := serve(t, returning("200 OK", document))
 	c := newClient(t, Options{LongestAnswer: 10})
 	got, status, err := c.Catalogue(context.Background(), at(server.url+"/postgres"))
-	if string(got) != document || status != 200 || err != nil {
-		t.Errorf("got %s, %d, %v, want %s, 200", got, status, err, document)
-	}
+	diff.NoError(t, err, "")
+	diff.Equal(t, string(got), document, "")
+	diff.Equal(t, status, 200, "")
 	requests, _ := server.arrivals()
 	for _, wanted := range []string{
 		"GET /postgres/v2/catalog HTTP/1.1\r\n", "X-Broker-Api-Version: 2.17\r\n", "X-Broker-Api-Request-Identity: ",
@@ -187,9 +185,7 @@ func TestCatalogueTime(t *testing.T) {
 	}
 	diff.AtMost(t, len(reason([]byte(`{"description":"`+strings.Repeat("ü", 9999)+`"}`))), 3*longestReason, "")
 	_, _, err = c.Catalogue(context.Background(), platform.Broker{Name: "postgres", URL: "broker.example"})
-	if err == nil || !strings.Contains(err.Error(), "https://") {
-		t.Errorf("got the error %v, want one that asks for https://", err)
-	}
+	diff.ErrorContains(t, err, "https://", "")
 }
 
 // The catalogue has a connection of its own, however many of the others are kept.
@@ -197,13 +193,10 @@ func TestCatalogueAlone(t *testing.T) {
 	server := serve(t, returning("200 OK", document))
 	c := patient(t)
 	for range [3]int{} {
-		if _, _, err := c.Catalogue(context.Background(), at(server.url)); err != nil {
-			t.Errorf("got the error %v, want none", err)
-		}
+		_, _, err := c.Catalogue(context.Background(), at(server.url))
+		diff.NoError(t, err, "")
 	}
-	if requests, connections := server.arrivals(); len(requests) != 3 || connections != 3 {
-		t.Errorf("got %d requests on %d connections, want 3 on 3", len(requests), connections)
-	}
+	server.wantArrivals(t, 3, 3)
 }
 
 // What a connection that breaks means, and what to check.

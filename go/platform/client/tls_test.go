@@ -195,9 +195,7 @@ func TestKeptOverTLS(t *testing.T) {
 	c := newClient(t, Options{TLS: Files{Authorities: ours.file("authority.crt")}})
 	c.idle = patience
 	for range [6]int{} {
-		if in := exchange(t, c, server.URL, osb.KindDeprovision); in.Lost != nil {
-			t.Fatalf("got %v, want an answer", in.Lost)
-		}
+		diff.Must(t, exchange(t, c, server.URL, osb.KindDeprovision).Lost)
 	}
 	diff.Equal(t, connections, 2, "connections")
 }
