@@ -413,9 +413,7 @@ func (s *scene) checkRow(t *testing.T, _ *scene) {
 		for text, most := range texts {
 			diff.AtMost(t, len(text), most, "the text kept")
 		}
-		if whole, err := json.Marshal(row); err != nil || len(whole) > 20_000 {
-			t.Errorf("the row: got %d bytes (%v), want at most 20000", len(whole), err)
-		}
+		diff.AtMost(t, len(diff.Value(json.Marshal(row))(t)), 20_000, "the row")
 	}
 }
 

@@ -110,6 +110,14 @@ func Empty(t testing.TB, got any, format string, arguments ...any) {
 	}
 }
 
+// Len ends the test unless a list has so many elements, and says what was counted as Equal does.
+func Len[T any](t testing.TB, list []T, want int, format string, arguments ...any) {
+	t.Helper()
+	if len(list) != want {
+		t.Fatalf("%sgot %+v, want %d", prefix(format, arguments), list, want)
+	}
+}
+
 type measure interface{ ~int | ~int64 | ~float64 }
 
 // AtMost fails the test if a number is above a bound, and says what was measured as Equal does.

@@ -103,6 +103,7 @@ func TestValuesAndErrors(t *testing.T) {
 		`got the error wrong, want one with "no"`:    func(t testing.TB) { ErrorContains(t, wrong, "no", "") },
 		`a: got the error <nil>, want one with "no"`: func(t testing.TB) { ErrorContains(t, nil, "no", "a") },
 		"row 1: got [2], want none":                  func(t testing.TB) { Empty(t, []int{2}, "row %d", 1) },
+		"ended: row 1: got [2], want 2":              func(t testing.TB) { Len(t, []int{2}, 2, "row %d", 1) },
 		"got 2s, want at most 1s":                    func(t testing.TB) { AtMost(t, 2*time.Second, time.Second, "") },
 		"calls: got 1, want at least 2":              func(t testing.TB) { AtLeast(t, 1, 2, "calls") },
 	} {
@@ -123,6 +124,7 @@ func TestValuesAndErrors(t *testing.T) {
 	Contains(f, "abc", "bc", "x")
 	Lacks(f, "abc", "ac", "x")
 	Empty(f, map[string]int{}, "x")
+	Len(f, []int{1, 2}, 2, "x")
 	AtMost(f, 2, 2, "x")
 	AtLeast(f, 2, 2, "x")
 	ErrorIs(f, Err(5, wrong), wrong, "x")

@@ -59,10 +59,8 @@ func TestPasswordOfOrders(t *testing.T) {
 	shop := platform.Broker{Name: "shop", URL: "https://shop.example", User: "platform"}
 	check(t, orders.AddBroker(ctx, shop, []byte(secret)))
 	for _, want := range []string{secret, "another"} {
-		brokers, err := store.Brokers(ctx)
-		if err != nil || len(brokers) != 1 {
-			t.Fatalf("got %v, %v, want one broker", brokers, err)
-		}
+		brokers := diff.Value(store.Brokers(ctx))(t)
+		diff.Len(t, brokers, 1, "")
 		diff.Equal(t, diff.Value(NewPasswords(safe, nil).Of(brokers[0]))(t), want, "")
 		nothing := func(*platform.Broker) error { return nil }
 		check(t, orders.SetBroker(ctx, "shop", nothing, []byte("another")))
@@ -140,15 +138,11 @@ func TestSettledPasswordFile(t *testing.T) {
 		{"five", soon, "five"}, // it may have changed since, within what the time of change can distinguish
 	} {
 		put(row.text, row.changed)
-		got, err := passwords.Of(platform.Broker{Name: "postgres", PasswordFile: name})
-		if got != row.wanted || err != nil {
-			t.Errorf("%s: got %q, %v, want %q", row.text, got, err, row.wanted)
-		}
+		got := diff.Value(passwords.Of(platform.Broker{Name: "postgres", PasswordFile: name}))(t)
+		diff.Equal(t, got, row.wanted, "%s", row.text)
 	}
 	put("six", hour)
-	if got, err := passwords.Of(platform.Broker{Name: "postgres", PasswordFile: name}); got != "six" || err != nil {
-		t.Errorf("got %q, %v, want \"six\"", got, err)
-	}
+	diff.Equal(t, diff.Value(passwords.Of(platform.Broker{Name: "postgres", PasswordFile: name}))(t), "six", "")
 	file := name
 	name += ".new"
 	put("ten", hour)

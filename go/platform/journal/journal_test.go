@@ -22,9 +22,7 @@ import (
 
 func want(t *testing.T, what, got, want string) {
 	t.Helper()
-	if got != want {
-		t.Errorf("%s: got\n%s\nwant\n%s", what, got, want)
-	}
+	diff.Equal(t, got, want, "%s", what)
 }
 
 const created = "order ordered; claim wanted; sent provision; answered empty; take ready"

@@ -409,23 +409,15 @@ func TestARightThatIsLost(t *testing.T) {
 	const name = "osb_platform_right"
 	store := open(t, schemaNamed(t, name))
 	defer store.Close()
-	end, lost, err := store.Only(background, name)
-	if err != nil || end == nil {
-		t.Fatalf("Only: got %v, want the right", err)
-	}
-	if again, _, err := store.Only(background, name); err != nil || again != nil {
-		t.Errorf("another: got %t, %v, want none", again != nil, err)
-	}
+	end, lost := storetest.Right(t, store, name)
+	storetest.NoRight(t, store, name)
 	terminate(t, name)
 	select {
 	case <-lost:
 	case <-time.After(deadline):
 		t.Fatal("got no report of the lost right in time, want one")
 	}
-	again, lost, err := store.Only(background, name)
-	if err != nil || again == nil {
-		t.Fatalf("after the end of the session: got %v, want the right", err)
-	}
+	again, lost := storetest.Right(t, store, name)
 	end()
 	end()
 	select {
@@ -443,10 +435,7 @@ func TestTheNameOfAWorkerOf02(t *testing.T) {
 	defer store.Close()
 	tx := begin(t, url)
 	run(t, tx, "SELECT pg_advisory_lock(1869832816, 145842092)") // 0x6F736270, and crc32 of the name less 2^31
-	end, _, err := store.Only(background, "osb_platform_name_02")
-	if err != nil || end != nil {
-		t.Errorf("beside version 0.2: got %t, %v, want none", end != nil, err)
-	}
+	storetest.NoRight(t, store, "osb_platform_name_02")
 }
 
 // While the server hangs, a call returns soon after its context has ended, and so does Close.
@@ -496,10 +485,7 @@ func TestClosingWhileTheServerHangs(t *testing.T) {
 func TestEndOfARightWhileTheServerHangs(t *testing.T) {
 	proxy, url := storefaults.NewProxy(t, schemaNamed(t, "osb_platform_hangs_right"))
 	store := open(t, url)
-	end, _, err := store.Only(background, "one")
-	if err != nil || end == nil {
-		t.Fatalf("got %t, %v, want a right", end != nil, err)
-	}
+	end, _ := storetest.Right(t, store, "one")
 	proxy.Hang(true)
 	begun := time.Now()
 	end()
@@ -624,9 +610,7 @@ func insert(t testing.TB, store platform.Store, keys ...platform.Key) {
 	t.Helper()
 	addBroker(t, store)
 	for _, key := range keys {
-		if err := store.Insert(background, order(key), accept); err != nil {
-			t.Fatalf("Insert of %v: got %v, want no error", key, err)
-		}
+		check(t, store.Insert(background, order(key), accept))
 	}
 }
 

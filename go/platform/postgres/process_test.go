@@ -237,15 +237,12 @@ func TestAWorkerThatIsPaused(t *testing.T) {
 			await(t, pgtest.DB(t, pgtest.URL(t)), "the server ends the session", "SELECT NOT EXISTS "+
 				"(SELECT FROM pg_stat_activity WHERE application_name = $1 AND state = 'idle in transaction')",
 				fmt.Sprintf("osb_platform_pause_%d", n))
-			if keys = claimFor(t, other, "other", 10); len(keys) != left {
-				t.Errorf("after the end of the session: got %v claimed, want %d", keys, left)
-			}
+			keys = claimFor(t, other, "other", 10)
+			diff.Equal(t, len(keys), left, "claimed after the end of the session")
 			gate.Open()
 			diff.ErrorIs(t, <-done, platform.ErrAway, "the paused worker")
 			for _, key := range []platform.Key{instance(1), binding(1, 1), instance(2), instance(3)} {
-				if entry, err := other.Read(background, key); err != nil || entry.Lease.Worker != "other" {
-					t.Errorf("%v: got %+v, %v, want the lease of the worker other", key, entry.Lease, err)
-				}
+				diff.Equal(t, diff.Value(other.Read(background, key))(t).Lease.Worker, "other", "%v", key)
 			}
 			diff.NoError(t, paused.Ready(background), "") // it goes on, with another session
 		})
@@ -287,10 +284,8 @@ func TestAWorkerThatIsPausedBetweenTransactions(t *testing.T) {
 		store  platform.Store
 		worker string
 	}{{paused, "paused"}, {other, "other"}} {
-		claimed, err := test.store.Claim(background, []string{"one"}, 1, step(test.worker))
-		if err != nil || len(claimed) != 1 {
-			t.Fatalf("%s: got %v, %v, want one row", test.worker, claimed, err)
-		}
+		claimed := diff.Value(test.store.Claim(background, []string{"one"}, 1, step(test.worker)))(t)
+		diff.Len(t, claimed, 1, "%s", test.worker)
 	}
 	err := paused.Change(background, instance(1), func(_ time.Time, snapshot platform.Snapshot) (*platform.Change, error) {
 		if snapshot.Lease.Worker != "other" || snapshot.Unchanged != 2 {

@@ -28,9 +28,7 @@ func TestExtensionOfTheTables(t *testing.T) {
 			t.Errorf("the longest statement: got %s, %v, want 15min", limit, err)
 		}
 		for _, want := range []bool{true, false} {
-			if has, err := extend(ctx, tx); has != want || err != nil {
-				t.Errorf("got %v, %v, want %v", has, err, want)
-			}
+			diff.Equal(t, diff.Value(extend(ctx, tx))(t), want, "")
 		}
 		return true, nil
 	})
@@ -59,14 +57,10 @@ func TestARightLives(t *testing.T) {
 	defer store.Close()
 	it := diff.Value(store.right(context.Background(), "osb_platform_right_lives"))(t)
 	for range [2]int{} {
-		if !it.lives() {
-			t.Error("got a session that is dead, want it alive")
-		}
+		diff.Equal(t, it.lives(), true, "the session lives")
 	}
 	it.close()
-	if it.lives() {
-		t.Error("once it is closed: got a session that is alive, want it dead")
-	}
+	diff.Equal(t, it.lives(), false, "the session lives once it is closed")
 }
 
 // A time is read as it was written, to the microsecond, and a position in a list finds its row again.
@@ -79,9 +73,7 @@ func TestTimes(t *testing.T) {
 		if err := json.Unmarshal(text, &read); err != nil || !time.Time(read).Equal(at) {
 			t.Fatalf("%[1]v, written as %[2]s: got %[3]v, %[4]v, want %[1]v", at, text, time.Time(read), err)
 		}
-		if again, err := json.Marshal(read); err != nil || string(again) != string(text) {
-			t.Fatalf("%s: got %s, %v, want the same text", text, again, err)
-		}
+		diff.Equal(t, string(diff.Value(json.Marshal(read))(t)), string(text), "%s", text)
 	}
 	for text, want := range map[string]time.Time{
 		"null": {}, "0": time.Unix(0, 0), "1.5": time.UnixMilli(1500), "-0.25": time.UnixMilli(-250),
@@ -104,9 +96,7 @@ func TestSoonest(t *testing.T) {
 		{time.Time{}, now}, {now.Add(time.Hour), now}, {now, now}, {now.Add(-time.Hour), now.Add(-time.Hour)},
 	} {
 		t.Run(test.due.UTC().String(), func(t *testing.T) {
-			if got := soonest(test.due, now); !got.Equal(test.want) {
-				t.Errorf("due at %v: got %v, want %v", test.due, got, test.want)
-			}
+			diff.Check(t, soonest(test.due, now), test.want, "due at %v", test.due)
 		})
 	}
 }
@@ -254,9 +244,7 @@ func wantIndexed(t *testing.T, conn *sql.Conn, query, values, mode string) {
 	t.Helper()
 	ctx := context.Background()
 	for _, statement := range []string{"SET plan_cache_mode = " + mode, "PREPARE planned AS " + query} {
-		if _, err := conn.ExecContext(ctx, statement); err != nil {
-			t.Fatalf("%s: got %v, want no error", statement, err)
-		}
+		diff.Value(conn.ExecContext(ctx, statement))(t)
 	}
 	if values != "" {
 		values = "(" + values + ")"

@@ -128,9 +128,7 @@ func begin(t *testing.T, url string) *sql.Tx {
 
 func run(t *testing.T, tx *sql.Tx, statement string, parameters ...any) {
 	t.Helper()
-	if _, err := tx.Exec(statement, parameters...); err != nil {
-		t.Fatalf("%s: got %v, want no error", statement, err)
-	}
+	diff.Value(tx.Exec(statement, parameters...))(t)
 }
 
 // inDatabase runs the tests in a database of their own, on the server that the environment names. Some of them look for

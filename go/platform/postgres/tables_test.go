@@ -233,9 +233,7 @@ func rejected02(t *testing.T, url string) {
 	}
 	const order = "INSERT INTO osb_instances (id, service, plan, further, state, since, removal, due, tries) " +
 		"VALUES ('x', 'x', 'x', '{}', 'ordered', 1, 0, 1, 0)"
-	if _, err := db.Exec(order); !pg.IsCode(err, "23502") {
-		t.Errorf("an order of version 0.2: got %v, want an error of a column", err)
-	}
+	diff.Equal(t, pg.IsCode(diff.Err(db.Exec(order)), "23502"), true, "an order of version 0.2 fails by a column")
 }
 
 // A store that was never asked by 0.2 has no broker.
@@ -257,12 +255,9 @@ func TestAWorkerOf02(t *testing.T) {
 	const name = "SELECT pg_advisory_lock(1869832816, 12345)" // as version 0.2 has it: osbp, and a digest
 	diff.Value(conn.ExecContext(background, name))(t)
 	_, err := postgres.Open(background, url, 1)
-	if err == nil || !strings.Contains(err.Error(), "Stop all of its workers") {
-		t.Errorf("beside a worker: got %v, want one that says to stop the workers", err)
-	}
-	if _, isLasting := pg.Remedy(err); !isLasting {
-		t.Error("got an error that passes, want one that lasts")
-	}
+	diff.ErrorContains(t, err, "Stop all of its workers", "beside a worker")
+	_, isLasting := pg.Remedy(err)
+	diff.Equal(t, isLasting, true, "the error lasts")
 	diff.Value(conn.ExecContext(background, "SELECT pg_advisory_unlock_all()"))(t)
 	diff.NoError(t, open(t, url).Close(), "")
 }

@@ -13,6 +13,7 @@ import (
 
 	"pippinterm/internal/diff"
 	"pippinterm/platform"
+	"pippinterm/platform/storetest"
 )
 
 // pathVariable makes the test binary another process of a test: the worker child of the file that the variable names.
@@ -111,16 +112,11 @@ func TestProcesses(t *testing.T) {
 	other := startChild(t, path)
 	defer other.kill()
 	other.wait(t, "begun")
-	if end, _, err := s.Only(background, "child"); err != nil || end != nil {
-		t.Errorf("beside the child: got %t, %v, want none", end != nil, err)
-	}
+	storetest.NoRight(t, s, "child")
 	diff.NoError(t, count(s), "")
 	other.wait(t, "counted")
 	diff.Equal(t, diff.Value(s.Read(background, keyOf(1)))(t).Unchanged, 2*each, "the count")
 	other.kill()
-	end, _, err := s.Only(background, "child")
-	if err != nil || end == nil {
-		t.Fatalf("once it was killed: got %t, %v, want the right", end != nil, err)
-	}
+	end, _ := storetest.Right(t, s, "child")
 	end()
 }

@@ -50,9 +50,7 @@ func executeIn(t *testing.T, path string, statements ...string) {
 	made := diff.Value((&sqlite3.SQLiteDriver{}).Open("file:" + path))(t)
 	defer made.Close()
 	for _, statement := range statements {
-		if _, err := made.(*sqlite3.SQLiteConn).Exec(statement, nil); err != nil {
-			t.Fatalf("%s: got %v, want no error", statement, err)
-		}
+		diff.Value(made.(*sqlite3.SQLiteConn).Exec(statement, nil))(t)
 	}
 }
 
@@ -131,9 +129,7 @@ func TestOpenExisting(t *testing.T) {
 	for _, path := range []string{missing, empty, bare} {
 		diff.ErrorIs(t, diff.Err(OpenExisting(background, path)), platform.ErrNoStore, "%s", path)
 	}
-	if _, err := os.Stat(missing); !os.IsNotExist(err) {
-		t.Errorf("the missing file: got %v, want none", err)
-	}
+	diff.ErrorIs(t, diff.Err(os.Stat(missing)), os.ErrNotExist, "the missing file")
 	diff.Equal(t, diff.Value(os.Stat(empty))(t).Size(), 0, "the empty file")
 	diff.Equal(t, len(query(t, bare, "SELECT name FROM sqlite_master")), 0, "the file without tables")
 	path := old(t)
@@ -163,10 +159,8 @@ func TestMigration(t *testing.T) {
 		got.Record = osb.Record{}
 		diff.Check(t, got, want, "%v", want.Key)
 	}
-	brokers, err := s.Brokers(background)
-	if err != nil || len(brokers) != 1 {
-		t.Fatalf("got %+v, %v, want one broker", brokers, err)
-	}
+	brokers := diff.Value(s.Brokers(background))(t)
+	diff.Len(t, brokers, 1, "")
 	if it := brokers[0]; it.Name != "default" || it.URL != "https://broker.example/v0.2" || it.User != "platform" ||
 		it.Password != nil || it.PasswordFile != "" || it.Catalogue != nil {
 		t.Errorf("the broker: got %+v, want the one of version 0.2", it)
@@ -187,10 +181,8 @@ func TestMigratedRowsAreUsed(t *testing.T) {
 	s := open(t, path)
 	var position *platform.Position
 	for n := 0; n < 12; n++ {
-		rows, err := s.List(background, platform.Filter{After: position, Most: 1})
-		if err != nil || len(rows) != 1 {
-			t.Fatalf("row %d: got %v, %v, want 1", n, rows, err)
-		}
+		rows := diff.Value(s.List(background, platform.Filter{After: position, Most: 1}))(t)
+		diff.Len(t, rows, 1, "row %d", n)
 		position = &platform.Position{State: rows[0].State, Since: rows[0].Since, Key: rows[0].Key}
 	}
 	diff.Equal(t, len(diff.Value(s.List(background, platform.Filter{After: position, Most: 1}))(t)), 0,
@@ -206,10 +198,8 @@ func TestMigratedRowsAreUsed(t *testing.T) {
 	if err != nil || steps != 8 {
 		t.Errorf("got %d steps, %v, want 8", steps, err)
 	}
-	counts, err := s.Counts(background)
-	if err != nil || len(counts) != 9 {
-		t.Errorf("got %v, %v, want 9 counts", counts, err)
-	}
+	counts := diff.Value(s.Counts(background))(t)
+	diff.Len(t, counts, 9, "")
 	for _, count := range counts {
 		isTwice := count.State == platform.Ordered || count.State == platform.Ready || count.State == platform.Gone
 		if (count.Count == 2) != isTwice || count.Broker != "default" || count.IsBinding {
@@ -239,9 +229,7 @@ func closeAndRead(t *testing.T, path string) []byte {
 		err = s.Close()
 	}
 	check(t, err)
-	if _, err := os.Stat(path + "-wal"); !errors.Is(err, os.ErrNotExist) {
-		t.Fatalf("a log after Close: got %v, want none", err)
-	}
+	diff.ErrorIs(t, diff.Err(os.Stat(path+"-wal")), os.ErrNotExist, "a log after Close")
 	return diff.Value(os.ReadFile(path))(t)
 }
 
@@ -250,9 +238,7 @@ func TestOpeningWritesNothing(t *testing.T) {
 	for _, path := range []string{old(t), filepath.Join(t.TempDir(), "new")} {
 		first := closeAndRead(t, path)
 		for n := 0; n < 2; n++ {
-			if again := closeAndRead(t, path); !bytes.Equal(first, again) {
-				t.Errorf("%s: got another file after opening, want the same", path)
-			}
+			diff.Equal(t, bytes.Equal(first, closeAndRead(t, path)), true, "%s is the same after opening", path)
 		}
 	}
 }
@@ -275,9 +261,8 @@ func TestMissingColumns(t *testing.T) {
 	}
 	executeIn(t, path, "ALTER TABLE osb_bindings DROP COLUMN credentials")
 	closeAndRead(t, path)
-	if got, want := closeAndRead(t, path), closeAndRead(t, path); !bytes.Equal(got, want) {
-		t.Error("got another file from opening it once more, want the same")
-	}
+	before := closeAndRead(t, path)
+	diff.Equal(t, bytes.Equal(before, closeAndRead(t, path)), true, "the file is the same after opening")
 	again := open(t, path)
 	got := diff.Value(again.Read(background, entry.Key))(t)
 	rest := entry
@@ -327,9 +312,7 @@ func TestMigrationFails(t *testing.T) {
 		"CREATE TABLE osb_readiness (x)")
 	schema := "SELECT group_concat(sql) FROM (SELECT sql FROM sqlite_master ORDER BY name)"
 	before, rows := query(t, path, schema), query(t, path, "SELECT since FROM osb_instances")
-	if _, err := Open(background, path); err == nil || !strings.Contains(err.Error(), path) {
-		t.Errorf("got %v, want an error that names the file", err)
-	}
+	diff.ErrorContains(t, diff.Err(Open(background, path)), path, "")
 	diff.Equal(t, fmt.Sprint(query(t, path, schema)), fmt.Sprint(before), "the tables")
 	diff.Equal(t, fmt.Sprint(query(t, path, "SELECT since FROM osb_instances")), fmt.Sprint(rows), "the rows")
 }
@@ -356,9 +339,8 @@ func TestForeignFiles(t *testing.T) {
 			if err == nil || !strings.Contains(err.Error(), path) || want != nil && !errors.Is(err, want) {
 				t.Errorf("%s: got %v, want an error with the path, of the kind %v", path, err, want)
 			}
-			if after, _ := os.ReadFile(path); !bytes.Equal(before, after) {
-				t.Errorf("%s: got it changed, want it unchanged", path)
-			}
+			after, _ := os.ReadFile(path)
+			diff.Equal(t, bytes.Equal(before, after), true, "%s is unchanged", path)
 		})
 	}
 }
@@ -423,9 +405,7 @@ func TestOnlyIsTheLockOfOldVersions(t *testing.T) {
 	file := diff.Value(os.Create(path + ".worker-1.lock"))(t)
 	defer file.Close()
 	check(t, syscall.Flock(int(file.Fd()), syscall.LOCK_EX))
-	if end, _, err := s.Only(background, "worker-1"); end != nil || err != nil {
-		t.Errorf("got a lock: %t, and the error %v, want neither", end != nil, err)
-	}
+	storetest.NoRight(t, s, "worker-1")
 	for _, name := range []string{"", "../x", "a\x00"} {
 		if end, _, err := s.Only(background, name); end != nil || err == nil {
 			t.Errorf("%q: got a lock: %t, and the error %v, want only an error", name, end != nil, err)
@@ -439,17 +419,10 @@ func TestOldWorkerRuns(t *testing.T) {
 	lock, err := lock(path+".worker-1.lock", os.O_CREATE) // that of 0.2
 	check(t, err)
 	before := diff.Value(os.ReadFile(path))(t)
-	if _, err := Open(background, path); err == nil || !strings.Contains(err.Error(), "worker-1 ") {
-		t.Errorf("got %v, want an error that names the worker", err)
-	}
-	if after, err := os.ReadFile(path); err != nil || !bytes.Equal(before, after) {
-		t.Errorf("got the file changed (%v), want it unchanged", err)
-	}
+	diff.ErrorContains(t, diff.Err(Open(background, path)), "worker-1 ", "")
+	diff.Equal(t, bytes.Equal(before, diff.Value(os.ReadFile(path))(t)), true, "the file is unchanged")
 	unlock(lock)
-	end, _, err := open(t, path).Only(background, "worker-1")
-	if err != nil || end == nil {
-		t.Fatalf("got no right to be worker-1, %v, want it", err)
-	}
+	end, _ := storetest.Right(t, open(t, path), "worker-1")
 	defer end()
 	open(t, path) // beside workers of this version
 }
@@ -507,9 +480,7 @@ func wantOfDue(t *testing.T, c *connection, query string) error {
 		}
 		return nil
 	})
-	if scans != 2 {
-		t.Errorf("got %d scans, want 2:\n%s", scans, query)
-	}
+	diff.Equal(t, scans, 2, "scans of\n%s", query)
 	return err
 }
 

@@ -56,14 +56,10 @@ func testBrokers(t *testing.T, open opener) {
 
 func wantBrokers(t *testing.T, store platform.Store, want ...platform.Broker) {
 	t.Helper()
-	got, err := store.Brokers(background)
-	if err != nil || len(got) != len(want) {
-		t.Fatalf("Brokers: got %+v, %v, want all", got, err)
-	}
+	got := diff.Value(store.Brokers(background))(t)
+	diff.Len(t, got, len(want), "Brokers")
 	for n := range want {
-		if one, other := textOf(t, got[n]), textOf(t, want[n]); one != other {
-			t.Errorf("got %s, want %s", one, other)
-		}
+		diff.Equal(t, textOf(t, got[n]), textOf(t, want[n]), "broker %d", n)
 	}
 }
 
@@ -158,9 +154,7 @@ func wantNoOrphans(t *testing.T, store platform.Store) {
 	}
 	rows := diff.Value(store.List(background, platform.Filter{}))(t)
 	for _, row := range rows {
-		if !known[row.Broker] {
-			t.Errorf("%v: got it without its broker %s, want it with one", row.Key, row.Broker)
-		}
+		diff.Equal(t, known[row.Broker], true, "the broker %s of %v is there", row.Broker, row.Key)
 	}
 }
 
@@ -223,9 +217,8 @@ func testBrokerCounter(t *testing.T, open opener) {
 	}
 	all.Wait()
 	got := diff.Value(stores[1].Brokers(background))(t)
-	if users, statuses := len(got[0].User), got[0].Reason.Status; users != 2*each || statuses != 4*each {
-		t.Errorf("got %d users and %d statuses, want %d and %d", users, statuses, 2*each, 4*each)
-	}
+	users, statuses := len(got[0].User), got[0].Reason.Status
+	diff.Equal(t, [2]int{users, statuses}, [2]int{2 * each, 4 * each}, "users and statuses")
 }
 
 // counting is a change of a broker: a part of it grows by one.

@@ -119,10 +119,8 @@ func testFailingClaim(t *testing.T, open opener) {
 		return &all, nil
 	}
 	begun := now(t, store)
-	claimed, err := store.Claim(background, brokers, 100, step)
-	if err != nil || len(claimed) != len(entries) {
-		t.Fatalf("Claim: got %v, %v, want all rows", claimed, err)
-	}
+	claimed := diff.Value(store.Claim(background, brokers, 100, step))(t)
+	diff.Len(t, claimed, len(entries), "Claim")
 	for n, row := range claimed {
 		key := entries[n].Key
 		isRight := []bool{

@@ -134,14 +134,11 @@ func wantListed(t *testing.T, store platform.Store, filter platform.Filter, want
 	diff.NoError(t, err, "%+v", filter)
 	wantKeys(t, fmt.Sprintf("%+v", filter), got, want...)
 	inPages(t, store, filter, want)
-	positions, err := store.Positions(background, filter)
-	if err != nil || len(positions) != len(got) {
-		t.Fatalf("%+v: got %d positions, %v, want %d", filter, len(positions), err, len(got))
-	}
+	positions := diff.Value(store.Positions(background, filter))(t)
+	diff.Len(t, positions, len(got), "%+v", filter)
 	for at, entry := range got {
-		if want := (platform.Position{State: entry.State, Since: entry.Since, Key: entry.Key}); positions[at] != want {
-			t.Errorf("%+v: the position: got %+v, want %+v", filter, positions[at], want)
-		}
+		want := platform.Position{State: entry.State, Since: entry.Since, Key: entry.Key}
+		diff.Equal(t, positions[at], want, "%+v: the position", filter)
 	}
 }
 
@@ -158,10 +155,8 @@ func inPages(t *testing.T, store platform.Store, filter platform.Filter, want []
 	filter.Most = 3
 	all := []platform.Entry{}
 	for len(all) <= len(want) {
-		page, err := store.List(background, filter)
-		if err != nil || len(page) > filter.Most {
-			t.Fatalf("%+v: got %d rows, %v, want no more than a page", filter, len(page), err)
-		}
+		page := diff.Value(store.List(background, filter))(t)
+		diff.AtMost(t, len(page), filter.Most, "%+v", filter)
 		all = append(all, page...)
 		if len(page) < filter.Most {
 			break
@@ -185,10 +180,8 @@ func testPages(t *testing.T, open opener) {
 		})
 		check(t, err)
 	}
-	all, err := store.List(background, platform.Filter{})
-	if err != nil || len(all) != 7 {
-		t.Fatalf("List: got %v, %v, want 7", all, err)
-	}
+	all := diff.Value(store.List(background, platform.Filter{}))(t)
+	diff.Len(t, all, 7, "List")
 	keys := []platform.Key{}
 	for _, entry := range all {
 		keys = append(keys, entry.Key)
@@ -292,9 +285,7 @@ func wantOnce(
 	isAny bool,
 ) {
 	t.Helper()
-	if len(moved) == 0 {
-		t.Errorf("%s: got nothing that has moved, want something", what)
-	}
+	diff.AtLeast(t, len(moved), 1, "%s: what has moved", what)
 	for _, entry := range before {
 		if count := seen[entry.Key]; count > 1 || count == 0 && (isAny || !moved[entry.Key]) {
 			t.Errorf("%s: %v: got it %d times, want 1", what, entry.Key, count)
@@ -441,9 +432,7 @@ func testCounts(t *testing.T, open opener) {
 			moved++
 		}
 	}
-	if moved == 0 {
-		t.Error("got no row that is ready, want one")
-	}
+	diff.AtLeast(t, moved, 1, "rows that are ready")
 	wantCounts(t, second, rows)
 }
 
@@ -497,18 +486,23 @@ func testInFlight(t *testing.T, open opener) {
 	wantEntry(t, "the first", rows[0], withLease(order(instance(3)), "two", past(2)))
 }
 
+// wantTimes compares the time at which something is due, and sees that the time of the store is about now.
+func wantTimes(t *testing.T, what string, got, want, now time.Time, err error) {
+	t.Helper()
+	diff.NoError(t, err, "%s", what)
+	diff.Equal(t, milliseconds(got), milliseconds(want), "%s", what)
+	if now.Before(time.Now().Add(-deadline)) || now.After(time.Now().Add(deadline)) {
+		t.Errorf("%s: got the time %v, want about now", what, now)
+	}
+}
+
 // A row counts once nobody has leased it. A lease that is over is nobody's.
 func testNextDue(t *testing.T, open opener) {
 	store := openStore(t, open)
 	wantDue := func(what string, of []string, want time.Time) {
 		t.Helper()
 		got, now, err := store.NextDue(background, of)
-		if err != nil || milliseconds(got) != milliseconds(want) {
-			t.Errorf("%s: got %v, %v, want %v", what, got, err, want)
-		}
-		if now.Before(time.Now().Add(-deadline)) || now.After(time.Now().Add(deadline)) {
-			t.Errorf("%s: got the time %v, want about now", what, now)
-		}
+		wantTimes(t, what, got, want, now, err)
 	}
 	wantDue("an empty store", brokers, time.Time{})
 	insert(t, store, due(order(instance(1)), time.Time{}), due(order(binding(1, 1)), future(9)))
@@ -536,12 +530,7 @@ func testOldestDue(t *testing.T, open opener) {
 	wantDue := func(what string, want time.Time) {
 		t.Helper()
 		got, now, err := store.OldestDue(background)
-		if err != nil || milliseconds(got) != milliseconds(want) {
-			t.Errorf("%s: got %v, %v, want %v", what, got, err, want)
-		}
-		if now.Before(time.Now().Add(-deadline)) || now.After(time.Now().Add(deadline)) {
-			t.Errorf("%s: got the time %v, want about now", what, now)
-		}
+		wantTimes(t, what, got, want, now, err)
 	}
 	since := func(entry platform.Entry, at time.Time) platform.Entry {
 		entry.DueSince = at
@@ -598,22 +587,31 @@ func testFree(t *testing.T, open opener) {
 	diff.Equal(t, len(claim(t, other, brokers, 10, until)), 4, "claimed")
 }
 
+// Right returns the right to be a worker, which a store must give, and what is closed once that right is lost.
+func Right(t testing.TB, store platform.Store, worker string) (end func(), lost <-chan struct{}) {
+	t.Helper()
+	end, lost, err := store.Only(background, worker)
+	if err != nil || end == nil || lost == nil {
+		t.Fatalf("the right to be %s: got %t, %t, %v, want it", worker, end != nil, lost != nil, err)
+	}
+	return end, lost
+}
+
+// NoRight tests that a store says that another has the right to be a worker.
+func NoRight(t testing.TB, store platform.Store, worker string) {
+	t.Helper()
+	if end, _, err := store.Only(background, worker); err != nil || end != nil {
+		t.Errorf("the right to be %s: got %t, %v, want none", worker, end != nil, err)
+	}
+}
+
 // One at a time is the worker of a name, among all stores of the database.
 func testOnly(t *testing.T, open opener) {
 	first, second := openStore(t, open), openStore(t, open)
-	end, lost, err := first.Only(background, "me")
-	if err != nil || end == nil || lost == nil {
-		t.Fatalf("Only: got %t, %t, %v, want the right", end != nil, lost != nil, err)
-	}
-	for _, store := range []platform.Store{second, first} {
-		if end, _, err := store.Only(background, "me"); err != nil || end != nil {
-			t.Errorf("another of the name: got %t, %v, want none", end != nil, err)
-		}
-	}
-	other, _, err := second.Only(background, "me-2_.x")
-	if err != nil || other == nil {
-		t.Fatalf("another name: got %t, %v, want the right", other != nil, err)
-	}
+	end, lost := Right(t, first, "me")
+	NoRight(t, second, "me")
+	NoRight(t, first, "me")
+	other, _ := Right(t, second, "me-2_.x")
 	other()
 	select {
 	case <-lost:
@@ -621,10 +619,7 @@ func testOnly(t *testing.T, open opener) {
 	default:
 	}
 	end()
-	again, _, err := second.Only(background, "me")
-	if err != nil || again == nil {
-		t.Fatalf("after the end: got %t, %v, want the right", again != nil, err)
-	}
+	again, _ := Right(t, second, "me")
 	again()
 }
 

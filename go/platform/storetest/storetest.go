@@ -275,9 +275,7 @@ func insert(t *testing.T, store platform.Store, entries ...platform.Entry) {
 			addBroker(t, store, entry.Broker)
 			known[entry.Broker] = true
 		}
-		if err := store.Insert(background, entry, accept); err != nil {
-			t.Fatalf("Insert of %v: got %v, want no error", entry.Key, err)
-		}
+		check(t, store.Insert(background, entry, accept))
 	}
 }
 
@@ -670,19 +668,14 @@ func testHasWorkers(t *testing.T, open opener) {
 				time.Sleep(soon)
 				got, err = store.HasWorkers(background)
 			}
-			if err != nil || got != want {
-				t.Errorf("%s: got %v, %v, want %v", when, got, err, want)
-			}
+			diff.NoError(t, err, "%s", when)
+			diff.Equal(t, got, want, "%s", when)
 		}
 	}
 	want(false, "without a worker")
 	var ends []func()
 	for _, text := range []string{NameOf(t) + "one", NameOf(t) + "two"} {
-		end, _, err := first.Only(background, text)
-		check(t, err)
-		if end == nil {
-			t.Fatalf("the name %s: got another worker, want none", text)
-		}
+		end, _ := Right(t, first, text)
 		ends = append(ends, end)
 		want(true, "with "+text)
 	}

@@ -242,9 +242,7 @@ func (y *yard) check(store platform.Store) {
 func readyIn(t *testing.T, store platform.Store) platform.Key {
 	t.Helper()
 	rows := diff.Value(store.List(background, platform.Filter{States: []platform.State{platform.Ready}}))(t)
-	if len(rows) != 1 {
-		t.Fatalf("got %d rows that are ready, want 1", len(rows))
-	}
+	diff.Len(t, rows, 1, "ready")
 	return rows[0].Key
 }
 

@@ -451,12 +451,8 @@ func TestExpectContinue(t *testing.T) {
 	head := "PUT " + path + " HTTP/1.1\r\nHost: x\r\nExpect: 100-continue\r\nContent-Length: 2\r\n\r\n"
 	diff.Value(io.WriteString(connection, head))(t)
 	came := bufio.NewReader(connection)
-	if line, err := came.ReadString('\n'); err != nil || line != "HTTP/1.1 100 Continue\r\n" {
-		t.Fatalf("got the line %q and the error %v, want HTTP/1.1 100 Continue", line, err)
-	}
-	if line, err := came.ReadString('\n'); err != nil || line != "\r\n" {
-		t.Fatalf("got the line %q and the error %v, want an empty line", line, err)
-	}
+	diff.Equal(t, diff.Value(came.ReadString('\n'))(t), "HTTP/1.1 100 Continue\r\n", "")
+	diff.Equal(t, diff.Value(came.ReadString('\n'))(t), "\r\n", "")
 	diff.Value(io.WriteString(connection, "{}"))(t)
 	answer := diff.Value(http.ReadResponse(came, nil))(t)
 	defer answer.Body.Close()

@@ -96,7 +96,5 @@ func IsRunning(pid string) bool {
 // Empty checks that nothing is in a folder.
 func Empty(t testing.TB, folder string) {
 	t.Helper()
-	if names, err := os.ReadDir(folder); err != nil || len(names) > 0 {
-		t.Errorf("got %v in %s (%v), want none", names, folder, err)
-	}
+	diff.Empty(t, diff.Value(os.ReadDir(folder))(t), "")
 }

@@ -239,10 +239,8 @@ func TestMinimize(t *testing.T) {
 	if runs := 1 + report.MinimizeRuns; err != nil || string(urls) != strings.Repeat(report.URL+"\n", runs) {
 		t.Errorf("got %v and %d runs at %s, want each at one URL", err, runs, urls)
 	}
-	journals, err := filepath.Glob(filepath.Join(options.Journal, "broker", "broker-*.jsonl"))
-	if err != nil || len(journals) != 1+report.MinimizeRuns {
-		t.Errorf("got %v and %d journals of %d runs, want as many", err, len(journals), 1+report.MinimizeRuns)
-	}
+	journals := diff.Value(filepath.Glob(filepath.Join(options.Journal, "broker", "broker-*.jsonl")))(t)
+	diff.Len(t, journals, 1+report.MinimizeRuns, "")
 }
 
 // If nothing is abandoned, there is no further run. If something is abandoned without any fault, or in no further run,

@@ -470,10 +470,8 @@ func TestJournal(t *testing.T) {
 	options := optionsFor(t)
 	options.Journal = filepath.Join(t.TempDir(), "journals")
 	report := runStorm(t, options, mistakes{}, true)
-	names, err := filepath.Glob(filepath.Join(options.Journal, "broker", "broker-*.jsonl"))
-	if err != nil || len(names) != 1 {
-		t.Fatalf("got the journals %v and the error %v, want one", names, err)
-	}
+	names := diff.Value(filepath.Glob(filepath.Join(options.Journal, "broker", "broker-*.jsonl")))(t)
+	diff.Len(t, names, 1, "")
 	text := diff.Value(os.ReadFile(names[0]))(t)
 	counts, instances, open := map[string]int{}, map[string]bool{}, map[int]bool{}
 	var last string
