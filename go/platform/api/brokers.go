@@ -25,10 +25,7 @@ type brokerList struct {
 
 func (a *request) listBrokers() (answer, error) {
 	found, err := a.reader.Brokers(a.Context())
-	if err != nil {
-		return answer{}, err
-	}
-	return answer{status: http.StatusOK, body: brokerList{found}}, nil
+	return answerOK(brokerList{found}, err)
 }
 
 // broker is the broker that the path names, or nil.
@@ -183,9 +180,5 @@ func (s Settings) read() (platform.Settings, error) {
 }
 
 func (a *request) counts() (answer, error) {
-	found, err := a.reader.Counts(a.Context())
-	if err != nil {
-		return answer{}, err
-	}
-	return answer{status: http.StatusOK, body: found}, nil
+	return answerOK(a.reader.Counts(a.Context()))
 }

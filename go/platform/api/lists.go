@@ -1,7 +1,6 @@
 package api
 
 import (
-	"net/http"
 	"strconv"
 )
 
@@ -33,10 +32,7 @@ func (a *request) listInFlight() (answer, error) {
 		return answer{}, err
 	}
 	found, err := a.reader.InFlight(a.Context(), limit, states)
-	if err != nil {
-		return answer{}, err
-	}
-	return answer{status: http.StatusOK, body: List{Items: found}}, nil
+	return answerOK(List{Items: found}, err)
 }
 
 // list answers with the page of a list that the query of the request asks for.
@@ -49,11 +45,7 @@ func (a *request) list(query Query) (answer, error) {
 			return answer{}, err
 		}
 	}
-	found, err := a.reader.List(a.Context(), query)
-	if err != nil {
-		return answer{}, err
-	}
-	return answer{status: http.StatusOK, body: found}, nil
+	return answerOK(a.reader.List(a.Context(), query))
 }
 
 // readOrder reads the order of a list.

@@ -36,11 +36,7 @@ type givenReason struct {
 
 // show answers with a record, its whole life, and the time of the store.
 func (a *request) show() (answer, error) {
-	shown, err := a.reader.Show(a.Context(), a.values["id"], a.values["bid"])
-	if err != nil {
-		return answer{}, err
-	}
-	return answer{status: http.StatusOK, body: shown}, nil
+	return answerOK(a.reader.Show(a.Context(), a.values["id"], a.values["bid"]))
 }
 
 func (a *request) create() (answer, error) {
@@ -52,15 +48,11 @@ func (a *request) create() (answer, error) {
 	if err != nil {
 		return answer{}, err
 	}
-	e, err := a.orders.Create(a.Context(), platform.NewInstance{
+	return creation(a.orders.Create(a.Context(), platform.NewInstance{
 		Broker: given.Broker, Service: given.Service, Plan: given.Plan, ID: id, Organization: given.Organization,
 		Space: given.Space, Parameters: given.Parameters, Context: given.Context, Identity: given.Identity,
 		Tries: given.Tries,
-	})
-	if err != nil {
-		return answer{}, err
-	}
-	return creation(e), nil
+	}))
 }
 
 func (a *request) bind() (answer, error) {
@@ -75,14 +67,10 @@ func (a *request) bind() (answer, error) {
 	if err != nil {
 		return answer{}, err
 	}
-	e, err := a.orders.Bind(a.Context(), platform.NewBinding{
+	return creation(a.orders.Bind(a.Context(), platform.NewBinding{
 		Instance: a.values["id"], ID: id, Parameters: given.Parameters, Context: given.Context,
 		BindResource: given.BindResource, Identity: given.Identity, Tries: given.Tries,
-	})
-	if err != nil {
-		return answer{}, err
-	}
-	return creation(e), nil
+	}))
 }
 
 // chosenID is the id that an order names, or empty for a new GUID. An id that is given and empty is an error: a
@@ -97,13 +85,31 @@ func chosenID(given *string) (string, error) {
 	return *given, nil
 }
 
-// creation answers with a new row, and where it is.
-func creation(e platform.Entry) answer {
+// creation answers with a new row, and where it is, unless there is an error.
+func creation(e platform.Entry, err error) (answer, error) {
 	at := instances + "/" + url.PathEscape(e.Names.Instance)
 	if e.Key.IsBinding {
 		at += "/bindings/" + url.PathEscape(e.Names.Binding)
 	}
-	return answer{status: http.StatusCreated, body: recordOf(e), location: at}
+	made, err := withRecord(http.StatusCreated, e, err)
+	made.location = at
+	return made, err
+}
+
+// withRecord answers with a row, unless there is an error.
+func withRecord(status int, e platform.Entry, err error) (answer, error) {
+	if err != nil {
+		return answer{}, err
+	}
+	return answer{status: status, body: recordOf(e)}, nil
+}
+
+// answerOK answers with what a call has found, unless there is an error.
+func answerOK(found any, err error) (answer, error) {
+	if err != nil {
+		return answer{}, err
+	}
+	return answer{status: http.StatusOK, body: found}, nil
 }
 
 func (a *request) remove() (answer, error) {
@@ -116,10 +122,7 @@ func (a *request) remove() (answer, error) {
 		return answer{}, err
 	}
 	e, err := a.removeLast(key, withBindings)
-	if err != nil {
-		return answer{}, err
-	}
-	return answer{status: http.StatusAccepted, body: recordOf(e)}, nil
+	return withRecord(http.StatusAccepted, e, err)
 }
 
 // flag is a value of the query that is true or false, and false if it isn't given.
@@ -169,10 +172,7 @@ func (a *request) retry() (answer, error) {
 		return answer{}, err
 	}
 	e, err := a.orders.Retry(a.Context(), key)
-	if err != nil {
-		return answer{}, err
-	}
-	return answer{status: http.StatusAccepted, body: recordOf(e)}, nil
+	return withRecord(http.StatusAccepted, e, err)
 }
 
 func (a *request) abandon() (answer, error) {
@@ -185,10 +185,7 @@ func (a *request) abandon() (answer, error) {
 		return answer{}, err
 	}
 	e, err := a.orders.Abandon(a.Context(), key, given.Because)
-	if err != nil {
-		return answer{}, err
-	}
-	return answer{status: http.StatusOK, body: recordOf(e)}, nil
+	return withRecord(http.StatusOK, e, err)
 }
 
 // credentials answers with what the broker has given, sealed until now. Every answer of the API has no-store.
@@ -200,9 +197,5 @@ func (a *request) credentials() (answer, error) {
 	if err := a.CheckKey(a.Context()); err != nil {
 		return answer{}, err
 	}
-	object, err := a.orders.Credentials(a.Context(), key)
-	if err != nil {
-		return answer{}, err
-	}
-	return answer{status: http.StatusOK, body: object}, nil
+	return answerOK(a.orders.Credentials(a.Context(), key))
 }
