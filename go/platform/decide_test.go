@@ -283,9 +283,7 @@ func TestDecideAccepts(t *testing.T) {
 		}
 	}
 	got := decide(start, Snapshot{Entry: rowIn(anInstance, Ordered)}, true, plain())
-	if !got.send.out.Request.AcceptsIncomplete {
-		t.Error("an instance: got false, want it to accept an asynchronous operation")
-	}
+	diff.Equal(t, got.send.out.Request.AcceptsIncomplete, true, "an instance: accepts incomplete")
 }
 
 // What a crash left of a creation is its failure, and passes.

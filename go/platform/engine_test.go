@@ -194,9 +194,8 @@ func TestRun(t *testing.T) {
 		}
 	}
 	diff.NoError(t, stop(), "")
-	if len(p.seller.things) > 0 || p.hasFailed("store_failed") > 0 {
-		t.Errorf("got %v left, and the failures %v, want none", p.seller.things, p.failures)
-	}
+	diff.Empty(t, p.seller.things, "things")
+	diff.Equal(t, p.hasFailed("store_failed"), 0, "")
 	p.checkIdentities()
 }
 
@@ -253,9 +252,8 @@ func TestRunAtOnce(t *testing.T) {
 	for _, key := range keys {
 		p.untilState(key, Ready)
 	}
-	if most.Load() > 3 || most.Load() < 2 {
-		t.Errorf("got %d in flight at once, want 2 or 3", most.Load())
-	}
+	diff.AtMost(t, most.Load(), 3, "in flight at once")
+	diff.AtLeast(t, most.Load(), 2, "in flight at once")
 }
 
 // While answers are being written, further requests are sent, as long as no more than twice as many aren't written.

@@ -99,9 +99,8 @@ func TestObserver(t *testing.T) {
 	diff.Value(p.orders.Remove(background, key, false))(t)
 	check(t, p.engine.RunOnce(background))
 	diff.Equal(t, strings.Join(p.reported, ", "), "ordered to ready, ready to gone", "")
-	if len(p.sent) != 2 || len(p.answered) != 2 {
-		t.Fatalf("got %d requests sent, and %d answered, want 2 and 2", len(p.sent), len(p.answered))
-	}
+	diff.Len(t, p.sent, 2, "sent")
+	diff.Len(t, p.answered, 2, "answered")
 	for at, want := range []Exchange{
 		{Broker: "shelf", Key: key, Kind: "provision", Attempt: 1, Status: 201},
 		{Broker: "shelf", Key: key, Kind: "deprovision", Attempt: 2, Status: 200},
@@ -206,16 +205,14 @@ func TestObserverBriefly(t *testing.T) {
 	p.engine.Exchange = 50 * time.Millisecond
 	p.line.catalogue = func(Broker) (string, int, error) { return "", 0, long }
 	err := p.engine.RunOnce(background)
-	if !errors.Is(err, ErrUnreached) || len(err.Error()) > longestText+100 {
-		t.Errorf("got %v, want a short %v", err, ErrUnreached)
-	}
+	diff.ErrorIs(t, err, ErrUnreached, "")
+	diff.AtMost(t, len(fmt.Sprint(err)), longestText+100, "the error")
 	if len(p.failures) == 0 {
 		t.Fatal("the reports: got none, want one")
 	}
 	for _, failure := range p.failures {
-		if len(failure.Err.Error()) > longestText || !errors.Is(failure.Err, cut) {
-			t.Errorf("%s: got %d bytes, want at most %d", failure.Event, len(failure.Err.Error()), longestText)
-		}
+		diff.AtMost(t, len(failure.Err.Error()), longestText, "%s: error", failure.Event)
+		diff.ErrorIs(t, failure.Err, cut, "%s", failure.Event)
 	}
 	diff.Equal(t, len(p.brokerNamed("shelf").Reason.Lost), longestText, "bytes kept")
 }

@@ -630,9 +630,8 @@ func TestForeignRefusals(t *testing.T) {
 			s.turnedAway = test.status
 			begun := time.Now()
 			err := s.engine.RunOnce(background)
-			if !errors.Is(err, platform.ErrUnreached) || !strings.Contains(err.Error(), test.said) {
-				t.Errorf("%d: got %v, want ErrUnreached with %q", test.status, err, test.said)
-			}
+			diff.ErrorIs(t, err, platform.ErrUnreached, "%d", test.status)
+			diff.ErrorContains(t, err, test.said, "%d", test.status)
 			diff.AtMost(t, time.Since(begun), 30*time.Second, "%d", test.status)
 			var rejected *platform.Rejection
 			if _, err := s.orders.Create(background, platform.NewInstance{}); !errors.As(err, &rejected) {

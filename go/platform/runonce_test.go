@@ -269,9 +269,7 @@ func TestRunOnceOverAShyStore(t *testing.T) {
 			if err := p.engine.RunOnce(background); !errors.Is(err, test.want) || (err == nil) != (test.want == nil) {
 				t.Errorf("got %v, want %v", err, test.want)
 			}
-			if took := time.Since(begun); took > test.atMost {
-				t.Errorf("got an end after %v, want one within %v", took, test.atMost)
-			}
+			diff.AtMost(t, time.Since(begun), test.atMost, "took")
 			diff.Equal(t, diff.Value(p.store.Read(background, key))(t).State, test.state, "")
 		})
 	}

@@ -118,7 +118,9 @@ func Len[T any](t testing.TB, list []T, want int, format string, arguments ...an
 	}
 }
 
-type measure interface{ ~int | ~int64 | ~float64 }
+type measure interface {
+	~int | ~int32 | ~int64 | ~float64
+}
 
 // AtMost fails the test if a number is above a bound, and says what was measured as Equal does.
 func AtMost[T measure](t testing.TB, got, bound T, format string, arguments ...any) {

@@ -35,9 +35,8 @@ func TestReadTokens(t *testing.T) {
 		t.Fatalf("got the tokens %v, the warning %q and the error %v, want two tokens and neither",
 			tokens, warning, err)
 	}
-	if tokens[0] != tokenOfText("portal", all, Read|Write) || tokens[1] != tokenOfText("vault", opening, Credentials) {
-		t.Errorf("got %v, want both tokens with what they may do", tokens)
-	}
+	diff.Equal(t, tokens[0], tokenOfText("portal", all, Read|Write), "")
+	diff.Equal(t, tokens[1], tokenOfText("vault", opening, Credentials), "")
 	if _, warning, _ := ReadTokens(fileWith(t, text, 0o640)); !strings.Contains(warning, "chmod 600") {
 		t.Errorf("the warning: got %q, want \"chmod 600\" in it", warning)
 	}

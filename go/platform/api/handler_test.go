@@ -301,9 +301,7 @@ func TestPasswordFile(t *testing.T) {
 
 func TestCounts(t *testing.T) {
 	r := newRig(t)
-	if got := r.call("GET", "/v1/counts", "").want(200, ""); got.at("counts") != "[]" {
-		t.Errorf("got %s, want no counts", got.text)
-	}
+	diff.Equal(t, r.call("GET", "/v1/counts", "").want(200, "").at("counts"), "[]", "")
 	r.bind(r.ready())
 	got := r.call("GET", "/v1/counts", "").want(200, "")
 	for _, part := range []string{`"instance","state":"ready","count":1`, `"binding","state":"ready","count":1`} {

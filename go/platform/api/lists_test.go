@@ -64,9 +64,8 @@ func TestLatest(t *testing.T) {
 				t.Fatalf("%s: got %v, want %v turned round", path, turned, usual)
 			}
 		}
-		if len(usual) < 2 || strings.Join(usual, " ") != strings.Join(r.idsOf(path+"?order=state"), " ") {
-			t.Errorf("%s: got %v, want two or more, in the order of order=state", path, usual)
-		}
+		diff.AtLeast(t, len(usual), 2, "%s: usual", path)
+		diff.Equal(t, strings.Join(usual, " "), strings.Join(r.idsOf(path+"?order=state"), " "), "%s", path)
 	}
 }
 

@@ -80,9 +80,7 @@ func TestOrderOfTime(t *testing.T) {
 				}
 				return want[a].key < want[b].key
 			})
-			if len(want) != count {
-				t.Fatalf("%s: got %v, want %d records", path, want, count)
-			}
+			diff.Len(t, want, count, "%s", path)
 			r.bothWays(path+"?order=oldest&limit=4", want)
 			r.bothWays(path+"?order=newest&limit=4", reverse(want))
 		})

@@ -197,9 +197,8 @@ func TestUndoneRow(t *testing.T) {
 	for _, line := range lines {
 		if line.Event == "undone" {
 			undone++
-			if line.Change != lines[0].Change || line.Instance != lines[0].Instance {
-				t.Errorf("got %+v, want that of %+v", line, lines[0])
-			}
+			diff.Equal(t, line.Change, lines[0].Change, "change")
+			diff.Equal(t, line.Instance, lines[0].Instance, "instance")
 		}
 	}
 	diff.Equal(t, undone, 1, "%s", s.events(from))
@@ -261,9 +260,8 @@ func TestNoText(t *testing.T) {
 		})
 	diff.ErrorIs(t, err, osb.ErrBadRecord, "") // that of the store
 	s.path = path
-	if failed != 1 || w.LostLines() != 1 {
-		t.Errorf("got %d failures and %d lines lost, want 1 and 1: %s", failed, w.LostLines(), s.events(0))
-	}
+	diff.Equal(t, failed, 1, "failed")
+	diff.Equal(t, w.LostLines(), 1, "lost lines")
 }
 
 // The step of a transaction that is tried again is undone first.

@@ -534,9 +534,7 @@ func TestSpaced(t *testing.T) {
 // that a portal couldn't show.
 func TestPageImportsOnlyTheAPI(t *testing.T) {
 	found := importsOf(t, ".")
-	if len(found) < 5 {
-		t.Errorf("got the imports %v, want more than 5", found)
-	}
+	diff.AtLeast(t, len(found), 5, "imports")
 	for _, path := range found {
 		first, _, _ := strings.Cut(path, "/")
 		isStandard := first != "pippinterm" && !strings.Contains(first, ".") && !strings.HasPrefix(path, "database/")

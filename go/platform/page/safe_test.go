@@ -430,9 +430,8 @@ func TestLongTexts(t *testing.T) {
 	for _, target := range targets() {
 		text := mainOf(pageText(t, h, target))
 		diff.Contains(t, text, "longlong", "%s", target)
-		if strings.Contains(text, much) || len(text) > 100_000 {
-			t.Errorf("%s: got %d bytes and one of the texts whole, want it cut", target, len(text))
-		}
+		diff.Lacks(t, text, much, "%s: text", target)
+		diff.AtMost(t, len(text), 100_000, "%s: text", target)
 	}
 }
 

@@ -236,11 +236,9 @@ func TestAStepOfAnEngine(t *testing.T) {
 	}
 	const steps = many - few
 	statements, transactions := took[many].Statements-took[few].Statements, took[many].Transactions-took[few].Transactions
-	if statements < 4*steps || statements > 8*steps {
-		t.Errorf("%d steps: got %d statements, want 4 to 8 each", steps, statements)
-	}
-	if transactions < steps || transactions > 3*steps {
-		t.Errorf("%d steps: got %d transactions, want 1 to 3 each", steps, transactions)
-	}
+	diff.AtLeast(t, statements, 4*steps, "%d steps: statements", steps)
+	diff.AtMost(t, statements, 8*steps, "%d steps: statements", steps)
+	diff.AtLeast(t, transactions, steps, "%d steps: transactions", steps)
+	diff.AtMost(t, transactions, 3*steps, "%d steps: transactions", steps)
 	t.Logf("%d steps take %d statements in %d transactions", steps, statements, transactions)
 }

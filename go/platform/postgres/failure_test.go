@@ -196,9 +196,8 @@ func TestASessionThatIsKilledDuringAStep(t *testing.T) {
 				isKilled = false
 				_, err = store.Claim(background, []string{"one"}, 1, step)
 			}
-			if !errors.Is(err, platform.ErrAway) || countStays(t, store, instance(1)) != 0 {
-				t.Errorf("got %v, want ErrAway, and no change", err)
-			}
+			diff.ErrorIs(t, err, platform.ErrAway, "")
+			diff.Equal(t, countStays(t, store, instance(1)), 0, "")
 			calls := 0
 			diff.NoError(t, transactions[of](store, background, &calls), "the next")
 		})
@@ -654,9 +653,8 @@ func TestNoCircle(t *testing.T) {
 		"SELECT NOT EXISTS (SELECT FROM pg_stat_activity WHERE datname = $1 AND backend_type = 'client backend')", name)
 	circles := -1
 	err := db.QueryRow("SELECT deadlocks FROM pg_stat_database WHERE datname = $1", name).Scan(&circles)
-	if err != nil || circles != 0 {
-		t.Errorf("got %d circles, %v, want none", circles, err)
-	}
+	diff.NoError(t, err, "")
+	diff.Equal(t, circles, 0, "circles")
 }
 
 // A caller makes calls at random.

@@ -187,9 +187,7 @@ func TestTheTimeOfAStep(t *testing.T) {
 			check(t, tx.QueryRow("SELECT date_part('epoch', clock_timestamp())").Scan(&released))
 			check(t, tx.Commit())
 			check(t, <-done)
-			if float64(now.UnixMicro())/1e6 < released-1e-6 {
-				t.Errorf("got the time %v, want one after %f", now, released)
-			}
+			diff.AtLeast(t, float64(now.UnixMicro())/1e6, released-1e-6, "the time")
 		})
 	}
 }
@@ -288,9 +286,8 @@ func TestAWorkerThatIsPausedBetweenTransactions(t *testing.T) {
 		diff.Len(t, claimed, 1, "%s", test.worker)
 	}
 	err := paused.Change(background, instance(1), func(_ time.Time, snapshot platform.Snapshot) (*platform.Change, error) {
-		if snapshot.Lease.Worker != "other" || snapshot.Unchanged != 2 {
-			t.Errorf("the change: got %+v, %d, want the other's lease and 2", snapshot.Lease, snapshot.Unchanged)
-		}
+		diff.Equal(t, snapshot.Lease.Worker, "other", "the change: worker")
+		diff.Equal(t, snapshot.Unchanged, 2, "the change: unchanged")
 		return nil, nil
 	})
 	diff.NoError(t, err, "")
@@ -355,9 +352,8 @@ func TestAnInstanceBehindItsBinding(t *testing.T) {
 			}
 			return nil, nil
 		})
-	if err != nil || len(claimed) != 4 {
-		t.Errorf("got %v claimed, %v, want 4", claimed, err)
-	}
+	diff.NoError(t, err, "")
+	diff.Equal(t, len(claimed), 4, "claimed")
 }
 
 func wantedBinding(t *testing.T) osb.Record {

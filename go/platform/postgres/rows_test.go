@@ -45,9 +45,8 @@ func TestTypesOfColumns(t *testing.T) {
 		var found string
 		err := db.QueryRow("SELECT format_type(atttypid, atttypmod) FROM pg_attribute "+
 			"WHERE attrelid = 'osb_bound'::regclass AND attname = $1", column.Name).Scan(&found)
-		if err != nil || found != typeOf(column) {
-			t.Errorf("%s: got %s, %v, want %s", column.Name, found, err, typeOf(column))
-		}
+		diff.NoError(t, err, "%s", column.Name)
+		diff.Equal(t, found, typeOf(column), "%s: found", column.Name)
 	}
 }
 
@@ -261,9 +260,7 @@ func wantIndexed(t *testing.T, conn *sql.Conn, query, values, mode string) {
 		_, err = conn.ExecContext(ctx, "DEALLOCATE planned")
 	}
 	check(t, err)
-	if text := strings.Join(plan, "\n"); strings.Contains(text, "Seq Scan on osb_") {
-		t.Errorf("%s, of %s: got\n%s\nwant no scan of a whole table", mode, query, text)
-	}
+	diff.Lacks(t, strings.Join(plan, "\n"), "Seq Scan on osb_", "%s, of %s", mode, query)
 }
 
 var check = diff.Must

@@ -216,9 +216,7 @@ func goOn02(t *testing.T, store *postgres.Store) {
 		diff.Equal(t, len(diff.Value(store.Life(background, row.Key))(t)), 1, "the life of %v", row.Key)
 	}
 	for key, isDue := range due {
-		if isDue {
-			t.Errorf("%v: got it not claimed, want it claimed", key)
-		}
+		diff.Equal(t, isDue, false, "%v isn't claimed", key)
 	}
 }
 
@@ -333,10 +331,9 @@ func TestMissingColumns(t *testing.T) {
 			pgtest.Exec(t, db, "ALTER TABLE osb_instances DROP COLUMN IF EXISTS "+lost, "ALTER TABLE osb_bound DROP COLUMN "+lost)
 		}
 		store := open(t, url)
-		got, err := store.Read(background, instance(0))
-		if err != nil || got.State != platform.Ready || got.Because != "" {
-			t.Errorf("without %q: got %s, %q, %v, want a row that is ready", lost, got.State, got.Because, err)
-		}
+		got := diff.Value(store.Read(background, instance(0)))(t)
+		diff.Equal(t, got.State, platform.Ready, "without %q: state", lost)
+		diff.Equal(t, got.Because, "", "without %q: because", lost)
 		bound := entry
 		entry.Key, bound.Key = instance(n+1), osb.BindingKey(id(n+1), id(n+1))
 		bound.Names.Binding, bound.Credentials = "binding", []byte{0, 1}

@@ -318,9 +318,8 @@ func TestAStepOfAnEngine(t *testing.T) {
 	}
 	const steps = many - few
 	statements, transactions := took[many][0]-took[few][0], took[many][1]-took[few][1]
-	if statements < 4*steps || statements > 10*steps {
-		t.Errorf("%d steps: got %d statements and triggers, want 4 to 10 each", steps, statements)
-	}
+	diff.AtLeast(t, statements, 4*steps, "%d steps: statements", steps)
+	diff.AtMost(t, statements, 10*steps, "%d steps: statements", steps)
 	diff.AtMost(t, transactions, 3*steps, "%d steps", steps)
 	t.Logf("%d steps take %d statements and triggers in %d transactions", steps, statements, transactions)
 }

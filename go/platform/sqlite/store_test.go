@@ -170,9 +170,8 @@ func TestMigration(t *testing.T) {
 		{State: platform.Ordered, Since: at(1790000045679)}, {State: platform.Wanted, Since: at(1790000048148)},
 		{State: platform.Cleaning, Since: at(1790000049383)},
 	}
-	if err != nil || fmt.Sprint(life) != fmt.Sprint(want) {
-		t.Errorf("got %v, %v, want %v", life, err, want)
-	}
+	diff.NoError(t, err, "")
+	diff.Equal(t, fmt.Sprint(life), fmt.Sprint(want), "")
 }
 
 // Rows of 0.2 are gone on with, found again in a list, and counted.
@@ -195,9 +194,8 @@ func TestMigratedRowsAreUsed(t *testing.T) {
 			snapshot.Entry.Lease, snapshot.Entry.Due = platform.Lease{}, time.Time{}
 			return &platform.Change{Entry: snapshot.Entry}, nil
 		})
-	if err != nil || steps != 8 {
-		t.Errorf("got %d steps, %v, want 8", steps, err)
-	}
+	diff.NoError(t, err, "")
+	diff.Equal(t, steps, 8, "steps")
 	counts := diff.Value(s.Counts(background))(t)
 	diff.Len(t, counts, 9, "")
 	for _, count := range counts {
@@ -215,9 +213,8 @@ func TestOldVersionIsKeptOut(t *testing.T) {
 	for _, path := range []string{old(t), isNew} {
 		open(t, path)
 		kept := query(t, path, "SELECT url FROM osb_broker_asked")
-		if len(kept) != 1 || !strings.Contains(kept[0], "later version") {
-			t.Errorf("%s: got the URLs %q, want one that names a later version", path, kept)
-		}
+		diff.Len(t, kept, 1, "%s: the URLs", path)
+		diff.Contains(t, kept[0], "later version", "%s", path)
 	}
 }
 

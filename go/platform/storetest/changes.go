@@ -381,9 +381,8 @@ func testTime(t *testing.T, open opener) {
 			t.Errorf("got the time %v after %v, want a later one, about now", now, last)
 		}
 		got := read(t, stores[n%2], instance(1))
-		if milliseconds(got.Since) != milliseconds(now) || got.Due.Sub(got.Since) != time.Millisecond {
-			t.Errorf("got it since %v and due %v, want %v and a millisecond later", got.Since, got.Due, now)
-		}
+		diff.Equal(t, milliseconds(got.Since), milliseconds(now), "")
+		diff.Equal(t, got.Due.Sub(got.Since), time.Millisecond, "")
 		last = now
 	}
 }

@@ -207,9 +207,8 @@ func testClaimSees(t *testing.T, open opener) {
 		case instance(1):
 			change.RemoveBindings, change.Entry.Because = true, "seen"
 		case binding(1, 1):
-			if snapshot.Removal != platform.Removed || snapshot.Instance.Because != "seen" {
-				t.Errorf("the binding: got %+v of %+v, want it removed, with its instance", snapshot.Entry, snapshot.Instance)
-			}
+			diff.Equal(t, snapshot.Removal, platform.Removed, "the binding: removal")
+			diff.Equal(t, snapshot.Instance.Because, "seen", "the binding: because")
 		case binding(1, 2):
 			change.Entry = in(t, snapshot.Key, platform.Gone)
 			change.WakeInstance = true

@@ -702,9 +702,8 @@ func wantNotStepped(t *testing.T, store platform.Store, rows []platform.Entry, s
 			t.Errorf("%v: got %v, want an error that names it", row.Key, row.Err)
 		}
 		got := read(t, store, row.Key)
-		if (got.Unreadable != "") != spoiled[row.Key] || got.State != platform.Polling {
-			t.Errorf("%v: got %s and %q afterwards, want it polling", row.Key, got.State, got.Unreadable)
-		}
+		diff.Equal(t, got.Unreadable != "", spoiled[row.Key], "%v", row.Key)
+		diff.Equal(t, got.State, platform.Polling, "%v: state", row.Key)
 		if isSpoiled && got.Due.Before(time.Now()) {
 			t.Errorf("%v: got it due at %v, want it later", row.Key, got.Due)
 		}

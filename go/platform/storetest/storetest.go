@@ -377,9 +377,8 @@ func testEmpty(t *testing.T, open opener) {
 		t.Error("an empty store: got a step, want none")
 		return nil, nil
 	})
-	if err != nil || len(claimed) != 0 {
-		t.Errorf("Claim: got %v, %v, want none", claimed, err)
-	}
+	diff.NoError(t, err, "Claim")
+	diff.Empty(t, claimed, "Claim: claimed")
 }
 
 // What Insert and Change have written, Read, List and a step of another store read.

@@ -104,9 +104,8 @@ func TestHangingBroker(t *testing.T) {
 	}
 	time.AfterFunc(50*time.Millisecond, func() { close(hangs) }) // now the creations arrive
 	left := r.CleanUp(context.Background())
-	if len(left) > 0 || m.countExisting() > 0 {
-		t.Errorf("got %v left and %d that exist, want none", left, m.countExisting())
-	}
+	diff.Empty(t, left, "left")
+	diff.Equal(t, m.countExisting(), 0, "count existing")
 	if m.count == 0 {
 		t.Error("got no creation, want one")
 	}
@@ -236,9 +235,8 @@ func TestInstances(t *testing.T) {
 	c.Instances = 3
 	r := runnerFor(t, c)
 	report := ran(t, r)
-	if report.Instances != 3 || !strings.Contains(report.Ended, "the limit") {
-		t.Errorf("got %d instances and %q, want 3 and the limit", report.Instances, report.Ended)
-	}
+	diff.Equal(t, report.Instances, 3, "instances")
+	diff.Contains(t, report.Ended, "the limit", "ended")
 	cleansUp(t, r, m)
 }
 

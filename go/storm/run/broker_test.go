@@ -206,9 +206,8 @@ func TestNoCatalogue(t *testing.T) {
 	defer server.Close()
 	storm := openStorm(t, optionsFor(t, server.URL))
 	_, err := storm.Run(context.Background(), context.Background())
-	if !errors.Is(err, conform.ErrNoPlan) || !strings.Contains(err.Error(), "give --service and --plan with ids") {
-		t.Errorf("got %v, want %v and which options to give", err, conform.ErrNoPlan)
-	}
+	diff.ErrorIs(t, err, conform.ErrNoPlan, "")
+	diff.ErrorContains(t, err, "give --service and --plan with ids", "")
 }
 
 // At the first signal the storm ends, and everything is deleted, whatever was going on.
@@ -425,9 +424,8 @@ func TestLives(t *testing.T) {
 				*to++
 			}
 		}
-		if life.begin < 0 || life.begin > time.Minute {
-			t.Errorf("got %+v, want it to begin within the storm", life)
-		}
+		diff.AtLeast(t, life.begin, 0, "begin")
+		diff.AtMost(t, life.begin, time.Minute, "begin")
 	}
 	if early == 0 || stays == 0 || whole == 0 || bindings == 0 || early == 40 || stays == 40 || whole == 40 {
 		t.Errorf("got %d early, %d stay, %d whole and %d with bindings, want some of each", early, stays, whole, bindings)
@@ -437,9 +435,7 @@ func TestLives(t *testing.T) {
 	wanted[0].begin, wanted[1].begin = 0, 0
 	diff.Check(t, some, wanted, "the lives of two instances")
 	for _, life := range lives(7, 40, time.Minute, false, nil) {
-		if life.bindings > 0 {
-			t.Errorf("got %+v, want no bindings of a plan that isn't bindable", life)
-		}
+		diff.Equal(t, life.bindings, 0, "bindings")
 	}
 }
 

@@ -229,9 +229,8 @@ func TestLive(t *testing.T) {
 	rejecting := &memory{rejects: true}
 	o := operatorOf(rejecting)
 	o.run(context.Background(), []life{{number: 7, bindings: 1}})
-	if len(rejecting.calls) != 1 || len(o.events.list()) != 2 {
-		t.Errorf("got the calls %q and the events %+v, want one call and two events", rejecting.calls, o.events.list())
-	}
+	diff.Equal(t, len(rejecting.calls), 1, "calls")
+	diff.Equal(t, len(o.events.list()), 2, "list")
 	ended, end := context.WithCancel(context.Background())
 	end()
 	m := &memory{created: audit.Ready}

@@ -191,9 +191,8 @@ answers-are-objects, section Body: 1 [1.5]
 `
 	diff.Equal(t, got, wanted, "")
 	text := written["text"]
-	if !strings.Contains(text, "3 answers, the first one 1.2: ") || strings.Contains(text, "1.4") {
-		t.Errorf("got %s, want 3 answers, the first one 1.2", text)
-	}
+	diff.Contains(t, text, "3 answers, the first one 1.2: ", "text")
+	diff.Lacks(t, text, "1.4", "text")
 }
 
 var (

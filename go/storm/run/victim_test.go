@@ -121,9 +121,7 @@ func TestVictimVisitsPoints(t *testing.T) {
 	runs(t, v, folder, func() bool { // a point that is tried is still to be visited
 		its := v.counts()
 		left := len(its.remainingPoints())
-		if left+len(its.visited) < 2 {
-			t.Errorf("got %d left and %v visited, want 2 or more", left, its.visited)
-		}
+		diff.AtLeast(t, left+len(its.visited), 2, "")
 		return left == 0
 	})
 	diff.Equal(t, len(v.counts().visited), 2, "crash points that were visited")

@@ -188,9 +188,7 @@ func TestStart(t *testing.T) {
 			}
 			diff.Equal(t, text, test.failure, "the failure")
 			diff.Check(t, c.LastLines(), test.lines, "the last lines")
-			if took := time.Since(begun); took > 4*time.Second {
-				t.Errorf("%s: got an end after %v, want one within 4 s", command, took)
-			}
+			diff.AtMost(t, time.Since(begun), 4*time.Second, "%s", command)
 		})
 	}
 }
