@@ -28,6 +28,15 @@ type ending struct {
 	orphans             []string
 }
 
+var (
+	ready         = []platform.State{platform.Ready}
+	gone          = []platform.State{platform.Gone}
+	goneThenReady = []platform.State{platform.Gone, platform.Ready}
+
+	// absent is recorded last if a deletion finds nothing.
+	absent = reason{kind: "deprovision", status: 410}
+)
+
 // A behaviour is what a broker does, and what is right for it.
 type behaviour struct {
 	name     string
@@ -95,17 +104,15 @@ var creations = []behaviour{{
 	script: []step{
 		put(201, empty), operator(removes), remove(200, empty).at(360), last(410, 660),
 	},
-	want: ending{
-		tries: []platform.State{platform.Gone}, last: reason{kind: "deprovision", status: 410},
-	},
+	want: ending{tries: gone, last: absent},
 }, {
 	name: "it names a dashboard and metadata",
 	script: []step{
 		put(201, `{"dashboard_url": "https://d.example/a?b=c", "metadata": {"labels": {"team": "blue"}}}`),
 	},
 	want: ending{
-		tries: []platform.State{platform.Ready}, last: reason{kind: "provision", status: 201},
-		dashboard: "https://d.example/a?b=c", metadata: `{"labels":{"team":"blue"}}`,
+		tries: ready, last: reason{kind: "provision", status: 201}, dashboard: "https://d.example/a?b=c",
+		metadata: `{"labels":{"team":"blue"}}`,
 	},
 }, {
 	name: "its operation has characters that a query escapes, and it asks to wait",
@@ -122,11 +129,7 @@ var creations = []behaviour{{
 		poll(200, `{"state": "failed", "description": "no disk is left", "instance_usable": false}`).naming("7").at(2),
 		remove(410, empty).at(360), last(410, 660),
 	},
-	want: ending{
-		tries:   []platform.State{platform.Gone},
-		failure: reason{kind: "poll", status: 200, description: "no disk is left"},
-		last:    reason{kind: "deprovision", status: 410},
-	},
+	want: ending{tries: gone, failure: reason{kind: "poll", status: 200, description: "no disk is left"}, last: absent},
 }, {
 	name: "it creates for longer than the platform waits, and has nothing at the first deletion",
 	script: []step{
@@ -134,9 +137,8 @@ var creations = []behaviour{{
 		put(201, empty).at(362), last(200, 660).of(1),
 	},
 	want: ending{
-		tries:   []platform.State{platform.Gone, platform.Ready},
-		failure: reason{kind: "provision", lost: "canceled"},
-		last:    reason{kind: "deprovision", status: 200}, orphans: []string{"200 true"},
+		tries: goneThenReady, failure: reason{kind: "provision", lost: "canceled"},
+		last: reason{kind: "deprovision", status: 200}, orphans: []string{"200 true"},
 	},
 }, rejection("QuotaExceeded", "your quota is used"), rejection("RequiresApp", "bind it to an application"),
 	rejection("MaintenanceInfoConflict", "the plan has another version"), {
@@ -146,11 +148,9 @@ var creations = []behaviour{{
 			last(410, 664).of(1),
 		},
 		want: ending{
-			tries: []platform.State{platform.Gone, platform.Ready},
-			failure: reason{
-				kind: "provision", status: 422, code: "ConcurrencyError", description: "something else is going on",
-			},
-			last: reason{kind: "deprovision", status: 410},
+			tries:   goneThenReady,
+			failure: reason{kind: "provision", status: 422, code: "ConcurrencyError", description: "something else is going on"},
+			last:    absent,
 		},
 	}, {
 		name: "it is busy with a ConcurrencyError under an id that the operator has chosen", // another may have it
@@ -160,41 +160,30 @@ var creations = []behaviour{{
 			remove(410, empty).at(9999), last(410, 10299),
 		},
 		want: ending{
-			tries:   []platform.State{platform.Gone},
-			failure: reason{kind: "provision", status: 422, code: "ConcurrencyError"},
-			last:    reason{kind: "deprovision", status: 410},
+			tries: gone, failure: reason{kind: "provision", status: 422, code: "ConcurrencyError"}, last: absent,
 		},
 	}, {
 		name:   "it rejects with a 400 and a description", // then it has nothing
 		script: []step{put(400, `{"description": "the name is too long"}`), last(410, 360)},
 		want: ending{
-			tries:   []platform.State{platform.Gone},
-			failure: reason{kind: "provision", status: 400, description: "the name is too long"},
-			last:    reason{kind: "deprovision", status: 410},
+			tries: gone, failure: reason{kind: "provision", status: 400, description: "the name is too long"},
+			last: absent,
 		},
 	}, {
 		name: "it has tombstones", members: `"x-osb-tombstones": true, `, // nothing is held, and none is the last
 		script: []step{put(503, empty), remove(410, empty).at(2), put(201, empty).at(4)},
-		want: ending{
-			tries:   []platform.State{platform.Gone, platform.Ready},
-			failure: reason{kind: "provision", status: 503}, last: reason{kind: "deprovision", status: 410},
-		},
+		want:   ending{tries: goneThenReady, failure: reason{kind: "provision", status: 503}, last: absent},
 	}, {
 		name:   "it has a conflict", // under an id that the platform has made up, so it is nobody else's
 		script: []step{put(409, `{"description": "it is there"}`), remove(200, empty).at(360), last(410, 660)},
 		want: ending{
-			tries:   []platform.State{platform.Gone},
-			failure: reason{kind: "provision", status: 409, description: "it is there"},
-			last:    reason{kind: "deprovision", status: 410},
+			tries: gone, failure: reason{kind: "provision", status: 409, description: "it is there"}, last: absent,
 		},
 	}, {
 		name:   "it has a conflict under an id that the operator has chosen", // another may have it
 		id:     "accounts",
 		script: []step{put(409, empty), operator(moves(9999)), operator(removes), remove(200, empty), last(410, 10299)},
-		want: ending{
-			tries: []platform.State{platform.Gone}, failure: reason{kind: "provision", status: 409},
-			last: reason{kind: "deprovision", status: 410},
-		},
+		want:   ending{tries: gone, failure: reason{kind: "provision", status: 409}, last: absent},
 	}, {
 		name:    "it has a conflict, and what is unsettled waits",
 		options: platform.Options{Unsettled: platform.KeepUnsettled},
@@ -210,9 +199,8 @@ var creations = []behaviour{{
 			remove(410, empty).at(372), put(201, empty).at(374), last(410, 672).of(1),
 		},
 		want: ending{
-			tries:   []platform.State{platform.Gone, platform.Ready},
-			failure: reason{kind: "provision", status: 404, description: "no route", lost: "404"},
-			last:    reason{kind: "deprovision", status: 410},
+			tries: goneThenReady, failure: reason{kind: "provision", status: 404, description: "no route", lost: "404"},
+			last: absent,
 		},
 	}, overload(429, "429"), overload(503, ""), {
 		name: "it is overloaded at each try",
@@ -223,7 +211,7 @@ var creations = []behaviour{{
 		},
 		want: ending{
 			tries:   []platform.State{platform.Gone, platform.Gone, platform.Gone},
-			failure: reason{kind: "provision", status: 503}, last: reason{kind: "deprovision", status: 410},
+			failure: reason{kind: "provision", status: 503}, last: absent,
 		},
 	},
 	unreadable("a 200 with the text OK", 200, "OK", "can't be read"),
@@ -239,26 +227,17 @@ var creations = []behaviour{{
 			put(202, empty), poll(404, `{"description": "what?"}`).repeat(9), remove(410, empty).at(600),
 			last(410, 900),
 		},
-		want: ending{
-			tries: []platform.State{platform.Gone}, failure: reason{kind: "poll", lost: "longer than 10m0s"},
-			last: reason{kind: "deprovision", status: 410},
-		},
+		want: ending{tries: gone, failure: reason{kind: "poll", lost: "longer than 10m0s"}, last: absent},
 	}, {
 		name:   "its plan has a maximum_polling_duration",
 		plan:   `, "maximum_polling_duration": 400`,
 		script: []step{put(202, empty), poll(200, inProgress).repeat(8), remove(200, empty).at(400), last(410, 700)},
-		want: ending{
-			tries: []platform.State{platform.Gone}, failure: reason{kind: "poll", lost: "longer than 6m40s"},
-			last: reason{kind: "deprovision", status: 410},
-		},
+		want:   ending{tries: gone, failure: reason{kind: "poll", lost: "longer than 6m40s"}, last: absent},
 	}, {
 		name:   "its plan has a short maximum_polling_duration",
 		plan:   `, "maximum_polling_duration": 4`,
 		script: []step{put(202, empty), poll(200, inProgress).at(2), remove(200, empty).at(360), last(410, 660)},
-		want: ending{
-			tries: []platform.State{platform.Gone}, failure: reason{kind: "poll", lost: "longer than 4s"},
-			last: reason{kind: "deprovision", status: 410},
-		},
+		want:   ending{tries: gone, failure: reason{kind: "poll", lost: "longer than 4s"}, last: absent},
 	},
 	renaming("its operation is a number", `42`),
 	renaming("its operation is too long", `"`+strings.Repeat("ü", 12_000)+`"`),
@@ -277,9 +256,8 @@ var creations = []behaviour{{
 			last(410, 660).of(1),
 		},
 		want: ending{
-			tries:   []platform.State{platform.Gone, platform.Ready},
-			failure: reason{kind: "provision", status: 412, description: "I speak 2.13", lost: "412"},
-			last:    reason{kind: "deprovision", status: 410},
+			tries:   goneThenReady,
+			failure: reason{kind: "provision", status: 412, description: "I speak 2.13", lost: "412"}, last: absent,
 		},
 	},
 }
@@ -293,9 +271,8 @@ func rejection(code, description string) behaviour {
 			last(410, 660),
 		},
 		want: ending{
-			tries:   []platform.State{platform.Gone},
-			failure: reason{kind: "provision", status: 422, code: code, description: description},
-			last:    reason{kind: "deprovision", status: 410},
+			tries: gone, failure: reason{kind: "provision", status: 422, code: code, description: description},
+			last: absent,
 		},
 	}
 }
@@ -309,11 +286,9 @@ func refusal(status int) behaviour {
 			operator(accepts), remove(410, empty).at(3600), put(201, empty).at(3602), last(410, 3900).of(1),
 		},
 		want: ending{
-			tries: []platform.State{platform.Gone, platform.Ready},
-			failure: reason{
-				kind: "provision", status: status, description: "who are you?", lost: "isn't surely the broker's",
-			},
-			last: reason{kind: "deprovision", status: 410},
+			tries:   goneThenReady,
+			failure: reason{kind: "provision", status: status, description: "who are you?", lost: "isn't surely the broker's"},
+			last:    absent,
 		},
 	}
 }
@@ -327,9 +302,8 @@ func overload(status int, lost string) behaviour {
 			put(201, empty).at(402), last(410, 700).of(1),
 		},
 		want: ending{
-			tries:   []platform.State{platform.Gone, platform.Ready},
-			failure: reason{kind: "provision", status: status, description: "later", lost: lost},
-			last:    reason{kind: "deprovision", status: 410},
+			tries: goneThenReady, failure: reason{kind: "provision", status: status, description: "later", lost: lost},
+			last: absent,
 		},
 	}
 }
@@ -338,11 +312,7 @@ func overload(status int, lost string) behaviour {
 func unreadable(name string, status int, body, lost string) behaviour {
 	return behaviour{
 		name: "it answers " + name, script: []step{put(status, body), remove(200, empty).at(360), last(410, 660)},
-		want: ending{
-			tries:   []platform.State{platform.Gone},
-			failure: reason{kind: "provision", status: status, lost: lost},
-			last:    reason{kind: "deprovision", status: 410},
-		},
+		want: ending{tries: gone, failure: reason{kind: "provision", status: status, lost: lost}, last: absent},
 	}
 }
 
@@ -354,10 +324,7 @@ func renaming(name, operation string) behaviour {
 			put(202, `{"operation": `+operation+`}`),
 			poll(400, `{"description": "name the operation"}`).repeat(9), remove(200, empty).at(600), last(410, 900),
 		},
-		want: ending{
-			tries: []platform.State{platform.Gone}, failure: reason{kind: "poll", lost: "longer than 10m0s"},
-			last: reason{kind: "deprovision", status: 410},
-		},
+		want: ending{tries: gone, failure: reason{kind: "poll", lost: "longer than 10m0s"}, last: absent},
 	}
 }
 
@@ -500,7 +467,7 @@ var deletions = []behaviour{{
 	script: creating(
 		remove(422, busy).at(3600), remove(422, busy).at(3602), remove(200, empty).at(3606), last(410, 3906),
 	),
-	want: endOf(platform.Gone, reason{kind: "deprovision", status: 410}),
+	want: endOf(platform.Gone, absent),
 }, {
 	name: "it says later that the deletion has failed",
 	script: creating(
@@ -508,13 +475,13 @@ var deletions = []behaviour{{
 		poll(200, `{"state": "failed", "description": "it is in use", "instance_usable": true}`).naming("d").at(3602),
 		remove(410, empty).at(3606), last(410, 3906),
 	),
-	want: endOf(platform.Gone, reason{kind: "deprovision", status: 410}),
+	want: endOf(platform.Gone, absent),
 }, {
 	name: "it says of a deletion that there is nothing any more", // to a Poll
 	script: creating(
 		remove(202, empty).at(3600), poll(200, inProgress).at(3602), poll(410, empty).at(3606), last(410, 3906),
 	),
-	want: endOf(platform.Gone, reason{kind: "deprovision", status: 410}),
+	want: endOf(platform.Gone, absent),
 }, {
 	name:     "it deletes without an end", // the deletion is sent again once it has been polled for too long
 	settings: platform.Settings{LongestPoll: seconds(600)},
@@ -523,21 +490,21 @@ var deletions = []behaviour{{
 		poll(200, inProgress).at(4202), poll(200, inProgress).at(4322).repeat(4), remove(410, empty).at(4800),
 		last(410, 5100),
 	),
-	want: endOf(platform.Gone, reason{kind: "deprovision", status: 410}),
+	want: endOf(platform.Gone, absent),
 }, {
 	name:     "it answers each Poll of a deletion with 404",
 	settings: platform.Settings{LongestPoll: seconds(600)},
 	script: creating(
 		remove(202, empty).at(3600), poll(404, empty).repeat(9), remove(410, empty).at(4200), last(410, 4500),
 	),
-	want: endOf(platform.Gone, reason{kind: "deprovision", status: 410}),
+	want: endOf(platform.Gone, absent),
 }, {
 	name: "it deletes without an end, and an operator has the deletion sent again",
 	script: creating(
 		remove(202, empty).at(3600), poll(200, inProgress).repeat(5), operator(retries), remove(200, empty).at(3662),
 		last(410, 3962),
 	),
-	want: endOf(platform.Gone, reason{kind: "deprovision", status: 410}),
+	want: endOf(platform.Gone, absent),
 }, {
 	name: "it answers a deletion with 200 and no body, and with 404 from then on",
 	script: creating(
@@ -547,7 +514,7 @@ var deletions = []behaviour{{
 }, {
 	name:   "it answers a deletion with 204", // which says nothing, so the deletion is sent again
 	script: creating(remove(204, "").at(3600), remove(410, empty).at(3602), last(410, 3902)),
-	want:   endOf(platform.Gone, reason{kind: "deprovision", status: 410}),
+	want:   endOf(platform.Gone, absent),
 }, {
 	name: "it rejects a deletion without an end",
 	script: creating(
@@ -562,20 +529,20 @@ var deletions = []behaviour{{
 		remove(400, `{"description": "it has bindings"}`).at(3600).repeat(5), operator(retries),
 		remove(200, empty).at(3630), last(410, 3930),
 	),
-	want: endOf(platform.Gone, reason{kind: "deprovision", status: 410}),
+	want: endOf(platform.Gone, absent),
 }, {
 	name: "it refuses the login of a deletion",
 	script: creating(
 		step{request: "DELETE", status: 401, body: empty, due: 3600, refuses: true}, operator(accepts),
 		remove(200, empty).at(7200), last(410, 7500),
 	),
-	want: endOf(platform.Gone, reason{kind: "deprovision", status: 410}),
+	want: endOf(platform.Gone, absent),
 }, {
 	name: "it isn't available for a deletion, and asks to wait",
 	script: creating(
 		remove(503, empty).at(3600).retryAfter("900"), remove(200, empty).at(4500), last(410, 4800),
 	),
-	want: endOf(platform.Gone, reason{kind: "deprovision", status: 410}),
+	want: endOf(platform.Gone, absent),
 }, {
 	name:   "it rejects the last deletion", // nobody knows what it has
 	script: creating(remove(410, empty).at(3600), last(400, 3900)),
