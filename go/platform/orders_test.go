@@ -55,11 +55,10 @@ func wantRejection(t *testing.T, err error, kind RejectionKind, part string) {
 
 func TestCreate(t *testing.T) {
 	d := newDesk(t)
-	e, err := d.orders.Create(background, NewInstance{
+	e := diff.Value(d.orders.Create(background, NewInstance{
 		Service: "shelf", Plan: "later",
 		Parameters: json.RawMessage(`{"size": 1, "a": "<&>"}`), Context: json.RawMessage(`{"a": []}`),
-	})
-	check(t, err)
+	}))(t)
 	diff.Equal(t, diff.Value(d.store.Read(background, e.Key))(t).Key, e.Key, "what is stored")
 	number := diff.Value(osb.IDOfText(e.Names.Instance))(t)
 	want := Order{
@@ -84,17 +83,16 @@ func TestSinceOfAnOrder(t *testing.T) {
 func TestCreateNamed(t *testing.T) {
 	d := newDesk(t)
 	identity := longIdentity("six")
-	e, err := d.orders.Create(background, NewInstance{
+	e := diff.Value(d.orders.Create(background, NewInstance{
 		Broker: "shelf", Service: id("a0").String(), Plan: id("c1").String(), ID: "a thing",
 		Organization: "o", Space: "s", Identity: identity, Tries: 7,
-	})
-	check(t, err)
+	}))(t)
 	if e.IsOwnID || e.Names.Instance != "a thing" || e.Organization != "o" || e.Space != "s" || e.Tries != 7 ||
 		e.Identity != identity || string(e.Body) != `{}` {
 		t.Errorf("got %+v, want what was asked for", e)
 	}
 	diff.Equal(t, diff.Value(ParseKey("a thing"))(t), e.Key, "the key of the name")
-	_, err = d.orders.Create(background, NewInstance{Service: "shelf", Plan: "now", ID: "a thing"})
+	_, err := d.orders.Create(background, NewInstance{Service: "shelf", Plan: "now", ID: "a thing"})
 	wantRejection(t, err, Conflict, "used already")
 	e = diff.Value(d.orders.Create(background, NewInstance{Service: "shelf", Plan: "now", ID: "another thing"}))(t)
 	diff.Equal(t, e.Tries, 1, "tries: the next one would have another id")

@@ -476,11 +476,10 @@ func TestAtOnce(t *testing.T) {
 // requests without a body don't wait.
 func TestParsedAtOnce(t *testing.T) {
 	store := newStore(t)
-	made, err := NewHandler(platform.NewOrders(store, nil), store, Options{
+	made := diff.Value(NewHandler(platform.NewOrders(store, nil), store, Options{
 		Tokens: []Token{tokenOfText("one", writing, Read|Write), tokenOfText("two", all, Read|Write)}, LongestBody: 1000,
 		Timeout: 50 * time.Millisecond,
-	})
-	check(t, err)
+	}))(t)
 	ask := func(token, method, target, body string) *httptest.ResponseRecorder {
 		request := httptest.NewRequest(method, target, strings.NewReader(body))
 		request.Header.Set("Authorization", "Bearer "+token)

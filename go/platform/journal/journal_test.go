@@ -247,13 +247,12 @@ func TestUndoneClaim(t *testing.T) {
 func TestNoText(t *testing.T) {
 	s := newTestPlatform(t)
 	path, failed := s.path+".own", 0
-	w, err := Open(Options{
+	w := diff.Value(Open(Options{
 		Path: path, Most: 1 << 20, Failed: func(error) { failed++ },
-	})
-	check(t, err)
+	}))(t)
 	key := s.create("one")
 	to := New(w, nil, func(error) bool { return false })
-	err = to.EngineStore(s.store).Change(background, key,
+	err := to.EngineStore(s.store).Change(background, key,
 		func(_ time.Time, snapshot platform.Snapshot) (*platform.Change, error) {
 			snapshot.Entry.IsSent = true
 			return &platform.Change{Entry: snapshot.Entry}, nil
@@ -557,11 +556,10 @@ func newTestPlatform(t *testing.T) *testPlatform {
 	store := diff.Value(sqlite.Open(background, filepath.Join(folder, "store")))(t)
 	t.Cleanup(func() { check(t, store.Close()) })
 	s.store = &faulty{Store: store}
-	writer, err := Open(Options{
+	writer := diff.Value(Open(Options{
 		Path: s.path, Most: 1 << 20, Started: StartMembers("1.2", "one"),
 		Failed: func(err error) { t.Error(err) },
-	})
-	check(t, err)
+	}))(t)
 	to := New(writer, plainVault{}, func(err error) bool { return errors.Is(err, errDoubt) })
 	s.to = to
 	s.orders = platform.NewOrders(to.OrdersStore(s.store), plainVault{})

@@ -582,10 +582,9 @@ func TestHostileCatalogue(t *testing.T) {
 func TestSilentConnections(t *testing.T) {
 	const connections = 3
 	ctx, cancel := context.WithCancel(background)
-	listener, err := httpserver.Listen(ctx, "127.0.0.1:0", httpserver.Options{
+	listener := diff.Value(httpserver.Listen(ctx, "127.0.0.1:0", httpserver.Options{
 		Connections: connections, PerAddress: connections, Silent: 200 * time.Millisecond,
-	})
-	check(t, err)
+	}))(t)
 	site := httpserver.Site{Listener: listener, Handler: pageOf(t, shelf(), Options{})}
 	served := make(chan error, 1)
 	go func() { served <- httpserver.Server{Sites: []httpserver.Site{site}}.Serve(ctx) }()

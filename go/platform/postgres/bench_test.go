@@ -1,8 +1,6 @@
 package postgres_test
 
 import (
-	"context"
-	"encoding/json"
 	"fmt"
 	"os"
 	"strings"
@@ -187,32 +185,6 @@ func take(isChanged bool) platform.Step {
 	}
 }
 
-// A seller is a broker that answers at once: each request has created what was ordered.
-type seller struct{}
-
-func (seller) Exchange(_ context.Context, out platform.Outgoing) platform.Incoming {
-	return platform.Incoming{Answer: osb.Answer{Status: 201, Body: osb.BodyEmpty}, Status: 201}
-}
-
-func (seller) Catalogue(context.Context, platform.Broker) (json.RawMessage, int, error) {
-	return json.RawMessage(`{"services": [{"id": "` + theService + `", "name": "s", "description": "d", "bindable": true,
-		"plans": [{"id": "` + thePlan + `", "name": "p", "description": "d"}]}]}`), 200, nil
-}
-
-func (seller) Clock() time.Time { return time.Now() }
-
-// A quiet observer fails a test if something goes wrong.
-type quiet struct {
-	platform.Observer
-	t *testing.T
-}
-
-func (quiet) OnRequest(platform.Exchange)                           {}
-func (quiet) OnAnswer(platform.Exchange)                            {}
-func (quiet) OnChange(platform.Key, platform.State, platform.State) {}
-func (quiet) OnCatalogue(string)                                    {}
-func (q quiet) OnFailure(it platform.Failure)                       { q.t.Errorf("got the failure %+v, want none", it) }
-
 // What a step of an engine takes if none shares its claim with another: what many steps take more than few.
 func TestAStepOfAnEngine(t *testing.T) {
 	proxy, url := storefaults.NewProxy(t, schemaNamed(t, "osb_platform_step"))
@@ -220,6 +192,7 @@ func TestAStepOfAnEngine(t *testing.T) {
 	defer store.Close()
 	options := platform.Options{Worker: "one", AtOnce: 1}
 	took, next := map[int]storefaults.Answers{}, 0
+	seller := storetest.Seller{Service: osb.MustParseID(theService), Plan: osb.MustParseID(thePlan)}
 	const warm, few, many = 5, 10, 30
 	for _, rows := range []int{warm, few, many} { // at first the sessions are opened, and their statements prepared
 		for n := 0; n < rows; n++ {
@@ -227,7 +200,7 @@ func TestAStepOfAnEngine(t *testing.T) {
 			next++
 		}
 		proxy.Tally()
-		engine := platform.NewEngine(store, seller{}, nil, options, quiet{t: t})
+		engine := platform.NewEngine(store, seller, nil, options, storetest.Quiet{T: t})
 		check(t, engine.RunOnce(background))
 		took[rows] = proxy.Tally()
 	}

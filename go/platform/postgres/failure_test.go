@@ -138,12 +138,12 @@ func TestSessionsThatTheServerEnds(t *testing.T) {
 	n := 1
 	for of, call := range calls(store, instance(1), binding(1, 1)) {
 		if of == "Insert and Change" {
-			call = func() error { n++; return store.Insert(background, order(binding(n, 1)), accept) }
+			call = func(ctx context.Context) error { n++; return store.Insert(ctx, order(binding(n, 1)), accept) }
 		}
 		openAll(t, store, most)
 		terminate(t, name)
 		for n := 0; n < most; n++ {
-			diff.NoError(t, call(), "%s", of)
+			diff.NoError(t, call(background), "%s", of)
 		}
 	}
 }
@@ -183,14 +183,13 @@ func TestASessionThatIsKilledDuringAStep(t *testing.T) {
 			defer store.Close()
 			insert(t, store, instance(1))
 			isKilled := false
-			step := func(_ time.Time, snapshot platform.Snapshot) (*platform.Change, error) {
+			step := storetest.Edit(func(e *platform.Entry, _ time.Time) {
 				if !isKilled {
 					isKilled = true
 					terminate(t, name)
 				}
-				snapshot.Entry.Unchanged++
-				return &platform.Change{Entry: snapshot.Entry}, nil
-			}
+				e.Unchanged++
+			})
 			err := store.Change(background, instance(1), step)
 			if of == "Claim" {
 				isKilled = false
@@ -236,11 +235,10 @@ func TestAContextThatEnds(t *testing.T) {
 	defer store.Close()
 	insert(t, store, instance(1))
 	ctx, cancel := context.WithCancel(background)
-	err := store.Change(ctx, instance(1), func(_ time.Time, snapshot platform.Snapshot) (*platform.Change, error) {
+	err := store.Change(ctx, instance(1), storetest.Edit(func(e *platform.Entry, _ time.Time) {
 		cancel()
-		snapshot.Entry.Unchanged++
-		return &platform.Change{Entry: snapshot.Entry}, nil
-	})
+		e.Unchanged++
+	}))
 	diff.ErrorIs(t, err, context.Canceled, "in the step")
 	diff.Equal(t, countStays(t, store, instance(1)), 0, "in the step")
 	tx := begin(t, url)
@@ -388,11 +386,10 @@ func TestAChangeThatCannotBeWritten(t *testing.T) {
 	store := open(t, schemaNamed(t, "osb_platform_unwritten"))
 	defer store.Close()
 	insert(t, store, instance(1), instance(2))
-	step := func(_ time.Time, snapshot platform.Snapshot) (*platform.Change, error) {
-		snapshot.Entry.Unchanged++
-		snapshot.Entry.IsSent = snapshot.Key == instance(2) // and there is no record
-		return &platform.Change{Entry: snapshot.Entry}, nil
-	}
+	step := storetest.Edit(func(e *platform.Entry, _ time.Time) {
+		e.Unchanged++
+		e.IsSent = e.Key == instance(2) // and there is no record
+	})
 	claimed, err := store.Claim(background, []string{"one"}, 10, step)
 	if err != nil || len(claimed) != 2 || claimed[0].Err != nil || claimed[1].Err == nil {
 		t.Errorf("got %v claimed, %v, want the first, and an error of the second", claimed, err)
@@ -513,72 +510,14 @@ func TestAServerThatHangsInAStep(t *testing.T) {
 }
 
 // calls are calls of a store over an instance and a new binding of it, in an order that works.
-func calls(store platform.Store, key, of platform.Key) map[string]func() error {
-	rest := func(_ time.Time, snapshot platform.Snapshot) (*platform.Change, error) {
-		snapshot.Entry.Unchanged++
-		return &platform.Change{Entry: snapshot.Entry, RemoveBindings: !snapshot.Key.IsBinding, WakeInstance: true}, nil
-	}
-	all := reads(store, key)
-	for name, call := range map[string]func() error{
-		"Insert and Change": func() error {
-			if err := store.Insert(background, order(of), accept); err != nil {
-				return err
-			}
-			if err := store.Change(background, of, rest); err != nil {
-				return err
-			}
-			return store.Change(background, key, rest)
-		},
-		"Claim":       func() error { return diff.Err(store.Claim(background, []string{"one"}, 10, rest)) },
-		"Free":        func() error { return store.Free(background, "me") },
-		"Ready":       func() error { return store.Ready(background) },
-		"Fingerprint": func() error { return diff.Err(store.Fingerprint(background, "x")) },
-		"ReplaceFingerprint": func() error {
-			was, err := store.Fingerprint(background, "x")
-			if err != nil {
-				return err
-			}
-			return store.ReplaceFingerprint(background, was, was)
-		},
-		"HasWorkers": func() error { return diff.Err(store.HasWorkers(background)) },
-		"AddBroker, ChangeBroker and DropBroker": func() error {
-			if err := store.AddBroker(background, platform.Broker{Name: "b", URL: "http://b"}); err != nil {
-				return err
-			}
-			move := func(it platform.Broker) (*platform.Broker, error) { it.URL = "http://c"; return &it, nil }
-			if err := store.ChangeBroker(background, "b", move); err != nil {
-				return err
-			}
-			return store.DropBroker(background, "b")
-		},
-		"Only": func() error {
-			end, _, err := store.Only(background, "osb_platform_test_of_calls")
-			if err == nil && end == nil {
-				return errors.New("another has the name")
-			}
-			if err == nil {
-				end()
-			}
-			return err
-		},
-	} {
-		all[name] = call
-	}
-	return all
-}
-
-// reads are the calls of a store that only read.
-func reads(store platform.Store, key platform.Key) map[string]func() error {
-	return map[string]func() error{
-		"Read":     func() error { return diff.Err(store.Read(background, key)) },
-		"List":     func() error { return diff.Err(store.List(background, platform.Filter{})) },
-		"Moment":   func() error { return diff.Err(store.Moment(background)) },
-		"Life":     func() error { return diff.Err(store.Life(background, key)) },
-		"Counts":   func() error { return diff.Err(store.Counts(background)) },
-		"InFlight": func() error { return diff.Err(store.InFlight(background, 10)) },
-		"NextDue":  func() error { _, _, err := store.NextDue(background, []string{"one"}); return err },
-		"Brokers":  func() error { return diff.Err(store.Brokers(background)) },
-	}
+func calls(store platform.Store, key, of platform.Key) storetest.Calls {
+	return storetest.AllCalls(store, key, order(of),
+		func(_ time.Time, snapshot platform.Snapshot) (*platform.Change, error) {
+			snapshot.Entry.Unchanged++
+			return &platform.Change{
+				Entry: snapshot.Entry, RemoveBindings: !snapshot.Key.IsBinding, WakeInstance: true,
+			}, nil
+		})
 }
 
 // order is the row of an order that is due.

@@ -11,6 +11,7 @@ import (
 	"pippinterm/internal/pg/pgtest"
 	"pippinterm/osb"
 	"pippinterm/platform"
+	"pippinterm/platform/storetest"
 )
 
 // A moment separates the transactions that the server showed from all others, also where their lower 32 bits begin
@@ -50,10 +51,9 @@ func TestStaysOfLongAgo(t *testing.T) {
 	check(t, store.Insert(ctx, ready, func(platform.Snapshot) error { return nil }))
 	moment := diff.Value(store.Moment(ctx))(t)
 	pgtest.Exec(t, pgtest.DB(t, url), fmt.Sprintf("INSERT INTO osb_lives VALUES ('%v', 1, 'ordered', 10), ('%[1]v', 2, 'wanted', 20)", key))
-	check(t, store.Change(ctx, key, func(now time.Time, snapshot platform.Snapshot) (*platform.Change, error) {
-		snapshot.Entry.State, snapshot.Entry.Since = platform.Cleaning, now
-		return &platform.Change{Entry: snapshot.Entry}, nil
-	}))
+	check(t, store.Change(ctx, key, storetest.Edit(func(e *platform.Entry, now time.Time) {
+		e.State, e.Since = platform.Cleaning, now
+	})))
 	got := diff.Value(store.Positions(ctx, platform.Filter{AsOf: moment}))(t)
 	diff.Check(t, got, []platform.Position{{State: platform.Ready, Since: ready.Since, Key: key}}, "as of the moment")
 	half := platform.Filter{AsOf: "1"}

@@ -62,10 +62,9 @@ func claimAll(url string) error {
 func claimSome(store platform.Store) (int, error) {
 	worker := fmt.Sprint("process ", os.Getpid())
 	claimed, err := store.Claim(background, []string{"one"}, 3,
-		func(now time.Time, snapshot platform.Snapshot) (*platform.Change, error) {
-			snapshot.Entry.Lease = platform.Lease{Worker: worker, Until: now.Add(time.Hour)}
-			return &platform.Change{Entry: snapshot.Entry}, nil
-		})
+		storetest.Edit(func(e *platform.Entry, now time.Time) {
+			e.Lease = platform.Lease{Worker: worker, Until: now.Add(time.Hour)}
+		}))
 	for _, row := range claimed {
 		if row.Err != nil {
 			return 0, row.Err
@@ -176,10 +175,9 @@ func TestTheTimeOfAStep(t *testing.T) {
 			run(t, tx, test.locks)
 			done, now := make(chan error, 1), time.Time{}
 			go func() {
-				step := func(at time.Time, snapshot platform.Snapshot) (*platform.Change, error) {
+				step := storetest.Edit(func(e *platform.Entry, at time.Time) {
 					now = at
-					return &platform.Change{Entry: snapshot.Entry}, nil
-				}
+				})
 				done <- store.Change(background, test.key, step)
 			}()
 			await(t, pgtest.DB(t, pgtest.URL(t)), "the step waits", isWaiting, name)
@@ -220,11 +218,10 @@ func TestAWorkerThatIsPaused(t *testing.T) {
 			gate, done := storetest.NewGate(), make(chan error, 1)
 			defer gate.Open()
 			go func() {
-				done <- it.work(paused, func(now time.Time, snapshot platform.Snapshot) (*platform.Change, error) {
+				done <- it.work(paused, storetest.Edit(func(e *platform.Entry, now time.Time) {
 					gate.Pass()
-					snapshot.Entry.Lease = platform.Lease{Worker: "paused", Until: now.Add(time.Hour)}
-					return &platform.Change{Entry: snapshot.Entry}, nil
-				})
+					e.Lease = platform.Lease{Worker: "paused", Until: now.Add(time.Hour)}
+				}))
 			}()
 			gate.Await(t, done)
 			keys := claimFor(t, other, "other", 10)
@@ -251,10 +248,9 @@ func TestAWorkerThatIsPaused(t *testing.T) {
 func claimFor(t testing.TB, store platform.Store, worker string, most int) (keys []platform.Key) {
 	t.Helper()
 	claimed, err := store.Claim(background, []string{"one"}, most,
-		func(now time.Time, snapshot platform.Snapshot) (*platform.Change, error) {
-			snapshot.Entry.Lease = platform.Lease{Worker: worker, Until: now.Add(time.Hour)}
-			return &platform.Change{Entry: snapshot.Entry}, nil
-		})
+		storetest.Edit(func(e *platform.Entry, now time.Time) {
+			e.Lease = platform.Lease{Worker: worker, Until: now.Add(time.Hour)}
+		}))
 	diff.Must(t, err)
 	for _, row := range claimed {
 		keys = append(keys, row.Key)
@@ -272,11 +268,10 @@ func TestAWorkerThatIsPausedBetweenTransactions(t *testing.T) {
 	defer other.Close()
 	insert(t, paused, instance(1))
 	step := func(worker string) platform.Step {
-		return func(now time.Time, snapshot platform.Snapshot) (*platform.Change, error) {
-			snapshot.Entry.Unchanged++
-			snapshot.Entry.Lease = platform.Lease{Worker: worker, Until: now.Add(-time.Second)} // it is over at once
-			return &platform.Change{Entry: snapshot.Entry}, nil
-		}
+		return storetest.Edit(func(e *platform.Entry, now time.Time) {
+			e.Unchanged++
+			e.Lease = platform.Lease{Worker: worker, Until: now.Add(-time.Second)} // it is over at once
+		})
 	}
 	for _, test := range []struct {
 		store  platform.Store
@@ -334,11 +329,9 @@ func TestAnInstanceBehindItsBinding(t *testing.T) {
 	defer store.Close()
 	insert(t, store, instance(1), instance(2), binding(1, 1), binding(2, 2))
 	for n, key := range []platform.Key{binding(1, 1), binding(2, 2), instance(1), instance(2)} {
-		err := store.Change(background, key, func(_ time.Time, snapshot platform.Snapshot) (*platform.Change, error) {
-			snapshot.Entry.Due = at(n)
-			return &platform.Change{Entry: snapshot.Entry}, nil
-		})
-		check(t, err)
+		check(t, store.Change(background, key, storetest.Edit(func(e *platform.Entry, _ time.Time) {
+			e.Due = at(n)
+		})))
 	}
 	claimed, err := store.Claim(background, []string{"one"}, 10,
 		func(_ time.Time, snapshot platform.Snapshot) (*platform.Change, error) {
@@ -370,11 +363,9 @@ func TestBindingsThatWakeAtOnce(t *testing.T) {
 	url := schemaNamed(t, "osb_platform_wake")
 	stores := []platform.Store{open(t, url), open(t, url)}
 	insert(t, stores[0], instance(1))
-	err := stores[0].Change(background, instance(1), func(_ time.Time, snapshot platform.Snapshot) (*platform.Change, error) {
-		snapshot.Entry.Removal, snapshot.Entry.Due = platform.Removed, time.Time{}
-		return &platform.Change{Entry: snapshot.Entry}, nil
-	})
-	check(t, err)
+	check(t, stores[0].Change(background, instance(1), storetest.Edit(func(e *platform.Entry, _ time.Time) {
+		e.Removal, e.Due = platform.Removed, time.Time{}
+	})))
 	const steps = 4
 	gate, done := storetest.NewGate(), make(chan error, steps)
 	defer gate.Open()

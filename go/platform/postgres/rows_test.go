@@ -22,7 +22,7 @@ import (
 func TestExtensionOfTheTables(t *testing.T) {
 	url := pgtest.Schema(t, pgtest.URL(t), "osb_platform_extension")
 	store := &Store{url: url, db: pgtest.DB(t, url)}
-	err := store.migrate(context.Background(), func(ctx context.Context, tx *sql.Tx) (bool, error) {
+	check(t, store.migrate(context.Background(), func(ctx context.Context, tx *sql.Tx) (bool, error) {
 		var limit string
 		if err := tx.QueryRowContext(ctx, "SHOW statement_timeout").Scan(&limit); err != nil || limit != "15min" {
 			t.Errorf("the longest statement: got %s, %v, want 15min", limit, err)
@@ -31,8 +31,7 @@ func TestExtensionOfTheTables(t *testing.T) {
 			diff.Equal(t, diff.Value(extend(ctx, tx))(t), want, "")
 		}
 		return true, nil
-	})
-	check(t, err)
+	}))
 }
 
 // A column that is added has the type that it has in the tables of version 0.3.

@@ -71,11 +71,10 @@ const deadline = time.Minute
 
 // count is a step that counts its calls, in the row too.
 func count(calls *int) platform.Step {
-	return func(_ time.Time, snapshot platform.Snapshot) (*platform.Change, error) {
+	return storetest.Edit(func(e *platform.Entry, _ time.Time) {
 		*calls++
-		snapshot.Entry.Unchanged++
-		return &platform.Change{Entry: snapshot.Entry}, nil
-	}
+		e.Unchanged++
+	})
 }
 
 // countStays is how often a row was counted.
@@ -239,10 +238,9 @@ func TestRoundTrips(t *testing.T) {
 	}
 	diff.Value(store.Claim(background, []string{"one"}, 1, count(new(int))))(t)
 	lease := func(state platform.State) platform.Step {
-		return func(now time.Time, snapshot platform.Snapshot) (*platform.Change, error) {
-			snapshot.Entry.State, snapshot.Entry.Lease = state, platform.Lease{Worker: "me", Until: now.Add(time.Hour)}
-			return &platform.Change{Entry: snapshot.Entry}, nil
-		}
+		return storetest.Edit(func(e *platform.Entry, now time.Time) {
+			e.State, e.Lease = state, platform.Lease{Worker: "me", Until: now.Add(time.Hour)}
+		})
 	}
 	gone := func(_ time.Time, snapshot platform.Snapshot) (*platform.Change, error) {
 		if is, err := snapshot.AllGone(); err != nil || !is {

@@ -15,6 +15,7 @@ import (
 	"pippinterm/osb"
 	"pippinterm/platform"
 	"pippinterm/platform/postgres"
+	"pippinterm/platform/storetest"
 )
 
 // The tables of version 0.2.
@@ -198,11 +199,10 @@ func goOn02(t *testing.T, store *postgres.Store) {
 	t.Helper()
 	defer store.Close()
 	claimed, err := store.Claim(background, []string{"default"}, 100,
-		func(now time.Time, snapshot platform.Snapshot) (*platform.Change, error) {
-			snapshot.Entry.State = platform.Abandoned
-			snapshot.Entry.Lease = platform.Lease{Worker: "me", Until: now.Add(time.Hour)}
-			return &platform.Change{Entry: snapshot.Entry}, nil
-		})
+		storetest.Edit(func(e *platform.Entry, now time.Time) {
+			e.State = platform.Abandoned
+			e.Lease = platform.Lease{Worker: "me", Until: now.Add(time.Hour)}
+		}))
 	check(t, err)
 	due := map[platform.Key]bool{}
 	for n, old := range rows02 {
@@ -369,7 +369,7 @@ func TestARoleThatMayNotAlter(t *testing.T) {
 	store := diff.Value(postgres.Open(background, as, 2))(t)
 	defer store.Close()
 	for name, call := range calls(store, instance(7), binding(1, 7)) {
-		diff.NoError(t, call(), "%s", name)
+		diff.NoError(t, call(background), "%s", name)
 	}
 }
 
@@ -391,9 +391,9 @@ func TestReadingLocksNothing(t *testing.T) {
 	second, err := postgres.Open(ctx, url, 1)
 	diff.Must(t, err)
 	defer second.Close()
-	for name, call := range reads(second, instance(1)) {
+	for name, call := range storetest.Reads(second, instance(1)) {
 		done := make(chan error, 1)
-		go func() { done <- call() }()
+		go func() { done <- call(background) }()
 		select {
 		case err := <-done:
 			diff.NoError(t, err, "%s", name)

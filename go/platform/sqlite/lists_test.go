@@ -41,22 +41,6 @@ func TestLongestDue(t *testing.T) {
 	}
 }
 
-// reads are the calls of a store that only read.
-func reads(s *Store, key platform.Key) map[string]func(context.Context) error {
-	return map[string]func(context.Context) error{
-		"Read":        func(ctx context.Context) error { return diff.Err(s.Read(ctx, key)) },
-		"List":        func(ctx context.Context) error { return diff.Err(s.List(ctx, platform.Filter{})) },
-		"Moment":      func(ctx context.Context) error { return diff.Err(s.Moment(ctx)) },
-		"Life":        func(ctx context.Context) error { return diff.Err(s.Life(ctx, key)) },
-		"Counts":      func(ctx context.Context) error { return diff.Err(s.Counts(ctx)) },
-		"InFlight":    func(ctx context.Context) error { return diff.Err(s.InFlight(ctx, 10)) },
-		"NextDue":     func(ctx context.Context) error { _, _, err := s.NextDue(ctx, []string{"one"}); return err },
-		"Brokers":     func(ctx context.Context) error { return diff.Err(s.Brokers(ctx)) },
-		"HasWorkers":  func(ctx context.Context) error { return diff.Err(s.HasWorkers(ctx)) },
-		"Fingerprint": func(ctx context.Context) error { return diff.Err(s.Fingerprint(ctx, "")) },
-	}
-}
-
 // While another process writes, what only reads goes on, and so does the opening of a file. So no command that reads
 // waits for a worker, and none keeps a worker waiting.
 func TestReadingLocksNothing(t *testing.T) {
@@ -70,7 +54,10 @@ func TestReadingLocksNothing(t *testing.T) {
 	}
 	begun := time.Now()
 	second := open(t, path)
-	for name, call := range reads(second, keyOf(1)) {
+	calls := storetest.Reads(second, keyOf(1))
+	calls["HasWorkers"] = func(ctx context.Context) error { return diff.Err(second.HasWorkers(ctx)) }
+	calls["Fingerprint"] = func(ctx context.Context) error { return diff.Err(second.Fingerprint(ctx, "")) }
+	for name, call := range calls {
 		diff.NoError(t, call(background), "%s", name)
 	}
 	if took := time.Since(begun); took > 15*time.Second { // a lock that another has is waited for 30 seconds
@@ -108,10 +95,9 @@ func TestUnreadableStay(t *testing.T) {
 	s := withBroker(t, open(t, path))
 	check(t, s.Insert(background, order(1), nil))
 	moment := diff.Value(s.Moment(background))(t)
-	check(t, s.Change(background, keyOf(1), func(now time.Time, snapshot platform.Snapshot) (*platform.Change, error) {
-		snapshot.Entry.State, snapshot.Entry.Since = platform.Withdrawn, now
-		return &platform.Change{Entry: snapshot.Entry}, nil
-	}))
+	check(t, s.Change(background, keyOf(1), storetest.Edit(func(e *platform.Entry, now time.Time) {
+		e.State, e.Since = platform.Withdrawn, now
+	})))
 	executeIn(t, path, "UPDATE osb_lives SET since = 'x'")
 	diff.Error(t, diff.Err(s.Positions(background, platform.Filter{AsOf: moment})), "")
 	diff.NoError(t, diff.Err(s.Positions(background, platform.Filter{})), "as of now")
@@ -164,83 +150,18 @@ func TestNoCallChangesTables(t *testing.T) {
 	s := withBroker(t, open(t, path))
 	const schema = "PRAGMA schema_version"
 	before := query(t, path, schema)
-	calls := reads(s, keyOf(1))
-	for name, call := range writes(s) {
-		calls[name] = call
+	gone := func(_ time.Time, snapshot platform.Snapshot) (*platform.Change, error) {
+		snapshot.Entry.State = platform.Withdrawn
+		return &platform.Change{Entry: snapshot.Entry, RemoveBindings: true}, nil
 	}
 	check(t, s.Insert(background, order(1), nil))
-	for name, call := range calls {
+	for name, call := range storetest.AllCalls(s, keyOf(1), order(2), gone) {
 		diff.NoError(t, call(background), "%s", name)
 		if after := query(t, path, schema); len(after) != 1 || after[0] != before[0] {
 			t.Fatalf("%s: got the schema %v, want %v", name, after, before)
 		}
 	}
 }
-
-// writes are the calls of a store that write.
-func writes(s *Store) map[string]func(context.Context) error {
-	gone := func(_ time.Time, snapshot platform.Snapshot) (*platform.Change, error) {
-		snapshot.Entry.State = platform.Withdrawn
-		return &platform.Change{Entry: snapshot.Entry, RemoveBindings: true}, nil
-	}
-	return map[string]func(context.Context) error{
-		"Insert": func(ctx context.Context) error { return s.Insert(ctx, order(2), nil) },
-		"Claim":  func(ctx context.Context) error { return diff.Err(s.Claim(ctx, []string{"one"}, 10, gone)) },
-		"Change": func(ctx context.Context) error { return s.Change(ctx, keyOf(1), gone) },
-		"Free":   func(ctx context.Context) error { return s.Free(ctx, "me") },
-		"Ready":  s.Ready,
-		"AddBroker, ChangeBroker and DropBroker": func(ctx context.Context) error {
-			if err := s.AddBroker(ctx, platform.Broker{Name: "b", URL: "http://b"}); err != nil {
-				return err
-			}
-			move := func(it platform.Broker) (*platform.Broker, error) { it.URL = "http://c"; return &it, nil }
-			if err := s.ChangeBroker(ctx, "b", move); err != nil {
-				return err
-			}
-			return s.DropBroker(ctx, "b")
-		},
-		"Fingerprint and ReplaceFingerprint": func(ctx context.Context) error {
-			was, err := s.Fingerprint(ctx, "x")
-			if err != nil {
-				return err
-			}
-			return s.ReplaceFingerprint(ctx, was, "y")
-		},
-		"Only": func(ctx context.Context) error {
-			end, _, err := s.Only(ctx, "me")
-			if end != nil {
-				end()
-			}
-			return err
-		},
-	}
-}
-
-// A seller is a broker that answers at once: each request has created what was ordered.
-type seller struct{}
-
-func (seller) Exchange(context.Context, platform.Outgoing) platform.Incoming {
-	return platform.Incoming{Answer: osb.Answer{Status: 201, Body: osb.BodyEmpty}, Status: 201}
-}
-
-func (seller) Catalogue(context.Context, platform.Broker) (json.RawMessage, int, error) {
-	return json.RawMessage(`{"services": [{"id": "` + service.String() + `", "name": "s", "description": "d",
-		"bindable": true, "plans": [{"id": "` + plan.String() + `", "name": "p", "description": "d"}]}]}`), 200, nil
-}
-
-func (seller) Clock() time.Time { return time.Now() }
-
-// A quiet observer fails a test if something goes wrong.
-type quiet struct {
-	platform.Observer
-	t *testing.T
-}
-
-func (quiet) OnRequest(platform.Exchange)                           {}
-func (quiet) OnAnswer(platform.Exchange)                            {}
-func (quiet) OnChange(platform.Key, platform.State, platform.State) {}
-func (quiet) OnCatalogue(string)                                    {}
-func (q quiet) OnFailure(it platform.Failure)                       { q.t.Errorf("got the failure %+v, want none", it) }
 
 // A meter counts what the connections of a store execute. SQLite counts how often each prepared statement has run, and
 // the triggers that it has fired with it.
@@ -253,15 +174,14 @@ type meter struct {
 func openMetered(t *testing.T) (*Store, *meter) {
 	t.Helper()
 	m := &meter{}
-	file, err := sqlitefile.Open(background, filepath.Join(t.TempDir(), "store"), sqlitefile.Options[*connection]{
+	file := diff.Value(sqlitefile.Open(background, filepath.Join(t.TempDir(), "store"), sqlitefile.Options[*connection]{
 		Readers: readers, Together: together, Migrate: migrate,
 		Prepare: func(ctx context.Context, conn *sqlitefile.Conn) (*connection, error) {
 			m.conns = append(m.conns, conn)
 			return prepare(ctx, conn)
 		},
 		Committed: func(int) { m.transactions.Add(1) },
-	})
-	check(t, err)
+	}))(t)
 	s := &Store{file: file}
 	t.Cleanup(func() {
 		diff.NoError(t, s.Close(), "")
@@ -297,6 +217,7 @@ func TestAStepOfAnEngine(t *testing.T) {
 	s, m := openMetered(t)
 	withBroker(t, s)
 	options := platform.Options{Worker: "one", AtOnce: 1}
+	seller := storetest.Seller{Service: service, Plan: plan}
 	const few, many = 10, 30
 	took, next := map[int][2]int64{}, 0
 	for _, rows := range []int{few, many} {
@@ -305,7 +226,7 @@ func TestAStepOfAnEngine(t *testing.T) {
 			next++
 		}
 		statements, transactions := m.statements(t), m.transactions.Load()
-		check(t, platform.NewEngine(s, seller{}, nil, options, quiet{t: t}).RunOnce(background))
+		check(t, platform.NewEngine(s, seller, nil, options, storetest.Quiet{T: t}).RunOnce(background))
 		took[rows] = [2]int64{m.statements(t) - statements, m.transactions.Load() - transactions}
 	}
 	for n := 0; n < next; n++ {
@@ -485,10 +406,9 @@ func TestShortenedHistories(t *testing.T) {
 	check(t, s.AddBroker(background, platform.Broker{Name: "one", URL: "http://one"}))
 	month := time.Now().AddDate(0, -1, 0).Truncate(time.Second).UTC()
 	change := func(n int, state platform.State, since time.Time) {
-		check(t, s.Change(background, keyOf(n), func(_ time.Time, snapshot platform.Snapshot) (*platform.Change, error) {
-			snapshot.Entry.State, snapshot.Entry.Since = state, since
-			return &platform.Change{Entry: snapshot.Entry}, nil
-		}))
+		check(t, s.Change(background, keyOf(n), storetest.Edit(func(e *platform.Entry, _ time.Time) {
+			e.State, e.Since = state, since
+		})))
 	}
 	for n := 0; n < 4; n++ {
 		ordered := platform.Entry{State: platform.Ordered, Since: month.Add(-time.Hour)}

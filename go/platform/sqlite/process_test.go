@@ -57,10 +57,9 @@ const each = 50
 // count counts in a row.
 func count(s *Store) error {
 	for n := 0; n < each; n++ {
-		err := s.Change(background, keyOf(1), func(_ time.Time, snapshot platform.Snapshot) (*platform.Change, error) {
-			snapshot.Entry.Unchanged++
-			return &platform.Change{Entry: snapshot.Entry}, nil
-		})
+		err := s.Change(background, keyOf(1), storetest.Edit(func(e *platform.Entry, _ time.Time) {
+			e.Unchanged++
+		}))
 		if err != nil {
 			return err
 		}

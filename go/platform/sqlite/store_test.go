@@ -189,11 +189,10 @@ func TestMigratedRowsAreUsed(t *testing.T) {
 	executeIn(t, path, "UPDATE osb_instances SET due = due - 1e9, leased_until = leased_until - 1e9")
 	steps := 0
 	_, err := s.Claim(background, []string{"default"}, 100,
-		func(_ time.Time, snapshot platform.Snapshot) (*platform.Change, error) {
+		storetest.Edit(func(e *platform.Entry, _ time.Time) {
 			steps++
-			snapshot.Entry.Lease, snapshot.Entry.Due = platform.Lease{}, time.Time{}
-			return &platform.Change{Entry: snapshot.Entry}, nil
-		})
+			e.Lease, e.Due = platform.Lease{}, time.Time{}
+		}))
 	diff.NoError(t, err, "")
 	diff.Equal(t, steps, 8, "steps")
 	counts := diff.Value(s.Counts(background))(t)
@@ -443,7 +442,7 @@ func TestQueriesUseIndexes(t *testing.T) {
 	for _, filter := range filters {
 		diff.Value(s.List(background, filter))(t)
 	}
-	err := s.read(background, func(c *connection) error {
+	check(t, s.read(background, func(c *connection) error {
 		for query := range c.lists {
 			isFew := strings.Contains(query, "+state") || strings.Contains(query, "GROUP BY")
 			wantIndexed(t, c, query, strings.Count(query, "?"), isFew)
@@ -459,8 +458,7 @@ func TestQueriesUseIndexes(t *testing.T) {
 			wantIndexed(t, c, others[statement]+reading[statement], values, false)
 		}
 		return wantOfDue(t, c, reading[&c.oldestDue])
-	})
-	check(t, err)
+	}))
 }
 
 // wantOfDue fails if a query reads rows that rest: the two indexes have none.

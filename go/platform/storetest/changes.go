@@ -150,11 +150,10 @@ func exclude(t *testing.T, first, second platform.Store, one, other platform.Key
 	gate, done, late := NewGate(), make(chan error, 1), make(chan error, 1)
 	defer gate.Open()
 	go func() {
-		done <- first.Change(background, one, func(_ time.Time, snapshot platform.Snapshot) (*platform.Change, error) {
+		done <- first.Change(background, one, Edit(func(e *platform.Entry, _ time.Time) {
 			gate.Pass()
-			snapshot.Entry.Because = "by the first"
-			return &platform.Change{Entry: snapshot.Entry}, nil
-		})
+			e.Because = "by the first"
+		}))
 	}()
 	gate.Await(t, done)
 	overlapped := make(chan struct{})
@@ -371,12 +370,10 @@ func testTime(t *testing.T, open opener) {
 	var last time.Time
 	for n := 0; n < 6; n++ {
 		var now time.Time
-		err := changeError(stores[n%2], instance(1), func(at time.Time, snapshot platform.Snapshot) (*platform.Change, error) {
+		check(t, changeError(stores[n%2], instance(1), Edit(func(e *platform.Entry, at time.Time) {
 			now = at
-			snapshot.Entry.Since, snapshot.Entry.Due = at, at.Add(time.Millisecond)
-			return &platform.Change{Entry: snapshot.Entry}, nil
-		})
-		check(t, err)
+			e.Since, e.Due = at, at.Add(time.Millisecond)
+		})))
 		if now.Before(last) || now.Before(time.Now().Add(-deadline)) || now.After(time.Now().Add(deadline)) {
 			t.Errorf("got the time %v after %v, want a later one, about now", now, last)
 		}

@@ -174,11 +174,9 @@ func testPages(t *testing.T, open opener) {
 		insert(t, store, order(instance(n)))
 	}
 	for n := 0; n < 7; n++ {
-		err := store.Change(background, instance(n), func(now time.Time, snapshot platform.Snapshot) (*platform.Change, error) {
-			snapshot.Entry.Since = now
-			return &platform.Change{Entry: snapshot.Entry}, nil
-		})
-		check(t, err)
+		check(t, store.Change(background, instance(n), Edit(func(e *platform.Entry, now time.Time) {
+			e.Since = now
+		})))
 	}
 	all := diff.Value(store.List(background, platform.Filter{}))(t)
 	diff.Len(t, all, 7, "List")
@@ -406,10 +404,9 @@ func testNoMoment(t *testing.T, open opener) {
 func testReadAll(t *testing.T, open opener) {
 	store := openStore(t, open)
 	insert(t, store, full(t, instance(1)), full(t, binding(2, 1)), in(t, instance(3), platform.Gone))
-	rows, err := store.ReadAll(background, []platform.Key{
+	rows := diff.Value(store.ReadAll(background, []platform.Key{
 		instance(3), binding(2, 1), instance(2), binding(1, 1), instance(1), binding(2, 3),
-	})
-	check(t, err)
+	}))(t)
 	wantKeys(t, "all", rows, instance(3), binding(2, 1), instance(1))
 	for _, row := range rows {
 		want := read(t, store, row.Key)
@@ -685,11 +682,10 @@ func wantNotStepped(t *testing.T, store platform.Store, rows []platform.Entry, s
 	t.Helper()
 	stepped := map[platform.Key]bool{}
 	claimed, err := store.Claim(background, brokers, 10,
-		func(_ time.Time, snapshot platform.Snapshot) (*platform.Change, error) {
-			stepped[snapshot.Key] = true
-			snapshot.Entry.Due = time.Time{}
-			return &platform.Change{Entry: snapshot.Entry}, nil
-		})
+		Edit(func(e *platform.Entry, _ time.Time) {
+			stepped[e.Key] = true
+			e.Due = time.Time{}
+		}))
 	if err != nil || len(claimed) != len(rows) {
 		t.Fatalf("got %v claimed, %v, want all rows", claimed, err)
 	}

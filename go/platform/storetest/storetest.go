@@ -561,10 +561,9 @@ func testCancelled(t *testing.T, open opener) {
 	insert(t, store, before, order(instance(3)))
 	ctx, cancel := context.WithCancel(background)
 	cancel()
-	step := func(_ time.Time, snapshot platform.Snapshot) (*platform.Change, error) {
-		snapshot.Entry.Unchanged++
-		return &platform.Change{Entry: snapshot.Entry}, nil
-	}
+	step := Edit(func(e *platform.Entry, _ time.Time) {
+		e.Unchanged++
+	})
 	calls := map[string]func() error{
 		"Insert":    func() error { return store.Insert(ctx, order(instance(2)), accept) },
 		"Change":    func() error { return store.Change(ctx, instance(1), step) },
