@@ -131,34 +131,51 @@ func TestBrokerThatIsDropped(t *testing.T) {
 	diff.Equal(t, writtenIn(t, store), now, "the fingerprint")
 }
 
-// A failing is a store that fails after some changes.
-type failing struct {
-	platform.Store
-	left chan struct{} // has a value for each change that succeeds
-}
-
 var errFailing = errors.New("the disk is full")
 
-func (f failing) Change(ctx context.Context, key platform.Key, step platform.Step) error {
-	select {
-	case <-f.left:
-		return f.Store.Change(ctx, key, step)
-	default:
-		return errFailing
-	}
+// A faulty store has calls that fail.
+type faulty struct {
+	platform.Store
+	turn sync.Mutex
+	// fails returns why a call of this name fails, or nil. It is called once at a time.
+	fails func(call string) error
 }
 
-// A secretive store doesn't take the fingerprints of a rotation that begins.
-type secretive struct{ platform.Store }
+// failsAfter is a store whose calls of these names fail with an error after so many.
+func failsAfter(store platform.Store, left map[string]int, with error) *faulty {
+	return &faulty{Store: store, fails: func(call string) error {
+		if count, isOne := left[call]; isOne && count == 0 {
+			return with
+		}
+		left[call]--
+		return nil
+	}}
+}
 
-func (secretive) ReplaceFingerprint(context.Context, string, string) error { return errFailing }
+// failsOnce is a store whose n-th call fails. That call sets hasFailed.
+func failsOnce(store platform.Store, n int, hasFailed *bool) *faulty {
+	*hasFailed = false
+	return &faulty{Store: store, fails: func(string) error {
+		if n--; n != 0 {
+			return nil
+		}
+		*hasFailed = true
+		return errFailing
+	}}
+}
+
+func (f *faulty) call(name string) error {
+	f.turn.Lock()
+	defer f.turn.Unlock()
+	return f.fails(name)
+}
 
 // If it can't be written that the key is being replaced, nothing is sealed again: a worker with the old key alone may
 // start, and seal with it.
 func TestRotateThatCanNotBegin(t *testing.T) {
 	before, both := newVault(t, one), newVault(t, other, one)
 	r := newRig(t, before, 3)
-	wantNone(t, both, secretive{r}, errFailing)
+	wantNone(t, both, failsAfter(r, map[string]int{"ReplaceFingerprint": 0}, errFailing), errFailing)
 	diff.Equal(t, r.opens(t, before), 4, "the old key")
 }
 
@@ -170,70 +187,52 @@ func wantNone(t *testing.T, v *Vault, store platform.Store, want error) {
 	diff.Equal(t, done, Rotation{}, "what is done")
 }
 
-// A failingOnce store fails at one of its calls.
-type failingOnce struct {
-	platform.Store
-	turn   sync.Mutex
-	left   int // how many calls until the one that fails
-	failed bool
-}
-
-func (f *failingOnce) fails() error {
-	f.turn.Lock()
-	defer f.turn.Unlock()
-	if f.left--; f.left != 0 {
-		return nil
-	}
-	f.failed = true
-	return errFailing
-}
-
-func (f *failingOnce) HasWorkers(ctx context.Context) (bool, error) {
-	if err := f.fails(); err != nil {
+func (f *faulty) HasWorkers(ctx context.Context) (bool, error) {
+	if err := f.call("HasWorkers"); err != nil {
 		return false, err
 	}
 	return f.Store.HasWorkers(ctx)
 }
 
-func (f *failingOnce) Fingerprint(ctx context.Context, fingerprint string) (string, error) {
-	if err := f.fails(); err != nil {
+func (f *faulty) Fingerprint(ctx context.Context, fingerprint string) (string, error) {
+	if err := f.call("Fingerprint"); err != nil {
 		return "", err
 	}
 	return f.Store.Fingerprint(ctx, fingerprint)
 }
 
-func (f *failingOnce) ReplaceFingerprint(ctx context.Context, before, after string) error {
-	if err := f.fails(); err != nil {
+func (f *faulty) ReplaceFingerprint(ctx context.Context, before, after string) error {
+	if err := f.call("ReplaceFingerprint"); err != nil {
 		return err
 	}
 	return f.Store.ReplaceFingerprint(ctx, before, after)
 }
 
-func (f *failingOnce) Brokers(ctx context.Context) ([]platform.Broker, error) {
-	if err := f.fails(); err != nil {
+func (f *faulty) Brokers(ctx context.Context) ([]platform.Broker, error) {
+	if err := f.call("Brokers"); err != nil {
 		return nil, err
 	}
 	return f.Store.Brokers(ctx)
 }
 
-func (f *failingOnce) ChangeBroker(
+func (f *faulty) ChangeBroker(
 	ctx context.Context, name string, change func(platform.Broker) (*platform.Broker, error),
 ) error {
-	if err := f.fails(); err != nil {
+	if err := f.call("ChangeBroker"); err != nil {
 		return err
 	}
 	return f.Store.ChangeBroker(ctx, name, change)
 }
 
-func (f *failingOnce) List(ctx context.Context, filter platform.Filter) ([]platform.Entry, error) {
-	if err := f.fails(); err != nil {
+func (f *faulty) List(ctx context.Context, filter platform.Filter) ([]platform.Entry, error) {
+	if err := f.call("List"); err != nil {
 		return nil, err
 	}
 	return f.Store.List(ctx, filter)
 }
 
-func (f *failingOnce) Change(ctx context.Context, key platform.Key, step platform.Step) error {
-	if err := f.fails(); err != nil {
+func (f *faulty) Change(ctx context.Context, key platform.Key, step platform.Step) error {
+	if err := f.call("Change"); err != nil {
 		return err
 	}
 	return f.Store.Change(ctx, key, step)
@@ -244,11 +243,8 @@ func TestRotateOverAStoreThatFails(t *testing.T) {
 	before, both, after := newVault(t, one), newVault(t, other, one), newVault(t, other)
 	for n, failed := 1, true; failed; n++ {
 		r := newRig(t, before, 2)
-		store := &failingOnce{Store: r, left: n}
-		_, err := both.Rotate(background, store)
-		if failed = store.failed; failed != errors.Is(err, errFailing) {
-			t.Errorf("call %d of the store has failed: got %v, want %v", n, err, errFailing)
-		}
+		_, err := both.Rotate(background, failsOnce(r, n, &failed))
+		diff.Equal(t, errors.Is(err, errFailing), failed, "call %d of the store has failed: %v", n, err)
 		diff.Equal(t, r.opens(t, both), 3, "call %d of the store has failed: of both keys", n)
 		diff.NoError(t, diff.Err(both.Rotate(background, r)), "after call %d of the store has failed", n)
 		diff.Equal(t, r.opens(t, after), 3, "after call %d of the store has failed", n)
@@ -259,11 +255,7 @@ func TestRotateOverAStoreThatFails(t *testing.T) {
 func TestRotateInTheMiddle(t *testing.T) {
 	before, both, after := newVault(t, one), newVault(t, other, one), newVault(t, other)
 	r := newRig(t, before, 50)
-	left := make(chan struct{}, 20)
-	for range [20]int{} {
-		left <- struct{}{}
-	}
-	done, err := both.Rotate(background, failing{r, left})
+	done, err := both.Rotate(background, failsAfter(r, map[string]int{"Change": 20}, errFailing))
 	diff.ErrorIs(t, err, errFailing, "the rotation")
 	diff.Equal(t, done.Credentials, 20, "credentials")
 	written := writtenIn(t, r)
@@ -289,7 +281,8 @@ func TestRotateInTheMiddle(t *testing.T) {
 // From the middle of a rotation, one to a third key can begin.
 func TestRotateFurther(t *testing.T) {
 	r := newRig(t, newVault(t, one), 9)
-	diff.ErrorIs(t, diff.Err(newVault(t, other, one).Rotate(background, failing{r, nil})), errFailing, "the rotation")
+	full := failsAfter(r, map[string]int{"Change": 0}, errFailing)
+	diff.ErrorIs(t, diff.Err(newVault(t, other, one).Rotate(background, full)), errFailing, "the rotation")
 	diff.Equal(t, diff.Value(newVault(t, third, other, one).Rotate(background, r))(t), Rotation{9, 1}, "")
 	r.isOf(t, newVault(t, third), 10)
 }
@@ -511,38 +504,15 @@ func TestRenewRejected(t *testing.T) {
 	diff.Empty(t, passwords(t, store, v), "encrypted again")
 }
 
-// A breaking is a store whose calls of one kind fail after so many.
-type breaking struct {
-	platform.Store
-	changes, marks int
-}
-
-func (b *breaking) ChangeBroker(
-	ctx context.Context, name string, change func(platform.Broker) (*platform.Broker, error),
-) error {
-	if b.changes--; b.changes < 0 {
-		return errFailing
-	}
-	return b.Store.ChangeBroker(ctx, name, change)
-}
-
-func (b *breaking) ReplaceFingerprint(ctx context.Context, before, after string) error {
-	if b.marks--; b.marks < 0 {
-		return errFailing
-	}
-	return b.Store.ReplaceFingerprint(ctx, before, after)
-}
-
 // Wherever it ends in the middle, the next one finishes it, and version 0.3 rejects the store from the first write on.
 func TestRenewInTheMiddle(t *testing.T) {
-	for _, fault := range []breaking{{changes: 0, marks: 0}, {changes: 0, marks: 1}, {changes: 2, marks: 1}, {changes: 3, marks: 1}} {
-		t.Run(fmt.Sprintf("after %d changes and %d marks", fault.changes, fault.marks), func(t *testing.T) {
+	for _, test := range []struct{ changes, marks int }{{0, 0}, {0, 1}, {2, 1}, {3, 1}} {
+		t.Run(fmt.Sprintf("after %d changes and %d marks", test.changes, test.marks), func(t *testing.T) {
 			store, _ := storeOf03(t)
-			fault.Store = store
-			marks := fault.marks
 			v := newVault(t, one)
-			diff.ErrorIs(t, diff.Err(v.Renew(background, &fault)), errFailing, "the end")
-			if got := writtenIn(t, store); marks > 0 && got != now+" "+former || !errors.Is(v.Fits(got), ErrOldPasswords) {
+			left := map[string]int{"ChangeBroker": test.changes, "ReplaceFingerprint": test.marks}
+			diff.ErrorIs(t, diff.Err(v.Renew(background, failsAfter(store, left, errFailing))), errFailing, "the end")
+			if got := writtenIn(t, store); test.marks > 0 && got != now+" "+former || !errors.Is(v.Fits(got), ErrOldPasswords) {
 				t.Errorf("the fingerprint: got %q, want both with %v", got, ErrOldPasswords)
 			}
 			end, _, err := store.Only(background, "of version 0.3")
@@ -559,11 +529,9 @@ func TestRenewInTheMiddle(t *testing.T) {
 func TestRenewOverAStoreThatFails(t *testing.T) {
 	for n, failed := 1, true; failed; n++ {
 		whole, _ := storeOf03(t)
-		store, v := &failingOnce{Store: whole, left: n}, newVault(t, one)
-		_, err := v.Renew(background, store)
-		if failed = store.failed; failed != errors.Is(err, errFailing) {
-			t.Errorf("call %d of the store has failed: got %v, want %v", n, err, errFailing)
-		}
+		v := newVault(t, one)
+		_, err := v.Renew(background, failsOnce(whole, n, &failed))
+		diff.Equal(t, errors.Is(err, errFailing), failed, "call %d of the store has failed: %v", n, err)
 		diff.NoError(t, diff.Err(v.Renew(background, whole)), "after call %d has failed", n)
 		wantRenewed(t, whole, fmt.Sprintf("after call %d has failed", n))
 	}
@@ -578,18 +546,12 @@ func TestRenewBesideStart(t *testing.T) {
 	diff.Empty(t, passwords(t, store, v), "encrypted again")
 }
 
-// A contestedStore store has another fingerprint whenever one is to be replaced: other processes renew it, too.
-type contestedStore struct{ platform.Store }
-
-func (contestedStore) ReplaceFingerprint(context.Context, string, string) error {
-	return platform.ErrUnknown
-}
-
-// A Renew ends, even if others are at the store each time.
+// A Renew ends, even if other processes renew the store, too, and replace its fingerprint first each time.
 func TestRenewContested(t *testing.T) {
 	store, _ := storeOf03(t)
 	v := newVault(t, one)
-	diff.ErrorIs(t, diff.Err(v.Renew(background, contestedStore{store})), ErrRotating, "")
+	contested := failsAfter(store, map[string]int{"ReplaceFingerprint": 0}, platform.ErrUnknown)
+	diff.ErrorIs(t, diff.Err(v.Renew(background, contested)), ErrRotating, "")
 	diff.Empty(t, passwords(t, store, v), "encrypted again")
 }
 
