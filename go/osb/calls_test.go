@@ -216,9 +216,7 @@ func requestResults(t *testing.T, it osb.Asked, id, service, plan string) result
 	if wanted.HasPlan {
 		wanted.Plan = idOf(plan)
 	}
-	if it != wanted {
-		t.Errorf("got %+v, want %+v", it, wanted)
-	}
+	equal(t, "what is asked", it, wanted)
 	return results{text(it.Kind.String()), word(it.AcceptsIncomplete)}
 }
 

@@ -128,8 +128,7 @@ func (t *table) cases(row []string, line int, texts map[string]string) []testCas
 // readCases reads api/cases.txt, whose head says how it is written.
 func readCases(t *testing.T) []testCase {
 	t.Helper()
-	all, err := os.ReadFile("../../api/cases.txt")
-	check(t, err)
+	all := need(os.ReadFile("../../api/cases.txt"))(t)
 	var found []testCase
 	var of *table
 	texts := map[string]string{}

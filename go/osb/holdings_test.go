@@ -27,16 +27,14 @@ func numberOf(t *testing.T, word string, names map[string]uint8) uint8 {
 	if number, isName := names[word]; isName {
 		return number
 	}
-	number, err := strconv.ParseUint(word, 10, 8)
-	check(t, err)
+	number := need(strconv.ParseUint(word, 10, 8))(t)
 	return uint8(number)
 }
 
 func recordOf(t *testing.T, cell string) osb.Record {
 	t.Helper()
 	words := append(strings.Fields(cell), "none")
-	attempt, err := strconv.ParseUint(words[1], 10, 64)
-	check(t, err)
+	attempt := need(strconv.ParseUint(words[1], 10, 64))(t)
 	state, inFlight := numberOf(t, words[0], stateNames), numberOf(t, words[2], kindNames)
 	return osb.RecordByHand(service, plan, attempt, osb.State(state), osb.Kind(inFlight))
 }
@@ -54,8 +52,7 @@ func requestOf(t *testing.T, cell string) osb.Request {
 
 func digestOf(t *testing.T, cell string) (digest osb.Digest) {
 	t.Helper()
-	once, err := hex.DecodeString(cell)
-	check(t, err)
+	once := need(hex.DecodeString(cell))(t)
 	for at := range digest {
 		digest[at] = once[at%len(once)]
 	}

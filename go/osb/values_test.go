@@ -37,13 +37,10 @@ const createdText = `{"attempt":1,"out":"provision","plan":"00000000-0000-0000-0
 	`"service":"00000000-0000-0000-0000-0000000000a0","state":"wanted","version":1}`
 
 func TestID(t *testing.T) {
-	id, err := osb.ParseID("12345678-9ABC-def0-1234-56789abcdef0")
-	if err != nil || id.String() != "12345678-9abc-def0-1234-56789abcdef0" {
-		t.Errorf("got %v, %v, want the id in lower case", id, err)
-	}
-	if id != (osb.ID{0x12, 0x34, 0x56, 0x78, 0x9a, 0xbc, 0xde, 0xf0, 0x12, 0x34, 0x56, 0x78, 0x9a, 0xbc, 0xde, 0xf0}) {
-		t.Errorf("bytes: got %x, want those of the text", id[:])
-	}
+	id := need(osb.ParseID("12345678-9ABC-def0-1234-56789abcdef0"))(t)
+	equal(t, "in lower case", id.String(), "12345678-9abc-def0-1234-56789abcdef0")
+	half := [8]byte{0x12, 0x34, 0x56, 0x78, 0x9a, 0xbc, 0xde, 0xf0}
+	equal(t, "bytes", string(id[:]), string(half[:])+string(half[:]))
 	for _, text := range []string{"", "1", "12345678-9abc-def0-1234-56789abcdef", "12345678_9abc-def0-1234-56789abcdef0"} {
 		t.Run(fmt.Sprintf("%q", text), func(t *testing.T) {
 			before := id
@@ -52,14 +49,11 @@ func TestID(t *testing.T) {
 			}
 		})
 	}
-	as, err := json.Marshal(map[osb.ID]osb.ID{id: id})
-	if err != nil || string(as) != `{"`+id.String()+`":"`+id.String()+`"}` {
-		t.Errorf("got %s, %v, want the id twice", as, err)
-	}
+	as := need(json.Marshal(map[osb.ID]osb.ID{id: id}))(t)
+	equal(t, "the id twice", string(as), `{"`+id.String()+`":"`+id.String()+`"}`)
 	var back map[osb.ID]osb.ID
-	if err := json.Unmarshal(as, &back); err != nil || back[id] != id {
-		t.Errorf("got %v, %v, want %v", back, err, id)
-	}
+	check(t, json.Unmarshal(as, &back))
+	equal(t, "what is read", back[id], id)
 	defer func() {
 		if recover() == nil {
 			t.Error("MustParseID of no id: got no panic, want one")
@@ -78,9 +72,9 @@ func TestKey(t *testing.T) {
 	} {
 		t.Run(text, func(t *testing.T) {
 			bindingText := strings.TrimPrefix(strings.TrimPrefix(text, one), "/")
-			if key, err := osb.KeyOfTexts(one, bindingText); err != nil || key != want || key.String() != text {
-				t.Errorf("got %v, %v, want %v with the text %s", key, err, want, text)
-			}
+			key := need(osb.KeyOfTexts(one, bindingText))(t)
+			equal(t, "the key", key, want)
+			equal(t, "its text", key.String(), text)
 		})
 	}
 	for _, texts := range [][2]string{{"", ""}, {"", one}, {one, "\xff"}} {
@@ -94,8 +88,7 @@ func TestKey(t *testing.T) {
 func TestRoundTrips(t *testing.T) {
 	record, _ := osb.Create(instance, service, plan, false)
 	holding := holdingOf(t, "ready:sync deprovision:sync")
-	held, err := holding.MarshalJSON()
-	check(t, err)
+	held := need(holding.MarshalJSON())(t)
 	for _, row := range []struct {
 		value driver.Valuer
 		text  string
@@ -119,14 +112,11 @@ func TestRoundTrips(t *testing.T) {
 			if err != nil || column != row.text || !driver.IsValue(column) {
 				t.Errorf("got %v, %v, want %s", column, err, row.text)
 			}
-			if said := fmt.Sprint(row.value); said != row.text {
-				t.Errorf("got %s, want %s", said, row.text)
-			}
+			equal(t, "what is printed", fmt.Sprint(row.value), row.text)
 			for _, column := range []any{row.text, []byte(row.text)} {
 				scanner, read := row.fresh()
-				if err := scanner.Scan(column); err != nil || read() != row.value {
-					t.Errorf("%s: got %v, %v, want %v", column, read(), err, row.value)
-				}
+				check(t, scanner.Scan(column))
+				equal(t, "what is read is what was written", read() == row.value, true)
 			}
 			for _, column := range []any{nil, int64(1)} {
 				if scanner, _ := row.fresh(); scanner.Scan(column) == nil {
@@ -145,15 +135,12 @@ func TestJSON(t *testing.T) {
 	}
 	record, _ := osb.Create(instance, service, plan, true)
 	given := row{instance, record, holdingOf(t, "ready:sync")}
-	text, err := json.Marshal(given)
+	text := need(json.Marshal(given))(t)
 	wanted := `{"ID":"00000000-0000-0000-0000-000000000001","Record":` + createdText + `,"Holding":` + given.Holding.String() + `}`
-	if err != nil || string(text) != wanted {
-		t.Errorf("got %s, %v, want %s", text, err, wanted)
-	}
+	equal(t, "the text", string(text), wanted)
 	var back row
-	if err := json.Unmarshal(text, &back); err != nil || back != given {
-		t.Errorf("got %+v, %v, want %+v", back, err, given)
-	}
+	check(t, json.Unmarshal(text, &back))
+	equal(t, "what is read", back, given)
 }
 
 // The parts of a record and of a holding, one of each.
@@ -162,9 +149,8 @@ func TestParts(t *testing.T) {
 	if record.Service() != service || record.Plan() != plan || record.Attempt() != 2 {
 		t.Errorf("got %v, want the service, the plan and the attempt 2", record)
 	}
-	if record.State() != osb.StatePolling || record.InFlight() != osb.KindPoll {
-		t.Errorf("got %v and %v, want polling and poll", record.State(), record.InFlight())
-	}
+	equal(t, "the state", record.State(), osb.StatePolling)
+	equal(t, "in flight", record.InFlight(), osb.KindPoll)
 	holding := holdingOf(t, "ready:sync deprovision:sync #01")
 	row, held := holding.Row()
 	if !held || row != (osb.BrokerRow{Service: service, Plan: plan, Phase: osb.PhaseReady}) {
@@ -176,9 +162,7 @@ func TestParts(t *testing.T) {
 	if holding.HasTombstone() || !holdingOf(t, "tombstone").HasTombstone() {
 		t.Errorf("got %v, want that a tombstone alone has one", holding.HasTombstone())
 	}
-	if holding.Attributes() != digestOf(t, "01") {
-		t.Errorf("got %x, want the digest of 01", holding.Attributes())
-	}
+	equal(t, "the attributes", holding.Attributes(), digestOf(t, "01"))
 }
 
 // What has no name among the numbers is printed as its number.
@@ -191,9 +175,7 @@ func TestWords(t *testing.T) {
 		{osb.WorkNone, "none"}, {osb.WorkStartDeleting, "start-deleting"}, {osb.Work(200), "Work(200)"},
 	} {
 		t.Run(row.word, func(t *testing.T) {
-			if row.value.String() != row.word {
-				t.Errorf("got %v, want %s", row.value, row.word)
-			}
+			equal(t, "the word", row.value.String(), row.word)
 		})
 	}
 }
@@ -209,17 +191,12 @@ type both struct {
 // arrive has a request written, read by the broker, and answered. It returns the answer as it is sent.
 func (b *both) arrive(request osb.Request) (status int, body []byte) {
 	b.t.Helper()
-	method, err := osb.WriteMethod(request.Kind)
-	check(b.t, err)
+	method := need(osb.WriteMethod(request.Kind))(b.t)
 	texts := guids(request)
-	target, err := osb.WriteNamedTarget("/postgres", request, texts, nil)
-	check(b.t, err)
-	sent, err := osb.WriteNamedBody(request.Kind, texts, "org", "space", []byte("{}"))
-	check(b.t, err)
-	received, err := osb.ReceiveRequest("/postgres", 1000, method, target, sent)
-	check(b.t, err)
-	read, err := received.Asked.Request(b.holding.Row())
-	check(b.t, err)
+	target := need(osb.WriteNamedTarget("/postgres", request, texts, nil))(b.t)
+	sent := need(osb.WriteNamedBody(request.Kind, texts, "org", "space", []byte("{}")))(b.t)
+	received := need(osb.ReceiveRequest("/postgres", 1000, method, target, sent))(b.t)
+	read := need(received.Asked.Request(b.holding.Row()))(b.t)
 	holding, begun, err := b.holding.Begin(osb.ModeAsync, read, osb.Rules{})
 	check(b.t, err)
 	answer := begun.Answer
@@ -229,16 +206,14 @@ func (b *both) arrive(request osb.Request) (status int, body []byte) {
 		check(b.t, err)
 	}
 	b.holding = b.reload(holding)
-	body, err = osb.WriteDescribedAnswer(answer, nil, nil)
-	check(b.t, err)
+	body = need(osb.WriteDescribedAnswer(answer, nil, nil))(b.t)
 	return int(answer.Status), body
 }
 
 // reload is the holding that is read from the text of a holding.
 func (b *both) reload(holding osb.Holding) (read osb.Holding) {
 	b.t.Helper()
-	text, err := holding.MarshalJSON()
-	check(b.t, err)
+	text := need(holding.MarshalJSON())(b.t)
 	check(b.t, read.UnmarshalJSON(text))
 	return read
 }
@@ -246,12 +221,9 @@ func (b *both) reload(holding osb.Holding) (read osb.Holding) {
 // take has the platform take an answer to a request, and fails unless the record is in this state then.
 func (b *both) take(sent osb.Sent, status int, body []byte, state osb.State) {
 	b.t.Helper()
-	answer, err := osb.ReadAnswer(sent.Request.Kind, uint16(status), body)
-	check(b.t, err)
-	record, err := b.record.Answer(sent.Attempt, answer)
-	check(b.t, err)
-	text, err := record.MarshalJSON()
-	check(b.t, err)
+	answer := need(osb.ReadAnswer(sent.Request.Kind, uint16(status), body))(b.t)
+	record := need(b.record.Answer(sent.Attempt, answer))(b.t)
+	text := need(record.MarshalJSON())(b.t)
 	check(b.t, b.record.UnmarshalJSON(text))
 	if b.record.State() != state {
 		b.t.Fatalf("%d %s: got %v, want %v", status, body, b.record.State(), state)
@@ -276,12 +248,35 @@ func (b *both) holds(holding string) {
 	}
 }
 
+// isTooLate is that a Provision that arrives after its deletion is rejected.
+func (b *both) isTooLate(request osb.Request) {
+	b.t.Helper()
+	status, _ := b.arrive(request)
+	equal(b.t, "the status", status, http.StatusConflict)
+	b.holds("tombstone")
+}
+
 // finish ends the operation of the broker.
 func (b *both) finish() {
 	b.t.Helper()
-	holding, err := b.holding.Finish(true)
-	check(b.t, err)
-	b.holding = holding
+	b.holding = need(b.holding.Finish(true))(b.t)
+}
+
+// need returns what a call has returned, and ends the test at its error.
+func need[T any](of T, err error) func(testing.TB) T {
+	return func(t testing.TB) T {
+		t.Helper()
+		check(t, err)
+		return of
+	}
+}
+
+// equal fails the test unless two values are equal.
+func equal[T comparable](t testing.TB, what string, got, want T) {
+	t.Helper()
+	if got != want {
+		t.Errorf("%s: got %+v, want %+v", what, got, want)
+	}
 }
 
 // check ends the test at an error.
@@ -303,17 +298,12 @@ func TestBothSides(t *testing.T) {
 	b.step(osb.StatePolling, "making:async")
 	b.finish()
 	b.step(osb.StateReady, "ready:async")
-	record, err := b.record.Remove()
-	check(t, err)
-	b.record = record
+	b.record = need(b.record.Remove())(t)
 	b.step(osb.StateCleaningPolling, "deleting:async")
 	b.step(osb.StateCleaningPolling, "deleting:async")
 	b.finish()
 	b.step(osb.StateGone, "tombstone")
-	if status, body = b.arrive(created.Request); status != http.StatusConflict {
-		t.Errorf("got %d %s, want 409", status, body)
-	}
-	b.holds("tombstone")
+	b.isTooLate(created.Request)
 }
 
 // The Provision arrives only after its deletion was answered with 410: it is rejected, and nothing is held.
@@ -324,10 +314,7 @@ func TestProvisionAfterThe410(t *testing.T) {
 	b.record, err = record.Timeout(created.Attempt)
 	check(t, err)
 	b.step(osb.StateGone, "tombstone")
-	if status, body := b.arrive(created.Request); status != http.StatusConflict {
-		t.Errorf("got %d %s, want 409", status, body)
-	}
-	b.holds("tombstone")
+	b.isTooLate(created.Request)
 }
 
 // The library that is linked has the version of the header over which the package was compiled.
