@@ -21,6 +21,12 @@ func (h *Handler) SetPatience(patience time.Duration) { h.patience = patience }
 // SetStay sets how long a request is kept, if ids return.
 func (s *Service) SetStay(stay time.Duration) { s.stay = stay }
 
+// TakeUp goes on with a key as a Sweeper does.
+func (s *Service) TakeUp(ctx context.Context, key Key) error {
+	_, err := s.takeUp(ctx, key)
+	return err
+}
+
 // SetBudgets sets how many bytes of bodies may be in memory, and how many are parsed at once.
 func (h *Handler) SetBudgets(bodies, parsed int) {
 	h.bodies, h.parsed = budget.New(bodies), budget.New(parsed)

@@ -37,17 +37,11 @@ func backendResultOf(err error) backendResult {
 	return backendUnused
 }
 
-// TakeUp goes on with a key: it does pending work that a dead worker has left, goes on with the operation that runs,
+// takeUp goes on with a key: it does pending work that a dead worker has left, goes on with the operation that runs,
 // and gives up a creation that has waited too long for its first Poll. If somebody else is at the key, it does nothing.
 //
 // Errors: those of the store, the locks and the backend; ErrStillTaken. What isn't done stays as it is, to be taken up
 // again.
-func (s *Service) TakeUp(ctx context.Context, key Key) error {
-	_, err := s.takeUp(ctx, key)
-	return err
-}
-
-// takeUp is TakeUp, and returns how it went, too.
 func (s *Service) takeUp(ctx context.Context, key Key) (backendResult, error) {
 	lock, err := s.tryLock(ctx, key)
 	if err != nil {

@@ -14,6 +14,7 @@ import (
 	"time"
 
 	"pippinterm/broker"
+	"pippinterm/broker/brokertest"
 	"pippinterm/internal/diff"
 	"pippinterm/internal/journalfile"
 	"pippinterm/osb"
@@ -267,8 +268,7 @@ func TestSwept(t *testing.T) {
 	s.ask("PUT", one, later)
 	s.ask("POLL", one, later)
 	from := len(s.lines())
-	id := diff.Value(osb.ParseID(one))(t)
-	check(t, s.service.TakeUp(context.Background(), osb.InstanceKey(id)))
+	brokertest.Sweep(t, s.service, s.store, diff.Value(osb.KeyOfTexts(one, ""))(t))()
 	want(t, "taken up", s.events(from), "look begun; look ended absent done; create begun; create ended done; "+
 		"look begun; look ended whole done; changed")
 	for _, line := range s.lines()[from:] {
@@ -453,10 +453,8 @@ func TestUnbindFailed(t *testing.T) {
 	ready := s.lines()[len(s.lines())-2].After
 	s.ask("PUT", one+"/"+bind, bound)
 	s.ask("POLL", one+"/"+bind, "")
-	instance := diff.Value(osb.ParseID(one))(t)
-	binding := diff.Value(osb.ParseID(bind))(t)
 	s.seller.fails = errFull
-	check(t, s.service.TakeUp(context.Background(), osb.BindingKey(instance, binding)))
+	brokertest.Sweep(t, s.service, s.store, diff.Value(osb.KeyOfTexts(one, bind))(t))()
 	from := len(s.lines())
 	s.ask("DELETE", one, bound)
 	want(t, "deletion", s.events(from), "arrived; changed; changed; answered Unprocessable Entity concurrency-error")

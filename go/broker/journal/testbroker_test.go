@@ -74,6 +74,8 @@ func (m *memory) Read(_ context.Context, key broker.Key) (broker.Snapshot, error
 	return m.snapshot(key), nil
 }
 
+func (*memory) UnfinishedKeys(context.Context) ([]broker.Key, error) { return nil, nil }
+
 func (m *memory) Change(_ context.Context, key broker.Key, step broker.Step) error {
 	m.turn.Lock()
 	defer m.turn.Unlock()

@@ -16,6 +16,7 @@ import (
 
 	"pippinterm/broker"
 	"pippinterm/broker/backend/folders"
+	"pippinterm/broker/brokertest"
 	brokersqlite "pippinterm/broker/sqlite"
 	"pippinterm/internal/diff"
 	"pippinterm/internal/waits"
@@ -439,7 +440,7 @@ func newTestBroker(t *testing.T, part string, options broker.ServiceOptions) *te
 	s.store = store
 	s.handler, err = broker.NewHandler(ctx, made, broker.HandlerOptions{
 		Users: users, LongestBody: 1000, AtOnce: 4, Observer: broker.Silent{},
-		Touch: func(key broker.Key) { check(t, made.TakeUp(ctx, key)) },
+		Touch: func(key broker.Key) { brokertest.Sweep(t, made, store, key)() },
 	})
 	check(t, err)
 	return s

@@ -10,14 +10,17 @@ import (
 	"path/filepath"
 	"sort"
 	"strings"
+	"sync/atomic"
 	"syscall"
 	"testing"
 	"time"
 
 	"pippinterm/broker"
+	"pippinterm/broker/brokertest"
 	"pippinterm/broker/sqlite"
 	"pippinterm/internal/diff"
 	"pippinterm/internal/filelock"
+	"pippinterm/internal/waits"
 	"pippinterm/osb"
 )
 
@@ -580,15 +583,50 @@ type lockingBackend interface {
 	broker.LockBackend
 }
 
-// serviceOf returns a service over a backend, and its store.
-func serviceOf(t *testing.T, backend lockingBackend, observer broker.Observer) (*broker.Service, broker.Store) {
+// countedLocks count how often a lock was tried.
+type countedLocks struct {
+	broker.Locks
+	tries atomic.Int32
+}
+
+func (l *countedLocks) TryLock(ctx context.Context, key broker.Key) (broker.Lock, error) {
+	defer l.tries.Add(1)
+	return l.Locks.TryLock(ctx, key)
+}
+
+// A bench is a service over a backend.
+type bench struct {
+	*broker.Service
+	store *sqlite.Store
+	locks *countedLocks
+}
+
+func benchOf(t *testing.T, backend lockingBackend, observer broker.Observer) *bench {
 	t.Helper()
 	document := diff.Value(os.ReadFile(examples + "own-catalogue.json"))(t)
 	catalogue := diff.Value(broker.NewCatalogue(document, true))(t)
 	store := diff.Value(sqlite.Open(ctx, filepath.Join(t.TempDir(), "holdings.sqlite"), broker.Silent{}))(t)
 	t.Cleanup(func() { _ = store.Close() })
 	rules := broker.ServiceOptions{WaitForPoll: time.Minute}
-	return broker.NewService(catalogue, store, backend, backend.Locks(), rules, observer), store
+	locks := &countedLocks{Locks: backend.Locks()}
+	return &bench{broker.NewService(catalogue, store, backend, locks, rules, observer), store, locks}
+}
+
+// isEndedAfter fails unless the work stays pending as long as a process has its lock, whatever a sweeper does, and ends
+// once goOn has had that process end.
+func (b *bench) isEndedAfter(t *testing.T, goOn *os.File) {
+	t.Helper()
+	finish, before := brokertest.Sweep(t, b.Service, b.store, instance.Key), b.locks.tries.Load()
+	waits.Until(t, "a sweeper has tried the lock", func() bool { return b.locks.tries.Load() > before+1 })
+	if snapshot := diff.Value(b.store.Read(ctx, instance.Key))(t); !isPending(snapshot) {
+		t.Errorf("while the process runs: got %v, want the work pending", snapshot.Holding)
+	}
+	diff.Value(goOn.WriteString("go\n"))(t)
+	finish()
+	snapshot := diff.Value(b.store.Read(ctx, instance.Key))(t)
+	if row, isHeld := snapshot.Holding.Row(); !isHeld || row.Phase != osb.PhaseReady || isPending(snapshot) {
+		t.Errorf("in the end: got %v in the store, want it ready", snapshot.Holding)
+	}
 }
 
 // provision is the Provision of the instance.
@@ -617,22 +655,12 @@ func TestNobodyIsToldWhatAProcessStillChanges(t *testing.T) {
 	backend.grace = 200 * time.Millisecond
 	fifo(t, backend.state+"/left")
 	goOn := fifo(t, backend.state+"/go")
-	service, store := serviceOf(t, backend, broker.Silent{})
-	response, err := service.Handle(ctx, provision(t))
+	b := benchOf(t, backend, broker.Silent{})
+	response, err := b.Handle(ctx, provision(t))
 	if !errors.Is(err, broker.ErrNobodyKnows) || !strings.Contains(err.Error(), filelock.ErrLent.Error()) {
 		t.Errorf("the Provision: got %v, %v, want %v", response, err, filelock.ErrLent)
 	}
-	diff.NoError(t, service.TakeUp(ctx, instance.Key), "TakeUp while the process runs")
-	if snapshot, err := store.Read(ctx, instance.Key); err != nil || !isPending(snapshot) {
-		t.Errorf("got %v, %v, want the work pending", snapshot.Holding, err)
-	}
-	diff.Value(goOn.WriteString("go\n"))(t)
-	mustLock(t, backend.Locks()).Unlock()
-	check(t, service.TakeUp(ctx, instance.Key))
-	snapshot := diff.Value(store.Read(ctx, instance.Key))(t)
-	if row, isHeld := snapshot.Holding.Row(); !isHeld || row.Phase != osb.PhaseReady || isPending(snapshot) {
-		t.Errorf("in the end: got %v in the store, want it ready", snapshot.Holding)
-	}
+	b.isEndedAfter(t, goOn)
 }
 
 func isPending(snapshot broker.Snapshot) bool {

@@ -17,7 +17,6 @@ import (
 	"pippinterm/broker"
 	"pippinterm/internal/diff"
 	"pippinterm/internal/filelock"
-	"pippinterm/osb"
 )
 
 func TestMostOutput(t *testing.T) {
@@ -367,12 +366,12 @@ func TestWorkOverTheLimitEnds(t *testing.T) {
 		*) exit 5 ;;
 	esac`)
 	reported := &failures{}
-	service, store := serviceOf(t, hasty{backend, 200 * time.Millisecond}, reported)
-	response, err := service.Handle(ctx, provision(t))
+	b := benchOf(t, hasty{backend, 200 * time.Millisecond}, reported)
+	response, err := b.Handle(ctx, provision(t))
 	if err != nil || response.Status != http.StatusInternalServerError {
 		t.Errorf("the Provision: got %v, %v, want 500", response, err)
 	}
-	snapshot := diff.Value(store.Read(ctx, instance.Key))(t)
+	snapshot := diff.Value(b.store.Read(ctx, instance.Key))(t)
 	if row, isHeld := snapshot.Holding.Row(); isHeld || isPending(snapshot) {
 		t.Errorf("in the end: got %v in the store, want none", row)
 	}
@@ -406,8 +405,8 @@ func isPendingAfter(t *testing.T, limit time.Duration) bool {
 	esac`)
 	backend.grace = 200 * time.Millisecond
 	left, goOn := fifo(t, backend.state+"/left"), fifo(t, backend.state+"/go")
-	service, store := serviceOf(t, hasty{backend, limit}, broker.Silent{})
-	response, err := service.Handle(ctx, provision(t))
+	b := benchOf(t, hasty{backend, limit}, broker.Silent{})
+	response, err := b.Handle(ctx, provision(t))
 	check(t, left.SetReadDeadline(time.Now().Add(time.Millisecond)))
 	if _, late := left.Read(make([]byte, 1)); errors.Is(late, os.ErrDeadlineExceeded) {
 		return false
@@ -416,17 +415,6 @@ func isPendingAfter(t *testing.T, limit time.Duration) bool {
 		!strings.Contains(err.Error(), "it ran longer than") {
 		t.Errorf("the Provision: got %v, %v, want %v", response, err, filelock.ErrLent)
 	}
-	check(t, service.TakeUp(ctx, instance.Key))
-	snapshot, err := store.Read(ctx, instance.Key)
-	if check(t, err); !isPending(snapshot) {
-		t.Errorf("while the process runs: got %v, want the work pending", snapshot.Holding)
-	}
-	diff.Value(goOn.WriteString("go\n"))(t)
-	mustLock(t, backend.Locks()).Unlock()
-	check(t, service.TakeUp(ctx, instance.Key))
-	snapshot = diff.Value(store.Read(ctx, instance.Key))(t)
-	if row, isHeld := snapshot.Holding.Row(); !isHeld || row.Phase != osb.PhaseReady || isPending(snapshot) {
-		t.Errorf("in the end: got %v in the store, want it ready", snapshot.Holding)
-	}
+	b.isEndedAfter(t, goOn)
 	return true
 }
