@@ -374,9 +374,8 @@ func TestALateWorkerOfTheOldLife(t *testing.T) {
 		}
 		l.clock.set(time.Hour)
 		hangs := l.service(t, away{backend.shelf}, losableLocks{newMemoryLocks()}, anHour)
-		if _, err := hangs.Handle(ctx, provision(now)); !errors.Is(err, broker.ErrNobodyKnows) {
-			t.Error(err)
-		}
+		_, err := hangs.Handle(ctx, provision(now))
+		diff.ErrorIs(t, err, broker.ErrNobodyKnows, "a creation while the backend is away")
 	}
 	if given, err := old.Handle(ctx, provision(now)); !errors.Is(err, broker.ErrLostWork) {
 		t.Errorf("got %+v, %v, want %v", given, err, broker.ErrLostWork)

@@ -283,7 +283,7 @@ func equal[T comparable](t testing.TB, what string, got, want T) {
 func check(t testing.TB, err error) {
 	t.Helper()
 	if err != nil {
-		t.Fatal(err)
+		t.Fatalf("got the error %v, want none", err)
 	}
 }
 

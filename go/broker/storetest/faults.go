@@ -312,7 +312,7 @@ var errTied = errors.New("it was to look")
 func (f *faulty) tie(t *testing.T) error {
 	want, err := tie(f.beside, errTied)
 	if !errors.Is(err, errTied) {
-		t.Fatal(err)
+		t.Fatalf("got the error %v, want %v", err, errTied)
 	}
 	return f.store.Tie(context.Background(), func(isUsed bool) error {
 		f.want("isUsed", isUsed, want)

@@ -462,7 +462,7 @@ func (s *sender) exchange(text string) (statuses []int, given string) {
 		err = conn.SetDeadline(time.Now().Add(20 * time.Second))
 	}
 	if err != nil {
-		s.t.Error(err)
+		s.t.Errorf("got the error %v, want a connection", err)
 		return nil, ""
 	}
 	sent := make(chan struct{})

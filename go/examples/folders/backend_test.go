@@ -84,9 +84,7 @@ func TestUnfinishedDeletion(t *testing.T) {
 		t.Errorf("got the failure %v, %v and the error %v, want a part", failed, there, err)
 	}
 	check(t, os.Chmod(path+".part", 0o700))
-	if err := b.Delete(ctx, ofInstance); err != nil {
-		t.Error(err)
-	}
+	check(t, b.Delete(ctx, ofInstance))
 }
 
 // withoutRights gives a folder to a user who isn't root, and has the calling goroutine use files as that user until the
@@ -111,6 +109,6 @@ func withoutRights(t *testing.T, folder string) (restore func()) {
 func check(t testing.TB, err error) {
 	t.Helper()
 	if err != nil {
-		t.Fatal(err)
+		t.Fatalf("got the error %v, want none", err)
 	}
 }

@@ -112,7 +112,7 @@ func (s *servedBroker) sells(names ...string) {
 	s.t.Helper()
 	found, err := os.ReadDir(filepath.Join(s.state, "sold"))
 	if err != nil && !os.IsNotExist(err) {
-		s.t.Fatal(err)
+		s.t.Fatalf("got the error %v, want the folder or none", err)
 	}
 	var all []string
 	for _, entry := range found {

@@ -135,7 +135,7 @@ func serveBroker(t *testing.T, sold *shelf) (port string) {
 func need(t *testing.T, err error) {
 	t.Helper()
 	if err != nil {
-		t.Fatal(err)
+		t.Fatalf("got the error %v, want none", err)
 	}
 }
 

@@ -69,7 +69,7 @@ func TestGoroutinesExcludeEachOther(t *testing.T) {
 			for k := 0; k < 10; k++ {
 				lock, err := locks.Lock(context.Background(), one)
 				if err != nil {
-					t.Error(err)
+					t.Errorf("got the error %v, want the lock", err)
 					return
 				}
 				diff.Equal(t, atomic.AddInt32(&inside, 1), 1, "")

@@ -42,7 +42,7 @@ func openJournal(t *testing.T, path string, most int64) *Writer {
 	t.Helper()
 	w := diff.Value(Open(Options{
 		Path: path, Side: "broker", Most: most, Started: map[string]string{"version": "one"},
-		Failed: func(err error) { t.Error(err) },
+		Failed: func(err error) { t.Errorf("got the error %v, want each line written", err) },
 	}))(t)
 	return w
 }

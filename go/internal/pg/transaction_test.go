@@ -195,7 +195,7 @@ func TestWorkThatEndsItsGoroutine(t *testing.T) {
 		defer close(ended)
 		conn, err := db.Conn(context.Background())
 		if err != nil {
-			t.Error(err)
+			t.Errorf("got the error %v, want a connection", err)
 			return
 		}
 		defer conn.Close()

@@ -558,7 +558,7 @@ func newTestPlatform(t *testing.T) *testPlatform {
 	s.store = &faulty{Store: store}
 	writer := diff.Value(Open(Options{
 		Path: s.path, Most: 1 << 20, Started: StartMembers("1.2", "one"),
-		Failed: func(err error) { t.Error(err) },
+		Failed: func(err error) { t.Errorf("got the error %v, want each line written", err) },
 	}))(t)
 	to := New(writer, plainVault{}, func(err error) bool { return errors.Is(err, errDoubt) })
 	s.to = to

@@ -116,7 +116,7 @@ func TestLockExcludes(t *testing.T) {
 			defer all.Done()
 			taken, err := d.Locks().Lock(context.Background(), key)
 			if err != nil {
-				t.Error(err)
+				t.Errorf("got the error %v, want the lock", err)
 				return
 			}
 			at++ // the race detector sees two at once

@@ -57,7 +57,6 @@ func TestPages(t *testing.T) {
 }
 
 func TestNoFolder(t *testing.T) {
-	if err := Write(commands(), filepath.Join(t.TempDir(), "absent"), time.Now()); !os.IsNotExist(err) {
-		t.Error(err)
-	}
+	err := Write(commands(), filepath.Join(t.TempDir(), "absent"), time.Now())
+	diff.ErrorIs(t, err, os.ErrNotExist, "pages in no folder")
 }
