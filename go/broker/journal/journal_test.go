@@ -83,9 +83,7 @@ func TestMembers(t *testing.T) {
 	}
 	var holding osb.Holding
 	check(t, holding.UnmarshalJSON([]byte(text[""])))
-	if key := osb.InstanceKey(number); holding != s.store.entries[key].Holding {
-		t.Errorf("the journal: got %v, want %v held", holding, s.store.entries[key].Holding)
-	}
+	diff.Equal(t, holding, s.store.entries[osb.InstanceKey(number)].Holding, "the journal")
 	bound, err := osb.ParseID(bind)
 	check(t, err)
 	holding, err = osb.BindingHoldingFromText([]byte(text[bind]))
@@ -113,9 +111,7 @@ func TestAttributes(t *testing.T) {
 			arrived[line.Visit] = line.Attributes
 		case line.Event == "changed" && line.Before == "":
 			begun++
-			if !strings.Contains(line.After, `"attributes":"`+arrived[line.Visit]+`"`) {
-				t.Errorf("got %+v, want the attributes %s", line, arrived[line.Visit])
-			}
+			diff.Contains(t, line.After, `"attributes":"`+arrived[line.Visit]+`"`, "%+v", line)
 		}
 	}
 	if begun != 2 || arrived[1] == strings.Repeat("0", 64) {
@@ -134,15 +130,11 @@ func TestCredentials(t *testing.T) {
 	for _, line := range s.lines() {
 		if line.Credentials != "" {
 			found += line.Event + " "
-			if line.Credentials != digest {
-				t.Errorf("got %+v, want %s", line, digest)
-			}
+			diff.Equal(t, line.Credentials, digest, "%+v", line)
 		}
 	}
 	want(t, "with a digest", found, "work changed answered answered ")
-	if fetched.Body.String() != given.Body.String() {
-		t.Errorf("fetched: got %s, want %s", fetched.Body, given.Body)
-	}
+	diff.Equal(t, fetched.Body.String(), given.Body.String(), "fetched")
 }
 
 // The call for the credentials of a binding that exists is written down before it begins, and with their digest.
@@ -227,9 +219,7 @@ func TestTriedAgain(t *testing.T) {
 	s.ask("PUT", one, later)
 	want(t, "three tries", s.events(1), "arrived; changed; undone; changed; undone; changed; answered Accepted empty")
 	for at, number := range map[int]int64{2: 1, 3: 1, 4: 2, 5: 2, 6: 3} {
-		if it := s.lines()[at]; it.Change != number {
-			t.Errorf("line %d: got %+v, want the change %d", at, it, number)
-		}
+		diff.Equal(t, s.lines()[at].Change, number, "line %d", at)
 	}
 }
 
@@ -272,9 +262,7 @@ func TestSwept(t *testing.T) {
 	want(t, "taken up", s.events(from), "look begun; look ended absent done; create begun; create ended done; "+
 		"look begun; look ended whole done; changed")
 	for _, line := range s.lines()[from:] {
-		if line.Visit != 0 {
-			t.Errorf("got %+v, want no visit", line)
-		}
+		diff.Equal(t, line.Visit, 0, "%+v", line)
 	}
 }
 
@@ -287,9 +275,8 @@ func TestResults(t *testing.T) {
 			s := newTestBroker(t)
 			s.seller.fails = fails
 			s.ask("PUT", one, atOnce)
-			if !strings.Contains(s.events(1), "create begun; create ended "+name+"; look begun") {
-				t.Errorf("want the creation to end with %s, got %s", name, s.events(1))
-			}
+			diff.Contains(t, s.events(1), "create begun; create ended "+name+"; look begun",
+				"want the creation to end with %s", name)
 		})
 	}
 	s := newTestBroker(t)
@@ -313,9 +300,7 @@ func TestTimes(t *testing.T) {
 	if got := s.lines()[1]; got.Event != "arrived" || got.Time <= ahead || got.Time > ahead+1e6 {
 		t.Errorf("got %+v, want a time right after %d", got, ahead)
 	}
-	if given.Header().Get(journalfile.Header) != "" {
-		t.Errorf("a stranger: got the time in %v, want none", given.Header())
-	}
+	diff.Equal(t, given.Header().Get(journalfile.Header), "", "a stranger, %v", given.Header())
 }
 
 // No parameter, credential or password stands in a journal.
@@ -330,13 +315,9 @@ func TestNoSecrets(t *testing.T) {
 	s.ask("DELETE", one, atOnce)
 	text := diff.Value(os.ReadFile(s.path))(t)
 	for _, secret := range []string{password, parameter, credential} {
-		if strings.Contains(string(text), secret) {
-			t.Errorf("the journal: got %s in it, want no secret", secret)
-		}
+		diff.Lacks(t, string(text), secret, "the journal")
 	}
-	if !strings.Contains(string(text), bind) {
-		t.Errorf("got %s, want it to name the binding", text)
-	}
+	diff.Contains(t, string(text), bind, "")
 }
 
 // If the journal can't be written, requests are answered as before.

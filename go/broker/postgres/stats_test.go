@@ -41,12 +41,8 @@ func TestUnfinishedStatsReadNoOtherRows(t *testing.T) {
 		"INSERT INTO osb_bindings (instance, binding, holding, held, unfinished) SELECT id, id, "+ended+
 			", false, false FROM osb_holdings",
 		"ANALYZE osb_holdings", "ANALYZE osb_bindings")
-	if stats, err := store.Stats(ctx); err != nil || stats != (broker.Stats{Tombstones: 40_000}) {
-		t.Errorf("got %+v and the error %v, want 40,000 tombstones", stats, err)
-	}
-	if stats, err := store.UnfinishedStats(ctx); err != nil || stats != (broker.Stats{}) {
-		t.Errorf("got %+v and the error %v, want nothing unfinished", stats, err)
-	}
+	diff.Equal(t, diff.Value(store.Stats(ctx))(t), broker.Stats{Tombstones: 40_000}, "")
+	diff.Equal(t, diff.Value(store.UnfinishedStats(ctx))(t), broker.Stats{}, "")
 	rows, err := store.db.Query("EXPLAIN " + unfinishedStats)
 	check(t, err)
 	defer rows.Close()

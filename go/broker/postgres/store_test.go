@@ -107,9 +107,7 @@ func open(t *testing.T, url string) *postgres.Store {
 func TestReadyWithoutAName(t *testing.T) {
 	store := open(t, pgtest.Schema(t, pgtest.URL(t), "osb_store_without_a_name"))
 	defer store.Close()
-	if err := store.Ready(context.Background()); err == nil || !strings.Contains(err.Error(), "no name yet") {
-		t.Errorf("got %v, want that it has no name yet", err)
-	}
+	diff.ErrorContains(t, store.Ready(context.Background()), "no name yet", "")
 	tied := store.Tie(context.Background(), func(bool) error { return nil })
 	if tied == nil || !strings.Contains(tied.Error(), "no name yet") {
 		t.Errorf("Tie: got %v, want that it has no name yet", tied)
@@ -124,16 +122,12 @@ func TestReadyCommits(t *testing.T) {
 	diff.Value(store.Begin(ctx, broker.Untied))(t)
 	diff.NoError(t, store.Ready(ctx), "")
 	trigger(t, url, "osb_store", "DEFERRABLE INITIALLY DEFERRED", "RAISE EXCEPTION 'no';")
-	if err := store.Ready(ctx); err == nil {
-		t.Error("the commit has failed: got nil, want an error")
-	}
+	diff.Error(t, store.Ready(ctx), "the commit has failed")
 }
 
 func TestStoreWithoutConnections(t *testing.T) {
 	_, err := postgres.Open(context.Background(), "postgresql://127.0.0.1:1/none", 0, broker.Silent{})
-	if err == nil || !strings.Contains(err.Error(), "at least 1 connection") {
-		t.Errorf("got %v, want that it needs one", err)
-	}
+	diff.ErrorContains(t, err, "at least 1 connection", "")
 	_, err = postgres.Open(context.Background(), "no URL", 1, broker.Silent{})
 	diff.ErrorIs(t, err, pg.ErrBadAddress, "")
 }
@@ -167,9 +161,7 @@ func TestTablesOf02(t *testing.T) {
 	ctx := context.Background()
 	for n := 0; n < 2; n++ { // the second time nothing is left to do
 		store := open(t, url)
-		if name, err := store.Name(ctx); err != nil || name != "of 0.2" {
-			t.Errorf("the name: got %q, %v, want \"of 0.2\"", name, err)
-		}
+		diff.Equal(t, diff.Value(store.Name(ctx))(t), "of 0.2", "the name")
 		snapshot, err := store.Read(ctx, osb.InstanceKey(id(1)))
 		row, isHeld := snapshot.Holding.Row()
 		if err != nil || !isHeld || row.Phase != osb.PhaseReady || snapshot.Request != nil {
@@ -179,9 +171,7 @@ func TestTablesOf02(t *testing.T) {
 		if err != nil || len(keys) != 1 || keys[0] != osb.InstanceKey(id(2)) {
 			t.Errorf("unfinished: got %v, %v, want the second", keys, err)
 		}
-		if got, err := store.Stats(ctx); err != nil || got != (broker.Stats{Pending: 1, Tombstones: 1}) {
-			t.Errorf("counts: got %+v, %v, want one that is pending and one tombstone", got, err)
-		}
+		diff.Equal(t, diff.Value(store.Stats(ctx))(t), broker.Stats{Pending: 1, Tombstones: 1}, "counts")
 		diff.NoError(t, store.Close(), "")
 	}
 	store := open(t, url)
@@ -191,9 +181,7 @@ func TestTablesOf02(t *testing.T) {
 		return &snapshot.Entry, nil
 	})
 	check(t, err)
-	if snapshot, err := store.Read(ctx, osb.InstanceKey(id(1))); err != nil || snapshot.Description != "extended" {
-		t.Errorf("got %+v and the error %v, want the description extended", snapshot, err)
-	}
+	diff.Equal(t, diff.Value(store.Read(ctx, osb.InstanceKey(id(1))))(t).Description, "extended", "")
 }
 
 // The tables of an early 0.3.0, before tombstones had a time, with an instance and a binding that have ended.
@@ -233,9 +221,7 @@ func TestWorkersOf03(t *testing.T) {
 		store := open(t, url)
 		for _, key := range []broker.Key{osb.InstanceKey(id(2)), osb.BindingKey(id(1), id(2))} {
 			entry := diff.Value(store.Read(context.Background(), key))(t).Entry
-			if want := map[bool]osb.ID{true: id(9)}[n > 0]; entry.Worker != want {
-				t.Errorf("%v: got the worker %v, want %v", key, entry.Worker, want)
-			}
+			diff.Equal(t, entry.Worker, map[bool]osb.ID{true: id(9)}[n > 0], "%v", key)
 			check(t, store.Change(context.Background(), key, func(snapshot broker.Snapshot) (*broker.Entry, error) {
 				snapshot.Worker = id(9)
 				return &snapshot.Entry, nil
@@ -317,9 +303,7 @@ func TestARoleThatMayNotAlter(t *testing.T) {
 	t.Cleanup(func() { pgtest.Exec(t, db, "DROP OWNED BY osb_store_writer", "DROP ROLE osb_store_writer") })
 	as := pgtest.As(t, url, "osb_store_writer", "x")
 	_, err := postgres.Open(context.Background(), as, 1, broker.Silent{})
-	if err == nil || !strings.Contains(err.Error(), "as their owner") {
-		t.Errorf("before the tables were extended: got %v, want one that says how", err)
-	}
+	diff.ErrorContains(t, err, "as their owner", "before the tables were extended")
 	_ = open(t, url).Close()
 	store, err := postgres.Open(context.Background(), as, 1, broker.Silent{})
 	check(t, err)
@@ -340,9 +324,7 @@ func TestAnotherEncoding(t *testing.T) {
 	t.Cleanup(func() { pgtest.Exec(t, db, "DROP DATABASE osb_store_latin1 WITH (FORCE)") })
 	latin := pgtest.In(t, url, "osb_store_latin1")
 	_, err := postgres.Open(context.Background(), latin, 1, broker.Silent{})
-	if err == nil || !strings.Contains(err.Error(), "LATIN1") {
-		t.Errorf("Open: got %v, want an error with \"LATIN1\"", err)
-	}
+	diff.ErrorContains(t, err, "LATIN1", "Open")
 }
 
 // What every store must do if one of its statements fails.
@@ -481,9 +463,7 @@ func TestReadOfASilentServer(t *testing.T) {
 				t.Fatalf("%v: got %q, want \"text\"", key, text)
 			}
 			proxy.Hang(true)
-			if snapshot, err := store.Read(ctx, key); !errors.Is(err, broker.ErrAway) {
-				t.Errorf("%v: got %+v, %v, want %v", key, snapshot.Entry, err, broker.ErrAway)
-			}
+			diff.ErrorIs(t, diff.Err(store.Read(ctx, key)), broker.ErrAway, "%v", key)
 			proxy.Hang(false)
 		})
 	}
@@ -591,9 +571,7 @@ func TestConflicts(t *testing.T) {
 			if (err == nil) != test.isWritten || !test.isWritten && !pg.IsCode(err, test.code) || calls != test.calls {
 				t.Errorf("after %d calls: got %v, want %s after %d", calls, err, test.code, test.calls)
 			}
-			if got := descriptionOf(t, store, key); (got == "x") != test.isWritten {
-				t.Errorf("got %q written, want it %t", got, test.isWritten)
-			}
+			diff.Equal(t, descriptionOf(t, store, key) == "x", test.isWritten, "")
 			if len(told.told) != test.calls-1 || len(told.told) > 0 && told.told[0].Key != key {
 				t.Errorf("the reports: got %v, want one for each repetition", told.told)
 			}

@@ -231,12 +231,8 @@ func TestUnreadableRow(t *testing.T) {
 		return c.exec("UPDATE holdings SET holding = '{}' WHERE id = ?", keyOf(1).String())
 	})
 	check(t, err)
-	if keys, err := s.UnfinishedKeys(ctx); err != nil || len(keys) != 2 {
-		t.Errorf("got %v and the error %v, want two keys", keys, err)
-	}
-	if stats, err := s.Stats(ctx); err != nil || stats.Pending != 1 {
-		t.Errorf("got %+v and the error %v, want one that is pending", stats, err)
-	}
+	diff.Equal(t, len(diff.Value(s.UnfinishedKeys(ctx))(t)), 2, "")
+	diff.Equal(t, diff.Value(s.Stats(ctx))(t).Pending, 1, "")
 }
 
 // The number of tombstones that was counted less than a minute ago counts, and then they are counted again.
@@ -245,9 +241,7 @@ func TestTombstonesAreCountedAgain(t *testing.T) {
 	for ago, want := range map[time.Duration]int{30 * time.Second: 7, time.Minute: 0} {
 		t.Run(ago.String(), func(t *testing.T) {
 			s.tombstones.value, s.tombstones.at = 7, time.Now().Add(-ago)
-			if stats, err := s.Stats(context.Background()); err != nil || stats.Tombstones != want {
-				t.Errorf("got %d, %v, want %d", stats.Tombstones, err, want)
-			}
+			diff.Equal(t, diff.Value(s.Stats(context.Background()))(t).Tombstones, want, "")
 		})
 	}
 }
@@ -263,9 +257,7 @@ func TestTombstonesOfAnUnreadableRow(t *testing.T) {
 			}
 			check(t, s.Change(context.Background(), key, provision(key)))
 			alter(t, s, "UPDATE "+table+" SET holding = '{}', unfinished = 0")
-			if stats, err := s.Stats(context.Background()); err == nil {
-				t.Errorf("%s: got %+v, want an error", table, stats)
-			}
+			diff.Error(t, diff.Err(s.Stats(context.Background())), "%s", table)
 		})
 	}
 }
@@ -276,12 +268,8 @@ func TestListsWithAnUnreadableID(t *testing.T) {
 	key := osb.BindingKey(keyOf(1).Instance, keyOf(2).Instance)
 	check(t, s.Change(context.Background(), key, provision(key)))
 	alter(t, s, "UPDATE bindings SET binding = 'x', held = 1, unfinished = 1")
-	if ids, err := s.HeldBindings(context.Background(), key.Instance); err == nil {
-		t.Errorf("HeldBindings: got %v, want an error", ids)
-	}
-	if keys, err := s.UnfinishedKeys(context.Background()); err == nil {
-		t.Errorf("Unfinished: got %v, want an error", keys)
-	}
+	diff.Error(t, diff.Err(s.HeldBindings(context.Background(), key.Instance)), "HeldBindings")
+	diff.Error(t, diff.Err(s.UnfinishedKeys(context.Background())), "Unfinished")
 }
 
 // alter executes a statement in the file of a store.
@@ -336,9 +324,7 @@ func TestWorkersOf03(t *testing.T) {
 		check(t, err)
 		for _, key := range []broker.Key{keyOf(1), key} {
 			entry := diff.Value(s.Read(context.Background(), key))(t).Entry
-			if want := map[bool]osb.ID{true: keyOf(9).Instance}[n > 0]; entry.Worker != want {
-				t.Errorf("%v: got the worker %v, want %v", key, entry.Worker, want)
-			}
+			diff.Equal(t, entry.Worker, map[bool]osb.ID{true: keyOf(9).Instance}[n > 0], "%v", key)
 			check(t, s.Change(context.Background(), key, func(snapshot broker.Snapshot) (*broker.Entry, error) {
 				snapshot.Worker = keyOf(9).Instance
 				return &snapshot.Entry, nil
@@ -349,9 +335,7 @@ func TestWorkersOf03(t *testing.T) {
 	old := diff.Value((&sqlite3.SQLiteDriver{}).Open("file:" + path))(t).(*sqlite3.SQLiteConn)
 	_, err := old.Exec("CREATE TABLE IF NOT EXISTS workers (id TEXT PRIMARY KEY, worker INTEGER NOT NULL)", nil)
 	diff.NoError(t, err, "what version 0.3 makes first")
-	if _, err := old.Prepare("SELECT worker FROM workers WHERE id = ?"); err == nil {
-		t.Error("what version 0.3 reads next: got no error, want one")
-	}
+	diff.Error(t, diff.Err(old.Prepare("SELECT worker FROM workers WHERE id = ?")), "what version 0.3 reads next")
 	check(t, old.Close())
 }
 
@@ -364,9 +348,7 @@ func TestChangeOfARowWithAWrongWorker(t *testing.T) {
 		t.Errorf("the step: got a call with %+v, want none", snapshot)
 		return nil, nil
 	})
-	if err == nil || !strings.Contains(err.Error(), keyOf(1).String()) {
-		t.Errorf("got %v, want an error that names the row", err)
-	}
+	diff.ErrorContains(t, err, keyOf(1).String(), "")
 }
 
 // Ready writes, so that a full disk shows.

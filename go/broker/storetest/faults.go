@@ -335,9 +335,8 @@ func (by Faulty) unreadable(t *testing.T) {
 			write(t, store, test.key, ready(t))
 		}
 		by.Spoil(t, test.spoiled)
-		if snapshot, err := store.Read(context.Background(), test.key); err == nil {
-			t.Errorf("Read of %v beside %v: got %+v, want an error", test.key, test.spoiled, snapshot)
-		}
+		diff.Error(t, diff.Err(store.Read(context.Background(), test.key)), "Read of %v beside %v", test.key,
+			test.spoiled)
 		err := store.Change(context.Background(), test.key, func(snapshot broker.Snapshot) (*broker.Entry, error) {
 			t.Errorf("the step of %v beside %v: got a call with %+v, want none", test.key, test.spoiled, snapshot)
 			return nil, nil

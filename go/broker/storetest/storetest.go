@@ -217,9 +217,7 @@ func testUntiedBefore(t *testing.T, open func(*testing.T) broker.NamedStore) {
 		write(t, store, key, broker.Entry{Holding: tombstone(t)})
 	}
 	for _, wanted := range []bool{false, true} {
-		if isUsed, err := tie(store, nil); isUsed != wanted || err != nil {
-			t.Errorf("got used %t, %v, want %t", isUsed, err, wanted)
-		}
+		diff.Equal(t, diff.Value(tie(store, nil))(t), wanted, "")
 	}
 }
 
@@ -374,12 +372,8 @@ func testNothing(t *testing.T, open func(*testing.T) broker.NamedStore) {
 		})
 		diff.NoError(t, err, "%v", key)
 	}
-	if keys, err := store.UnfinishedKeys(context.Background()); err != nil || len(keys) != 0 {
-		t.Errorf("unfinished: got %v, %v, want none", keys, err)
-	}
-	if ids, err := store.HeldBindings(context.Background(), id(1)); err != nil || len(ids) != 0 {
-		t.Errorf("held bindings: got %v, %v, want none", ids, err)
-	}
+	diff.Empty(t, diff.Value(store.UnfinishedKeys(context.Background()))(t), "unfinished")
+	diff.Empty(t, diff.Value(store.HeldBindings(context.Background(), id(1)))(t), "held bindings")
 }
 
 // entries are an entry with all that there is, and one that has less.
@@ -504,14 +498,10 @@ func wantHeld(t *testing.T, store broker.Store, want ...osb.ID) {
 	if err != nil || len(got)+len(want) > 0 && !reflect.DeepEqual(got, want) {
 		t.Errorf("held: %v, %s", err, diff.Of(got, want))
 	}
-	if any, err := read(t, store, instance(1)).AnyBinding(); err != nil || any != (len(want) > 0) {
-		t.Errorf("AnyBinding of Read: got %t, %v, want %v", any, err, want)
-	}
+	diff.Equal(t, diff.Value(read(t, store, instance(1)).AnyBinding())(t), len(want) > 0, "AnyBinding of Read")
 	err = store.Change(context.Background(), instance(1), func(snapshot broker.Snapshot) (*broker.Entry, error) {
 		any, err := snapshot.AnyBinding()
-		if any != (len(want) > 0) {
-			t.Errorf("AnyBinding in a step: got %t, want %v", any, want)
-		}
+		diff.Equal(t, any, len(want) > 0, "AnyBinding in a step")
 		return nil, err
 	})
 	diff.NoError(t, err, "")

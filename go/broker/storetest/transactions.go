@@ -87,9 +87,7 @@ func testCounter(t *testing.T, open func(*testing.T) broker.NamedStore) {
 			}(stores[n%2])
 		}
 		all.Wait()
-		if got := read(t, stores[0], key).Description; got != strconv.Itoa(goroutines*each) {
-			t.Errorf("%v: got a count of %s, want %d", key, got, goroutines*each)
-		}
+		diff.Equal(t, read(t, stores[0], key).Description, strconv.Itoa(goroutines*each), "%v", key)
 	}
 }
 

@@ -540,17 +540,13 @@ func TestChoose(t *testing.T) {
 	plans := []Plan{small, large, queue, largeQueue}
 	for text, wanted := range map[string]Plan{"p1": small, "p2": large, "small": queue, "p4": largeQueue} {
 		t.Run(text, func(t *testing.T) {
-			if got, err := Choose(plans, text); err != nil || got != wanted {
-				t.Errorf("Choose: got %+v, %v for %s, want %+v", got, err, text, wanted)
-			}
+			diff.Equal(t, diff.Value(Choose(plans, text))(t), wanted, "Choose, %s", text)
 		})
 	}
 	diff.Equal(t, diff.Value(Choose(plans[:2], "small"))(t), small, "Choose")
 	for text, says := range map[string]string{"large": "several plans", "s1": "small, large, p1, large", "": "no plan"} {
 		t.Run(text, func(t *testing.T) {
-			if got, err := Choose(plans, text); err == nil || !strings.Contains(err.Error(), says) {
-				t.Errorf("Choose: got %+v, %v for %q, want an error with %q", got, err, text, says)
-			}
+			diff.ErrorContains(t, diff.Err(Choose(plans, text)), says, "Choose, %q", text)
 		})
 	}
 }

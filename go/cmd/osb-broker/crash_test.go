@@ -5,6 +5,8 @@ package main
 import (
 	"strings"
 	"testing"
+
+	"pippinterm/internal/diff"
 )
 
 // A crash point that doesn't exist ends the broker, which would never be killed otherwise.
@@ -42,9 +44,7 @@ func TestJournalAtCrashPoints(t *testing.T) {
 				t.Errorf("got the status %d, want it killed", given.StatusCode)
 			}
 			_ = s.Wait()
-			if got := eventsIn(t, folder); strings.Join(got, "; ") != "started, "+want {
-				t.Errorf("got %q, want %s", got, want)
-			}
+			diff.Equal(t, strings.Join(eventsIn(t, folder), "; "), "started, "+want, "")
 		})
 	}
 }

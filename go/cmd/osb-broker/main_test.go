@@ -430,10 +430,7 @@ func TestManyOpenANewStore(t *testing.T) {
 	}
 	for n, cmd := range running {
 		_ = cmd.Wait()
-		if !strings.HasPrefix(errors[n].String(), "osb-broker: --listen 192.0.2.1:1: ") {
-			t.Errorf("got the status %d and %s, want an error that begins with the address", cmd.ProcessState.ExitCode(),
-				errors[n].String())
-		}
+		diff.HasPrefix(t, errors[n].String(), "osb-broker: --listen 192.0.2.1:1: ", "%d", cmd.ProcessState.ExitCode())
 	}
 	s := start(t, []string{password}, "--state", state, "--existing")
 	s.expect(201, "PUT", one, order)

@@ -315,9 +315,7 @@ func TestHealthWhileAllConnectionsAreTaken(t *testing.T) {
 		conn := s.dial()
 		_, err := fmt.Fprintf(conn, "GET /v2/catalog HTTP/1.1%s\r\n", headers())
 		check(t, err)
-		if line, err := bufio.NewReader(conn).ReadString('\n'); err != nil || line != "HTTP/1.1 200 OK\r\n" {
-			t.Fatalf("got %q, %v, want 200", line, err)
-		}
+		diff.Equal(t, diff.Value(bufio.NewReader(conn).ReadString('\n'))(t), "HTTP/1.1 200 OK\r\n", "")
 	}
 	full := &http.Client{Timeout: 300 * time.Millisecond}
 	_, err := full.Get(s.url + "/v2/catalog")
@@ -405,9 +403,7 @@ func TestLogHasNoPasswordOfATarget(t *testing.T) {
 		"CONNECT u:hidden@host:443 HTTP/1.1" + headers() + "Connection: close\r\n\r\n",
 	}
 	for _, request := range requests {
-		if given := s.raw(request); !strings.HasPrefix(given, "HTTP/1.1 ") {
-			t.Errorf("request %q: got %q, want an answer of HTTP/1.1", request, given)
-		}
+		diff.HasPrefix(t, s.raw(request), "HTTP/1.1 ", "request %q", request)
 	}
 	s.raw("GET /nowhere HTTP/1.1" + headers() + "Connection: close\r\n\r\n")
 	s.Terminate()

@@ -168,9 +168,7 @@ func TestKilledInsideCreate(t *testing.T) {
 				g.open()
 				s.until(200, "succeeded", "GET", poll, "")
 				s.stop()
-				if count := g.count(); (count == 1) != livesOn {
-					t.Errorf("create: got %d calls, want 1 exactly if the process lives on", count)
-				}
+				diff.Equal(t, g.count() == 1, livesOn, "create")
 			})
 		}
 	}
@@ -225,9 +223,7 @@ func TestAnswerToALongBodyArrives(t *testing.T) {
 	} {
 		t.Run(name, func(t *testing.T) {
 			conn := s.dial()
-			if _, err := io.WriteString(conn, "PUT "+one+" HTTP/1.1"+headers()+request); err != nil {
-				t.Fatalf("the body: got %v, want no error", err)
-			}
+			check(t, diff.Err(io.WriteString(conn, "PUT "+one+" HTTP/1.1"+headers()+request)))
 			answer, err := http.ReadResponse(bufio.NewReader(conn), nil)
 			check(t, err)
 			defer answer.Body.Close()

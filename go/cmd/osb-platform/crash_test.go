@@ -66,9 +66,8 @@ func wantKilled(t *testing.T, point string, command *exec.Cmd) {
 	late := time.AfterFunc(deadline, func() { _ = command.Process.Signal(syscall.SIGTERM) })
 	defer late.Stop()
 	_ = command.Wait()
-	if status := command.ProcessState.Sys().(syscall.WaitStatus); status.Signal() != syscall.SIGKILL {
-		t.Errorf("%s: got %v, want it killed\n%s", point, command.ProcessState, out.String())
-	}
+	diff.Equal(t, command.ProcessState.Sys().(syscall.WaitStatus).Signal(), syscall.SIGKILL, "%s, %v, %s", point,
+		command.ProcessState, out.String())
 }
 
 // What the journal has once a worker was killed at a crash point of a creation: all that anybody else may have seen.

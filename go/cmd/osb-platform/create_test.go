@@ -271,9 +271,7 @@ func TestInterruptedWait(t *testing.T) {
 		check(t, command.Start())
 		t.Cleanup(func() { _ = command.Process.Kill() })
 		lines := bufio.NewReader(failed)
-		if first, err := lines.ReadString('\n'); err != nil || first != "ordered one\n" {
-			t.Fatalf("got %q, %v, want that one is ordered", first, err)
-		}
+		diff.Equal(t, diff.Value(lines.ReadString('\n'))(t), "ordered one\n", "")
 		check(t, command.Process.Signal(signal))
 		rest, err := io.ReadAll(lines)
 		_ = command.Wait()

@@ -170,10 +170,9 @@ func TestAdvice(t *testing.T) {
 					}
 					letter := test.want[row][column]
 					got := q.advice(last, fetched)
-					if !strings.Contains(got, letters[letter]) {
-						t.Errorf("tombstones %v, own id %v, failure %+v, last operation %+v, Fetch %+v: got %q, want %c",
-							test.hasTombstones, test.isOwnID, test.failure, last, fetched, got, letter)
-					}
+					diff.Contains(t, got, letters[letter],
+						"tombstones %v, own id %v, failure %+v, last operation %+v, Fetch %+v, %c", test.hasTombstones,
+						test.isOwnID, test.failure, last, fetched, letter)
 					diff.Equal(t, strings.Contains(got, "remove one"), strings.ContainsRune("YONW", rune(letter)),
 						"last operation %+v, Fetch %+v, %q, %c", last, fetched, got, letter)
 				}

@@ -200,9 +200,7 @@ func TestTries(t *testing.T) {
 	s.answer(409)
 	wantLines(t, store, []line{{"create --plan at-once --id three --wait=60", 3, `three`,
 		`ordered three\n.*: three is unsettled: provision 409 Odd .*`}})
-	if got := call(t, "--store", store, "list"); !strings.HasPrefix(got.failed, "1 unsettled (oldest: 20") {
-		t.Errorf("got %+v, want one that is unsettled", got)
-	}
+	diff.HasPrefix(t, call(t, "--store", store, "list").failed, "1 unsettled (oldest: 20", "")
 	s.answer(409)
 	wantLines(t, store, []line{
 		{"create --plan at-once --tries 1 --wait=60", 3, guid, `ordered .*\n.*: provision 409 Odd .*`},
@@ -475,10 +473,9 @@ func TestJournalOfCommands(t *testing.T) {
 		{"remove two --journal " + folder, 0, ``, ``},
 	})
 	got := strings.Join(eventsIn(t, folder), "; ")
-	if want := "started, changed order ordered, stopped; started, stopped; started, changed command abandoned, stopped; " +
-		"started, changed order ordered, stopped; started, changed command withdrawn, stopped"; got != want {
-		t.Errorf("got %q, want %q", got, want)
-	}
+	diff.Equal(t, got, "started, changed order ordered, stopped; started, stopped; "+
+		"started, changed command abandoned, stopped; started, changed order ordered, stopped; "+
+		"started, changed command withdrawn, stopped", "")
 }
 
 // Two workers can't write to one file.

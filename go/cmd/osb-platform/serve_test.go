@@ -199,9 +199,7 @@ func TestAPIOverTLS(t *testing.T) {
 	p := launch(t, "serving", osbPlatform(nil, "serve", "--store", filepath.Join(folder, "store"),
 		"--api", "127.0.0.1:0", "--api-tokens", newTokens(t),
 		"--api-tls-certificate", certificate, "--api-tls-key", key))
-	if !strings.HasPrefix(p.api, "https://") {
-		t.Errorf("the API: got the address %s, want one of https", p.api)
-	}
+	diff.HasPrefix(t, p.api, "https://", "the API")
 	secureCaller(t, p, first).call(200, "GET", "/v1/counts", "")
 	second := programtest.WriteCertificate(t, "", certificate, key)
 	check(t, p.Process.Signal(syscall.SIGHUP))

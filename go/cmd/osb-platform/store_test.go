@@ -386,9 +386,7 @@ func storeOf03(t *testing.T) (store, key string) {
 func executeIn(t *testing.T, store, statements string) {
 	t.Helper()
 	db := diff.Value(sql.Open("sqlite3", store))(t)
-	if _, err := db.Exec(statements); err != nil {
-		t.Errorf("got the error %v, want none", err)
-	}
+	diff.NoError(t, diff.Err(db.Exec(statements)), "")
 	diff.NoError(t, db.Close(), "")
 }
 

@@ -5,7 +5,6 @@ package main
 import (
 	"fmt"
 	"reflect"
-	"strings"
 	"testing"
 	"time"
 
@@ -34,9 +33,7 @@ func TestForStorm(t *testing.T) {
 			with, options, err := forStorm(nil, nil, given)
 			switch {
 			case test.fails != "":
-				if err == nil || !strings.Contains(err.Error(), test.fails) {
-					t.Errorf("%+v: got %v, want an error with %s", test, err, test.fails)
-				}
+				diff.ErrorContains(t, err, test.fails, "%+v", test)
 			case err != nil || !reflect.DeepEqual(options, test.options) || (with != nil) != test.isOther:
 				t.Errorf("%+v: got %v, %v, want another: %t; %s",
 					test, with, err, test.isOther, diff.Of(options, test.options))

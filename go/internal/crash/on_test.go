@@ -20,8 +20,6 @@ func TestCheck(t *testing.T) {
 		t.Fatalf("got the error %v, want one that names begin-nxt", err)
 	}
 	for _, point := range points {
-		if !strings.Contains(err.Error(), point) {
-			t.Errorf("got %v, want %s in it", err, point)
-		}
+		diff.Contains(t, err.Error(), point, "")
 	}
 }

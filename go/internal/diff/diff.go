@@ -102,6 +102,22 @@ func Lacks(t testing.TB, text, part, format string, arguments ...any) {
 	}
 }
 
+// HasPrefix fails the test unless a text begins with a part, and says what was searched as Equal does.
+func HasPrefix(t testing.TB, text, part, format string, arguments ...any) {
+	t.Helper()
+	if !strings.HasPrefix(text, part) {
+		t.Errorf("%sgot %q, want %q first", prefix(format, arguments), text, part)
+	}
+}
+
+// HasSuffix fails the test unless a text ends with a part, and says what was searched as Equal does.
+func HasSuffix(t testing.TB, text, part, format string, arguments ...any) {
+	t.Helper()
+	if !strings.HasSuffix(text, part) {
+		t.Errorf("%sgot %q, want %q last", prefix(format, arguments), text, part)
+	}
+}
+
 // Empty fails the test unless a list or a map has no element, and says what was counted as Equal does.
 func Empty(t testing.TB, got any, format string, arguments ...any) {
 	t.Helper()

@@ -100,6 +100,8 @@ func TestValuesAndErrors(t *testing.T) {
 		"Read 2: got no error, want one":             func(t testing.TB) { Error(t, nil, "Read %d", 2) },
 		`a log: got "a", want "b" in it`:             func(t testing.TB) { Contains(t, "a", "b", "a log") },
 		`got "abc", want no "b" in it`:               func(t testing.TB) { Lacks(t, "abc", "b", "") },
+		`a log: got "abc", want "b" first`:           func(t testing.TB) { HasPrefix(t, "abc", "b", "a log") },
+		`got "abc", want "b" last`:                   func(t testing.TB) { HasSuffix(t, "abc", "b", "") },
 		`got the error wrong, want one with "no"`:    func(t testing.TB) { ErrorContains(t, wrong, "no", "") },
 		`a: got the error <nil>, want one with "no"`: func(t testing.TB) { ErrorContains(t, nil, "no", "a") },
 		"row 1: got [2], want none":                  func(t testing.TB) { Empty(t, []int{2}, "row %d", 1) },
@@ -123,6 +125,8 @@ func TestValuesAndErrors(t *testing.T) {
 	ErrorContains(f, wrong, "ron", "x")
 	Contains(f, "abc", "bc", "x")
 	Lacks(f, "abc", "ac", "x")
+	HasPrefix(f, "abc", "ab", "x")
+	HasSuffix(f, "abc", "bc", "x")
 	Empty(f, map[string]int{}, "x")
 	Len(f, []int{1, 2}, 2, "x")
 	AtMost(f, 2, 2, "x")

@@ -162,9 +162,7 @@ func TestLockWaitsUntilItsContextIsDone(t *testing.T) {
 	defer cancel()
 	_, err := locks.Lock(ctx, one)
 	diff.ErrorIs(t, err, context.DeadlineExceeded, "Lock")
-	if lock, err := locks.TryLock(one); lock != nil || err != nil {
-		t.Errorf("TryLock: got %v, %v, want nil, nil", lock, err)
-	}
+	diff.Equal(t, diff.Value(locks.TryLock(one))(t) == nil, true, "TryLock")
 	diff.Equal(t, openFiles(t), before, "files open")
 }
 
@@ -234,9 +232,7 @@ func TestLentFile(t *testing.T) {
 	path := filepath.Join(t.TempDir(), "locks")
 	lock := mustLock(t, newLocks(t, path), one)
 	defer lock.Unlock()
-	if lent, err := Lend(context.Background(), time.Second); lent != nil || err != nil {
-		t.Errorf("Lend without a lock: got %v, %v, want none", lent, err)
-	}
+	diff.Equal(t, diff.Value(Lend(context.Background(), time.Second))(t) == nil, true, "Lend without a lock")
 	lent := lend(t, lock)
 	defer lent.Close()
 	if lent.Name() != path {

@@ -217,9 +217,7 @@ func TestAnIdleConnectionIsClosed(t *testing.T) {
 	listener := start(t, Options{}, Server{Idle: short}, echo)
 	client := dial(t, listener)
 	client.send(whole)
-	if got := client.rest(); !strings.HasSuffix(got, "GET /a ;") {
-		t.Errorf("before it is closed: got %q, want the answer of /a", got)
-	}
+	diff.HasSuffix(t, client.rest(), "GET /a ;", "before it is closed")
 }
 
 // TestACutHeadBehindAnotherRequest has net/http read ahead while the first request is answered.
@@ -480,9 +478,7 @@ func TestARefusedBodyIsNotWaitedFor(t *testing.T) {
 	first := slow()
 	waits.Until(t, "the first is served", func() bool { return len(listener.addresses.counts()) == 1 })
 	began := time.Now()
-	if got := slow().rest(); !strings.HasPrefix(got, "HTTP/1.1 503 ") {
-		t.Errorf("got %q, want 503", got)
-	}
+	diff.HasPrefix(t, slow().rest(), "HTTP/1.1 503 ", "")
 	if took := time.Since(began); took >= drainTime {
 		t.Errorf("got the connection closed after %v, want less than %v", took, drainTime)
 	}

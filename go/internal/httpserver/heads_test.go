@@ -250,9 +250,7 @@ func TestAChunkedRequestIsTheLast(t *testing.T) {
 func TestOPTIONSOfAnAsteriskIsGivenToTheHandler(t *testing.T) {
 	client := dial(t, start(t, Options{}, Server{}, echo))
 	client.send("OPTIONS * HTTP/1.1\r\nHost: x\r\nConnection: close\r\n\r\n")
-	if got := client.rest(); !strings.HasSuffix(got, "OPTIONS / ;") {
-		t.Errorf("got %q, want the answer of OPTIONS", got)
-	}
+	diff.HasSuffix(t, client.rest(), "OPTIONS / ;", "")
 }
 
 func TestWhatNetHTTPRejects(t *testing.T) {
@@ -277,9 +275,7 @@ func TestWhatNetHTTPRejects(t *testing.T) {
 			observer := &recorder{}
 			client := dial(t, start(t, Options{Observer: observer}, Server{}, echo))
 			client.send(test.sent)
-			if got := client.rest(); !strings.HasPrefix(got, fmt.Sprintf("HTTP/1.1 %d ", test.status)) {
-				t.Errorf("got %q, want %d", got, test.status)
-			}
+			diff.HasPrefix(t, client.rest(), fmt.Sprintf("HTTP/1.1 %d ", test.status), "")
 			diff.Check(t, observer.waitForStatuses(t, 1), []int{test.status}, "the observer, %d", test.status)
 		})
 	}
@@ -294,9 +290,7 @@ func TestAnAnswerOfAHandlerIsNoRejection(t *testing.T) {
 				http.Error(w, "text", status)
 			}))
 			client.send(whole)
-			if got := client.rest(); !strings.HasPrefix(got, fmt.Sprintf("HTTP/1.1 %d ", status)) {
-				t.Errorf("want the status %d, got %q", status, got)
-			}
+			diff.HasPrefix(t, client.rest(), fmt.Sprintf("HTTP/1.1 %d ", status), "")
 			if got := observer.waitForStatuses(t, 0); got != nil {
 				t.Errorf("%d: the observer: got %v, want none", status, got)
 			}

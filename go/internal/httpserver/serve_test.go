@@ -203,9 +203,7 @@ func TestTheLastSiteStopsLast(t *testing.T) {
 	ask := func(when string) {
 		client := dial(t, health)
 		client.send("GET /healthz HTTP/1.1\r\nHost: x\r\nConnection: close\r\n\r\n")
-		if got := client.rest(); !strings.HasSuffix(got, "GET /healthz ;") {
-			t.Errorf("%s: got %q from the second site, want its answer", when, got)
-		}
+		diff.HasSuffix(t, client.rest(), "GET /healthz ;", "%s", when)
 	}
 	ask("while the first has all its connections,")
 	cancel()
@@ -310,9 +308,7 @@ func TestWorkHasALimit(t *testing.T) {
 	_, handler, running, _, served := startStopping(t, Options{}, 20*short, untilDone)
 	time.Sleep(3 * short)
 	handler.pass <- struct{}{}
-	if got := running.rest(); !strings.HasSuffix(got, "GET /a ;") {
-		t.Errorf("the running one: got %q, want its answer", got)
-	}
+	diff.HasSuffix(t, running.rest(), "GET /a ;", "the running one")
 	diff.NoError(t, <-served, "Serve with other work that runs")
 }
 
@@ -352,9 +348,9 @@ func TestTheLimitOfFilesIsRaised(t *testing.T) {
 	const script = `ulimit -S -n 64 && exec "$0" -test.run '^TestTheLimitOfFilesIsRaised$' -test.v`
 	child := exec.Command("sh", "-c", script, os.Args[0])
 	child.Env = append(os.Environ(), limited+"=1")
-	if output, err := child.CombinedOutput(); err != nil || !strings.Contains(string(output), "--- PASS") {
-		t.Errorf("got the error %v and the output %s, want a test that passes", err, output)
-	}
+	output, err := child.CombinedOutput()
+	diff.NoError(t, err, "%s", output)
+	diff.Contains(t, string(output), "--- PASS", "")
 }
 
 // rejectUnread answers without a look at the body, as a handler does that rejects who asks.

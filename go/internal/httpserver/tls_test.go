@@ -48,9 +48,7 @@ func dialTLS(t *testing.T, listener *Listener, config *tls.Config) (client, tls.
 func TestTLS(t *testing.T) {
 	authority := newAuthority(t)
 	listener, _ := startTLS(t, authority.issue("server"), Options{}, Server{})
-	if !strings.HasPrefix(listener.URL(), "https://127.0.0.1:") {
-		t.Errorf("the URL: got %s, want one of https", listener.URL())
-	}
+	diff.HasPrefix(t, listener.URL(), "https://127.0.0.1:", "the URL")
 	for _, version := range []uint16{tls.VersionTLS12, tls.VersionTLS13} {
 		t.Run(fmt.Sprintf("%#x", version), func(t *testing.T) {
 			config := authority.client(CertificateFiles{})
@@ -145,9 +143,7 @@ func TestAnotherProtocolAtAPortOfTLS(t *testing.T) {
 		client.send(sent)
 		diff.Equal(t, client.rest(), "", "%q", sent)
 		waits.Until(t, "an event", func() bool { return len(observer.events()) > n })
-		if got := observer.events()[n]; !strings.HasSuffix(got, "does not look like a TLS handshake") {
-			t.Errorf("%q: got %q for the observer, want that it is no TLS", sent, got)
-		}
+		diff.HasSuffix(t, observer.events()[n], "does not look like a TLS handshake", "%q", sent)
 	}
 }
 

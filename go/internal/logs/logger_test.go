@@ -80,9 +80,7 @@ func closeQueue(t *testing.T, queue *Queue) {
 
 func write(t *testing.T, to io.Writer, line string) {
 	t.Helper()
-	if count, err := to.Write([]byte(line)); count != len(line) || err != nil {
-		t.Fatalf("Write: got %d and %v, want all %d bytes", count, err, len(line))
-	}
+	diff.Equal(t, diff.Value(to.Write([]byte(line)))(t), len(line), "Write")
 }
 
 // A gate is a writer that waits in each Write until the test lets it go on.

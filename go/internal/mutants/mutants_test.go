@@ -53,9 +53,7 @@ func TestPatterns(t *testing.T) {
 		}
 	}
 	none := "pippinterm/internal/cli/..."
-	if _, err := load(context.Background(), tags, toy, none); err == nil || !strings.Contains(err.Error(), none) {
-		t.Errorf("got %v, want that no package matches %s", err, none)
-	}
+	diff.ErrorContains(t, diff.Err(load(context.Background(), tags, toy, none)), none, "")
 }
 
 func TestKinds(t *testing.T) {
@@ -209,9 +207,7 @@ func TestInterruptedServer(t *testing.T) {
 	}
 	cancel()
 	diff.NoError(t, s.close(), "")
-	if _, err := os.Stat(ended); err != nil {
-		t.Errorf("got %v, want that it has ended by itself", err)
-	}
+	diff.NoError(t, diff.Err(os.Stat(ended)), "")
 }
 
 // TestFailsWithoutTheMutant: a test that fails without a mutant, too, doesn't count.

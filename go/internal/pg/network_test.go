@@ -2,7 +2,6 @@ package pg
 
 import (
 	"context"
-	"errors"
 	"net"
 	"net/url"
 	"os"
@@ -66,9 +65,7 @@ func TestADeadline(t *testing.T) {
 	short := silence(t, time.Millisecond)
 	check(t, short.SetDeadline(time.Now().Add(time.Hour)))
 	check(t, short.SetDeadline(time.Time{}))
-	if _, err := short.Read(make([]byte, 1)); !errors.Is(err, os.ErrDeadlineExceeded) {
-		t.Errorf("Read without a deadline: got %v, want %v", err, os.ErrDeadlineExceeded)
-	}
+	diff.ErrorIs(t, diff.Err(short.Read(make([]byte, 1))), os.ErrDeadlineExceeded, "Read without a deadline")
 }
 
 // What was sent and isn't confirmed fails a connection of TCP after userTimeout. One of a socket file has no such option.

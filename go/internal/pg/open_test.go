@@ -271,9 +271,7 @@ func TestBadAddresses(t *testing.T) {
 			_, err := pg.Open(address, pg.Options{Most: 1})
 			diff.ErrorIs(t, err, pg.ErrBadAddress, "Open(%s)", address)
 			diff.Equal(t, fmt.Sprint(err), pg.ErrBadAddress.Error(), "Open(%s)", address)
-			if _, err := pg.HasPassword(address); !errors.Is(err, pg.ErrBadAddress) {
-				t.Errorf("HasPassword(%s): got %v, want %v", address, err, pg.ErrBadAddress)
-			}
+			diff.ErrorIs(t, diff.Err(pg.HasPassword(address)), pg.ErrBadAddress, "HasPassword(%s)", address)
 		})
 	}
 }

@@ -146,9 +146,7 @@ func TestProgramsThatNewRejects(t *testing.T) {
 		"a file that isn't executable": file, "a folder": t.TempDir(), "nothing": "",
 	} {
 		t.Run(name, func(t *testing.T) {
-			if backend, err := New(ctx, program, Options{State: t.TempDir()}); err == nil {
-				t.Errorf("New with %s: got %v, want an error", name, backend)
-			}
+			diff.Error(t, diff.Err(New(ctx, program, Options{State: t.TempDir()})), "New with %s", name)
 		})
 	}
 }
@@ -205,12 +203,8 @@ func TestExisting(t *testing.T) {
 			}
 		})
 	}
-	if found, err := filepath.Glob(top + "/*/.locks"); len(found) != 0 || err != nil {
-		t.Errorf("got the folders %v, %v, want none", found, err)
-	}
-	if _, err := os.Stat(filepath.Join(top, "none")); !errors.Is(err, os.ErrNotExist) {
-		t.Errorf("the folder: got %v, want that there is none", err)
-	}
+	diff.Empty(t, diff.Value(filepath.Glob(top+"/*/.locks"))(t), "")
+	diff.ErrorIs(t, diff.Err(os.Stat(filepath.Join(top, "none"))), os.ErrNotExist, "the folder")
 	for _, existing := range []bool{false, true} {
 		t.Run(fmt.Sprintf("existing %t", existing), func(t *testing.T) {
 			_, err := New(ctx, program, Options{State: empty, Existing: existing})
@@ -239,9 +233,7 @@ func TestRelativePaths(t *testing.T) {
 	if err != nil || !strings.HasSuffix(strings.TrimSpace(string(text)), "/new/state") {
 		t.Errorf("the working directory: got %q, %v, want new/state", text, err)
 	}
-	if found, err := os.Stat(folder + "/new/state"); err != nil || found.Mode().Perm() != 0o700 {
-		t.Errorf("the folder: got %v, %v, want the mode 0700", found, err)
-	}
+	diff.Equal(t, diff.Value(os.Stat(folder+"/new/state"))(t).Mode().Perm(), 0o700, "the folder")
 }
 
 func TestEnvironment(t *testing.T) {
@@ -339,9 +331,7 @@ func TestWork(t *testing.T) {
 		t.Run(name, func(t *testing.T) {
 			errs := all(newBackend(t, Options{}, c.text))
 			for _, call := range []string{"create", "delete", "delete-binding"} {
-				if (errs[call] != nil) != c.isBad {
-					t.Errorf("%s: got %v, want an error exactly if it is bad", call, errs[call])
-				}
+				diff.Equal(t, errs[call] != nil, c.isBad, "%s", call)
 			}
 		})
 	}
@@ -441,9 +431,7 @@ func TestRequestIsTheInput(t *testing.T) {
 		"request_identity":     "r1", "deletion": map[string]any{"request_identity": "r2"}, "state": backend.state,
 	}
 	diff.Check(t, found, wanted, "the input")
-	if !strings.Contains(string(text), `1.50`) {
-		t.Errorf("a number: got %s, want it as it was written", text)
-	}
+	diff.Contains(t, string(text), `1.50`, "a number")
 }
 
 var _ broker.LateTiedBackend = bindingsWithCredentials{}
@@ -457,9 +445,8 @@ func TestOwner(t *testing.T) {
 	for _, store := range []string{"one", "two"} {
 		diff.Equal(t, diff.Value(first.Own(ctx, store))(t), "one", "Own(%s)", store)
 	}
-	if owner, err := newBackend(t, Options{State: state, Existing: true}, "").Owner(ctx); owner != "one" || err != nil {
-		t.Errorf("the owner after a restart: got %q and %v, want \"one\" and no error", owner, err)
-	}
+	diff.Equal(t, diff.Value(newBackend(t, Options{State: state, Existing: true}, "").Owner(ctx))(t), "one",
+		"the owner after a restart")
 	left := diff.Value(os.ReadDir(state))(t)
 	for n, name := range []string{".locks", ".owner", "sold before"} {
 		if len(left) != 3 || left[n].Name() != name {
@@ -473,12 +460,8 @@ func TestOwner(t *testing.T) {
 func TestOwnerThatIsUnreadable(t *testing.T) {
 	backend := newBackend(t, Options{}, "")
 	check(t, os.Mkdir(backend.state+ownerFile, 0o700))
-	if owner, err := backend.Owner(ctx); err == nil {
-		t.Errorf("Owner: got %q, want an error", owner)
-	}
-	if owner, err := backend.Own(ctx, "one"); err == nil {
-		t.Errorf("Own: got %q, want an error", owner)
-	}
+	diff.Error(t, diff.Err(backend.Owner(ctx)), "Owner")
+	diff.Error(t, diff.Err(backend.Own(ctx, "one")), "Own")
 }
 
 // Of these variables, the first makes the test binary a broker that runs the program with the folder of the second, and
@@ -534,9 +517,7 @@ func TestLockOutlivesTheBroker(t *testing.T) {
 			killedBroker(t, script(t, "[ $1 = create ] || exit 0; "+text), state, func() { read(t, started) })
 			locks, err := broker.NewFileLocks(state + "/.locks")
 			check(t, err)
-			if lock, err := locks.TryLock(ctx, instance.Key); lock != nil || err != nil {
-				t.Errorf("TryLock while the program runs: got %v and %v, want none and no error", lock, err)
-			}
+			diff.Equal(t, diff.Value(locks.TryLock(ctx, instance.Key))(t) == nil, true, "TryLock while the program runs")
 			if lock, err := locks.TryLock(ctx, binding.Key); lock == nil || err != nil {
 				t.Errorf("TryLock of another key: got %v and %v, want one and no error", lock, err)
 			} else {
@@ -544,9 +525,7 @@ func TestLockOutlivesTheBroker(t *testing.T) {
 			}
 			diff.Value(goOn.WriteString("go\n"))(t)
 			mustLock(t, locks).Unlock()
-			if _, err := os.Stat(state + "/done"); err != nil {
-				t.Errorf("the program's work before the lock is free: got %v, want it done", err)
-			}
+			diff.NoError(t, diff.Err(os.Stat(state+"/done")), "the program's work before the lock is free")
 		})
 	}
 }
@@ -571,9 +550,7 @@ func TestLimitOutlivesTheBroker(t *testing.T) {
 	text := `[ $1 = create ] || exit 0; sleep 1000 & echo >"$OSB_STATE/started"; sleep 1000`
 	killedBroker(t, script(t, text), state, func() { read(t, started) })
 	locks := diff.Value(broker.NewFileLocks(state + "/.locks"))(t)
-	if lock, err := locks.TryLock(ctx, instance.Key); lock != nil || err != nil {
-		t.Errorf("TryLock while the program runs: got %v and %v, want none and no error", lock, err)
-	}
+	diff.Equal(t, diff.Value(locks.TryLock(ctx, instance.Key))(t) == nil, true, "TryLock while the program runs")
 	mustLock(t, locks).Unlock()
 }
 

@@ -55,9 +55,8 @@ func TestExampleLife(t *testing.T) {
 	}
 	check(t, backend.Create(ctx, instance)) // once more, which leaves the content alone
 	for _, name := range []string{whole, whole + "-wal"} {
-		if text, err := os.ReadFile(backend.state + "/" + name); err != nil || string(text) != "of the user" {
-			t.Errorf("after another Create: got %q in %s, %v, want it as the user left it", text, name, err)
-		}
+		diff.Equal(t, string(diff.Value(os.ReadFile(backend.state+"/"+name))(t)), "of the user",
+			"after another Create, %s", name)
 	}
 	created := diff.Value(backend.CreateBinding(ctx, binding))(t)
 	exist(t, backend, broker.Whole, broker.Whole)
@@ -66,9 +65,7 @@ func TestExampleLife(t *testing.T) {
 	if credentials.Database != whole || len(credentials.Token) != 36 {
 		t.Errorf("the credentials: got %s, want the database and a token", created)
 	}
-	if again, err := backend.Credentials(ctx, binding); err != nil || string(again) != string(created) {
-		t.Errorf("Credentials: got %s, %v, want %s", again, err, created)
-	}
+	diff.Equal(t, string(diff.Value(backend.Credentials(ctx, binding))(t)), string(created), "Credentials")
 	check(t, backend.DeleteBinding(ctx, binding))
 	exist(t, backend, broker.Whole, broker.None)
 	again, err := backend.CreateBinding(ctx, binding)
@@ -78,9 +75,7 @@ func TestExampleLife(t *testing.T) {
 	check(t, backend.DeleteBinding(ctx, binding))
 	check(t, backend.Delete(ctx, instance))
 	exist(t, backend, broker.None, broker.None)
-	if left := resources(t, backend); len(left) != 0 {
-		t.Errorf("left: got %v, want none", left)
-	}
+	diff.Empty(t, resources(t, backend), "left")
 }
 
 // resources returns the paths of all resources, whole and in part.
@@ -99,9 +94,7 @@ func TestExampleIsPrivate(t *testing.T) {
 		t.Run(name, func(t *testing.T) {
 			found, err := os.Stat(backend.state + "/" + name)
 			check(t, err)
-			if found.Mode().Perm() != wanted {
-				t.Errorf("the mode of %s: got %v, want %v", name, found.Mode(), wanted)
-			}
+			diff.Equal(t, found.Mode().Perm(), wanted, "the mode of %s", name)
 		})
 	}
 }
@@ -113,9 +106,7 @@ func TestExampleWithAPartBesideIt(t *testing.T) {
 	check(t, os.WriteFile(backend.state+"/"+whole+"-part", []byte("deleted"), 0o600))
 	exist(t, backend, broker.Whole, broker.None)
 	check(t, backend.Delete(ctx, instance))
-	if left := resources(t, backend); len(left) != 0 {
-		t.Errorf("left: got %v, want none", left)
-	}
+	diff.Empty(t, resources(t, backend), "left")
 }
 
 // If nobody can tell what exists, the program doesn't report that nothing does.
@@ -123,13 +114,9 @@ func TestExampleThatCanNotLook(t *testing.T) {
 	backend := databases(t, nil)
 	exist(t, backend, broker.None, broker.None)
 	check(t, os.RemoveAll(backend.state))
-	if there, err := backend.Look(ctx, instance); err == nil {
-		t.Errorf("Look without its folder: got %v, want an error", there)
-	}
+	diff.Error(t, diff.Err(backend.Look(ctx, instance)), "Look without its folder")
 	backend = databases(t, map[string]string{"find": "exit 1"})
-	if there, err := backend.Look(ctx, instance); err == nil {
-		t.Errorf("Look: got %v, want an error", there)
-	}
+	diff.Error(t, diff.Err(backend.Look(ctx, instance)), "Look")
 }
 
 // What exists of others, and under names that contain the id, doesn't count.
@@ -195,9 +182,7 @@ func TestExampleOutlivesAPowerCut(t *testing.T) {
 	isDurable(bound, func() error { _, err := backend.CreateBinding(ctx, binding); return err })
 	isDurable(bound, func() error { return backend.DeleteBinding(ctx, binding) })
 	isDurable(whole, func() error { return backend.Delete(ctx, instance) })
-	if left := resources(t, backend); len(left) != 0 {
-		t.Errorf("left: got %v, want none", left)
-	}
+	diff.Empty(t, resources(t, backend), "left")
 }
 
 // printed is what find prints of each file for a listing.

@@ -54,9 +54,7 @@ func TestEndOfStandardError(t *testing.T) {
 	if err == nil || !strings.HasSuffix(err.Error(), strings.Repeat("a", keptErrors-3)+"end") {
 		t.Fatalf("Create: got %.100v, want the end of its errors", err)
 	}
-	if strings.Contains(err.Error(), strings.Repeat("a", keptErrors)) {
-		t.Errorf("got an error of %d bytes, want fewer", len(err.Error()))
-	}
+	diff.Lacks(t, err.Error(), strings.Repeat("a", keptErrors), "the end of its errors")
 }
 
 // What a run may take, and what the supervisor of a run adds: it kills the run a few seconds after the broker would have.
@@ -191,9 +189,8 @@ func TestProcessThatLeftTheGroup(t *testing.T) {
 				t.Errorf("Look while the process runs: got %v and %v, want %v and %v", there, err, broker.None, filelock.ErrLent)
 			}
 			lock.Unlock()
-			if free, err := backend.Locks().TryLock(ctx, instance.Key); free != nil || err != nil {
-				t.Errorf("the lock of a process that still runs: got %v, %v, want none", free, err)
-			}
+			diff.Equal(t, diff.Value(backend.Locks().TryLock(ctx, instance.Key))(t) == nil, true,
+				"the lock of a process that still runs")
 			diff.Value(io.WriteString(goOn, "go\n"))(t)
 			mustLock(t, backend.Locks()).Unlock()
 		})
@@ -228,9 +225,8 @@ func TestServerThatHasTheLock(t *testing.T) {
 	}
 	check(t, syscall.Kill(pidOf(t, backend), syscall.SIGKILL))
 	backend.grace = 10 * time.Second
-	if there, err := backend.Look(lock.Context(ctx), instance); there != broker.Whole || err != nil {
-		t.Errorf("Look after the server has ended: got %v and %v, want %v and no error", there, err, broker.Whole)
-	}
+	diff.Equal(t, diff.Value(backend.Look(lock.Context(ctx), instance))(t), broker.Whole,
+		"Look after the server has ended")
 }
 
 // pidOf returns the number that the program has written to its file pid.
@@ -375,9 +371,7 @@ func TestWorkOverTheLimitEnds(t *testing.T) {
 	if row, isHeld := snapshot.Holding.Row(); isHeld || isPending(snapshot) {
 		t.Errorf("in the end: got %v in the store, want none", row)
 	}
-	if _, err := os.Stat(backend.state + "/resource"); !errors.Is(err, os.ErrNotExist) {
-		t.Errorf("the run after its limit: got %v, want no resource", err)
-	}
+	diff.ErrorIs(t, diff.Err(os.Stat(backend.state+"/resource")), os.ErrNotExist, "the run after its limit")
 	if len(reported.all) != 1 || !strings.HasSuffix(reported.all[0].Err.Error(), "it ran longer than 200ms") {
 		t.Errorf("the reports: got %v, want one of the limit", reported.all)
 	}

@@ -59,9 +59,7 @@ func TestPartIsSyncedBeforeItIsDeleted(t *testing.T) {
 	wrong := errors.New("the disk is broken")
 	f.topSync.init(func() error { return wrong })
 	diff.ErrorIs(t, f.Delete(ctx, first), wrong, "Delete")
-	if _, err := os.Stat(data); err != nil {
-		t.Errorf("the content before the fsync: got %v, want it there", err)
-	}
+	diff.NoError(t, diff.Err(os.Stat(data)), "the content before the fsync")
 }
 
 func TestErrorsOfFsync(t *testing.T) {

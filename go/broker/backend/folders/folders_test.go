@@ -46,9 +46,7 @@ func has(t *testing.T, f *Folders, request broker.Request, wanted broker.There) 
 	if request.Key.IsBinding {
 		look = f.LookBinding
 	}
-	if there, err := look(ctx, request); there != wanted || err != nil {
-		t.Fatalf("of %v: got %v, %v, want %v", request.Key, there, err, wanted)
-	}
+	diff.Equal(t, diff.Value(look(ctx, request))(t), wanted, "of %v", request.Key)
 }
 
 // names returns the names in a folder.
@@ -155,9 +153,7 @@ func TestLinksAreNotFollowed(t *testing.T) {
 		check(t, f.Delete(ctx, request))
 		has(t, f, request, broker.None)
 	}
-	if _, err := os.Stat(precious + "/data"); err != nil {
-		t.Errorf("what a link leads to: got %v, want it there", err)
-	}
+	diff.NoError(t, diff.Err(os.Stat(precious+"/data")), "what a link leads to")
 }
 
 // If nobody can tell what exists, Look fails.
@@ -167,12 +163,8 @@ func TestNobodyCanLook(t *testing.T) {
 	check(t, os.Symlink(loop, loop))
 	f := newFolders(t, t.TempDir())
 	f.top = loop
-	if there, err := f.Look(ctx, first); !errors.Is(err, syscall.ELOOP) {
-		t.Errorf("Look: got %v, %v, want %v", there, err, syscall.ELOOP)
-	}
-	if there, err := f.LookBinding(ctx, bound); !errors.Is(err, syscall.ELOOP) {
-		t.Errorf("LookBinding: got %v, %v, want %v", there, err, syscall.ELOOP)
-	}
+	diff.ErrorIs(t, diff.Err(f.Look(ctx, first)), syscall.ELOOP, "Look")
+	diff.ErrorIs(t, diff.Err(f.LookBinding(ctx, bound)), syscall.ELOOP, "LookBinding")
 	diff.Error(t, f.Create(ctx, first), "Create")
 	diff.Error(t, f.Delete(ctx, first), "Delete")
 }
@@ -194,9 +186,7 @@ func TestTopsThatNewRejects(t *testing.T) {
 func TestRemoved(t *testing.T) {
 	folder := t.TempDir()
 	leave(t, folder+"/full/data")
-	if err := removeFile(folder + "/full"); err == nil {
-		t.Error("got nil, want that the folder isn't empty")
-	}
+	diff.Error(t, removeFile(folder+"/full"), "a folder that isn't empty")
 	check(t, removeFile(folder+"/none"))
 }
 
@@ -222,9 +212,7 @@ func TestLocks(t *testing.T) {
 		t.Fatalf("got the lock %v, %v, want one", lock, err)
 	}
 	defer lock.Unlock()
-	if second, err := newFolders(t, top).Locks().TryLock(ctx, first.Key); second != nil || err != nil {
-		t.Errorf("a second backend: got the lock %v, %v, want none", second, err)
-	}
+	diff.Equal(t, diff.Value(newFolders(t, top).Locks().TryLock(ctx, first.Key))(t) == nil, true, "a second backend")
 }
 
 var (
@@ -256,9 +244,7 @@ func TestLifeOfABinding(t *testing.T) {
 	has(t, f, bound, broker.None)
 	text, read := bind(t, f, bound)
 	diff.Equal(t, read.Folder, f.top+"/"+first.Key.Instance.String(), "the folder")
-	if len(read.Token) != 43 {
-		t.Errorf("the token: got %q, want one of 43 characters", read.Token)
-	}
+	diff.Equal(t, len(read.Token), 43, "the token")
 	again, err := f.Credentials(ctx, bound)
 	if err != nil || string(again) != text {
 		t.Errorf("Credentials: got %s, %v, want %s", again, err, text)
@@ -271,9 +257,8 @@ func TestLifeOfABinding(t *testing.T) {
 	check(t, f.Sync(ctx, bound))
 	check(t, f.DeleteBinding(ctx, bound))
 	has(t, f, bound, broker.None)
-	if _, err := f.Credentials(ctx, bound); !errors.Is(err, fs.ErrNotExist) {
-		t.Errorf("the credentials of a binding that was deleted: got %v, want %v", err, fs.ErrNotExist)
-	}
+	diff.ErrorIs(t, diff.Err(f.Credentials(ctx, bound)), fs.ErrNotExist,
+		"the credentials of a binding that was deleted")
 	if _, after := bind(t, f, bound); after.Token == read.Token {
 		t.Error("a new binding: got the token of the old one, want another")
 	}
@@ -314,9 +299,7 @@ func TestWhateverIsLeftOfABinding(t *testing.T) {
 					has(t, f, bound, wanted)
 				}
 				check(t, f.DeleteBinding(ctx, bound))
-				if found := names(t, f.bindings()); len(found) != 0 {
-					t.Errorf("left: got %v, want none", found)
-				}
+				diff.Empty(t, names(t, f.bindings()), "left")
 			})
 		}
 	}
@@ -344,9 +327,7 @@ func TestLinkInThePlaceOfABinding(t *testing.T) {
 func TestCredentialsThatAreNotJSON(t *testing.T) {
 	f := withInstances(t)
 	check(t, os.WriteFile(f.binding(bound.Key), []byte(`{"folder":`), 0o600))
-	if text, err := f.Credentials(ctx, bound); err == nil {
-		t.Errorf("Credentials: got %s, want an error", text)
-	}
+	diff.Error(t, diff.Err(f.Credentials(ctx, bound)), "Credentials")
 }
 
 // Only once the credentials have their name, the folder of the bindings is written to disk.
@@ -437,9 +418,7 @@ func unlistableFolder(t *testing.T) string {
 func TestOwnerOfATopThatCanNotBeListed(t *testing.T) {
 	f := newFolders(t, t.TempDir())
 	f.top = unlistableFolder(t)
-	if owner, err := f.Own(ctx, "one"); !errors.Is(err, fs.ErrPermission) {
-		t.Errorf("got %q, %v, want %v", owner, err, fs.ErrPermission)
-	}
+	diff.ErrorIs(t, diff.Err(f.Own(ctx, "one")), fs.ErrPermission, "")
 	diff.Equal(t, diff.Value(f.Owner(ctx))(t), "", "the owner")
 }
 
@@ -464,9 +443,7 @@ func TestLabel(t *testing.T) {
 		if err != nil || string(text[:n]) != wanted {
 			t.Errorf("the attribute: got %q, %v, want %q", text[:n], err, wanted)
 		}
-		if found := names(t, f.whole(first.Key.Instance)); len(found) != 0 {
-			t.Errorf("the folder: got %v, want none", found)
-		}
+		diff.Empty(t, names(t, f.whole(first.Key.Instance)), "the folder")
 	})
 	t.Run("a file", func(t *testing.T) {
 		wanted := `{"instance":"` + first.Key.Instance.String() + `","plan":"` + first.PlanID +
@@ -491,15 +468,11 @@ func TestLabelHasNumbers(t *testing.T) {
 	wanted := ""
 	for _, attribute := range [][2]string{{"service", "postgres"}, {"plan", "small"}} {
 		number := diff.Value(osb.IDOfText(attribute[1]))(t)
-		if label[attribute[0]] != number.String() {
-			t.Errorf("%s: got %s, want %v", attribute[0], label[attribute[0]], number)
-		}
+		diff.Equal(t, label[attribute[0]], number.String(), "%s", attribute[0])
 		wanted += " " + strings.ReplaceAll(number.String(), "-", "")
 	}
 	f := newFolders(t, t.TempDir())
 	for again := 0; again < 2; again++ {
-		if attribute, err := f.attributeOf(sold); err != nil || " "+string(attribute) != wanted {
-			t.Errorf("the attribute: got %s, %v, want%s", attribute, err, wanted)
-		}
+		diff.Equal(t, " "+string(diff.Value(f.attributeOf(sold))(t)), wanted, "the attribute")
 	}
 }

@@ -35,17 +35,13 @@ func TestCreateAndDelete(t *testing.T) {
 	wantThere(t, d, it, broker.None)
 	diff.NoError(t, d.Delete(it.ctx, it.request), "Delete of nothing")
 	for n := 0; n < 2; n++ {
-		if err := d.Create(it.ctx, it.request); err != nil {
-			t.Fatalf("Create: got %v, want no error", err)
-		}
+		check(t, d.Create(it.ctx, it.request))
 		wantThere(t, d, it, broker.Whole)
 		pgtest.Exec(t, r.customer(it.request.Key), "CREATE TABLE t (x integer)", "CREATE SCHEMA s", "CREATE EXTENSION hstore")
 		diff.NoError(t, d.Sync(it.ctx, it.request), "Sync")
 	}
 	for n := 0; n < 2; n++ {
-		if err := d.Delete(it.ctx, it.request); err != nil {
-			t.Fatalf("Delete: got %v, want no error", err)
-		}
+		check(t, d.Delete(it.ctx, it.request))
 		wantThere(t, d, it, broker.None)
 		r.wantNothing(it.request.Key)
 	}
@@ -98,9 +94,8 @@ func TestWhoGetsIn(t *testing.T) {
 		r.role:                 postgres.PasswordOf(secret, one),
 		postgres.NameOf(one):   postgres.PasswordOf(secret, other),
 	} {
-		if err := r.login(postgres.NameOf(one), password, database).Ping(); err == nil {
-			t.Errorf("%s: got a login to %s, want an error", postgres.NameOf(one), database)
-		}
+		diff.Error(t, r.login(postgres.NameOf(one), password, database).Ping(), "%s, %s", postgres.NameOf(one),
+			database)
 	}
 }
 
@@ -113,9 +108,7 @@ func TestLimits(t *testing.T) {
 	for n := 0; n < 3; n++ {
 		hold(t, db)
 	}
-	if err := r.customer(key).Ping(); err == nil {
-		t.Error("a fourth connection: got no error, want one")
-	}
+	diff.Error(t, r.customer(key).Ping(), "a fourth connection")
 	hold(t, r.login(r.role, "of the broker", r.role), "SELECT 1")
 	limit := r.column("SELECT datconnlimit::text FROM pg_database WHERE datname = $1", postgres.NameOf(key))
 	if len(limit) != 1 || limit[0] != "3" {
@@ -127,9 +120,8 @@ func TestNoRoleLiftsItsLimit(t *testing.T) {
 	r := newRig(t)
 	d := r.open()
 	key := createInstance(t, d).request.Key
-	if _, err := r.customer(key).Exec("ALTER ROLE CURRENT_USER CONNECTION LIMIT -1"); err == nil {
-		t.Error("the role lifts its limit: got no error, want one")
-	}
+	diff.Error(t, diff.Err(r.customer(key).Exec("ALTER ROLE CURRENT_USER CONNECTION LIMIT -1")),
+		"the role lifts its limit")
 	limit := r.column("SELECT rolconnlimit::text FROM pg_roles WHERE rolname = $1", postgres.NameOf(key))
 	if len(limit) != 1 || limit[0] != "20" {
 		t.Errorf("the limit of the role: got %v, want 20", limit)
@@ -216,21 +208,15 @@ func TestBindAndUnbind(t *testing.T) {
 	wantThere(t, d, bind, broker.None)
 	diff.NoError(t, d.DeleteBinding(bind.ctx, bind.request), "DeleteBinding of nothing")
 	for n := 0; n < 2; n++ {
-		if _, err := d.CreateBinding(bind.ctx, bind.request); err != nil {
-			t.Fatalf("CreateBinding: got %v, want no error", err)
-		}
+		check(t, diff.Err(d.CreateBinding(bind.ctx, bind.request)))
 		wantThere(t, d, bind, broker.Whole)
 	}
 	pgtest.Exec(t, r.admin, "ALTER ROLE "+postgres.NameOf(bind.request.Key)+" NOLOGIN")
 	wantThere(t, d, bind, broker.Part)
-	if _, err := d.CreateBinding(bind.ctx, bind.request); err != nil {
-		t.Fatalf("CreateBinding over a part: got %v, want no error", err)
-	}
+	check(t, diff.Err(d.CreateBinding(bind.ctx, bind.request)))
 	wantThere(t, d, bind, broker.Whole)
 	for n := 0; n < 2; n++ {
-		if err := d.DeleteBinding(bind.ctx, bind.request); err != nil {
-			t.Fatalf("DeleteBinding: got %v, want no error", err)
-		}
+		check(t, d.DeleteBinding(bind.ctx, bind.request))
 		wantThere(t, d, bind, broker.None)
 	}
 	wantThere(t, d, it, broker.Whole)
@@ -244,9 +230,7 @@ func TestABindingWithoutADatabase(t *testing.T) {
 	d := r.open()
 	bind := lock(t, d, osb.BindingKey(randomID(t), randomID(t)))
 	wantThere(t, d, bind, broker.None)
-	if _, err := d.CreateBinding(bind.ctx, bind.request); err == nil {
-		t.Error("CreateBinding: got no error, want one")
-	}
+	diff.Error(t, diff.Err(d.CreateBinding(bind.ctx, bind.request)), "CreateBinding")
 	diff.NoError(t, d.DeleteBinding(bind.ctx, bind.request), "DeleteBinding")
 	r.wantNothing(osb.InstanceKey(bind.request.Key.Instance))
 }
@@ -261,15 +245,9 @@ func TestWhoWasBoundIsOut(t *testing.T) {
 	first := hold(t, r.login(one.Username, one.Password, one.Database),
 		"CREATE TABLE t (x integer)", "INSERT INTO t VALUES (1)", "BEGIN", "LOCK TABLE t")
 	second := hold(t, r.login(two.Username, two.Password, two.Database))
-	if err := d.DeleteBinding(bind.ctx, bind.request); err != nil {
-		t.Fatalf("DeleteBinding: got %v, want no error", err)
-	}
-	if _, err := first.ExecContext(context.Background(), "SELECT 1"); err == nil {
-		t.Error("a statement of the session: got no error, want one")
-	}
-	if err := r.login(one.Username, one.Password, one.Database).Ping(); err == nil {
-		t.Error("a login: got no error, want one")
-	}
+	check(t, d.DeleteBinding(bind.ctx, bind.request))
+	diff.Error(t, diff.Err(first.ExecContext(context.Background(), "SELECT 1")), "a statement of the session")
+	diff.Error(t, r.login(one.Username, one.Password, one.Database).Ping(), "a login")
 	var owner string
 	err := second.QueryRowContext(context.Background(),
 		"INSERT INTO t VALUES (2) RETURNING (SELECT tableowner FROM pg_tables WHERE tablename = 't')").Scan(&owner)
@@ -291,16 +269,10 @@ func TestWhoWasBoundDoesNotComeBack(t *testing.T) {
 	hold(t, r.login(one.Username, one.Password, one.Database), "ALTER ROLE CURRENT_USER PASSWORD 'of the application'")
 	inside := hold(t, r.login(name, "of the application", name), "SELECT 1")
 	wantQuick(t, "DeleteBinding", func() error { return d.DeleteBinding(bind.ctx, bind.request) })
-	if _, err := inside.ExecContext(context.Background(), "SELECT 1"); err == nil {
-		t.Error("a statement of the session: got no error, want one")
-	}
-	if err := r.login(name, "of the application", name).Ping(); err == nil {
-		t.Error("the application's password: got no error, want one")
-	}
+	diff.Error(t, diff.Err(inside.ExecContext(context.Background(), "SELECT 1")), "a statement of the session")
+	diff.Error(t, r.login(name, "of the application", name).Ping(), "the application's password")
 	diff.NoError(t, r.customer(it.request.Key).Ping(), "the broker's password")
-	if _, err := other.ExecContext(context.Background(), "COMMIT"); err != nil {
-		t.Errorf("the other binding: got %v, want no error", err)
-	}
+	diff.NoError(t, diff.Err(other.ExecContext(context.Background(), "COMMIT")), "the other binding")
 }
 
 // Another customer who was let into the database keeps nobody from being unbound.
@@ -319,9 +291,7 @@ func TestAStrangerInTheDatabase(t *testing.T) {
 		"INSERT INTO t VALUES (1)")
 	wantQuick(t, "DeleteBinding", func() error { return d.DeleteBinding(bind.ctx, bind.request) })
 	wantThere(t, d, bind, broker.None)
-	if _, err := other.ExecContext(context.Background(), "COMMIT"); err != nil {
-		t.Errorf("the other binding: got %v, want no error", err)
-	}
+	diff.NoError(t, diff.Err(other.ExecContext(context.Background(), "COMMIT")), "the other binding")
 }
 
 // A role that owns more than one transaction can lock is dropped all the same: that of a binding, whose instance gets
@@ -463,15 +433,10 @@ func TestABindingThatIsNotOurs(t *testing.T) {
 	for _, comment := range []string{"NULL", "'osb store of somebody else'"} {
 		t.Run(comment, func(t *testing.T) {
 			pgtest.Exec(t, r.admin, "COMMENT ON ROLE "+one.Username+" IS "+comment)
-			if _, err := d.LookBinding(bind.ctx, bind.request); err == nil {
-				t.Errorf("LookBinding with the comment %s: got no error, want one", comment)
-			}
-			if err := d.DeleteBinding(bind.ctx, bind.request); err == nil {
-				t.Errorf("DeleteBinding with the comment %s: got no error, want one", comment)
-			}
-			if _, err := d.CreateBinding(bind.ctx, bind.request); err == nil {
-				t.Errorf("CreateBinding with the comment %s: got no error, want one", comment)
-			}
+			diff.Error(t, diff.Err(d.LookBinding(bind.ctx, bind.request)), "LookBinding with the comment %s", comment)
+			diff.Error(t, d.DeleteBinding(bind.ctx, bind.request), "DeleteBinding with the comment %s", comment)
+			diff.Error(t, diff.Err(d.CreateBinding(bind.ctx, bind.request)), "CreateBinding with the comment %s",
+				comment)
 		})
 	}
 	pgtest.Exec(t, r.login(one.Username, one.Password, one.Database), "SELECT 1")
@@ -610,9 +575,7 @@ func randomText(t *testing.T) string {
 func createInstance(t *testing.T, d *postgres.Databases) lockedKey {
 	t.Helper()
 	it := lock(t, d, newInstance(t))
-	if err := d.Create(it.ctx, it.request); err != nil {
-		t.Fatalf("Create: got %v, want no error", err)
-	}
+	check(t, d.Create(it.ctx, it.request))
 	return it
 }
 
@@ -621,9 +584,7 @@ func bound(t *testing.T, d *postgres.Databases, of broker.Key) (lockedKey, crede
 	t.Helper()
 	it := lock(t, d, osb.BindingKey(of.Instance, randomID(t)))
 	text, err := d.CreateBinding(it.ctx, it.request)
-	if err != nil {
-		t.Fatalf("CreateBinding: got %v, want no error", err)
-	}
+	check(t, err)
 	return it, read(t, text)
 }
 
@@ -671,9 +632,7 @@ func wantThere(t *testing.T, d *postgres.Databases, it lockedKey, want broker.Th
 	if it.request.Key.IsBinding {
 		look = d.LookBinding
 	}
-	if got, err := look(it.ctx, it.request); err != nil || got != want {
-		t.Errorf("got %v of %v, %v, want %v", got, it.request.Key, err, want)
-	}
+	diff.Equal(t, diff.Value(look(it.ctx, it.request))(t), want, "%v", it.request.Key)
 }
 
 // wantNothing sees that neither a role nor a database of the key is left.

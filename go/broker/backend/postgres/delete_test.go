@@ -83,9 +83,7 @@ func TestAPreparedTransaction(t *testing.T) {
 		t.Errorf("Delete: got %v after %v, want one of prepared transactions within 8 s", err, took)
 	}
 	wantThere(t, d, it, broker.Part)
-	if err := r.customer(it.request.Key).Ping(); err == nil {
-		t.Error("a login of the customer: got no error, want one")
-	}
+	diff.Error(t, r.customer(it.request.Key).Ping(), "a login of the customer")
 	if r.exists("pg_roles WHERE rolname = $1 AND rolcanlogin", name) {
 		t.Error("got a role that can log in to other databases, want it closed")
 	}
@@ -138,9 +136,7 @@ func TestWhatAnotherCustomerHolds(t *testing.T) {
 			if strings.Contains(strings.Join(statements, ";"), ";BEGIN") {
 				return
 			}
-			if err := session.PingContext(of.ctx); err != nil {
-				t.Errorf("the session of the other customer: got %v, want that it goes on", err)
-			}
+			diff.NoError(t, session.PingContext(of.ctx), "the session of the other customer")
 		})
 	}
 }
@@ -284,16 +280,12 @@ func TestLongSettings(t *testing.T) {
 	pgtest.Exec(t, r.customer(it.request.Key),
 		"ALTER DATABASE "+name+" SET search_path = '"+strings.Repeat("garbage, ", 1<<18)+"x'")
 	wantReset(t, d, it, true)
-	if got := r.settingsOf(name); got != "" {
-		t.Errorf("got %d bytes of settings left, want none", len(got))
-	}
+	diff.Equal(t, r.settingsOf(name), "", "")
 }
 
 func wantReset(t *testing.T, d *postgres.Databases, it lockedKey, want bool) {
 	t.Helper()
-	if got, err := d.ForgetLongSettings(it.ctx, it.request); err != nil || got != want {
-		t.Errorf("the settings were reset: got %t, %v, want %t", got, err, want)
-	}
+	diff.Equal(t, diff.Value(d.ForgetLongSettings(it.ctx, it.request))(t), want, "the settings were reset")
 }
 
 // What the role owns in another customer's database goes, and what that customer has made to depend on it. The rest of
@@ -537,9 +529,7 @@ func (c faultyCall) fails(t *testing.T, countdown *storefaults.Countdown) {
 		if err != nil {
 			continue
 		}
-		if there, err := c.look(); err != nil || there != c.want {
-			t.Errorf("%s, and %q has failed: got %v, %v, want %v", c.name, failed, there, err, c.want)
-		}
+		diff.Equal(t, diff.Value(c.look())(t), c.want, "%s, and %q has failed", c.name, failed)
 		if failed != "" {
 			if !isDispensable(failed) {
 				t.Errorf("%s, and %q has failed: got nil, want the error", c.name, failed)
@@ -559,9 +549,7 @@ func TestSyncCommits(t *testing.T) {
 	d := r.open()
 	instance := createInstance(t, d)
 	proxy.Countdown.Fail(3, storefaults.Refused)
-	if err := d.Sync(instance.ctx, instance.request); err == nil {
-		t.Error("got nil, want the error of the COMMIT")
-	}
+	diff.Error(t, d.Sync(instance.ctx, instance.request), "")
 	if failed := proxy.Countdown.FailedStatement(); !storefaults.IsCommit(failed) {
 		t.Errorf("got %q as the statement that failed, want a COMMIT", failed)
 	}

@@ -77,9 +77,7 @@ func TestLongestStatementOfRekey(t *testing.T) {
 	}()
 	key := []byte(strings.Repeat("k", 32))
 	address := "postgresql://osb@" + listener.Addr().String() + "/osb?sslmode=disable"
-	if _, err := Rekey(context.Background(), address, key, key); err == nil {
-		t.Error("got no error, want one")
-	}
+	diff.Error(t, diff.Err(Rekey(context.Background(), address, key, key)), "")
 	if got, want := <-begun, "statement_timeout\x00600000\x00"; !strings.Contains(got, want) {
 		t.Errorf("got the session %q, want %q in it", got, want)
 	}
@@ -220,11 +218,7 @@ func TestWarningsOf(t *testing.T) {
 			}
 		})
 	}
-	if found := good.warnings(Options{TempFileLimit: 1}); len(found) > 0 {
-		t.Errorf("a good server: got the warnings %q, want none", found)
-	}
+	diff.Empty(t, good.warnings(Options{TempFileLimit: 1}), "a good server")
 	good.limitsTempFiles = false
-	if found := good.warnings(Options{TempFileLimit: -1}); len(found) > 0 {
-		t.Errorf("without a limit: got the warnings %q, want none of it", found)
-	}
+	diff.Empty(t, good.warnings(Options{TempFileLimit: -1}), "without a limit")
 }

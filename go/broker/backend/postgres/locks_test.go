@@ -2,7 +2,6 @@ package postgres_test
 
 import (
 	"context"
-	"errors"
 	"sync"
 	"testing"
 	"time"
@@ -74,9 +73,7 @@ func TestLockWaits(t *testing.T) {
 	}()
 	r.waitForWaiter()
 	cancel()
-	if err := <-given; err == nil {
-		t.Error("Lock: got no error, want one")
-	}
+	diff.Error(t, <-given, "Lock")
 	go func() {
 		next, err := d.Locks().Lock(context.Background(), key)
 		if err == nil {
@@ -124,9 +121,7 @@ func TestLockExcludes(t *testing.T) {
 		}()
 	}
 	all.Wait()
-	if at != 8 {
-		t.Errorf("got the lock for %d, want 8", at)
-	}
+	diff.Equal(t, at, 8, "")
 }
 
 // A call needs the lock of its own key.
@@ -137,31 +132,15 @@ func TestCallsWithoutTheLock(t *testing.T) {
 	other := lock(t, d, newInstance(t))
 	binding := request(osb.BindingKey(it.request.Key.Instance, it.request.Key.Instance))
 	for _, ctx := range []context.Context{context.Background(), other.ctx} {
-		if _, err := d.Look(ctx, it.request); err == nil {
-			t.Error("Look: got no error, want one")
-		}
-		if err := d.Create(ctx, it.request); err == nil {
-			t.Error("Create: got no error, want one")
-		}
-		if err := d.Delete(ctx, it.request); err == nil {
-			t.Error("Delete: got no error, want one")
-		}
-		if err := d.Sync(ctx, it.request); err == nil {
-			t.Error("Sync: got no error, want one")
-		}
+		diff.Error(t, diff.Err(d.Look(ctx, it.request)), "Look")
+		diff.Error(t, d.Create(ctx, it.request), "Create")
+		diff.Error(t, d.Delete(ctx, it.request), "Delete")
+		diff.Error(t, d.Sync(ctx, it.request), "Sync")
 	}
-	if _, err := d.LookBinding(it.ctx, binding); err == nil {
-		t.Error("LookBinding under the lock of the instance: got no error, want one")
-	}
-	if _, err := d.CreateBinding(it.ctx, binding); err == nil {
-		t.Error("CreateBinding under the lock of the instance: got no error, want one")
-	}
-	if err := d.DeleteBinding(it.ctx, binding); err == nil {
-		t.Error("DeleteBinding under the lock of the instance: got no error, want one")
-	}
-	if _, err := d.Credentials(it.ctx, binding); err == nil {
-		t.Error("Credentials under the lock of the instance: got no error, want one")
-	}
+	diff.Error(t, diff.Err(d.LookBinding(it.ctx, binding)), "LookBinding under the lock of the instance")
+	diff.Error(t, diff.Err(d.CreateBinding(it.ctx, binding)), "CreateBinding under the lock of the instance")
+	diff.Error(t, d.DeleteBinding(it.ctx, binding), "DeleteBinding under the lock of the instance")
+	diff.Error(t, diff.Err(d.Credentials(it.ctx, binding)), "Credentials under the lock of the instance")
 	wantThere(t, d, it, broker.Whole)
 }
 
@@ -194,9 +173,7 @@ func TestALockThatOutlivesItsClient(t *testing.T) {
 	ctx, cancel := context.WithTimeout(context.Background(), time.Minute)
 	defer cancel()
 	next, err := second.Locks().Lock(ctx, key)
-	if err != nil {
-		t.Fatalf("the lock once the server has ended: got %v, want no error", err)
-	}
+	check(t, err)
 	defer next.Unlock()
 	diff.NoError(t, second.Create(next.Context(ctx), request(key)), "Create by the next")
 }
@@ -212,9 +189,7 @@ func TestALockThatIsLost(t *testing.T) {
 		t.Fatal("got no lock, want it free")
 	}
 	defer other.Unlock()
-	if err := d.Create(it.ctx, it.request); err == nil {
-		t.Error("Create without the lock: got no error, want one")
-	}
+	diff.Error(t, d.Create(it.ctx, it.request), "Create without the lock")
 	r.wantNothing(it.request.Key)
 }
 
@@ -226,9 +201,7 @@ func TestSessions(t *testing.T) {
 	all := []broker.Lock{take(t, d, newInstance(t)), take(t, d, newInstance(t))}
 	ctx, cancel := context.WithTimeout(context.Background(), 100*time.Millisecond)
 	defer cancel()
-	if _, err := d.Locks().TryLock(ctx, newInstance(t)); !errors.Is(err, context.DeadlineExceeded) {
-		t.Errorf("a third session: got %v, want %v", err, context.DeadlineExceeded)
-	}
+	diff.ErrorIs(t, diff.Err(d.Locks().TryLock(ctx, newInstance(t))), context.DeadlineExceeded, "a third session")
 	for _, lock := range all {
 		lock.Unlock()
 	}
@@ -251,12 +224,8 @@ func TestLocksOfAServerThatIsAway(t *testing.T) {
 	key := newInstance(t)
 	proxy.Cut("\x00") // a byte of every message
 	for round := 0; round < 2; round++ {
-		if _, err := d.Locks().TryLock(context.Background(), key); !errors.Is(err, broker.ErrAway) {
-			t.Errorf("TryLock: got %v, want %v", err, broker.ErrAway)
-		}
-		if _, err := d.Locks().Lock(context.Background(), key); !errors.Is(err, broker.ErrAway) {
-			t.Errorf("Lock: got %v, want %v", err, broker.ErrAway)
-		}
+		diff.ErrorIs(t, diff.Err(d.Locks().TryLock(context.Background(), key)), broker.ErrAway, "TryLock")
+		diff.ErrorIs(t, diff.Err(d.Locks().Lock(context.Background(), key)), broker.ErrAway, "Lock")
 	}
 	proxy.Cut("")
 	taken := take(t, d, key)

@@ -20,25 +20,13 @@ func TestOwner(t *testing.T) {
 	r := newRig(t)
 	first, second := r.openUntied(), r.openUntied()
 	ctx := context.Background()
-	if owner, err := first.Owner(ctx); err != nil || owner != "" {
-		t.Errorf("before the first: got %q, %v, want none", owner, err)
-	}
+	diff.Equal(t, diff.Value(first.Owner(ctx))(t), "", "before the first")
 	it := lock(t, first, newInstance(t))
-	if _, err := first.Look(it.ctx, it.request); err == nil {
-		t.Error("Look before there is a store: got no error, want one")
-	}
-	if err := first.Create(it.ctx, it.request); err == nil {
-		t.Error("Create before there is a store: got no error, want one")
-	}
-	if owner, err := first.Own(ctx, store); err != nil || owner != store {
-		t.Errorf("the first: got %q, %v, want %q", owner, err, store)
-	}
-	if owner, err := second.Own(ctx, "00000000-0000-4000-8000-00000000bbbb"); err != nil || owner != store {
-		t.Errorf("the second: got %q, %v, want %q", owner, err, store)
-	}
-	if owner, err := second.Owner(ctx); err != nil || owner != store {
-		t.Errorf("afterwards: got %q, %v, want %q", owner, err, store)
-	}
+	diff.Error(t, diff.Err(first.Look(it.ctx, it.request)), "Look before there is a store")
+	diff.Error(t, first.Create(it.ctx, it.request), "Create before there is a store")
+	diff.Equal(t, diff.Value(first.Own(ctx, store))(t), store, "the first")
+	diff.Equal(t, diff.Value(second.Own(ctx, "00000000-0000-4000-8000-00000000bbbb"))(t), store, "the second")
+	diff.Equal(t, diff.Value(second.Owner(ctx))(t), store, "afterwards")
 }
 
 // A store and the backend in one database, as the guide has them, and then another store with the same backend.
@@ -86,22 +74,14 @@ func TestKeys(t *testing.T) {
 	for _, short := range []string{"", "hunter2", strings.Repeat("k", postgres.ShortestKey-1)} {
 		t.Run(fmt.Sprintf("%d bytes", len(short)), func(t *testing.T) {
 			_, err := r.openWith([]byte(short))
-			if err == nil || !strings.Contains(err.Error(), "openssl rand") {
-				t.Errorf("a key of %d bytes: got %v, want an error with \"openssl rand\"", len(short), err)
-			}
+			diff.ErrorContains(t, err, "openssl rand", "a key of %d bytes", len(short))
 		})
 	}
 	late := r.openUntied(func(o *postgres.Options) { o.Key = another }) // opened before the key was known
 	r.open()
-	if _, err := r.openWith(another); !errors.Is(err, postgres.ErrWrongKey) {
-		t.Errorf("another key: got %v, want %v", err, postgres.ErrWrongKey)
-	}
-	if _, err := r.openWith(secret); err != nil {
-		t.Errorf("the same key: got %v, want no error", err)
-	}
-	if _, err := late.Own(context.Background(), store); !errors.Is(err, postgres.ErrWrongKey) {
-		t.Errorf("Own with another key: got %v, want %v", err, postgres.ErrWrongKey)
-	}
+	diff.ErrorIs(t, diff.Err(r.openWith(another)), postgres.ErrWrongKey, "another key")
+	diff.NoError(t, diff.Err(r.openWith(secret)), "the same key")
+	diff.ErrorIs(t, diff.Err(late.Own(context.Background(), store)), postgres.ErrWrongKey, "Own with another key")
 	it := lock(t, late, newInstance(t))
 	diff.ErrorIs(t, late.Create(it.ctx, it.request), postgres.ErrWrongKey, "Create with another key")
 	r.wantNothing(it.request.Key)
@@ -154,42 +134,31 @@ func TestRekey(t *testing.T) {
 	it := createInstance(t, d)
 	bind, _ := bound(t, d, it.request.Key)
 	for n := 0; n < 2; n++ { // the second time all is done already
-		if left := r.rekey(secret, another); len(left) > 0 {
-			t.Errorf("left: got %v, want none", left)
-		}
+		diff.Empty(t, r.rekey(secret, another), "left")
 		r.wantPassword(it.request.Key, another, secret)
 		r.wantPassword(bind.request.Key, another, secret)
 	}
-	if _, err := d.Credentials(bind.ctx, bind.request); !errors.Is(err, postgres.ErrWrongKey) {
-		t.Errorf("Credentials with the old key: got %v, want %v", err, postgres.ErrWrongKey)
-	}
+	diff.ErrorIs(t, diff.Err(d.Credentials(bind.ctx, bind.request)), postgres.ErrWrongKey,
+		"Credentials with the old key")
 	next := lock(t, d, newInstance(t))
 	diff.ErrorIs(t, d.Create(next.ctx, next.request), postgres.ErrWrongKey, "Create with the old key")
 	r.wantNothing(next.request.Key)
-	if _, err := r.openWith(secret); !errors.Is(err, postgres.ErrWrongKey) {
-		t.Errorf("Open with the old key: got %v, want %v", err, postgres.ErrWrongKey)
-	}
-	if _, err := r.openWith(another); err != nil {
-		t.Errorf("Open with the new key: got %v, want no error", err)
-	}
+	diff.ErrorIs(t, diff.Err(r.openWith(secret)), postgres.ErrWrongKey, "Open with the old key")
+	diff.NoError(t, diff.Err(r.openWith(another)), "Open with the new key")
 	wantThere(t, d, it, broker.Whole)
 	diff.NoError(t, d.Delete(it.ctx, it.request), "Delete with the old key")
 }
 
 func TestRekeyRejects(t *testing.T) {
 	r := newRig(t)
-	if _, err := postgres.Rekey(context.Background(), r.url, secret, another); err == nil {
-		t.Error("before there is a store: got no error, want one")
-	}
+	diff.Error(t, diff.Err(postgres.Rekey(context.Background(), r.url, secret, another)), "before there is a store")
 	key := createInstance(t, r.open()).request.Key
 	for what, test := range map[string]struct{ old, new []byte }{
 		"the wrong old key": {[]byte("not the key"), another},
 		"a short new key":   {secret, []byte("short")},
 	} {
 		t.Run(what, func(t *testing.T) {
-			if _, err := postgres.Rekey(context.Background(), r.url, test.old, test.new); err == nil {
-				t.Error("got no error, want one")
-			}
+			diff.Error(t, diff.Err(postgres.Rekey(context.Background(), r.url, test.old, test.new)), "")
 		})
 	}
 	r.wantPassword(key, secret, another)
@@ -222,9 +191,7 @@ func TestRekeyAfter02(t *testing.T) {
 	r.create02(changed, "of the customer")
 	left := strings.Join(r.rekey(short, secret), " ")
 	for _, key := range []broker.Key{theirs, changed} {
-		if !strings.Contains(left, postgres.NameOf(key)) {
-			t.Errorf("left: got %s, want %v in it", left, key)
-		}
+		diff.Contains(t, left, postgres.NameOf(key), "left")
 	}
 	r.wantPassword(ours, secret, short)
 	r.wantPassword(theirs, another, secret)
@@ -244,9 +211,7 @@ func TestRekeyBesideAnotherStore(t *testing.T) {
 	theirs := other.openUntied()
 	diff.Value(theirs.Own(context.Background(), "00000000-0000-4000-8000-00000000bbbb"))(t)
 	key := createInstance(t, theirs).request.Key
-	if left := r.rekey(secret, another); len(left) > 0 {
-		t.Errorf("left: got %v, want none", left)
-	}
+	diff.Empty(t, r.rekey(secret, another), "left")
 	r.wantPassword(key, secret, another)
 }
 
@@ -286,9 +251,7 @@ func wantForeign(t *testing.T, d *postgres.Databases, it lockedKey) {
 	for call, err := range map[string]error{
 		"Look": err, "Create": d.Create(it.ctx, it.request), "Delete": d.Delete(it.ctx, it.request),
 	} {
-		if !errors.Is(err, postgres.ErrForeign) {
-			t.Errorf("%s: got the error %v, want ErrForeign", call, err)
-		}
+		diff.ErrorIs(t, err, postgres.ErrForeign, "%s", call)
 	}
 	bind := lock(t, d, osb.BindingKey(it.request.Key.Instance, randomID(t)))
 	_, err = d.LookBinding(bind.ctx, bind.request)
@@ -296,9 +259,7 @@ func wantForeign(t *testing.T, d *postgres.Databases, it lockedKey) {
 	for call, err := range map[string]error{
 		"LookBinding": err, "CreateBinding": failed, "DeleteBinding": d.DeleteBinding(bind.ctx, bind.request),
 	} {
-		if !errors.Is(err, postgres.ErrForeign) {
-			t.Errorf("%s: got the error %v, want ErrForeign", call, err)
-		}
+		diff.ErrorIs(t, err, postgres.ErrForeign, "%s", call)
 	}
 }
 
@@ -396,13 +357,10 @@ func (u unlabelledDatabase) run(t *testing.T) {
 func TestNoCustomerChangesItsLabel(t *testing.T) {
 	r := newRig(t)
 	it := createInstance(t, r.open())
-	if _, err := r.customer(it.request.Key).Exec("COMMENT ON ROLE CURRENT_USER IS 'osb store x'"); err == nil {
-		t.Error("another label: got no error, want one")
-	}
+	diff.Error(t, diff.Err(r.customer(it.request.Key).Exec("COMMENT ON ROLE CURRENT_USER IS 'osb store x'")),
+		"another label")
 	_, err := r.customer(it.request.Key).Exec("COMMENT ON ROLE " + postgres.NameOf(it.request.Key) + " IS NULL")
-	if err == nil {
-		t.Error("no label: got no error, want one")
-	}
+	diff.Error(t, err, "no label")
 }
 
 // wantOurs sees that an instance of version 0.2 is bound and deleted as any other.

@@ -20,9 +20,8 @@ func wantWarning(t *testing.T, d *postgres.Databases, has string, isWanted bool)
 	t.Helper()
 	found, err := d.Warnings(context.Background())
 	check(t, err)
-	if got := strings.Contains(strings.Join(found, "\n"), has); got != isWanted {
-		t.Errorf("%q is among the warnings: got %t, want %t: %q", has, got, isWanted, found)
-	}
+	diff.Equal(t, strings.Contains(strings.Join(found, "\n"), has), isWanted, "%q is among the warnings, %q", has,
+		found)
 }
 
 // What is wrong on the server that runs. Finding M5 is of PostgreSQL 15 and older.
@@ -57,9 +56,7 @@ func TestARoleThatMayNotCreate(t *testing.T) {
 			r := newRig(t)
 			pgtest.Exec(t, r.admin, "ALTER ROLE "+r.role+" "+lacks)
 			_, err := r.openWith(secret)
-			if err == nil || !strings.Contains(err.Error(), "CREATEDB CREATEROLE") {
-				t.Errorf("%s: got the error %v, want one that names CREATEDB CREATEROLE", lacks, err)
-			}
+			diff.ErrorContains(t, err, "CREATEDB CREATEROLE", "%s", lacks)
 		})
 	}
 }
@@ -67,9 +64,7 @@ func TestARoleThatMayNotCreate(t *testing.T) {
 func TestASynchronousCommitThatIsOff(t *testing.T) {
 	r := newRig(t)
 	pgtest.Exec(t, r.admin, "ALTER ROLE "+r.role+" SET synchronous_commit = off")
-	if _, err := r.openWith(secret); err == nil || !strings.Contains(err.Error(), pg.ErrNotDurable.Error()) {
-		t.Errorf("Open: got %v, want %v", err, pg.ErrNotDurable)
-	}
+	diff.ErrorContains(t, diff.Err(r.openWith(secret)), pg.ErrNotDurable.Error(), "Open")
 }
 
 // template creates a template that the broker may look into. In its copies no customer can take advisory locks.
@@ -165,9 +160,7 @@ func TestTemplatesThatCantBeCopied(t *testing.T) {
 		t.Run(template, func(t *testing.T) {
 			options := postgres.Options{Key: secret, Sessions: 1, Template: template}
 			_, err := postgres.Open(context.Background(), r.url, options)
-			if err == nil || !strings.Contains(err.Error(), has) {
-				t.Errorf("got %v, want %q in it", err, has)
-			}
+			diff.ErrorContains(t, err, has, "")
 			if _, isLasting := pg.Remedy(err); !isLasting {
 				t.Errorf("%v: got an error that passes, want one that lasts", err)
 			}
@@ -189,9 +182,7 @@ func TestATemplateThatIsGone(t *testing.T) {
 		t.Error("got a role that logs in, want none")
 	}
 	pgtest.Exec(t, r.admin, "ALTER DATABASE "+name+"_gone RENAME TO "+name)
-	if err := d.Create(it.ctx, it.request); err != nil {
-		t.Errorf("with the template again: got %v, want no error", err)
-	}
+	diff.NoError(t, d.Create(it.ctx, it.request), "with the template again")
 }
 
 // An assignment is a parameter of the server with a hostile value. In the value, $name is the role that sets it.
