@@ -389,8 +389,7 @@ func TestStarted(t *testing.T) {
 	if got.Version != "1.2" || !got.FirstPoll || got.WaitForPoll != 90 || got.IDsReturnAfter != 3600 || len(got.Plans) != 4 {
 		t.Fatalf("got %s, want the version, the rules and four plans", text)
 	}
-	number, err := osb.IDOfText("unbound")
-	check(t, err)
+	number := diff.Value(osb.IDOfText("unbound"))(t)
 	for at, test := range []struct{ plan, number, mode, binding string }{
 		{atOnce, atOnce, "sync", "sync"}, {later, later, "async", "sync"}, {bound, bound, "sync", "async"},
 		{"unbound", number.String(), "sync", "none"},
@@ -404,8 +403,7 @@ func TestStarted(t *testing.T) {
 			}
 		})
 	}
-	_, err = StartMembers("1.2", []byte(`[]`), broker.ServiceOptions{}, false)
-	diff.Error(t, err, "a catalogue that can't be read")
+	diff.Error(t, diff.Err(StartMembers("1.2", []byte(`[]`), broker.ServiceOptions{}, false)), "a catalogue that can't be read")
 }
 
 // A change is undone once, also if the step writes nothing when it is called again.

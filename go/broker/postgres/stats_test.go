@@ -31,8 +31,7 @@ func TestLimitsOfASession(t *testing.T) {
 func TestUnfinishedStatsReadNoOtherRows(t *testing.T) {
 	url := pgtest.Schema(t, pgtest.URL(t), "osb_store_stats")
 	ctx := context.Background()
-	store, err := Open(ctx, url, 1, broker.Silent{})
-	check(t, err)
+	store := diff.Value(Open(ctx, url, 1, broker.Silent{}))(t)
 	defer store.Close()
 	const ended = `'{"attributes":null,"row":null,"tombstone":true,"version":1,"work":null}'`
 	pgtest.Exec(t, store.db,
@@ -43,8 +42,7 @@ func TestUnfinishedStatsReadNoOtherRows(t *testing.T) {
 		"ANALYZE osb_holdings", "ANALYZE osb_bindings")
 	diff.Equal(t, diff.Value(store.Stats(ctx))(t), broker.Stats{Tombstones: 40_000}, "")
 	diff.Equal(t, diff.Value(store.UnfinishedStats(ctx))(t), broker.Stats{}, "")
-	rows, err := store.db.Query("EXPLAIN " + unfinishedStats)
-	check(t, err)
+	rows := diff.Value(store.db.Query("EXPLAIN " + unfinishedStats))(t)
 	defer rows.Close()
 	var plan []string
 	for rows.Next() {

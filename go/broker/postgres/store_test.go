@@ -98,8 +98,7 @@ func TestURLThatLeadsToAnotherStore(t *testing.T) {
 
 func open(t *testing.T, url string) *postgres.Store {
 	t.Helper()
-	store, err := postgres.Open(context.Background(), url, 4, broker.Silent{})
-	check(t, err)
+	store := diff.Value(postgres.Open(context.Background(), url, 4, broker.Silent{}))(t)
 	return store
 }
 
@@ -128,8 +127,7 @@ func TestReadyCommits(t *testing.T) {
 func TestStoreWithoutConnections(t *testing.T) {
 	_, err := postgres.Open(context.Background(), "postgresql://127.0.0.1:1/none", 0, broker.Silent{})
 	diff.ErrorContains(t, err, "at least 1 connection", "")
-	_, err = postgres.Open(context.Background(), "no URL", 1, broker.Silent{})
-	diff.ErrorIs(t, err, pg.ErrBadAddress, "")
+	diff.ErrorIs(t, diff.Err(postgres.Open(context.Background(), "no URL", 1, broker.Silent{})), pg.ErrBadAddress, "")
 }
 
 // The tables of version 0.2.0, with an instance that is ready, one with pending work and one that has ended.
@@ -205,8 +203,7 @@ func endedText(t *testing.T, write func(osb.Holding) ([]byte, error)) []byte {
 	t.Helper()
 	var ended osb.Holding
 	check(t, ended.UnmarshalJSON([]byte(`{"marked":true,"row":null,"version":1,"work":null}`)))
-	text, err := write(ended)
-	check(t, err)
+	text := diff.Value(write(ended))(t)
 	return text
 }
 
@@ -323,8 +320,7 @@ func TestAnotherEncoding(t *testing.T) {
 		"CREATE DATABASE osb_store_latin1 ENCODING 'LATIN1' LOCALE 'C' TEMPLATE template0")
 	t.Cleanup(func() { pgtest.Exec(t, db, "DROP DATABASE osb_store_latin1 WITH (FORCE)") })
 	latin := pgtest.In(t, url, "osb_store_latin1")
-	_, err := postgres.Open(context.Background(), latin, 1, broker.Silent{})
-	diff.ErrorContains(t, err, "LATIN1", "Open")
+	diff.ErrorContains(t, diff.Err(postgres.Open(context.Background(), latin, 1, broker.Silent{})), "LATIN1", "Open")
 }
 
 // What every store must do if one of its statements fails.
@@ -480,8 +476,7 @@ func describe(text string, calls *int) broker.Step {
 
 func descriptionOf(t *testing.T, store broker.Store, key broker.Key) string {
 	t.Helper()
-	snapshot, err := store.Read(context.Background(), key)
-	check(t, err)
+	snapshot := diff.Value(store.Read(context.Background(), key))(t)
 	return snapshot.Description
 }
 

@@ -215,8 +215,7 @@ func TestNoStore(t *testing.T) {
 	diff.Value(made.(*sqlite3.SQLiteConn).Exec("CREATE TABLE bindings (x)", nil))(t)
 	check(t, made.Close())
 	for _, path := range []string{folder, foreign} {
-		_, err := Open(context.Background(), path, broker.Silent{})
-		diff.ErrorContains(t, err, path, "")
+		diff.ErrorContains(t, diff.Err(Open(context.Background(), path, broker.Silent{})), path, "")
 	}
 }
 
@@ -320,8 +319,7 @@ func TestWorkersOf03(t *testing.T) {
 		"CREATE TABLE workers (id TEXT PRIMARY KEY, worker INTEGER NOT NULL) WITHOUT ROWID",
 		"INSERT INTO workers VALUES ('"+keyOf(1).String()+"', 7), ('"+key.String()+"', 8)")...))
 	for n := 0; n < 2; n++ { // the second time nothing is left to do
-		s, err := Open(context.Background(), path, broker.Silent{})
-		check(t, err)
+		s := diff.Value(Open(context.Background(), path, broker.Silent{}))(t)
 		for _, key := range []broker.Key{keyOf(1), key} {
 			entry := diff.Value(s.Read(context.Background(), key))(t).Entry
 			diff.Equal(t, entry.Worker, map[bool]osb.ID{true: keyOf(9).Instance}[n > 0], "%v", key)

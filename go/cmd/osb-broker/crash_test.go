@@ -37,8 +37,7 @@ func TestJournalAtCrashPoints(t *testing.T) {
 		t.Run(point, func(t *testing.T) {
 			folder := t.TempDir()
 			s := start(t, []string{password, "OSB_CRASH_AT=" + point}, "--state", t.TempDir(), "--journal", folder)
-			request, err := newOrder(s.url)
-			check(t, err)
+			request := diff.Value(newOrder(s.url))(t)
 			if given, err := s.client.Do(request); err == nil {
 				_ = given.Body.Close()
 				t.Errorf("got the status %d, want it killed", given.StatusCode)

@@ -35,8 +35,7 @@ func behind(t *testing.T, s *servedBroker, change func(string) string) haproxy {
 	if err != nil {
 		t.Skip("haproxy isn't installed (Debian: apt-get install haproxy)")
 	}
-	text, err := os.ReadFile("../../../deploy/haproxy/haproxy.cfg")
-	check(t, err)
+	text := diff.Value(os.ReadFile("../../../deploy/haproxy/haproxy.cfg"))(t)
 	address := freeAddress(t)
 	config := replaceAll(t, string(text), map[string]string{
 		`bind :443 ssl .*`: "bind " + address, ` ssl verify .*`: "",
@@ -71,8 +70,7 @@ func replaceAll(t *testing.T, config string, all map[string]string) string {
 // status asks for the catalogue from an address of this machine, and returns the status, or 0 without an answer.
 func (h haproxy) status(from, login string, header http.Header) int {
 	h.t.Helper()
-	request, err := http.NewRequest("GET", h.url+"/v2/catalog", nil)
-	check(h.t, err)
+	request := diff.Value(http.NewRequest("GET", h.url+"/v2/catalog", nil))(h.t)
 	for name, values := range header {
 		request.Header[name] = values
 	}
@@ -138,8 +136,7 @@ func TestBehindAProxyThatIsNotTrusted(t *testing.T) {
 	diff.Equal(t, s.failedLogins(1)[0], "127.0.0.1", "")
 	connection := dial(t, strings.TrimPrefix(s.url, "http://"))
 	const sent = "PROXY TCP4 127.0.0.2 127.0.0.1 1 2\r\nGET /v2/catalog HTTP/1.1\r\n\r\n"
-	_, err := io.WriteString(connection, sent)
-	check(t, err)
+	check(t, diff.Err(io.WriteString(connection, sent)))
 	answer := make([]byte, 12)
 	if _, err := connection.Read(answer); err != nil || string(answer) != "HTTP/1.1 400" {
 		t.Errorf("got %q, %v, want 400", answer, err)

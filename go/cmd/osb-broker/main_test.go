@@ -353,8 +353,7 @@ func TestExistingBeginsNothing(t *testing.T) {
 		unusable(t, "--existing", "serve", "--state", state, "--existing")
 	}
 	for _, name := range []string{"holdings.sqlite", "instances/.owner"} {
-		_, err := os.Lstat(filepath.Join(state, name))
-		diff.Error(t, err, "%s", name)
+		diff.Error(t, diff.Err(os.Lstat(filepath.Join(state, name))), "%s", name)
 	}
 }
 
@@ -690,8 +689,7 @@ func TestExampleDatabases(t *testing.T) {
 				t.Errorf("the binding: got %s, %v, want a token", text, err)
 			}
 			path := filepath.Join(state, "command", bound.Credentials.Database)
-			_, err := os.Stat(path)
-			diff.NoError(t, err, "")
+			diff.NoError(t, diff.Err(os.Stat(path)), "")
 			diff.Equal(t, s.expect(200, "PUT", binding+async, ids+"}"), text, "the binding")
 			s.expect(deleted, "DELETE", binding+query, "")
 			s.until(410, "", "GET", binding+"/last_operation", "")

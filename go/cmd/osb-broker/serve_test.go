@@ -252,8 +252,7 @@ func TestARejectedLoginIsAnsweredAtOnce(t *testing.T) {
 			conn := s.dial()
 			began := time.Now()
 			diff.Value(fmt.Fprintf(conn, "PUT %s HTTP/1.1%sContent-Length: 100\r\n\r\n", test.target, test.head))(t)
-			given, err := http.ReadResponse(bufio.NewReader(conn), nil)
-			check(t, err)
+			given := diff.Value(http.ReadResponse(bufio.NewReader(conn), nil))(t)
 			body, err := io.ReadAll(given.Body)
 			took := time.Since(began)
 			isRejected := err == nil && given.StatusCode == test.status && isRejection(string(body))
@@ -313,13 +312,11 @@ func TestHealthWhileAllConnectionsAreTaken(t *testing.T) {
 		"--connections-per-address", fmt.Sprint(connections), "--health-listen", address)
 	for count := 0; count < connections; count++ { // each has sent a request, so it isn't closed as a silent one
 		conn := s.dial()
-		_, err := fmt.Fprintf(conn, "GET /v2/catalog HTTP/1.1%s\r\n", headers())
-		check(t, err)
+		check(t, diff.Err(fmt.Fprintf(conn, "GET /v2/catalog HTTP/1.1%s\r\n", headers())))
 		diff.Equal(t, diff.Value(bufio.NewReader(conn).ReadString('\n'))(t), "HTTP/1.1 200 OK\r\n", "")
 	}
 	full := &http.Client{Timeout: 300 * time.Millisecond}
-	_, err := full.Get(s.url + "/v2/catalog")
-	diff.Error(t, err, "the main address, which is full")
+	diff.Error(t, diff.Err(full.Get(s.url+"/v2/catalog")), "the main address, which is full")
 	for _, path := range []string{"/healthz", "/readyz", "/metrics"} {
 		t.Run(path, func(t *testing.T) {
 			given := diff.Value(s.client.Get("http://" + address + path))(t)

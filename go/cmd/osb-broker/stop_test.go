@@ -224,8 +224,7 @@ func TestAnswerToALongBodyArrives(t *testing.T) {
 		t.Run(name, func(t *testing.T) {
 			conn := s.dial()
 			check(t, diff.Err(io.WriteString(conn, "PUT "+one+" HTTP/1.1"+headers()+request)))
-			answer, err := http.ReadResponse(bufio.NewReader(conn), nil)
-			check(t, err)
+			answer := diff.Value(http.ReadResponse(bufio.NewReader(conn), nil))(t)
 			defer answer.Body.Close()
 			text, err := io.ReadAll(answer.Body)
 			if answer.StatusCode != 413 || err != nil || !strings.Contains(string(text), "longer than 300 bytes") {

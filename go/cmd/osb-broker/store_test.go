@@ -246,8 +246,7 @@ func (s *servedBroker) isReady(state string, it oldInstance) {
 	s.t.Helper()
 	s.until(200, "succeeded", "GET", it.path()+"/last_operation", "")
 	s.expect(200, "PUT", it.path()+async, it.order())
-	_, err := os.Stat(filepath.Join(state, "instances", it.id()))
-	diff.NoError(s.t, err, "")
+	diff.NoError(s.t, diff.Err(os.Stat(filepath.Join(state, "instances", it.id()))), "")
 }
 
 // isGone checks that an instance doesn't exist, and that no Provision creates it.

@@ -77,8 +77,7 @@ func (c caller) try(method, path, body string) (status int, text []byte) {
 		request.Header.Set("Content-Type", "application/json")
 	}
 	request.Header.Set("Authorization", "Bearer "+c.token)
-	given, err := c.client.Do(request)
-	check(c.t, err)
+	given := diff.Value(c.client.Do(request))(c.t)
 	defer given.Body.Close()
 	text = diff.Value(io.ReadAll(given.Body))(c.t)
 	return given.StatusCode, text

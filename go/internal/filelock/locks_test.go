@@ -160,8 +160,7 @@ func TestLockWaitsUntilItsContextIsDone(t *testing.T) {
 	before := openFiles(t)
 	ctx, cancel := context.WithTimeout(context.Background(), 30*time.Millisecond)
 	defer cancel()
-	_, err := locks.Lock(ctx, one)
-	diff.ErrorIs(t, err, context.DeadlineExceeded, "Lock")
+	diff.ErrorIs(t, diff.Err(locks.Lock(ctx, one)), context.DeadlineExceeded, "Lock")
 	diff.Equal(t, diff.Value(locks.TryLock(one))(t) == nil, true, "TryLock")
 	diff.Equal(t, openFiles(t), before, "files open")
 }
@@ -186,8 +185,7 @@ func TestLockRestsBetweenItsTries(t *testing.T) {
 	ctx, cancel := context.WithTimeout(context.Background(), 100*time.Millisecond)
 	defer cancel()
 	waiting := &countingContext{Context: ctx}
-	_, err := locks.Lock(waiting, one)
-	diff.ErrorIs(t, err, context.DeadlineExceeded, "")
+	diff.ErrorIs(t, diff.Err(locks.Lock(waiting, one)), context.DeadlineExceeded, "")
 	if most := 8 + int(time.Since(begun)/longestPause); waiting.looks < 2 || waiting.looks > most {
 		t.Errorf("got %d tries, want from 2 to %d", waiting.looks, most)
 	}
@@ -253,8 +251,7 @@ func TestFilesThatNewRejects(t *testing.T) {
 		"a symbolic link": link, "a fifo": fifo, "a folder": folder, "no folder": filepath.Join(folder, "none", "locks"),
 	} {
 		t.Run(name, func(t *testing.T) {
-			_, err := New(path)
-			diff.Error(t, err, "New with %s", name)
+			diff.Error(t, diff.Err(New(path)), "New with %s", name)
 		})
 	}
 	if _, err := os.Lstat(target); !os.IsNotExist(err) {
@@ -364,8 +361,7 @@ func start(t *testing.T, role, path string) process {
 	read, write, err := os.Pipe()
 	check(t, err)
 	cmd.Stdin = read
-	output, err := cmd.StdoutPipe()
-	check(t, err)
+	output := diff.Value(cmd.StdoutPipe())(t)
 	check(t, cmd.Start())
 	_ = read.Close()
 	t.Cleanup(func() { _ = write.Close(); _ = cmd.Process.Kill(); _ = cmd.Wait() })

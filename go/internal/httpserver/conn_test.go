@@ -61,8 +61,7 @@ func TestWhatIsReadAheadIsntAnsweredWith408(t *testing.T) {
 				check(t, accepted.SetReadDeadline(time.Now().Add(time.Minute)))
 			}
 			wait()
-			_, err := accepted.Read(make([]byte, 1000))
-			check(t, err)
+			check(t, diff.Err(accepted.Read(make([]byte, 1000))))
 			for _, request := range []string{"first", "second"} {
 				read("before the handler gets the "+request, "")
 				accepted.begin()

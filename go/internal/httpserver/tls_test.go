@@ -218,8 +218,7 @@ func TestCertificatesThatCantBeUsed(t *testing.T) {
 			CertificateFiles{Certificate: files.Certificate, Key: files.Key, ClientCA: files.Key}, files.Key + " has no certificate"},
 	} {
 		t.Run(name, func(t *testing.T) {
-			_, err := LoadCertificates(test.files)
-			diff.ErrorContains(t, err, test.has, "")
+			diff.ErrorContains(t, diff.Err(LoadCertificates(test.files)), test.has, "")
 		})
 	}
 }

@@ -171,8 +171,7 @@ func TestHang(t *testing.T) {
 			mutants = append(mutants, mutant)
 		}
 	}
-	binaries, err := build(context.Background(), t.TempDir(), tags, 1, []*pkg{p}, mutants)
-	diff.Must(t, err)
+	binaries := diff.Value(build(context.Background(), t.TempDir(), tags, 1, []*pkg{p}, mutants))(t)
 	w := &worker{}
 	found, err := w.do(context.Background(), run{binary: binaries[p.path], test: "TestHangs", mutant: 1, most: 1})
 	diff.NoError(t, err, "")
@@ -182,10 +181,8 @@ func TestHang(t *testing.T) {
 // TestTraceOfAnotherUser: what a test reaches is noted, also while it is another user.
 func TestTraceOfAnotherUser(t *testing.T) {
 	p := loadToy(t)
-	drawn, err := draw([]*pkg{p}, 1, 20)
-	diff.Must(t, err)
-	binaries, err := build(context.Background(), t.TempDir(), tags, 1, []*pkg{p}, drawn)
-	diff.Must(t, err)
+	drawn := diff.Value(draw([]*pkg{p}, 1, 20))(t)
+	binaries := diff.Value(build(context.Background(), t.TempDir(), tags, 1, []*pkg{p}, drawn))(t)
 	r := run{binary: binaries[p.path], test: "TestAsNobody", most: longestTest}
 	found, err := trace(context.Background(), &worker{}, r)
 	if err != nil || found.Ending != passed || len(found.Reaches) == 0 {

@@ -52,16 +52,14 @@ func silence(t *testing.T, limit time.Duration) net.Conn {
 
 func TestAServerThatIsSilent(t *testing.T) {
 	conn := silence(t, 20*time.Millisecond)
-	_, err := conn.Read(make([]byte, 1))
-	diff.ErrorIs(t, err, os.ErrDeadlineExceeded, "Read")
+	diff.ErrorIs(t, diff.Err(conn.Read(make([]byte, 1))), os.ErrDeadlineExceeded, "Read")
 }
 
 // While somebody else has set a deadline, as for connecting, that one counts, and the limit again afterwards.
 func TestADeadline(t *testing.T) {
 	conn := silence(t, time.Hour)
 	check(t, conn.SetDeadline(time.Now()))
-	_, err := conn.Read(make([]byte, 1))
-	diff.ErrorIs(t, err, os.ErrDeadlineExceeded, "Read")
+	diff.ErrorIs(t, diff.Err(conn.Read(make([]byte, 1))), os.ErrDeadlineExceeded, "Read")
 	short := silence(t, time.Millisecond)
 	check(t, short.SetDeadline(time.Now().Add(time.Hour)))
 	check(t, short.SetDeadline(time.Time{}))
@@ -74,8 +72,7 @@ func TestUserTimeout(t *testing.T) {
 		"tcp": "127.0.0.1:0", "unix": filepath.Join(t.TempDir(), "socket"),
 	} {
 		t.Run(network, func(t *testing.T) {
-			listener, err := net.Listen(network, address)
-			check(t, err)
+			listener := diff.Value(net.Listen(network, address))(t)
 			defer listener.Close()
 			conn, err := newDialer(time.Minute).DialContext(context.Background(), network, listener.Addr().String())
 			check(t, err)

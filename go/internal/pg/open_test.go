@@ -126,8 +126,7 @@ func TestCloseAfterTheSessionHasEnded(t *testing.T) {
 		var number int
 		check(t, db.QueryRow("SELECT pg_backend_pid()").Scan(&number))
 		for n := 0; n < statements; n++ {
-			_, err := db.Prepare(fmt.Sprint("SELECT ", n))
-			check(t, err)
+			check(t, diff.Err(db.Prepare(fmt.Sprint("SELECT ", n))))
 		}
 		pgtest.Exec(t, pgtest.DB(t, url), fmt.Sprintf("SELECT pg_terminate_backend(%d, 10000)", number))
 		diff.NoError(t, pg.Close(db), "with %d prepared statements", statements)
@@ -278,8 +277,7 @@ func TestBadAddresses(t *testing.T) {
 
 func TestAnEnvironmentThatIsNotSupported(t *testing.T) {
 	t.Setenv("PGSERVICE", "x")
-	_, err := pg.Open("postgresql://db/x", pg.Options{Most: 1})
-	diff.Error(t, err, "PGSERVICE")
+	diff.Error(t, diff.Err(pg.Open("postgresql://db/x", pg.Options{Most: 1})), "PGSERVICE")
 }
 
 var check = diff.Must

@@ -146,8 +146,7 @@ func TestACommitWhoseAnswerIsLost(t *testing.T) {
 	direct := table(t, "osb_session_lost")
 	proxy, url := storefaults.NewProxy(t, direct)
 	proxy.Cut("COMMIT\x00")
-	err := transaction(t, context.Background(), url, insert(context.Background()))
-	diff.ErrorIs(t, err, pg.ErrUnknownCommit, "")
+	diff.ErrorIs(t, transaction(t, context.Background(), url, insert(context.Background())), pg.ErrUnknownCommit, "")
 	db := pgtest.DB(t, direct)
 	waits.Until(t, "the server has got the COMMIT", func() bool { return countIn(t, db) == 1 })
 }

@@ -40,8 +40,7 @@ type Program struct {
 func Start(t testing.TB, command *exec.Cmd) *Program {
 	t.Helper()
 	p := &Program{Cmd: command, Lines: make(chan string, 100_000), t: t}
-	stderr, err := command.StderrPipe()
-	diff.Must(t, err)
+	stderr := diff.Value(command.StderrPipe())(t)
 	diff.Must(t, command.Start())
 	t.Cleanup(func() {
 		_ = command.Process.Kill()
@@ -108,15 +107,13 @@ func (p *Program) LimitFiles(bytes uint64) {
 func Manager(t testing.TB) (name string, next func() string) {
 	t.Helper()
 	name = filepath.Join(t.TempDir(), "notify")
-	manager, err := net.ListenUnixgram("unixgram", &net.UnixAddr{Name: name, Net: "unixgram"})
-	diff.Must(t, err)
+	manager := diff.Value(net.ListenUnixgram("unixgram", &net.UnixAddr{Name: name, Net: "unixgram"}))(t)
 	t.Cleanup(func() { _ = manager.Close() })
 	return name, func() string {
 		t.Helper()
 		buffer := make([]byte, 100)
 		diff.Must(t, manager.SetReadDeadline(time.Now().Add(limit)))
-		length, err := manager.Read(buffer)
-		diff.Must(t, err)
+		length := diff.Value(manager.Read(buffer))(t)
 		return string(buffer[:length])
 	}
 }
@@ -146,17 +143,14 @@ func Journals[T any](t testing.TB, folder string, spell func(line T) string) (al
 // certificate.
 func WriteCertificate(t testing.TB, name, certificate, key string) *x509.CertPool {
 	t.Helper()
-	private, err := ecdsa.GenerateKey(elliptic.P256(), rand.Reader)
-	diff.Must(t, err)
+	private := diff.Value(ecdsa.GenerateKey(elliptic.P256(), rand.Reader))(t)
 	of := &x509.Certificate{
 		SerialNumber: big.NewInt(time.Now().UnixNano()), Subject: pkix.Name{CommonName: name},
 		NotAfter: time.Now().Add(time.Hour), IPAddresses: []net.IP{net.IPv4(127, 0, 0, 1)}, IsCA: true,
 		BasicConstraintsValid: true,
 	}
-	made, err := x509.CreateCertificate(rand.Reader, of, of, &private.PublicKey, private)
-	diff.Must(t, err)
-	encoded, err := x509.MarshalPKCS8PrivateKey(private)
-	diff.Must(t, err)
+	made := diff.Value(x509.CreateCertificate(rand.Reader, of, of, &private.PublicKey, private))(t)
+	encoded := diff.Value(x509.MarshalPKCS8PrivateKey(private))(t)
 	text := pem.EncodeToMemory(&pem.Block{Type: "CERTIFICATE", Bytes: made})
 	diff.Must(t, os.WriteFile(certificate, text, 0o600))
 	diff.Must(t, os.WriteFile(key, pem.EncodeToMemory(&pem.Block{Type: "PRIVATE KEY", Bytes: encoded}), 0o600))

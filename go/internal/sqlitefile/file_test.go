@@ -472,8 +472,7 @@ func TestOpenFails(t *testing.T) {
 		filepath.Join(folder, "rejecting"): rejecting, filepath.Join(folder, "unprepared"): unprepared,
 	} {
 		t.Run(path, func(t *testing.T) {
-			_, err := Open(background, path, with)
-			diff.ErrorContains(t, err, path, "")
+			diff.ErrorContains(t, diff.Err(Open(background, path, with)), path, "")
 		})
 	}
 }

@@ -170,8 +170,7 @@ func TestMayPass(t *testing.T) {
 func TestLocksThatCanNotBeOpened(t *testing.T) {
 	state := t.TempDir()
 	check(t, os.Mkdir(state+lockFile, 0o700))
-	_, err := New(ctx, script(t, ""), Options{State: state})
-	diff.ErrorContains(t, err, lockFile, "")
+	diff.ErrorContains(t, diff.Err(New(ctx, script(t, ""), Options{State: state})), lockFile, "")
 }
 
 func TestOptionsThatNewRejects(t *testing.T) {
@@ -182,8 +181,7 @@ func TestOptionsThatNewRejects(t *testing.T) {
 		"negative": {State: t.TempDir(), Limit: -1},
 	} {
 		t.Run(wanted, func(t *testing.T) {
-			_, err := New(ctx, script(t, ""), options)
-			diff.ErrorContains(t, err, wanted, "New")
+			diff.ErrorContains(t, diff.Err(New(ctx, script(t, ""), options)), wanted, "New")
 		})
 	}
 }
@@ -217,8 +215,7 @@ func TestExisting(t *testing.T) {
 func TestWithoutTimeout(t *testing.T) {
 	program := script(t, "")
 	t.Setenv("PATH", t.TempDir())
-	_, err := New(ctx, program, Options{State: t.TempDir()})
-	diff.ErrorContains(t, err, "Install coreutils", "New")
+	diff.ErrorContains(t, diff.Err(New(ctx, program, Options{State: t.TempDir()})), "Install coreutils", "New")
 }
 
 // A relative path of the program, and of the folder, is one of the folder in which the broker was started.
@@ -229,10 +226,8 @@ func TestRelativePaths(t *testing.T) {
 	defer func() { _ = os.Chdir(before) }()
 	state := diff.Value(filepath.Rel(filepath.Dir(program), filepath.Join(folder, "new", "state")))(t)
 	diff.Value(New(ctx, "./backend", Options{State: state}))(t)
-	text, err := os.ReadFile(folder + "/new/state/pwd")
-	if err != nil || !strings.HasSuffix(strings.TrimSpace(string(text)), "/new/state") {
-		t.Errorf("the working directory: got %q, %v, want new/state", text, err)
-	}
+	diff.HasSuffix(t, strings.TrimSpace(string(diff.Value(os.ReadFile(folder+"/new/state/pwd"))(t))), "/new/state",
+		"the working directory")
 	diff.Equal(t, diff.Value(os.Stat(folder+"/new/state"))(t).Mode().Perm(), 0o700, "the folder")
 }
 
@@ -257,8 +252,7 @@ func TestEnvironment(t *testing.T) {
 		"create-binding": append([]string{"OSB_BINDING=" + two, "OSB_NAME=" + one + "." + two}, always...),
 	} {
 		t.Run(call, func(t *testing.T) {
-			text, err := os.ReadFile(filepath.Join(backend.state, call))
-			check(t, err)
+			text := diff.Value(os.ReadFile(filepath.Join(backend.state, call)))(t)
 			found := strings.Split(strings.TrimSpace(string(text)), "\n")
 			sort.Strings(found)
 			sort.Strings(wanted)
@@ -515,8 +509,7 @@ func TestLockOutlivesTheBroker(t *testing.T) {
 			state := t.TempDir()
 			started, goOn := fifo(t, state+"/started"), fifo(t, state+"/go")
 			killedBroker(t, script(t, "[ $1 = create ] || exit 0; "+text), state, func() { read(t, started) })
-			locks, err := broker.NewFileLocks(state + "/.locks")
-			check(t, err)
+			locks := diff.Value(broker.NewFileLocks(state + "/.locks"))(t)
 			diff.Equal(t, diff.Value(locks.TryLock(ctx, instance.Key))(t) == nil, true, "TryLock while the program runs")
 			if lock, err := locks.TryLock(ctx, binding.Key); lock == nil || err != nil {
 				t.Errorf("TryLock of another key: got %v and %v, want one and no error", lock, err)

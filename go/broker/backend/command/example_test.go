@@ -92,8 +92,7 @@ func TestExampleIsPrivate(t *testing.T) {
 	diff.Value(backend.CreateBinding(ctx, binding))(t)
 	for name, wanted := range map[string]os.FileMode{whole: 0o600, bound: 0o600} {
 		t.Run(name, func(t *testing.T) {
-			found, err := os.Stat(backend.state + "/" + name)
-			check(t, err)
+			found := diff.Value(os.Stat(backend.state + "/" + name))(t)
 			diff.Equal(t, found.Mode().Perm(), wanted, "the mode of %s", name)
 		})
 	}
@@ -146,8 +145,7 @@ func TestExampleCatalogue(t *testing.T) {
 		"instances": osb.CataloguePlans, "bindings": osb.BindingModes,
 	} {
 		t.Run(name, func(t *testing.T) {
-			plans, err := read(document)
-			check(t, err)
+			plans := diff.Value(read(document))(t)
 			var modes []bool
 			for _, plan := range plans {
 				modes = append(modes, plan.IsAsynchronous)
@@ -163,8 +161,7 @@ func TestExampleOutlivesAPowerCut(t *testing.T) {
 `
 	fakes := map[string]string{}
 	for name, then := range map[string]string{"mv": "list", "rm": "list", "sync": `echo "sync $*" >>.trace`} {
-		path, err := exec.LookPath(name)
-		check(t, err)
+		path := diff.Value(exec.LookPath(name))(t)
 		fakes[name] = list + path + ` "$@" && ` + then
 	}
 	backend := databases(t, fakes)
@@ -220,8 +217,7 @@ func (d *disk) now() listing {
 	d.Helper()
 	find := exec.Command("find", ".", "-maxdepth", "1", "-name", "[0-9a-f]*", "-printf", printed)
 	find.Dir = d.state
-	out, err := find.Output()
-	check(d.T, err)
+	out := diff.Value(find.Output())(d.T)
 	return namesIn(string(out))
 }
 
@@ -237,8 +233,7 @@ func namesIn(text string) listing {
 // trace goes through the commands of the call, and looks at what a power cut would leave after each.
 func (d *disk) trace() {
 	d.Helper()
-	text, err := os.ReadFile(d.state + "/.trace")
-	check(d.T, err)
+	text := diff.Value(os.ReadFile(d.state + "/.trace"))(d.T)
 	for _, line := range strings.Split(strings.TrimSpace(string(text)), "\n") {
 		command, rest, _ := strings.Cut(line, " ")
 		last := d.since[len(d.since)-1]

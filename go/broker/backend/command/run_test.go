@@ -39,8 +39,7 @@ func TestWriteSynced(t *testing.T) {
 	read, write, err := os.Pipe()
 	diff.NoError(t, err, "")
 	defer read.Close()
-	err = writeSynced(write, "name\n")
-	diff.ErrorIs(t, err, syscall.EINVAL, "a disk that can't be waited for")
+	diff.ErrorIs(t, writeSynced(write, "name\n"), syscall.EINVAL, "a disk that can't be waited for")
 	diff.NoError(t, write.Close(), "")
 	text, err := io.ReadAll(read)
 	diff.NoError(t, err, "")
@@ -106,8 +105,7 @@ func TestEndOfARun(t *testing.T) {
 			}
 			diff.Value(goOn.WriteString("go\n"))(t)
 			diff.NoError(t, <-ended, "Create")
-			_, err := os.Stat(backend.state + "/done")
-			diff.NoError(t, err, "Create before the work was done")
+			diff.NoError(t, diff.Err(os.Stat(backend.state+"/done")), "Create before the work was done")
 		})
 	}
 }
@@ -363,10 +361,7 @@ func TestWorkOverTheLimitEnds(t *testing.T) {
 	esac`)
 	reported := &failures{}
 	b := benchOf(t, hasty{backend, 200 * time.Millisecond}, reported)
-	response, err := b.Handle(ctx, provision(t))
-	if err != nil || response.Status != http.StatusInternalServerError {
-		t.Errorf("the Provision: got %v, %v, want 500", response, err)
-	}
+	diff.Equal(t, diff.Value(b.Handle(ctx, provision(t)))(t).Status, http.StatusInternalServerError, "the Provision")
 	snapshot := diff.Value(b.store.Read(ctx, instance.Key))(t)
 	if row, isHeld := snapshot.Holding.Row(); isHeld || isPending(snapshot) {
 		t.Errorf("in the end: got %v in the store, want none", row)

@@ -176,8 +176,7 @@ func TestTopsThatNewRejects(t *testing.T) {
 		"a file": file, "below a file": file + "/top", "not UTF-8": t.TempDir() + "/\xff",
 	} {
 		t.Run(name, func(t *testing.T) {
-			_, err := New(top)
-			diff.Error(t, err, "New with %s", name)
+			diff.Error(t, diff.Err(New(top)), "New with %s", name)
 		})
 	}
 }
@@ -245,10 +244,7 @@ func TestLifeOfABinding(t *testing.T) {
 	text, read := bind(t, f, bound)
 	diff.Equal(t, read.Folder, f.top+"/"+first.Key.Instance.String(), "the folder")
 	diff.Equal(t, len(read.Token), 43, "the token")
-	again, err := f.Credentials(ctx, bound)
-	if err != nil || string(again) != text {
-		t.Errorf("Credentials: got %s, %v, want %s", again, err, text)
-	}
+	diff.Equal(t, string(diff.Value(f.Credentials(ctx, bound))(t)), text, "Credentials")
 	if again, _ := bind(t, f, bound); again != text {
 		t.Errorf("a second creation: got %s, want %s", again, text)
 	}
@@ -307,8 +303,7 @@ func TestWhateverIsLeftOfABinding(t *testing.T) {
 
 func TestBindingOfAnInstanceThatDoesNotExist(t *testing.T) {
 	f := newFolders(t, t.TempDir())
-	_, err := f.CreateBinding(ctx, bound)
-	diff.Error(t, err, "CreateBinding")
+	diff.Error(t, diff.Err(f.CreateBinding(ctx, bound)), "CreateBinding")
 	has(t, f, bound, broker.None)
 }
 
@@ -317,8 +312,7 @@ func TestLinkInThePlaceOfABinding(t *testing.T) {
 	f, precious := withInstances(t), t.TempDir()+"/data"
 	leave(t, precious)
 	check(t, os.Symlink(precious, f.bindingPart(bound.Key)))
-	_, err := f.CreateBinding(ctx, bound)
-	diff.Error(t, err, "CreateBinding")
+	diff.Error(t, diff.Err(f.CreateBinding(ctx, bound)), "CreateBinding")
 	check(t, f.DeleteBinding(ctx, bound))
 	bind(t, f, bound)
 	diff.Equal(t, string(diff.Value(os.ReadFile(precious))(t)), "x", "")
@@ -451,10 +445,8 @@ func TestLabel(t *testing.T) {
 		f := newFolders(t, t.TempDir())
 		f.setAttribute = func(string, string, []byte, int) error { return syscall.ENOTSUP }
 		check(t, f.Create(ctx, first))
-		text, err := os.ReadFile(f.whole(first.Key.Instance) + "/instance.json")
-		if err != nil || string(text) != wanted {
-			t.Errorf("the file: got %q, %v, want %q", text, err, wanted)
-		}
+		diff.Equal(t, string(diff.Value(os.ReadFile(f.whole(first.Key.Instance)+"/instance.json"))(t)), wanted,
+			"the file")
 		has(t, f, first, broker.Whole)
 	})
 }

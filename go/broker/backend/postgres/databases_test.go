@@ -177,10 +177,7 @@ func TestCredentials(t *testing.T) {
 		Password: postgres.PasswordOf(secret, bind.request.Key),
 	}
 	diff.Check(t, got, want, "the credentials")
-	text, err := d.Credentials(bind.ctx, bind.request)
-	if err != nil || read(t, text) != want {
-		t.Errorf("Credentials: got %s, %v, want %v", text, err, want)
-	}
+	diff.Equal(t, read(t, diff.Value(d.Credentials(bind.ctx, bind.request))(t)), want, "Credentials")
 	_, other := bound(t, d, it.request.Key)
 	if other.Username == got.Username || other.Password == got.Password {
 		t.Errorf("two bindings: got one user or password %s, want two", other.Username)
@@ -496,8 +493,7 @@ func (r *rig) drop() {
 // column is the only column of a query.
 func (r *rig) column(query string, arguments ...any) (found []string) {
 	r.t.Helper()
-	rows, err := r.admin.Query(query, arguments...)
-	check(r.t, err)
+	rows := diff.Value(r.admin.Query(query, arguments...))(r.t)
 	defer rows.Close()
 	for rows.Next() {
 		var it string
@@ -530,8 +526,7 @@ func (r *rig) openUntied(change ...func(*postgres.Options)) *postgres.Databases 
 	for _, set := range change {
 		set(&options)
 	}
-	d, err := postgres.Open(context.Background(), r.url, options)
-	check(r.t, err)
+	d := diff.Value(postgres.Open(context.Background(), r.url, options))(r.t)
 	r.t.Cleanup(func() { _ = d.Close() })
 	return d
 }
@@ -583,8 +578,7 @@ func createInstance(t *testing.T, d *postgres.Databases) lockedKey {
 func bound(t *testing.T, d *postgres.Databases, of broker.Key) (lockedKey, credentials) {
 	t.Helper()
 	it := lock(t, d, osb.BindingKey(of.Instance, randomID(t)))
-	text, err := d.CreateBinding(it.ctx, it.request)
-	check(t, err)
+	text := diff.Value(d.CreateBinding(it.ctx, it.request))(t)
 	return it, read(t, text)
 }
 

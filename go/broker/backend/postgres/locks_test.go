@@ -172,8 +172,7 @@ func TestALockThatOutlivesItsClient(t *testing.T) {
 	diff.Value(template.ExecContext(context.Background(), "COMMIT"))(t)
 	ctx, cancel := context.WithTimeout(context.Background(), time.Minute)
 	defer cancel()
-	next, err := second.Locks().Lock(ctx, key)
-	check(t, err)
+	next := diff.Value(second.Locks().Lock(ctx, key))(t)
 	defer next.Unlock()
 	diff.NoError(t, second.Create(next.Context(ctx), request(key)), "Create by the next")
 }
@@ -218,8 +217,7 @@ func TestLocksOfAServerThatIsAway(t *testing.T) {
 	r := newRig(t)
 	r.open()
 	proxy, url := storefaults.NewProxy(t, r.url)
-	d, err := postgres.Open(context.Background(), url, postgres.Options{Key: secret, Sessions: 2})
-	check(t, err)
+	d := diff.Value(postgres.Open(context.Background(), url, postgres.Options{Key: secret, Sessions: 2}))(t)
 	defer d.Close()
 	key := newInstance(t)
 	proxy.Cut("\x00") // a byte of every message

@@ -35,13 +35,11 @@ func TestTie(t *testing.T) {
 	d := r.openUntied()
 	ctx := context.Background()
 	for n := 0; n < 2; n++ {
-		s, err := pgstore.Open(ctx, r.url, 2, broker.Silent{})
-		check(t, err)
+		s := diff.Value(pgstore.Open(ctx, r.url, 2, broker.Silent{}))(t)
 		diff.NoError(t, broker.Tie(ctx, s, d, n > 0), "Tie")
 		diff.NoError(t, s.Close(), "")
 	}
-	other, err := pgstore.Open(ctx, r.sibling().url, 2, broker.Silent{})
-	check(t, err)
+	other := diff.Value(pgstore.Open(ctx, r.sibling().url, 2, broker.Silent{}))(t)
 	defer other.Close()
 	diff.ErrorIs(t, broker.Tie(ctx, other, d, false), broker.ErrParted, "Tie with another store")
 }
@@ -50,8 +48,7 @@ func TestTie(t *testing.T) {
 func TestTieOf02(t *testing.T) {
 	r := newRig(t)
 	r.of02(store)
-	s, err := pgstore.Open(context.Background(), r.url, 2, broker.Silent{})
-	check(t, err)
+	s := diff.Value(pgstore.Open(context.Background(), r.url, 2, broker.Silent{}))(t)
 	defer s.Close()
 	pgtest.Exec(t, r.login(r.role, "of the broker", r.role), "INSERT INTO osb_store VALUES (true, '"+store+"', true)")
 	diff.NoError(t, broker.Tie(context.Background(), s, r.openUntied(), true), "Tie")
@@ -73,8 +70,7 @@ func TestKeys(t *testing.T) {
 	r := newRig(t)
 	for _, short := range []string{"", "hunter2", strings.Repeat("k", postgres.ShortestKey-1)} {
 		t.Run(fmt.Sprintf("%d bytes", len(short)), func(t *testing.T) {
-			_, err := r.openWith([]byte(short))
-			diff.ErrorContains(t, err, "openssl rand", "a key of %d bytes", len(short))
+			diff.ErrorContains(t, diff.Err(r.openWith([]byte(short))), "openssl rand", "a key of %d bytes", len(short))
 		})
 	}
 	late := r.openUntied(func(o *postgres.Options) { o.Key = another }) // opened before the key was known

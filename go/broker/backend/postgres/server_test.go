@@ -18,8 +18,7 @@ import (
 // wantWarning sees whether a warning has a text.
 func wantWarning(t *testing.T, d *postgres.Databases, has string, isWanted bool) {
 	t.Helper()
-	found, err := d.Warnings(context.Background())
-	check(t, err)
+	found := diff.Value(d.Warnings(context.Background()))(t)
 	diff.Equal(t, strings.Contains(strings.Join(found, "\n"), has), isWanted, "%q is among the warnings, %q", has,
 		found)
 }
@@ -30,8 +29,7 @@ func TestWarnings(t *testing.T) {
 	d := r.open()
 	version := r.column("SELECT current_setting('server_version_num')")[0]
 	wantWarning(t, d, "operating system account", version < "160000")
-	sibling, err := url.Parse(r.sibling().url)
-	check(t, err)
+	sibling := diff.Value(url.Parse(r.sibling().url))(t)
 	other := strings.TrimPrefix(sibling.Path, "/")
 	for _, test := range []struct{ name, has string }{{r.role, "the brokers' locks"}, {other, other}} {
 		wantWarning(t, d, test.has, false)
@@ -55,8 +53,7 @@ func TestARoleThatMayNotCreate(t *testing.T) {
 		t.Run(lacks, func(t *testing.T) {
 			r := newRig(t)
 			pgtest.Exec(t, r.admin, "ALTER ROLE "+r.role+" "+lacks)
-			_, err := r.openWith(secret)
-			diff.ErrorContains(t, err, "CREATEDB CREATEROLE", "%s", lacks)
+			diff.ErrorContains(t, diff.Err(r.openWith(secret)), "CREATEDB CREATEROLE", "%s", lacks)
 		})
 	}
 }
