@@ -76,9 +76,8 @@ func TestMembers(t *testing.T) {
 			}
 			text[line.Binding] = line.After
 		case "answered":
-			if line.Request != "request-1" || line.Saw != "" {
-				t.Errorf("got %+v, want request-1, which has changed something", line)
-			}
+			diff.Equal(t, line.Request, "request-1", "%+v", line)
+			diff.Equal(t, line.Saw, "", "%+v", line)
 		}
 	}
 	var holding osb.Holding
@@ -418,9 +417,8 @@ func TestUndoneOnce(t *testing.T) {
 		}
 		return &broker.Entry{Life: 1}, nil
 	})
-	if !errors.Is(err, errFull) || calls != 2 {
-		t.Errorf("got %v after %d calls, want %v after 2", err, calls, errFull)
-	}
+	diff.ErrorIs(t, err, errFull, "")
+	diff.Equal(t, calls, 2, "")
 	want(t, "two tries", s.events(1), "changed; undone")
 }
 

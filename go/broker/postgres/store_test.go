@@ -652,9 +652,8 @@ func TestALookAtARowThatIsEnded(t *testing.T) {
 			"' AND wait_event_type = 'Lock'")
 		select {
 		case err := <-changed:
-			if !errors.Is(err, broker.ErrAway) || calls != 0 {
-				t.Errorf("got %v after %d calls, want %v before any", err, calls, broker.ErrAway)
-			}
+			diff.ErrorIs(t, err, broker.ErrAway, "")
+			diff.Equal(t, calls, 0, "")
 			return
 		case <-time.After(10 * time.Millisecond):
 		}
@@ -690,9 +689,8 @@ func TestAContextThatEnds(t *testing.T) {
 		snapshot.Description = "x"
 		return &snapshot.Entry, nil
 	})
-	if !errors.Is(err, context.Canceled) || descriptionOf(t, store, key) != "" {
-		t.Errorf("in the step: got %v, want %v and nothing written", err, context.Canceled)
-	}
+	diff.ErrorIs(t, err, context.Canceled, "in the step")
+	diff.Equal(t, descriptionOf(t, store, key), "", "in the step")
 	ctx, cancel = context.WithCancel(context.Background())
 	waited := make(chan error, 1)
 	err = store.Change(context.Background(), key, func(snapshot broker.Snapshot) (*broker.Entry, error) {

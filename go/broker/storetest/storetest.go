@@ -161,9 +161,8 @@ func testName(t *testing.T, open func(*testing.T) broker.NamedStore) {
 	ctx := context.Background()
 	wantName := func(what string, want string, name string, err error) {
 		t.Helper()
-		if err != nil || name != want {
-			t.Errorf("%s: got %q, %v, want %q", what, name, err, want)
-		}
+		diff.NoError(t, err, "%s", what)
+		diff.Equal(t, name, want, "%s", what)
 	}
 	name, err := first.Name(ctx)
 	wantName("before the first use", "", name, err)

@@ -5,7 +5,6 @@ import (
 	"encoding/json"
 	"errors"
 	"fmt"
-	"reflect"
 	"strings"
 	"testing"
 	"time"
@@ -97,9 +96,8 @@ func TestRequests(t *testing.T) {
 		requests := f.created[key]
 		first := requests[0]
 		isRepeated := !key.IsBinding || key == f.order[binding1-1]
-		if isRepeated != (len(requests) == 2) || !reflect.DeepEqual(first, requests[len(requests)-1]) {
-			t.Errorf("%v: got the requests %v, want them repeated exactly for a plan that is repeated", key, requests)
-		}
+		diff.Equal(t, isRepeated, len(requests) == 2, "%v is repeated", key)
+		diff.Check(t, first, requests[len(requests)-1], "%v", key)
 		var body map[string]any
 		diff.Must(t, json.Unmarshal(first.Body, &body))
 		isComplete := body["organization_guid"] != nil && body["space_guid"] != nil && body["context"] != nil &&
@@ -172,9 +170,8 @@ func TestStuckLock(t *testing.T) {
 	}
 	found := tries(ctx, t, struct{ broker.Backend }{f}, locks{stuck}, Options{Plan: bindable})
 	for _, line := range found.failed {
-		if !strings.Contains(line, "instance 2") || !strings.Contains(line, "descriptor 3") {
-			t.Errorf("failed: got %s, want the instance 2 and the descriptor 3", line)
-		}
+		diff.Contains(t, line, "instance 2", "failed")
+		diff.Contains(t, line, "descriptor 3", "failed")
 	}
 	if len(found.failed) == 0 || len(found.Left) != 1 || found.Left[0] != "instance 2: "+f.order[1].String() {
 		t.Errorf("got %+v and the failures %q, want the second instance left", found.Result, found.failed)
@@ -769,9 +766,8 @@ func tries(ctx context.Context, t *testing.T, backend broker.Backend, locks brok
 		}
 	}
 	found.Result = diff.Value(Run(ctx, backend, locks, options))(t)
-	if found.OK != len(found.ok) || found.Failed != len(found.failed) {
-		t.Errorf("got %+v, want the counts of the calls %q and %q", found.Result, found.ok, found.failed)
-	}
+	diff.Equal(t, found.OK, len(found.ok), "%+v", found.Result)
+	diff.Equal(t, found.Failed, len(found.failed), "%+v", found.Result)
 	return found
 }
 

@@ -141,9 +141,8 @@ func TestIDsReturnIsWarnedOf(t *testing.T) {
 					seconds = read["after_seconds"]
 				}
 			}
-			if !strings.Contains(string(out), "osb-broker: --listen") || seconds != test.seconds {
-				t.Errorf("%v: got %s, want the option --listen and its seconds", test.arguments, out)
-			}
+			diff.Contains(t, string(out), "osb-broker: --listen", "%v", test.arguments)
+			diff.Check(t, seconds, test.seconds, "%v", test.arguments)
 		})
 	}
 }

@@ -19,9 +19,8 @@ import (
 func TestUnknownCrashPoint(t *testing.T) {
 	command := osbPlatform([]string{"OSB_CRASH_AT=claim-nxt"}, "list", "--store", filepath.Join(t.TempDir(), "store"))
 	out, _ := command.CombinedOutput()
-	if command.ProcessState.ExitCode() != 78 || !strings.Contains(string(out), strings.Join(platform.Points, ", ")) {
-		t.Errorf("got the status %d and %s, want 78 and the points", command.ProcessState.ExitCode(), out)
-	}
+	diff.Equal(t, command.ProcessState.ExitCode(), 78, "")
+	diff.Contains(t, string(out), strings.Join(platform.Points, ", "), "")
 }
 
 // A command that is killed before its commit has changed nothing, and after it all.

@@ -321,9 +321,8 @@ func TestAsk(t *testing.T) {
 		"what to do\tthe answer doesn't say what the broker holds: ask its operator", ``}})
 	const two = "GET /v2/service_instances/two/last_operation?"
 	for _, request := range s.since(asked) {
-		if !strings.HasPrefix(request, "GET /v2/service_instances/") || !strings.Contains(request, "/last_operation?") {
-			t.Errorf("the request: got %s, want a Poll", request)
-		}
+		diff.HasPrefix(t, request, "GET /v2/service_instances/", "the request")
+		diff.Contains(t, request, "/last_operation?", "the request")
 	}
 	if sent := s.since(asked); len(sent) != 4 || !strings.HasPrefix(sent[3], two) {
 		t.Errorf("the requests: got %q, want four, the last of the second", sent)

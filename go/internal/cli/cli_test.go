@@ -114,9 +114,8 @@ func TestRunHandsOnTheContext(t *testing.T) {
 
 func TestRunCatchesPanics(t *testing.T) {
 	status, _, stderr := runWith(func(*cobra.Command, []string) error { panic("index out of range") }, "serve")
-	if status != StatusFailed || !strings.HasPrefix(stderr, "osb-broker: panic: index out of range\n") {
-		t.Errorf("got the status %d and the errors %q, want %d and the panic", status, stderr, StatusFailed)
-	}
+	diff.Equal(t, status, StatusFailed, "")
+	diff.HasPrefix(t, stderr, "osb-broker: panic: index out of range\n", "")
 }
 
 const (

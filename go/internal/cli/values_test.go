@@ -91,9 +91,8 @@ func TestNetworks(t *testing.T) {
 		t.Run(text, func(t *testing.T) {
 			got = nil
 			err := value.Set(text)
-			if (err == nil) != isNetwork || len(got) > 0 != isNetwork {
-				t.Errorf("got %v, %v, want a network: %v", got, err, isNetwork)
-			}
+			diff.Equal(t, err == nil, isNetwork, "%v", err)
+			diff.Equal(t, len(got) > 0, isNetwork, "%v", got)
 			if err != nil && !strings.HasPrefix(err.Error(), "want a") {
 				t.Errorf("got the error %v, want what is expected in it", err)
 			}

@@ -242,9 +242,8 @@ func TestAChunkedRequestIsTheLast(t *testing.T) {
 	client := dial(t, start(t, Options{}, Server{}, echo))
 	client.send("PUT /a HTTP/1.1\r\nHost: x\r\nTransfer-Encoding: chunked\r\n\r\n3\r\nabc\r\n0\r\n\r\n" + whole)
 	got := client.rest()
-	if !strings.Contains(got, "\r\nConnection: close\r\n") || !strings.HasSuffix(got, "\r\n\r\nPUT /a abc;") {
-		t.Errorf("the answers: got %q, want the body's, and then a close", got)
-	}
+	diff.Contains(t, got, "\r\nConnection: close\r\n", "the answers")
+	diff.HasSuffix(t, got, "\r\n\r\nPUT /a abc;", "the answers")
 }
 
 func TestOPTIONSOfAnAsteriskIsGivenToTheHandler(t *testing.T) {

@@ -169,9 +169,8 @@ func TestTheReportStandsWhereLinesAreMissing(t *testing.T) {
 	if len(lines) != mostLines+3 {
 		t.Fatalf("got %d lines, want %d", len(lines), mostLines+3)
 	}
-	if !strings.Contains(lines[mostLines], `"lines":1}`) || lines[mostLines+1] != "last\n" {
-		t.Errorf("the end: got %q, want the report of one line, and the last", lines[mostLines-1:])
-	}
+	diff.Contains(t, lines[mostLines], `"lines":1}`, "the end")
+	diff.Equal(t, lines[mostLines+1], "last\n", "the end")
 }
 
 func TestALineThatIsTooLongIsDropped(t *testing.T) {

@@ -155,9 +155,8 @@ func TestDrawing(t *testing.T) {
 	}
 	var again bytes.Buffer
 	diff.Must(t, command(context.Background(), words, &again))
-	if !strings.Contains(again.String(), "\n0 tests are run") || !strings.HasSuffix(again.String(), survivors) {
-		t.Errorf("got %s, want no test to be run, and %s", again.String(), survivors)
-	}
+	diff.Contains(t, again.String(), "\n0 tests are run", "")
+	diff.HasSuffix(t, again.String(), survivors, "")
 }
 
 // TestHang: a mutant with which a test doesn't end counts as killed.
@@ -259,9 +258,8 @@ func TestEdits(t *testing.T) {
 			if err != nil {
 				got += err.Error()
 			}
-			if !strings.Contains(got, test.want) || (err == nil) != (name == "noticed") {
-				t.Errorf("got %q, want %q", got, test.want)
-			}
+			diff.Contains(t, got, test.want, "")
+			diff.Equal(t, err == nil, name == "noticed", "%v", err)
 		})
 	}
 }

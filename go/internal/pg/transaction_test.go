@@ -306,10 +306,8 @@ func TestRemedy(t *testing.T) {
 				err = fmt.Errorf("the store: %w", err)
 			}
 			remedy, isLasting := pg.Remedy(err)
-			if isLasting != test.isLasting || (remedy != "") != test.hasRemedy {
-				t.Errorf("got %q, lasting %v, want a remedy %v and lasting %v", remedy, isLasting, test.hasRemedy,
-					test.isLasting)
-			}
+			diff.Equal(t, isLasting, test.isLasting, "")
+			diff.Equal(t, remedy != "", test.hasRemedy, "%q", remedy)
 		})
 	}
 	diff.NoError(t, pg.AsLasting(nil), "")

@@ -131,9 +131,8 @@ func TestUsers(t *testing.T) {
 		file := fileWith(t, text, 0o600) // whose name doesn't have the text
 		t.Run(fmt.Sprintf("%.20q", text), func(t *testing.T) {
 			got, _, err := Users(file)
-			if !reflect.DeepEqual(got, want) || (err == nil) != (want != nil) {
-				t.Errorf("got %v, %v, want %v", got, err, want)
-			}
+			diff.Check(t, got, want, "")
+			diff.Equal(t, err == nil, want != nil, "%v", err)
 			if err != nil && strings.Contains(err.Error(), "ses") {
 				t.Errorf("got %v, want no secret in it", err)
 			}

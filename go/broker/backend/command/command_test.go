@@ -87,10 +87,8 @@ func TestCapabilities(t *testing.T) {
 			}
 			_, hasBindings := backend.(broker.BindingBackend)
 			_, hasCredentials := backend.(broker.CredentialsBackend)
-			if hasBindings != c.bindings || hasCredentials != c.credentials {
-				t.Errorf("got bindings %v and credentials %v of the backend, want %v and %v", hasBindings, hasCredentials,
-					c.bindings, c.credentials)
-			}
+			diff.Equal(t, hasBindings, c.bindings, "")
+			diff.Equal(t, hasCredentials, c.credentials, "")
 			if _, hasLocks := backend.(broker.LockBackend); !hasLocks {
 				t.Error("got a backend without locks, want one with them")
 			}
@@ -196,9 +194,8 @@ func TestExisting(t *testing.T) {
 	} {
 		t.Run(name, func(t *testing.T) {
 			_, err := New(ctx, program, Options{State: state, Existing: true})
-			if !errors.Is(err, os.ErrNotExist) || !strings.Contains(err.Error(), state) {
-				t.Errorf("New with %s: got %v, want one of %s that doesn't exist", name, err, state)
-			}
+			diff.ErrorIs(t, err, os.ErrNotExist, "New with %s", name)
+			diff.ErrorContains(t, err, state, "New with %s", name)
 		})
 	}
 	diff.Empty(t, diff.Value(filepath.Glob(top+"/*/.locks"))(t), "")
@@ -627,9 +624,8 @@ func TestNobodyIsToldWhatAProcessStillChanges(t *testing.T) {
 	goOn := fifo(t, backend.state+"/go")
 	b := benchOf(t, backend, broker.Silent{})
 	response, err := b.Handle(ctx, provision(t))
-	if !errors.Is(err, broker.ErrNobodyKnows) || !strings.Contains(err.Error(), filelock.ErrLent.Error()) {
-		t.Errorf("the Provision: got %v, %v, want %v", response, err, filelock.ErrLent)
-	}
+	diff.ErrorIs(t, err, broker.ErrNobodyKnows, "the Provision, %v", response)
+	diff.ErrorContains(t, err, filelock.ErrLent.Error(), "the Provision, %v", response)
 	b.isEndedAfter(t, goOn)
 }
 

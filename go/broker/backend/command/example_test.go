@@ -62,9 +62,8 @@ func TestExampleLife(t *testing.T) {
 	exist(t, backend, broker.Whole, broker.Whole)
 	var credentials struct{ Database, Token string }
 	check(t, json.Unmarshal(created, &credentials))
-	if credentials.Database != whole || len(credentials.Token) != 36 {
-		t.Errorf("the credentials: got %s, want the database and a token", created)
-	}
+	diff.Equal(t, credentials.Database, whole, "the credentials, %s", created)
+	diff.Equal(t, len(credentials.Token), 36, "the credentials, %s", created)
 	diff.Equal(t, string(diff.Value(backend.Credentials(ctx, binding))(t)), string(created), "Credentials")
 	check(t, backend.DeleteBinding(ctx, binding))
 	exist(t, backend, broker.Whole, broker.None)
@@ -133,9 +132,8 @@ func TestExampleRejectsOtherCalls(t *testing.T) {
 	backend := databases(t, nil)
 	var run exit
 	err := backend.run(ctx, "update", nil, names(instance.Key), func(it exit) error { run = it; return nil })
-	if err != nil || run.exit.ExitStatus() != statusUnsupported {
-		t.Errorf("the program ended: got %s, %v, want the status %d", run.how(), err, statusUnsupported)
-	}
+	check(t, err)
+	diff.Equal(t, run.exit.ExitStatus(), statusUnsupported, "the program ended, %s", run.how())
 }
 
 func TestExampleCatalogue(t *testing.T) {

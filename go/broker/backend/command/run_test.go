@@ -183,9 +183,8 @@ func TestProcessThatLeftTheGroup(t *testing.T) {
 				t.Errorf("Create: got %v, want one that says %q", err, c.says)
 			}
 			there, err := backend.Look(lock.Context(ctx), instance)
-			if there != broker.None || !errors.Is(err, filelock.ErrLent) {
-				t.Errorf("Look while the process runs: got %v and %v, want %v and %v", there, err, broker.None, filelock.ErrLent)
-			}
+			diff.Equal(t, there, broker.None, "Look while the process runs")
+			diff.ErrorIs(t, err, filelock.ErrLent, "Look while the process runs")
 			lock.Unlock()
 			diff.Equal(t, diff.Value(backend.Locks().TryLock(ctx, instance.Key))(t) == nil, true,
 				"the lock of a process that still runs")
@@ -218,9 +217,8 @@ func TestServerThatHasTheLock(t *testing.T) {
 	defer lock.Unlock()
 	check(t, backend.Create(lock.Context(ctx), instance))
 	there, err := backend.Look(lock.Context(ctx), instance)
-	if there != broker.None || !errors.Is(err, filelock.ErrLent) {
-		t.Errorf("Look while the server runs: got %v and %v, want %v and %v", there, err, broker.None, filelock.ErrLent)
-	}
+	diff.Equal(t, there, broker.None, "Look while the server runs")
+	diff.ErrorIs(t, err, filelock.ErrLent, "Look while the server runs")
 	check(t, syscall.Kill(pidOf(t, backend), syscall.SIGKILL))
 	backend.grace = 10 * time.Second
 	diff.Equal(t, diff.Value(backend.Look(lock.Context(ctx), instance))(t), broker.Whole,

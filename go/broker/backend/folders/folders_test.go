@@ -434,9 +434,8 @@ func TestLabel(t *testing.T) {
 		check(t, f.Create(ctx, first))
 		var text [256]byte
 		n, err := syscall.Getxattr(f.whole(first.Key.Instance), labelAttribute, text[:])
-		if err != nil || string(text[:n]) != wanted {
-			t.Errorf("the attribute: got %q, %v, want %q", text[:n], err, wanted)
-		}
+		diff.NoError(t, err, "the attribute")
+		diff.Equal(t, string(text[:n]), wanted, "the attribute")
 		diff.Empty(t, names(t, f.whole(first.Key.Instance)), "the folder")
 	})
 	t.Run("a file", func(t *testing.T) {

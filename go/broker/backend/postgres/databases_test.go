@@ -248,9 +248,8 @@ func TestWhoWasBoundIsOut(t *testing.T) {
 	var owner string
 	err := second.QueryRowContext(context.Background(),
 		"INSERT INTO t VALUES (2) RETURNING (SELECT tableowner FROM pg_tables WHERE tablename = 't')").Scan(&owner)
-	if err != nil || owner != postgres.NameOf(it.request.Key) {
-		t.Errorf("the other binding: got the table of %q, %v, want that of the instance", owner, err)
-	}
+	diff.NoError(t, err, "the other binding")
+	diff.Equal(t, owner, postgres.NameOf(it.request.Key), "the other binding")
 }
 
 // Who was bound acts as the instance's role, and can give it a password. After the Unbind that password is worth

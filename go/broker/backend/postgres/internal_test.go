@@ -2,7 +2,6 @@ package postgres
 
 import (
 	"context"
-	"errors"
 	"fmt"
 	"net"
 	"strings"
@@ -160,9 +159,8 @@ func TestPersist(t *testing.T) {
 				calls++
 				return test.given[calls-1]
 			})
-			if !errors.Is(err, test.want) || calls != test.calls {
-				t.Errorf("%s is in the way: got %v after %d calls, want %v after %d", test.name, err, calls, test.want, test.calls)
-			}
+			diff.ErrorIs(t, err, test.want, "%s is in the way", test.name)
+			diff.Equal(t, calls, test.calls, "%s is in the way", test.name)
 		})
 	}
 }
