@@ -166,9 +166,7 @@ func (f *faulty) fails(t *testing.T, it faultyCall, n int) bool {
 	err := it.call(f, t)
 	failed := f.countdown.FailedStatement()
 	f.countdown.Fail(0, f.fault)
-	if f.wrong != nil {
-		t.Errorf("%q has failed: got %v, want none", failed, f.wrong)
-	}
+	diff.NoError(t, f.wrong, "%q has failed", failed)
 	after := f.before.Entry
 	if it.after != nil {
 		after = it.after(t)

@@ -296,9 +296,7 @@ func testTiesExclude(t *testing.T, open func(*testing.T) broker.NamedStore) {
 		defer all.Done()
 		err := second.Tie(context.Background(), func(isUsed bool) error {
 			close(overlapped)
-			if !isUsed {
-				t.Error("the second: got a store that isn't tied, want a tied one")
-			}
+			diff.Equal(t, isUsed, true, "the second finds the store tied")
 			return nil
 		})
 		diff.NoError(t, err, "the second")
@@ -529,9 +527,7 @@ func testUnfinished(t *testing.T, open func(*testing.T) broker.NamedStore) {
 	keys := diff.Value(store.UnfinishedKeys(context.Background()))(t)
 	got := map[broker.Key]bool{}
 	for _, key := range keys {
-		if got[key] {
-			t.Errorf("got %v twice, want it once", key)
-		}
+		diff.Equal(t, got[key], false, "%v twice", key)
 		got[key] = true
 	}
 	diff.Check(t, got, want, "the unfinished keys")

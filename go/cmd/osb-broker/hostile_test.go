@@ -755,9 +755,7 @@ func TestSecurityNamesTests(t *testing.T) {
 	check(t, err)
 	named := nameOfTest.FindAllString(string(document), -1)
 	for _, name := range named {
-		if !exists[name] {
-			t.Errorf("got no %s, want one", name)
-		}
+		diff.Equal(t, exists[name], true, "the test %s exists", name)
 	}
 	if len(named) < 40 {
 		t.Errorf("got only %d tests named, want at least 40", len(named))
@@ -765,9 +763,7 @@ func TestSecurityNamesTests(t *testing.T) {
 	for _, table := range tableOfTests.FindAllStringSubmatch(string(document), -1) {
 		for _, row := range strings.Split(strings.TrimSpace(table[1]), "\n") {
 			cells := strings.Split(row, " | ")
-			if !nameOfTest.MatchString(cells[len(cells)-1]) {
-				t.Errorf("this attack: got no test, want one: %s", row)
-			}
+			diff.Equal(t, nameOfTest.MatchString(cells[len(cells)-1]), true, "this attack has a test: %s", row)
 		}
 	}
 }

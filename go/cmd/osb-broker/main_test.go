@@ -512,9 +512,7 @@ func TestWarningWithoutTLS(t *testing.T) {
 	command := osbBroker([]string{password}, "serve", "--state", t.TempDir(), "--listen", "0.0.0.0:0",
 		"--health-listen", "192.0.2.1:1") // it can't listen there, so it ends
 	out, _ := command.CombinedOutput()
-	if !hasEvent(out, "no_tls") {
-		t.Errorf("got no warning in %s, want one", out)
-	}
+	diff.Equal(t, hasEvent(out, "no_tls"), true, "a warning in %s", out)
 	command = osbBroker([]string{password}, "serve", "--state", t.TempDir(), "--listen", "127.0.0.1:0",
 		"--health-listen", "192.0.2.1:1")
 	if out, _ = command.CombinedOutput(); hasEvent(out, "no_tls") {

@@ -353,9 +353,8 @@ func TestServedStoreFails(t *testing.T) {
 			recorder := answerOf(handler, target)
 			diff.Equal(t, recorder.Code, 503, "%s", recorder.Body)
 			diff.Lacks(t, recorder.Body.String(), "is away", "")
-			if !regexp.MustCompile(test.log).MatchString(written.String()) {
-				t.Errorf("got the log %s, want %s", written.String(), test.log)
-			}
+			diff.Equal(t, regexp.MustCompile(test.log).MatchString(written.String()), true, "%s in the log %s", test.log,
+				written.String())
 		})
 	}
 }

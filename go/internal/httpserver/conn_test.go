@@ -418,9 +418,7 @@ func TestConnectionsThroughAProxy(t *testing.T) {
 	for _, address := range []string{"198.51.100.1", "198.51.100.1", "198.51.100.2", "198.51.100.2"} {
 		open(address).until(address + ":8080!")
 	}
-	if !open("198.51.100.1").isClosed() {
-		t.Error("the third connection of a client: got it open, want it closed")
-	}
+	diff.Equal(t, open("198.51.100.1").isClosed(), true, "the third connection of a client is closed")
 	open("198.51.100.3").until("198.51.100.3:8080!")
 	for count := 0; count < 3; count++ { // the proxy's own
 		c := dial(t, listener)

@@ -48,9 +48,7 @@ func TestPatterns(t *testing.T) {
 		isLoaded[pkg.path] = true
 	}
 	for _, want := range []string{"broker/backend/postgres", "broker", "internal/pg", "platform/vault", "internal/httpserver"} {
-		if !isLoaded["pippinterm/"+want] {
-			t.Errorf("got %d packages without %s, want it", len(packages), want)
-		}
+		diff.Equal(t, isLoaded["pippinterm/"+want], true, "%d packages, and %s is one", len(packages), want)
 	}
 	none := "pippinterm/internal/cli/..."
 	diff.ErrorContains(t, diff.Err(load(context.Background(), tags, toy, none)), none, "")
@@ -82,14 +80,10 @@ func TestKinds(t *testing.T) {
 		"IsSmall: result negated: func IsSmall(number int) bool { return !(number < 10 == true) }",
 		"IsSmall: constant changed: func IsSmall(number int) bool { return number < 10 == false }",
 	} {
-		if !found[want] {
-			t.Errorf("got no mutant %q, want it", want)
-		}
+		diff.Equal(t, found[want], true, "the mutant %q is drawn", want)
 	}
 	for change := range found {
-		if strings.HasPrefix(change, "Stop: ") {
-			t.Errorf("got %q, want no mutant of a crash point", change)
-		}
+		diff.Equal(t, strings.HasPrefix(change, "Stop: "), false, "a crash point has the mutant %q", change)
 	}
 }
 

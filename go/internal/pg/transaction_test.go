@@ -101,9 +101,7 @@ func (e ending) run(t *testing.T, url string) {
 	})
 	isRight := e.is == nil && e.has == "" && err == nil || e.is != nil && errors.Is(err, e.is) ||
 		e.has != "" && err != nil && strings.Contains(err.Error(), e.has)
-	if !isRight {
-		t.Errorf("got %v, want another error", err)
-	}
+	diff.Equal(t, isRight, true, "%v", err)
 	isWritten := count(t, url) > before
 	diff.Equal(t, isWritten, e.isWritten, "written")
 }

@@ -253,9 +253,7 @@ func TestTransactionThatFails(t *testing.T) {
 					fails()
 					return first(err, errWrong)
 				})
-				if n.InTransaction() {
-					t.Error("got an open transaction, want none")
-				}
+				diff.Equal(t, n.InTransaction(), false, "an open transaction")
 				return err
 			})
 			diff.Error(t, err, "")

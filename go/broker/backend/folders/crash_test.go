@@ -7,6 +7,7 @@ import (
 
 	"pippinterm/broker"
 	"pippinterm/internal/crash"
+	"pippinterm/internal/diff"
 )
 
 // After a crash at each crash point, another backend sees a part or all of it, and completes or deletes it.
@@ -40,9 +41,7 @@ func TestCrashes(t *testing.T) {
 					for _, before := range c.before {
 						check(t, before(f))
 					}
-					if !crashes(c.point, func() { _ = c.broken(f) }) {
-						t.Errorf("got no crash at %s, want one", c.point)
-					}
+					diff.Equal(t, crashes(c.point, func() { _ = c.broken(f) }), true, "a crash at %s", c.point)
 					after := newFolders(t, f.top)
 					has(t, after, c.request, c.left)
 					check(t, []func(*Folders) error{c.delete, c.create}[goOn](after))

@@ -217,9 +217,8 @@ func TestBindAndUnbind(t *testing.T) {
 		wantThere(t, d, bind, broker.None)
 	}
 	wantThere(t, d, it, broker.Whole)
-	if r.exists("pg_roles WHERE rolname = $1", postgres.NameOf(bind.request.Key)) {
-		t.Error("got a role that is left, want none")
-	}
+	diff.Equal(t, r.exists("pg_roles WHERE rolname = $1", postgres.NameOf(bind.request.Key)), false,
+		"a role that is left")
 }
 
 func TestABindingWithoutADatabase(t *testing.T) {

@@ -84,9 +84,8 @@ func TestAPreparedTransaction(t *testing.T) {
 	}
 	wantThere(t, d, it, broker.Part)
 	diff.Error(t, r.customer(it.request.Key).Ping(), "a login of the customer")
-	if r.exists("pg_roles WHERE rolname = $1 AND rolcanlogin", name) {
-		t.Error("got a role that can log in to other databases, want it closed")
-	}
+	diff.Equal(t, r.exists("pg_roles WHERE rolname = $1 AND rolcanlogin", name), false,
+		"a role that can log in to other databases")
 	pgtest.Exec(t, r.admin, "ALTER DATABASE "+name+" ALLOW_CONNECTIONS true")
 	operator := pgtest.DB(t, pgtest.In(t, pgtest.URL(t), name))
 	pgtest.Exec(t, operator, "ROLLBACK PREPARED '"+name+"'")
@@ -531,9 +530,7 @@ func (c faultyCall) fails(t *testing.T, countdown *storefaults.Countdown) {
 		}
 		diff.Equal(t, diff.Value(c.look())(t), c.want, "%s, and %q has failed", c.name, failed)
 		if failed != "" {
-			if !isDispensable(failed) {
-				t.Errorf("%s, and %q has failed: got nil, want the error", c.name, failed)
-			}
+			diff.Equal(t, isDispensable(failed), true, "%s, and %q has failed without an error: it is dispensable", c.name, failed)
 			if err := c.undo(); err != nil {
 				t.Fatalf("%s: the opposite: got %v, want no error", c.name, err)
 			}

@@ -26,9 +26,7 @@ func take(t *testing.T, d *postgres.Databases, key broker.Key) broker.Lock {
 func TestLocks(t *testing.T) {
 	r := newRig(t)
 	first, second := r.open(), r.open()
-	if !first.Locks().CanBeLost() {
-		t.Error("the lock of a session: got one that can't be lost, want one that can be")
-	}
+	diff.Equal(t, first.Locks().CanBeLost(), true, "the lock of a session can be lost")
 	id := randomID(t)
 	for _, key := range []broker.Key{osb.InstanceKey(id), osb.BindingKey(id, id)} {
 		t.Run(key.String(), func(t *testing.T) {
@@ -37,9 +35,7 @@ func TestLocks(t *testing.T) {
 				t.Fatalf("%v: got no lock, want it free", key)
 			}
 			for _, d := range []*postgres.Databases{first, second} {
-				if other := take(t, d, key); other != nil {
-					t.Errorf("%v: got the lock twice, want it once", key)
-				}
+				diff.Equal(t, take(t, d, key) == nil, true, "%v: the lock is taken", key)
 			}
 			taken.Unlock()
 			again := take(t, second, key)
@@ -163,12 +159,9 @@ func TestALockThatOutlivesItsClient(t *testing.T) {
 	}
 	taken.Unlock()
 	second := r.open()
-	if other := take(t, second, key); other != nil {
-		t.Error("got the lock while the server still creates the database, want it taken")
-	}
-	if !r.exists("pg_roles WHERE rolname = $1 AND NOT rolcanlogin", postgres.NameOf(key)) {
-		t.Error("got a role that can log in before its database exists, want it without login")
-	}
+	diff.Equal(t, take(t, second, key) == nil, true, "the lock is taken while the server creates the database")
+	diff.Equal(t, r.exists("pg_roles WHERE rolname = $1 AND NOT rolcanlogin", postgres.NameOf(key)), true,
+		"the role can't log in before its database exists")
 	diff.Value(template.ExecContext(context.Background(), "COMMIT"))(t)
 	ctx, cancel := context.WithTimeout(context.Background(), time.Minute)
 	defer cancel()
@@ -228,9 +221,7 @@ func TestLocksOfAServerThatIsAway(t *testing.T) {
 	proxy.Cut("")
 	taken := take(t, d, key)
 	defer taken.Unlock()
-	if other := take(t, d, key); other != nil {
-		t.Error("got a lock twice, want it once")
-	}
+	diff.Equal(t, take(t, d, key) == nil, true, "the lock is taken")
 }
 
 // While the server is silent, whoever wants a lock is answered broker.ErrAway within a limit, on sessions that were

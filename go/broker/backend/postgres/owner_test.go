@@ -344,9 +344,7 @@ func (u unlabelledDatabase) run(t *testing.T) {
 	} else if _, err := d.Look(locked.ctx, locked.request); !errors.Is(err, postgres.ErrForeign) {
 		t.Errorf("Look: got %v, want %v", err, postgres.ErrForeign)
 	}
-	if !r.exists("pg_database WHERE datname = $1", postgres.NameOf(locked.request.Key)) {
-		t.Error("got no database, want it left")
-	}
+	diff.Equal(t, r.exists("pg_database WHERE datname = $1", postgres.NameOf(locked.request.Key)), true, "the database is left")
 }
 
 // No customer changes its label: with another store's, its database could never be deleted.

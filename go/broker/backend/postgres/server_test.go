@@ -175,9 +175,8 @@ func TestATemplateThatIsGone(t *testing.T) {
 	if err := d.Create(it.ctx, it.request); !pg.IsCode(err, pg.InvalidCatalogName) || !strings.Contains(err.Error(), name) {
 		t.Errorf("got %v, want that there is no database %s", err, name)
 	}
-	if r.exists("pg_roles WHERE rolname = $1 AND rolcanlogin", postgres.NameOf(it.request.Key)) {
-		t.Error("got a role that logs in, want none")
-	}
+	diff.Equal(t, r.exists("pg_roles WHERE rolname = $1 AND rolcanlogin", postgres.NameOf(it.request.Key)), false,
+		"a role that logs in")
 	pgtest.Exec(t, r.admin, "ALTER DATABASE "+name+"_gone RENAME TO "+name)
 	diff.NoError(t, d.Create(it.ctx, it.request), "with the template again")
 }
@@ -235,9 +234,7 @@ func (it hostileTrial) wantHarmless(t *testing.T, set []assignment) {
 	for _, part := range [][]assignment{set[:half], set[half:]} {
 		areHarmless = t.Run("of them", func(t *testing.T) { it.wantHarmless(t, part) }) && areHarmless
 	}
-	if areHarmless {
-		t.Errorf("with all of %v: got none that fails (%v), want one", set, failed)
-	}
+	diff.Equal(t, areHarmless, false, "with all of %v, nothing fails (%v)", set, failed)
 }
 
 // setAll has a role set parameters at its database, at itself, and at itself in the database. It returns how many of
