@@ -17,6 +17,7 @@ import (
 	"pippinterm/internal/pg"
 	"pippinterm/internal/pg/pgtest"
 	"pippinterm/internal/storefaults"
+	"pippinterm/internal/waits"
 	"pippinterm/osb"
 )
 
@@ -270,20 +271,14 @@ func TestManyOpen(t *testing.T) {
 		t.Run(test.schema, func(t *testing.T) {
 			url := pgtest.Schema(t, pgtest.URL(t), test.schema)
 			pgtest.Exec(t, pgtest.DB(t, url), test.tables...)
-			var all sync.WaitGroup
-			for n := 0; n < 6; n++ {
-				all.Add(1)
-				go func() {
-					defer all.Done()
-					store, err := postgres.Open(context.Background(), url, 1, broker.Silent{})
-					if err != nil {
-						t.Errorf("got the error %v, want none", err)
-						return
-					}
-					diff.NoError(t, store.Close(), "")
-				}()
-			}
-			all.Wait()
+			waits.Together(6, func(int) {
+				store, err := postgres.Open(context.Background(), url, 1, broker.Silent{})
+				if err != nil {
+					t.Errorf("got the error %v, want none", err)
+					return
+				}
+				diff.NoError(t, store.Close(), "")
+			})
 		})
 	}
 }
@@ -645,8 +640,7 @@ func TestALookAtARowThatIsEnded(t *testing.T) {
 	defer func() { _ = holder.Rollback() }()
 	_, err = holder.Exec("SELECT FROM osb_holdings FOR UPDATE")
 	check(t, err)
-	changed := make(chan error, 1)
-	go func() { changed <- store.Change(ctx, key, describe("x", &calls)) }()
+	changed := waits.Begin(func() error { return store.Change(ctx, key, describe("x", &calls)) })
 	for until := time.Now().Add(time.Minute); time.Now().Before(until); {
 		pgtest.Exec(t, db, "SELECT pg_cancel_backend(pid) FROM pg_stat_activity WHERE application_name = '"+name+
 			"' AND wait_event_type = 'Lock'")

@@ -279,35 +279,18 @@ func begin(t *testing.T, store broker.NamedStore) {
 func testTiesExclude(t *testing.T, open func(*testing.T) broker.NamedStore) {
 	first, second := openStore(t, open), openStore(t, open)
 	begin(t, first)
-	entered, release, overlapped := make(chan struct{}), make(chan struct{}), make(chan struct{})
-	var all sync.WaitGroup
-	all.Add(2)
-	go func() {
-		defer all.Done()
-		err := first.Tie(context.Background(), func(bool) error {
-			close(entered)
-			<-release
+	exclude(t, func(inside func()) error {
+		return first.Tie(context.Background(), func(bool) error {
+			inside()
 			return nil
 		})
-		diff.NoError(t, err, "the first")
-	}()
-	<-entered
-	go func() {
-		defer all.Done()
-		err := second.Tie(context.Background(), func(isUsed bool) error {
-			close(overlapped)
+	}, func(inside func()) error {
+		return second.Tie(context.Background(), func(isUsed bool) error {
+			inside()
 			diff.Equal(t, isUsed, true, "the second finds the store tied")
 			return nil
 		})
-		diff.NoError(t, err, "the second")
-	}()
-	select {
-	case <-overlapped:
-		t.Error("got both at once, want one after the other")
-	case <-time.After(soon):
-	}
-	close(release)
-	all.Wait()
+	})
 }
 
 func testReady(t *testing.T, open func(*testing.T) broker.NamedStore) {

@@ -10,6 +10,7 @@ import (
 
 	"pippinterm/broker"
 	"pippinterm/internal/diff"
+	"pippinterm/internal/waits"
 )
 
 // Steps that fail, panic or whose context is cancelled write nothing, and the changes beside them are written.
@@ -126,41 +127,40 @@ func testExclusion(t *testing.T, open func(*testing.T) broker.NamedStore) {
 			if test.hasRow {
 				write(t, first, instance(at+1), broker.Entry{Holding: in(t, "ready")})
 			}
-			exclude(t, first, second, test.first, test.second)
+			written := broker.Entry{Holding: in(t, "failed"), Description: "by the first", Worker: id(1)}
+			change := func(store broker.Store, key broker.Key, step broker.Step) func(func()) error {
+				return func(inside func()) error {
+					return store.Change(context.Background(), key, func(snapshot broker.Snapshot) (*broker.Entry, error) {
+						inside()
+						return step(snapshot)
+					})
+				}
+			}
+			exclude(t,
+				change(first, test.first, func(broker.Snapshot) (*broker.Entry, error) { return &written, nil }),
+				change(second, test.second, func(snapshot broker.Snapshot) (*broker.Entry, error) {
+					return nil, seesFirst(test.first, test.second, snapshot, written)
+				}))
 		})
 	}
 }
 
-func exclude(t *testing.T, first, second broker.Store, one, other broker.Key) {
+// exclude checks that the second of two calls comes in only once the first one is out. Each of them calls its function
+// when it is inside.
+func exclude(t *testing.T, first, second func(inside func()) error) {
+	t.Helper()
 	entered, release, overlapped := make(chan struct{}), make(chan struct{}), make(chan struct{})
-	var all sync.WaitGroup
-	all.Add(2)
-	written := broker.Entry{Holding: in(t, "failed"), Description: "by the first", Worker: id(1)}
-	go func() {
-		defer all.Done()
-		err := first.Change(context.Background(), one, func(broker.Snapshot) (*broker.Entry, error) {
-			close(entered)
-			<-release
-			return &written, nil
-		})
-		diff.NoError(t, err, "the first")
-	}()
+	one := waits.Begin(func() error { return first(func() { close(entered); <-release }) })
 	<-entered
-	go func() {
-		defer all.Done()
-		err := second.Change(context.Background(), other, func(snapshot broker.Snapshot) (*broker.Entry, error) {
-			close(overlapped)
-			return nil, seesFirst(one, other, snapshot, written)
-		})
-		diff.NoError(t, err, "the second")
-	}()
+	other := waits.Begin(func() error { return second(func() { close(overlapped) }) })
 	select {
 	case <-overlapped:
 		t.Error("got both at once, want one after the other")
 	case <-time.After(soon):
 	}
 	close(release)
-	all.Wait()
+	diff.NoError(t, <-one, "the first")
+	diff.NoError(t, <-other, "the second")
 }
 
 // seesFirst fails unless the second Change sees what the first has written.
@@ -183,26 +183,15 @@ func seesFirst(one, other broker.Key, snapshot broker.Snapshot, written broker.E
 // Close waits for a Change that has begun, and no other begins afterwards.
 func testClose(t *testing.T, open func(*testing.T) broker.NamedStore) {
 	store, other := open(t), openStore(t, open)
-	entered, release, closed := make(chan struct{}), make(chan struct{}), make(chan error, 1)
-	changed := make(chan error, 1)
-	go func() {
-		changed <- store.Change(context.Background(), instance(1), func(broker.Snapshot) (*broker.Entry, error) {
-			close(entered)
-			<-release
+	exclude(t, func(inside func()) error {
+		return store.Change(context.Background(), instance(1), func(broker.Snapshot) (*broker.Entry, error) {
+			inside()
 			return &broker.Entry{Holding: in(t, "ready")}, nil
 		})
-	}()
-	<-entered
-	go func() { closed <- store.Close() }()
-	select {
-	case err := <-closed:
-		t.Error("got an end of Close before that of the Change, want it to wait")
-		closed <- err
-	case <-time.After(soon):
-	}
-	close(release)
-	diff.NoError(t, <-changed, "the Change")
-	diff.NoError(t, <-closed, "Close")
+	}, func(closed func()) error {
+		defer closed()
+		return store.Close()
+	})
 	wantEntry(t, "after Close", read(t, other, instance(1)).Entry, broker.Entry{Holding: in(t, "ready")})
 	wantClosed(t, store)
 }
@@ -221,8 +210,7 @@ func wantClosed(t *testing.T, store broker.NamedStore) {
 		"Tie":          func() error { return store.Tie(ctx, func(bool) error { return nil }) },
 		"Change":       func() error { return store.Change(ctx, instance(2), nil) },
 	} {
-		ended := make(chan error, 1)
-		go func() { ended <- call() }()
+		ended := waits.Begin(func() error { return call() })
 		select {
 		case err := <-ended:
 			diff.Error(t, err, "%s after Close", name)

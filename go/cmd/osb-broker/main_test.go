@@ -282,11 +282,10 @@ esac
 `
 	check(t, os.WriteFile(script, []byte(text), 0o700))
 	s := start(t, []string{password}, "--state", folder, "--backend", "command:"+script)
-	status := make(chan int, 1)
-	go func() {
+	status := waits.Begin(func() int {
 		given, _ := s.ask("PUT", one, order)
-		status <- given
-	}()
+		return given
+	})
 	waits.Until(t, "the creation has begun", func() bool {
 		_, err := os.Stat(filepath.Join(folder, "command", "begun"))
 		return err == nil

@@ -13,6 +13,7 @@ import (
 
 	"pippinterm/broker"
 	"pippinterm/internal/diff"
+	"pippinterm/internal/waits"
 )
 
 // lines returns the metrics as the handler sends them, without comments.
@@ -192,16 +193,10 @@ func TestTheStoreIsAskedOnceASecond(t *testing.T) {
 func TestScrapesSideBySideAskTheStoreOnce(t *testing.T) {
 	counted := &store{}
 	metrics, _ := over(counted)
-	var all sync.WaitGroup
-	for number := 0; number < 5; number++ {
-		all.Add(1)
-		go func() {
-			defer all.Done()
-			request := httptest.NewRequest(http.MethodGet, "/metrics", nil)
-			metrics.handler().ServeHTTP(httptest.NewRecorder(), request)
-		}()
-	}
-	all.Wait()
+	waits.Together(5, func(int) {
+		request := httptest.NewRequest(http.MethodGet, "/metrics", nil)
+		metrics.handler().ServeHTTP(httptest.NewRecorder(), request)
+	})
 	diff.Equal(t, counted.asked, 1, "calls")
 }
 

@@ -79,8 +79,7 @@ func (g *gate) open() {
 // in20Seconds calls what may wait for the other end of a pipe.
 func (g *gate) in20Seconds(call func() error) {
 	g.t.Helper()
-	done := make(chan error, 1)
-	go func() { done <- call() }()
+	done := waits.Begin(func() error { return call() })
 	g.check(waits.For(g.t, done, "the backend's create"))
 }
 

@@ -2,7 +2,6 @@ package budget
 
 import (
 	"fmt"
-	"sync"
 	"sync/atomic"
 	"testing"
 	"time"
@@ -85,27 +84,22 @@ func TestWhoLeaves(t *testing.T) {
 // Many goroutines never have more than the total.
 func TestManyGoroutines(t *testing.T) {
 	const total = 10
-	b, all := New(total), sync.WaitGroup{}
+	b := New(total)
 	var has, got atomic.Int64
-	for number := 0; number < 40; number++ {
+	waits.Together(40, func(number int) {
 		user, amount := fmt.Sprint(number%3), number%4+1
-		all.Add(1)
-		go func() {
-			defer all.Done()
-			for count := 0; count < 50; count++ {
-				if !b.Take(user, amount, long) {
-					continue
-				}
-				if now := has.Add(int64(amount)); now > total {
-					t.Errorf("got %d taken, want at most %d", now, total)
-				}
-				got.Add(1)
-				has.Add(int64(-amount))
-				b.Give(user, amount)
+		for count := 0; count < 50; count++ {
+			if !b.Take(user, amount, long) {
+				continue
 			}
-		}()
-	}
-	all.Wait()
+			if now := has.Add(int64(amount)); now > total {
+				t.Errorf("got %d taken, want at most %d", now, total)
+			}
+			got.Add(1)
+			has.Add(int64(-amount))
+			b.Give(user, amount)
+		}
+	})
 	if got.Load() != 40*50 || b.taken != 0 || len(b.of) != 0 || len(b.waiting) != 0 {
 		t.Errorf("got %d parts, want %d, and left is %+v", got.Load(), 40*50, b)
 	}

@@ -181,8 +181,7 @@ func TestRunDoesntWaitForAStalledStandardError(t *testing.T) {
 	root := commands(func(*cobra.Command, []string) error { return errors.New("no memory") })
 	root.SetErr(to)
 	root.SetArgs([]string{"serve"})
-	status := make(chan int)
-	go func() { status <- Run(context.Background(), root) }()
+	status := waits.Begin(func() int { return Run(context.Background(), root) })
 	diff.Equal(t, waits.For(t, status, "Run"), StatusFailed, "")
 }
 

@@ -10,7 +10,6 @@ import (
 	"os/exec"
 	"path/filepath"
 	"strings"
-	"sync"
 	"sync/atomic"
 	"syscall"
 	"testing"
@@ -57,29 +56,19 @@ func TestGoroutinesExcludeEachOther(t *testing.T) {
 	path := filepath.Join(t.TempDir(), "locks")
 	first, second := newLocks(t, path), newLocks(t, path)
 	var inside, entered int32
-	var all sync.WaitGroup
-	for n := 0; n < 8; n++ {
-		locks := first
-		if n%2 == 1 {
-			locks = second
-		}
-		all.Add(1)
-		go func() {
-			defer all.Done()
-			for k := 0; k < 10; k++ {
-				lock, err := locks.Lock(context.Background(), one)
-				if err != nil {
-					t.Errorf("got the error %v, want the lock", err)
-					return
-				}
-				diff.Equal(t, atomic.AddInt32(&inside, 1), 1, "")
-				atomic.AddInt32(&entered, 1)
-				atomic.AddInt32(&inside, -1)
-				lock.Unlock()
+	waits.Together(8, func(n int) {
+		for k := 0; k < 10; k++ {
+			lock, err := []*Locks{first, second}[n%2].Lock(context.Background(), one)
+			if err != nil {
+				t.Errorf("got the error %v, want the lock", err)
+				return
 			}
-		}()
-	}
-	all.Wait()
+			diff.Equal(t, atomic.AddInt32(&inside, 1), 1, "")
+			atomic.AddInt32(&entered, 1)
+			atomic.AddInt32(&inside, -1)
+			lock.Unlock()
+		}
+	})
 	diff.Equal(t, entered, 80, "locks taken")
 }
 

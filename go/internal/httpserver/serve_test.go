@@ -117,8 +117,7 @@ func TestStopAnswersWhatRuns(t *testing.T) {
 	listener := listen(t, Options{})
 	server := Server{Sites: []Site{{listener, handler}}, Stopping: func() { close(isStopping) }}
 	ctx, cancel := context.WithCancel(context.Background())
-	served := make(chan error, 1)
-	go func() { served <- server.Serve(ctx) }()
+	served := waits.Begin(func() error { return server.Serve(ctx) })
 
 	silent, idle, running := dial(t, listener), dial(t, listener), dial(t, listener)
 	handler.pass <- struct{}{}
@@ -555,8 +554,7 @@ func listen(t *testing.T, options Options) *Listener {
 func serve(t *testing.T, server Server) (stop func() error) {
 	t.Helper()
 	ctx, cancel := context.WithCancel(context.Background())
-	served := make(chan error, 1)
-	go func() { served <- server.Serve(ctx) }()
+	served := waits.Begin(func() error { return server.Serve(ctx) })
 	var once sync.Once
 	var err error
 	stop = func() error {

@@ -11,12 +11,12 @@ import (
 	"sort"
 	"strconv"
 	"strings"
-	"sync"
 	"syscall"
 	"testing"
 	"time"
 
 	"pippinterm/internal/diff"
+	"pippinterm/internal/waits"
 )
 
 // A line is one of a journal, as a reader has it.
@@ -135,18 +135,11 @@ func TestLines(t *testing.T) {
 func TestManyWriters(t *testing.T) {
 	folder := t.TempDir()
 	w := openJournal(t, folder, 20_000)
-	var all sync.WaitGroup
-	for n := 0; n < 8; n++ {
-		n := n
-		all.Add(1)
-		go func() {
-			defer all.Done()
-			for m := 0; m < 250; m++ {
-				w.Write("made", member{1000*n + m, strings.Repeat("x", m)})
-			}
-		}()
-	}
-	all.Wait()
+	waits.Together(8, func(n int) {
+		for m := 0; m < 250; m++ {
+			w.Write("made", member{1000*n + m, strings.Repeat("x", m)})
+		}
+	})
 	w.Close()
 	last, seen := int64(0), map[int]bool{}
 	for _, path := range filesIn(t, folder) {
@@ -412,8 +405,7 @@ func TestDiskHangs(t *testing.T) {
 		t.Errorf("got %d lines lost and %q, want 100 and one report", w.LostLines(), failures)
 	}
 	w.patience = 10 * time.Second
-	rest := make(chan string, 1)
-	go func() { rest <- read() }()
+	rest := waits.Begin(func() string { return read() })
 	for end := time.Now().Add(time.Minute); ; time.Sleep(time.Millisecond) { // until a line isn't lost
 		lost := w.LostLines()
 		if w.Write("made", member{101, ""}); w.LostLines() == lost || time.Now().After(end) {

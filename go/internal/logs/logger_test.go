@@ -9,7 +9,6 @@ import (
 	"io"
 	"regexp"
 	"strings"
-	"sync"
 	"testing"
 	"time"
 
@@ -264,17 +263,11 @@ func TestCloseWaitsForTheRest(t *testing.T) {
 func TestManyWriters(t *testing.T) {
 	var got bytes.Buffer
 	queue := NewQueue(&got)
-	var all sync.WaitGroup
-	for writer := 0; writer < 8; writer++ {
-		all.Add(1)
-		go func() {
-			defer all.Done()
-			for number := 0; number < 200; number++ {
-				write(t, queue, "a line\n")
-			}
-		}()
-	}
-	all.Wait()
+	waits.Together(8, func(int) {
+		for number := 0; number < 200; number++ {
+			write(t, queue, "a line\n")
+		}
+	})
 	closeQueue(t, queue)
 	diff.Equal(t, got.String(), strings.Repeat("a line\n", 1600), "")
 }

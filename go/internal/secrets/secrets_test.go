@@ -156,11 +156,10 @@ func TestFilesThatAreNotRegular(t *testing.T) {
 	diff.Must(t, os.Symlink(pipe, link))
 	for _, name := range []string{pipe, link, folder, os.DevNull} {
 		name := name
-		done := make(chan error, 1)
-		go func() {
+		done := waits.Begin(func() error {
 			_, _, err := Passwords(variable, name)
-			done <- err
-		}()
+			return err
+		})
 		err := waits.For(t, done, "reading "+name)
 		if err == nil || !strings.HasSuffix(err.Error(), name+" isn't a regular file") {
 			t.Errorf("%s: got the error %v, want one that says that it isn't a regular file", name, err)

@@ -328,8 +328,7 @@ func TestCancelled(t *testing.T) {
 	release, all := holdWriter(t, file)
 	for n := 0; n < 2; n++ {
 		going, cancel := context.WithCancel(background)
-		failed := make(chan error, 1)
-		go func() { failed <- file.Write(going, note("going")) }()
+		failed := waits.Begin(func() error { return file.Write(going, note("going")) })
 		waits.Until(t, "a job is waiting", func() bool { return len(file.queue) == 1 })
 		time.AfterFunc(soon, cancel)
 		diff.ErrorIs(t, waits.For(t, failed, "Write of a job that hasn't begun"), context.Canceled, "Write")
@@ -358,8 +357,7 @@ func TestClose(t *testing.T) {
 		failed <- err
 	case <-time.After(soon):
 	}
-	closed := make(chan error, 1)
-	go func() { closed <- file.Close() }()
+	closed := waits.Begin(func() error { return file.Close() })
 	diff.NoError(t, waits.For(t, closed, "Close beside another process"), "")
 	for n := 0; n < late; n++ {
 		diff.ErrorIs(t, waits.For(t, failed, "Write at a closed file"), ErrClosed, "Write")

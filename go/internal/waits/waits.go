@@ -2,6 +2,7 @@
 package waits
 
 import (
+	"sync"
 	"testing"
 	"time"
 )
@@ -29,4 +30,24 @@ func For[T any](t testing.TB, from <-chan T, what string) (value T) {
 		t.Fatalf("%s: got nothing in %v, want an end", what, limit)
 	}
 	return value
+}
+
+// Begin calls a function, and returns at once. What the function returns comes from the channel.
+func Begin[T any](call func() T) <-chan T {
+	ended := make(chan T, 1)
+	go func() { ended <- call() }()
+	return ended
+}
+
+// Together calls a function so many times at once, with the numbers from 0 on, and returns once all calls have ended.
+func Together(count int, call func(n int)) {
+	var all sync.WaitGroup
+	all.Add(count)
+	for n := 0; n < count; n++ {
+		go func(n int) {
+			defer all.Done()
+			call(n)
+		}(n)
+	}
+	all.Wait()
 }

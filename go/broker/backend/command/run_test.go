@@ -17,6 +17,7 @@ import (
 	"pippinterm/broker"
 	"pippinterm/internal/diff"
 	"pippinterm/internal/filelock"
+	"pippinterm/internal/waits"
 )
 
 func TestMostOutput(t *testing.T) {
@@ -95,8 +96,7 @@ func TestEndOfARun(t *testing.T) {
 		t.Run(name, func(t *testing.T) {
 			backend := newBackend(t, Options{}, text)
 			started, goOn := fifo(t, backend.state+"/started"), fifo(t, backend.state+"/go")
-			ended := make(chan error, 1)
-			go func() { ended <- backend.Create(ctx, instance) }()
+			ended := waits.Begin(func() error { return backend.Create(ctx, instance) })
 			read(t, started)
 			select {
 			case err := <-ended:
@@ -199,8 +199,7 @@ func canceledCreate(t *testing.T, backend bindingsWithCredentials, lock broker.L
 	t.Helper()
 	stopping, stop := context.WithCancel(lock.Context(ctx))
 	defer stop()
-	ended := make(chan error, 1)
-	go func() { ended <- backend.Create(stopping, instance) }()
+	ended := waits.Begin(func() error { return backend.Create(stopping, instance) })
 	read(t, started)
 	stop()
 	return <-ended

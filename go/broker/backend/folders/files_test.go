@@ -5,14 +5,13 @@ import (
 	"errors"
 	"os"
 	"strings"
-	"sync"
 	"sync/atomic"
 	"syscall"
 	"testing"
 	"time"
 
 	"pippinterm/internal/diff"
-	"pippinterm/osb"
+	"pippinterm/internal/waits"
 )
 
 // The fsyncs happen when they have to: after the names have changed, and before the content is deleted.
@@ -193,19 +192,13 @@ func TestEachChangeIsCovered(t *testing.T) {
 		atomic.StoreInt64(&covered, seen)
 		return nil
 	})
-	var all sync.WaitGroup
-	for n := 0; n < 8; n++ {
-		all.Add(1)
-		go func() {
-			defer all.Done()
-			for k := 0; k < 200; k++ {
-				mine := atomic.AddInt64(&changes, 1)
-				if err := shared.do(ctx); err != nil || atomic.LoadInt64(&covered) < mine {
-					t.Errorf("got the change %d uncovered (%v), want it covered", mine, err)
-					return
-				}
+	waits.Together(8, func(int) {
+		for k := 0; k < 200; k++ {
+			mine := atomic.AddInt64(&changes, 1)
+			if err := shared.do(ctx); err != nil || atomic.LoadInt64(&covered) < mine {
+				t.Errorf("got the change %d uncovered (%v), want it covered", mine, err)
+				return
 			}
-		}()
-	}
-	all.Wait()
+		}
+	})
 }

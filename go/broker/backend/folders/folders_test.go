@@ -9,12 +9,12 @@ import (
 	"path/filepath"
 	"runtime"
 	"strings"
-	"sync"
 	"syscall"
 	"testing"
 
 	"pippinterm/broker"
 	"pippinterm/internal/diff"
+	"pippinterm/internal/waits"
 	"pippinterm/osb"
 )
 
@@ -364,17 +364,11 @@ func TestOwnersAtOnce(t *testing.T) {
 	f := newFolders(t, t.TempDir())
 	stores := strings.Fields("one two three four five six")
 	owners := make([]string, len(stores))
-	var all sync.WaitGroup
-	for n, store := range stores {
-		all.Add(1)
-		go func(n int, store string) {
-			defer all.Done()
-			owner, err := f.Own(ctx, store)
-			diff.NoError(t, err, "")
-			owners[n] = owner
-		}(n, store)
-	}
-	all.Wait()
+	waits.Together(len(stores), func(n int) {
+		owner, err := f.Own(ctx, stores[n])
+		diff.NoError(t, err, "")
+		owners[n] = owner
+	})
 	for _, owner := range owners {
 		if owner == "" || owner != owners[0] {
 			t.Fatalf("the owners: got %q, want one", owners)

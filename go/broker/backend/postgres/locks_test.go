@@ -11,7 +11,7 @@ import (
 	"pippinterm/internal/diff"
 	"pippinterm/internal/pg/pgtest"
 	"pippinterm/internal/storefaults"
-	"pippinterm/osb"
+	"pippinterm/internal/waits"
 )
 
 func take(t *testing.T, d *postgres.Databases, key broker.Key) broker.Lock {
@@ -62,21 +62,17 @@ func TestLockWaits(t *testing.T) {
 	key := newInstance(t)
 	taken := take(t, d, key)
 	ctx, cancel := context.WithCancel(context.Background())
-	given := make(chan error, 1)
-	go func() {
-		_, err := d.Locks().Lock(ctx, key)
-		given <- err
-	}()
+	given := waits.Begin(func() error { return diff.Err(d.Locks().Lock(ctx, key)) })
 	r.waitForWaiter()
 	cancel()
 	diff.Error(t, <-given, "Lock")
-	go func() {
+	given = waits.Begin(func() error {
 		next, err := d.Locks().Lock(context.Background(), key)
 		if err == nil {
 			next.Unlock()
 		}
-		given <- err
-	}()
+		return err
+	})
 	select {
 	case err := <-given:
 		t.Errorf("Lock: got %v, want it to wait", err)

@@ -10,6 +10,7 @@ import (
 	"time"
 
 	"pippinterm/internal/diff"
+	"pippinterm/internal/waits"
 )
 
 func ask(handler http.Handler, method, target string) *httptest.ResponseRecorder {
@@ -150,8 +151,7 @@ func TestACallThatHangsHoldsNobodyUp(t *testing.T) {
 	diff.Equal(t, ask(handler, "GET", "/healthz").Code, http.StatusOK, "/healthz")
 	diff.Equal(t, hanging.sum(), 1, "calls at once")
 	handler.readiness.waitsFor = 10 * time.Second
-	status := make(chan int)
-	go func() { status <- ask(handler, "GET", "/readyz").Code }()
+	status := waits.Begin(func() int { return ask(handler, "GET", "/readyz").Code })
 	close(hanging.pass)
 	diff.Equal(t, <-status, http.StatusOK, "")
 }
@@ -184,17 +184,14 @@ func TestARequestThatEndsEndsNoCall(t *testing.T) {
 	counted := calls{begun: make(chan struct{}, 1), pass: make(chan struct{})}
 	handler := New(context.Background(), Options{Ready: counted.ready})
 	ctx, cancel := context.WithCancel(context.Background())
-	ended := make(chan error)
-	go func() { ended <- handler.readiness.check(ctx) }()
+	ended := waits.Begin(func() error { return handler.readiness.check(ctx) })
 	<-counted.begun
 	cancel()
 	diff.ErrorIs(t, <-ended, context.Canceled, "the request ended")
-	waits := make(chan error)
-	go func() { waits <- handler.readiness.check(context.Background()) }()
+	another := waits.Begin(func() error { return handler.readiness.check(context.Background()) })
 	close(counted.pass)
-	if err := <-waits; err != nil || counted.sum() != 1 {
-		t.Errorf("another: got %v of %d calls, want no error of 1", err, counted.sum())
-	}
+	diff.NoError(t, <-another, "another")
+	diff.Equal(t, counted.sum(), 1, "calls")
 }
 
 func TestEachReasonIsReportedOnce(t *testing.T) {

@@ -2,11 +2,11 @@ package limiter
 
 import (
 	"fmt"
-	"sync"
 	"testing"
 	"time"
 
 	"pippinterm/internal/diff"
+	"pippinterm/internal/waits"
 )
 
 // at returns a Limiter whose clock stands, and a function that moves it.
@@ -110,14 +110,8 @@ func TestAFullLimiterKeepsTheWorst(t *testing.T) {
 
 func TestManyGoroutines(t *testing.T) {
 	limiter, _ := at()
-	var all sync.WaitGroup
-	for worker := 0; worker < 10; worker++ {
-		all.Add(1)
-		go func() {
-			defer all.Done()
-			limiter.FailedLogin("192.0.2.1")
-		}()
-	}
-	all.Wait()
+	waits.Together(10, func(int) {
+		limiter.FailedLogin("192.0.2.1")
+	})
 	diff.Equal(t, failures(limiter, "192.0.2.1"), burst-10, "")
 }
