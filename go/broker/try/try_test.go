@@ -203,12 +203,7 @@ type mistake struct {
 func TestMistakesOfInstances(t *testing.T) {
 	checkMistakes(t, map[string]mistake{
 		"create can't be repeated": {make: func(f *fake) {
-			f.create = func(r broker.Request) error {
-				if f.there[r.Key] == broker.Whole {
-					return errOfBackend
-				}
-				return f.ownCreate(r)
-			}
+			f.create = failing(f.ownCreate, func(key broker.Key) bool { return f.there[key] == broker.Whole })
 		}, failed: []string{
 			"create instance 1 again: exit status 1: of the backend", "create instance 2 again: exit status 1: of the backend",
 		}},
@@ -227,12 +222,7 @@ func TestMistakesOfInstances(t *testing.T) {
 			"create instance 1: exit status 1: of the backend", "create instance 2: exit status 1: of the backend",
 		}},
 		"create deletes another instance": {make: func(f *fake) {
-			f.create = func(r broker.Request) error {
-				if f.nth(r.Key) == instance2 {
-					delete(f.there, f.order[0])
-				}
-				return f.ownCreate(r)
-			}
+			f.create = f.losing(f.ownCreate, instance2, instance1)
 		}, failed: []string{"look instance 1: none, and not whole"}},
 		"look always reports none": {make: func(f *fake) {
 			f.look = func(broker.Request) (broker.There, error) { return broker.None, nil }
@@ -285,12 +275,7 @@ func TestMistakesOfInstances(t *testing.T) {
 			"look instance 2: whole, and not none",
 		}, left: []int{instance1, instance2}},
 		"delete can't be repeated": {make: func(f *fake) {
-			f.delete = func(r broker.Request) error {
-				if f.there[r.Key] == broker.None {
-					return errOfBackend
-				}
-				return f.ownDelete(r)
-			}
+			f.delete = failing(f.ownDelete, func(key broker.Key) bool { return f.there[key] == broker.None })
 		}, failed: []string{"delete instance 1 again: exit status 1: of the backend"}},
 		"delete deletes all instances": {make: func(f *fake) {
 			f.delete = func(broker.Request) error {
@@ -321,46 +306,21 @@ func TestMistakesOfBindings(t *testing.T) {
 			"look-binding 2: none, and not whole", "look-binding 2: none, and not whole", "look-binding 2: none, and not whole",
 		}},
 		"a binding can't be created after its deletion": {bindings: true, make: func(f *fake) {
-			f.create = func(r broker.Request) error {
-				if r.Key.IsBinding && f.deleted[r.Key] > 0 {
-					return errOfBackend
-				}
-				return f.ownCreate(r)
-			}
+			f.create = failing(f.ownCreate, func(key broker.Key) bool { return key.IsBinding && f.deleted[key] > 0 })
 		}, failed: []string{"create-binding 1 after its deletion: exit status 1: of the backend"}},
 		"delete-binding deletes the other binding": {bindings: true, make: func(f *fake) {
-			f.delete = func(r broker.Request) error {
-				if f.nth(r.Key) == binding1 {
-					delete(f.there, f.order[binding2-1])
-				}
-				return f.ownDelete(r)
-			}
+			f.delete = f.losing(f.ownDelete, binding1, binding2)
 		}, failed: []string{"look-binding 2: none, and not whole"}},
 		"delete-binding deletes the binding of another instance with this id": {bindings: true, make: func(f *fake) {
-			f.delete = func(r broker.Request) error {
-				if f.nth(r.Key) == binding1 {
-					delete(f.there, f.order[other1-1])
-				}
-				return f.ownDelete(r)
-			}
+			f.delete = f.losing(f.ownDelete, binding1, other1)
 		}, failed: []string{
 			"look-binding 1 of instance 2: none, and not whole", "look-binding 1 of instance 2: none, and not whole",
 		}},
 		"delete-binding deletes the instance": {bindings: true, make: func(f *fake) {
-			f.delete = func(r broker.Request) error {
-				if f.nth(r.Key) == binding2 {
-					delete(f.there, f.order[0])
-				}
-				return f.ownDelete(r)
-			}
+			f.delete = f.losing(f.ownDelete, binding2, instance1)
 		}, failed: []string{"look instance 1: none, and not whole"}},
 		"delete-binding can't be repeated": {bindings: true, make: func(f *fake) {
-			f.delete = func(r broker.Request) error {
-				if f.there[r.Key] == broker.None {
-					return errOfBackend
-				}
-				return f.ownDelete(r)
-			}
+			f.delete = failing(f.ownDelete, func(key broker.Key) bool { return f.there[key] == broker.None })
 		}, failed: []string{
 			"delete-binding 1 again: exit status 1: of the backend", "delete instance 1 again: exit status 1: of the backend",
 		}},
@@ -374,12 +334,7 @@ func TestMistakesOfBindings(t *testing.T) {
 			}
 		}, failed: []string{"look-binding 1 of instance 2: part, and not none"}, left: []int{other1}},
 		"create-binding deletes the other binding": {bindings: true, make: func(f *fake) {
-			f.create = func(r broker.Request) error {
-				if f.nth(r.Key) == binding2 {
-					delete(f.there, f.order[binding1-1])
-				}
-				return f.ownCreate(r)
-			}
+			f.create = f.losing(f.ownCreate, binding2, binding1)
 		}, failed: []string{"look-binding 1: none, and not whole"}},
 		"create-binding replaces the credentials of the other binding": {bindings: true, make: func(f *fake) {
 			f.create = func(r broker.Request) error {
@@ -390,12 +345,7 @@ func TestMistakesOfBindings(t *testing.T) {
 			}
 		}, failed: []string{"credentials of binding 1: other credentials than those of create-binding, in password"}},
 		"create-binding fails": {bindings: true, make: func(f *fake) {
-			f.create = func(r broker.Request) error {
-				if f.nth(r.Key) == binding1 {
-					return errOfBackend
-				}
-				return f.ownCreate(r)
-			}
+			f.create = failing(f.ownCreate, func(key broker.Key) bool { return f.nth(key) == binding1 })
 		}, failed: []string{"create-binding 1: exit status 1: of the backend"}},
 		"create-binding reports no JSON": {bindings: true, make: func(f *fake) {
 			f.create = func(r broker.Request) error {
@@ -425,6 +375,27 @@ func TestMistakesOfBindings(t *testing.T) {
 		}, failed: []string{"credentials of binding 2: other credentials than those of create-binding: an array, which " +
 			"were an object with the members password, user"}},
 	})
+}
+
+// failing is a call that fails for the keys of which isSo is true, and is the fake's own for all others.
+func failing(own func(broker.Request) error, isSo func(broker.Key) bool) func(broker.Request) error {
+	return func(r broker.Request) error {
+		if isSo(r.Key) {
+			return errOfBackend
+		}
+		return own(r)
+	}
+}
+
+// losing is the fake's own call, which for one key also deletes the resource of another one. Both are named by their
+// positions in the order of the creations.
+func (f *fake) losing(own func(broker.Request) error, of, other int) func(broker.Request) error {
+	return func(r broker.Request) error {
+		if f.nth(r.Key) == of {
+			delete(f.there, f.order[other-1])
+		}
+		return own(r)
+	}
 }
 
 // checkMistakes checks that exactly the lines of each mistake fail, and that exactly what is left is named.

@@ -29,8 +29,7 @@ var (
 
 // Each call can be repeated.
 func TestCreateAndDelete(t *testing.T) {
-	r := newRig(t)
-	d := r.open()
+	r, d := newDatabases(t)
 	it := lock(t, d, newInstance(t))
 	wantThere(t, d, it, broker.None)
 	diff.NoError(t, d.Delete(it.ctx, it.request), "Delete of nothing")
@@ -49,8 +48,7 @@ func TestCreateAndDelete(t *testing.T) {
 
 // What is left of a creation or a deletion is a part at each step, and both calls finish it.
 func TestParts(t *testing.T) {
-	r := newRig(t)
-	d := r.open()
+	r, d := newDatabases(t)
 	for _, test := range []struct {
 		name string
 		undo func(t *testing.T, name string)
@@ -85,8 +83,7 @@ func TestParts(t *testing.T) {
 
 // A customer gets into its own database, and into no other.
 func TestWhoGetsIn(t *testing.T) {
-	r := newRig(t)
-	d := r.open()
+	r, d := newDatabases(t)
 	one, other := createInstance(t, d).request.Key, createInstance(t, d).request.Key
 	pgtest.Exec(t, r.customer(one), "SELECT 1")
 	for database, password := range map[string]string{
@@ -117,8 +114,7 @@ func TestLimits(t *testing.T) {
 }
 
 func TestNoRoleLiftsItsLimit(t *testing.T) {
-	r := newRig(t)
-	d := r.open()
+	r, d := newDatabases(t)
 	key := createInstance(t, d).request.Key
 	diff.Error(t, diff.Err(r.customer(key).Exec("ALTER ROLE CURRENT_USER CONNECTION LIMIT -1")),
 		"the role lifts its limit")
@@ -131,8 +127,7 @@ func TestNoRoleLiftsItsLimit(t *testing.T) {
 // The limits of what a session may do are settings of its role. That of temporary files is set if the broker may set
 // it.
 func TestSettingsOfRoles(t *testing.T) {
-	r := newRig(t)
-	d := r.open()
+	r, d := newDatabases(t)
 	it := createInstance(t, d).request.Key
 	_, binding := bound(t, d, it)
 	r.wantSettings(postgres.NameOf(it), "idle_in_transaction_session_timeout=600000ms")
@@ -186,8 +181,7 @@ func TestCredentials(t *testing.T) {
 
 // By default customers reach the server where the broker does.
 func TestTheURIOpens(t *testing.T) {
-	r := newRig(t)
-	d := r.open()
+	r, d := newDatabases(t)
 	_, got := bound(t, d, createInstance(t, d).request.Key)
 	host, port, err := pg.HostAndPort(r.url)
 	if err != nil || got.Host != host || strconv.Itoa(got.Port) != port {
@@ -198,8 +192,7 @@ func TestTheURIOpens(t *testing.T) {
 
 // Each call can be repeated.
 func TestBindAndUnbind(t *testing.T) {
-	r := newRig(t)
-	d := r.open()
+	r, d := newDatabases(t)
 	it := createInstance(t, d)
 	bind := lock(t, d, osb.BindingKey(it.request.Key.Instance, randomID(t)))
 	wantThere(t, d, bind, broker.None)
@@ -222,8 +215,7 @@ func TestBindAndUnbind(t *testing.T) {
 }
 
 func TestABindingWithoutADatabase(t *testing.T) {
-	r := newRig(t)
-	d := r.open()
+	r, d := newDatabases(t)
 	bind := lock(t, d, osb.BindingKey(randomID(t), randomID(t)))
 	wantThere(t, d, bind, broker.None)
 	diff.Error(t, diff.Err(d.CreateBinding(bind.ctx, bind.request)), "CreateBinding")
@@ -233,8 +225,7 @@ func TestABindingWithoutADatabase(t *testing.T) {
 
 // Who was bound is out at once, others go on, and what was created stays and is the instance's.
 func TestWhoWasBoundIsOut(t *testing.T) {
-	r := newRig(t)
-	d := r.open()
+	r, d := newDatabases(t)
 	it := createInstance(t, d)
 	bind, one := bound(t, d, it.request.Key)
 	_, two := bound(t, d, it.request.Key)
@@ -254,8 +245,7 @@ func TestWhoWasBoundIsOut(t *testing.T) {
 // Who was bound acts as the instance's role, and can give it a password. After the Unbind that password is worth
 // nothing, and neither are sessions that were opened with it. The broker's own password opens again.
 func TestWhoWasBoundDoesNotComeBack(t *testing.T) {
-	r := newRig(t)
-	d := r.open()
+	r, d := newDatabases(t)
 	it := createInstance(t, d)
 	name := postgres.NameOf(it.request.Key)
 	bind, one := bound(t, d, it.request.Key)
@@ -272,8 +262,7 @@ func TestWhoWasBoundDoesNotComeBack(t *testing.T) {
 
 // Another customer who was let into the database keeps nobody from being unbound.
 func TestAStrangerInTheDatabase(t *testing.T) {
-	r := newRig(t)
-	d := r.open()
+	r, d := newDatabases(t)
 	it, stranger := createInstance(t, d), createInstance(t, d)
 	bind, one := bound(t, d, it.request.Key)
 	_, two := bound(t, d, it.request.Key)
@@ -295,8 +284,7 @@ func TestARoleThatOwnsALot(t *testing.T) {
 	if testing.Short() {
 		t.Skip("it takes many seconds")
 	}
-	r := newRig(t)
-	d := r.open()
+	r, d := newDatabases(t)
 	it, other := createInstance(t, d), createInstance(t, d)
 	bind, one := bound(t, d, it.request.Key)
 	name, others := postgres.NameOf(it.request.Key), postgres.NameOf(other.request.Key)
@@ -311,8 +299,7 @@ func TestARoleThatOwnsALot(t *testing.T) {
 	pgtest.Exec(t, r.customer(other.request.Key), "GRANT ALL ON DATABASE "+others+" TO "+name)
 	createMany(t, r, r.login(name, postgres.PasswordOf(secret, it.request.Key), others), manyViews,
 		"CREATE FUNCTION s.f%d() RETURNS integer LANGUAGE sql AS ''SELECT 1''", "CREATE COLLATION s.c%d FROM \"C\"")
-	diff.NoError(t, d.Delete(it.ctx, it.request), "Delete")
-	r.wantNothing(it.request.Key)
+	r.wantDeletion(d, it)
 	wantThere(t, d, other, broker.Whole)
 }
 
@@ -361,8 +348,7 @@ func TestUnbindSideBySide(t *testing.T) {
 
 // A binding that holds up the instance's role keeps no other one from being unbound.
 func TestABindingThatHoldsTheInstancesRole(t *testing.T) {
-	r := newRig(t)
-	d := r.open()
+	r, d := newDatabases(t)
 	it := createInstance(t, d)
 	bind, _ := bound(t, d, it.request.Key)
 	_, two := bound(t, d, it.request.Key)
@@ -374,8 +360,7 @@ func TestABindingThatHoldsTheInstancesRole(t *testing.T) {
 
 // What a binding owns by its own role, and what was granted to that, keeps nobody from unbinding.
 func TestWhatABindingOwns(t *testing.T) {
-	r := newRig(t)
-	d := r.open()
+	r, d := newDatabases(t)
 	for _, test := range []struct {
 		name             string
 		before, of, then []string // by the instance's role, by the binding, and by the instance's role again
@@ -421,8 +406,7 @@ func ownersOf(t *testing.T, r *rig, database string) []string {
 
 // A binding of another store isn't deleted, nor is a role of that name that nobody knows.
 func TestABindingThatIsNotOurs(t *testing.T) {
-	r := newRig(t)
-	d := r.open()
+	r, d := newDatabases(t)
 	it := createInstance(t, d)
 	bind, one := bound(t, d, it.request.Key)
 	for _, comment := range []string{"NULL", "'osb store of somebody else'"} {
@@ -508,13 +492,18 @@ func (r *rig) exists(from string, arguments ...any) (is bool) {
 	return is
 }
 
+// newDatabases returns a new rig, and the backend over it.
+func newDatabases(t *testing.T) (*rig, *postgres.Databases) {
+	t.Helper()
+	r := newRig(t)
+	return r, r.open()
+}
+
 // open opens the backend, which belongs to the store of the tests.
 func (r *rig) open(change ...func(*postgres.Options)) *postgres.Databases {
 	r.t.Helper()
 	d := r.openUntied(change...)
-	if owner, err := d.Own(context.Background(), store); err != nil || owner != store {
-		r.t.Fatalf("Own: got %s, %v, want %s", owner, err, store)
-	}
+	diff.Equal(r.t, diff.Value(d.Own(context.Background(), store))(r.t), store, "Own")
 	return d
 }
 
@@ -627,11 +616,16 @@ func wantThere(t *testing.T, d *postgres.Databases, it lockedKey, want broker.Th
 	diff.Equal(t, diff.Value(look(it.ctx, it.request))(t), want, "%v", it.request.Key)
 }
 
+// wantDeletion deletes an instance, and sees that nothing of it is left.
+func (r *rig) wantDeletion(d *postgres.Databases, of lockedKey) {
+	r.t.Helper()
+	diff.NoError(r.t, d.Delete(of.ctx, of.request), "Delete")
+	r.wantNothing(of.request.Key)
+}
+
 // wantNothing sees that neither a role nor a database of the key is left.
 func (r *rig) wantNothing(key broker.Key) {
 	r.t.Helper()
-	if left := r.column("SELECT rolname FROM pg_roles WHERE starts_with(rolname, $1) "+
-		"UNION ALL SELECT datname FROM pg_database WHERE starts_with(datname, $1)", postgres.NameOf(key)); len(left) > 0 {
-		r.t.Errorf("left: got %v, want none", left)
-	}
+	diff.Empty(r.t, r.column("SELECT rolname FROM pg_roles WHERE starts_with(rolname, $1) "+
+		"UNION ALL SELECT datname FROM pg_database WHERE starts_with(datname, $1)", postgres.NameOf(key)), "left")
 }

@@ -21,8 +21,7 @@ import (
 
 // Nothing that a customer leaves open or changes keeps its database from being deleted, or created anew.
 func TestWhatACustomerHolds(t *testing.T) {
-	r := newRig(t)
-	d := r.open()
+	r, d := newDatabases(t)
 	for _, test := range []struct {
 		name       string
 		statements []string
@@ -97,8 +96,7 @@ func TestAPreparedTransaction(t *testing.T) {
 // What another customer grants to the role, in its own database, keeps nothing either: done, or in an open transaction.
 // Its session goes on if it is in no transaction.
 func TestWhatAnotherCustomerHolds(t *testing.T) {
-	r := newRig(t)
-	d := r.open()
+	r, d := newDatabases(t)
 	for _, test := range []struct {
 		name       string
 		statements []string
@@ -143,8 +141,7 @@ func TestWhatAnotherCustomerHolds(t *testing.T) {
 // A customer that shuts its database again and again keeps nothing of another one. Its sessions are in a second
 // database of its own, so that it gets in again once they have ended.
 func TestACustomerThatShutsItsDatabase(t *testing.T) {
-	r := newRig(t)
-	d := r.open()
+	r, d := newDatabases(t)
 	of, shut, second := createInstance(t, d), createInstance(t, d), createInstance(t, d)
 	name, inside := postgres.NameOf(shut.request.Key), postgres.NameOf(second.request.Key)
 	pgtest.Exec(t, r.customer(shut.request.Key), "CREATE TABLE t (x integer)",
@@ -173,8 +170,7 @@ func TestACustomerThatShutsItsDatabase(t *testing.T) {
 		}()
 	}
 	<-begun
-	diff.NoError(t, d.Delete(of.ctx, of.request), "Delete")
-	r.wantNothing(of.request.Key)
+	r.wantDeletion(d, of)
 }
 
 // Policies for a role on more tables than one transaction can lock keep nothing either.
@@ -182,14 +178,12 @@ func TestPoliciesOnManyTables(t *testing.T) {
 	if testing.Short() {
 		t.Skip("it takes many seconds")
 	}
-	r := newRig(t)
-	d := r.open()
+	r, d := newDatabases(t)
 	of, other, third := createInstance(t, d), createInstance(t, d), createInstance(t, d)
 	name, thirds := postgres.NameOf(of.request.Key), postgres.NameOf(third.request.Key)
 	count := createMany(t, r, r.customer(other.request.Key), "CREATE TABLE s.t%d ()",
 		"CREATE POLICY one ON s.t%d TO "+name, "CREATE POLICY two ON s.t%d TO "+name+", "+thirds)
-	diff.NoError(t, d.Delete(of.ctx, of.request), "Delete")
-	r.wantNothing(of.request.Key)
+	r.wantDeletion(d, of)
 	in := &rig{t: t, admin: pgtest.DB(t, pgtest.In(t, pgtest.URL(t), postgres.NameOf(other.request.Key)))}
 	got := in.column("SELECT DISTINCT concat_ws(' ', policyname, roles, count(*)) FROM pg_policies GROUP BY policyname, roles")
 	if want := "two {" + thirds + "} " + count; len(got) != 1 || got[0] != want {
@@ -199,8 +193,7 @@ func TestPoliciesOnManyTables(t *testing.T) {
 
 // What a binding owns in the database of another customer goes, although it has become a part of an extension.
 func TestPartsOfAnExtension(t *testing.T) {
-	r := newRig(t)
-	d := r.open()
+	r, d := newDatabases(t)
 	of, other := createInstance(t, d), createInstance(t, d)
 	bind, binding := bound(t, d, of.request.Key)
 	others := postgres.NameOf(other.request.Key)
@@ -211,8 +204,7 @@ func TestPartsOfAnExtension(t *testing.T) {
 		"CREATE FUNCTION s.f(integer[]) RETURNS integer LANGUAGE sql AS 'SELECT 1'",
 		"ALTER EXTENSION hstore ADD FUNCTION s.f(integer[])")
 	diff.NoError(t, d.DeleteBinding(bind.ctx, bind.request), "DeleteBinding")
-	diff.NoError(t, d.Delete(of.ctx, of.request), "Delete")
-	r.wantNothing(of.request.Key)
+	r.wantDeletion(d, of)
 }
 
 const manyLargeObjects = `SELECT lo_create(0) FROM generate_series(1,
@@ -221,8 +213,7 @@ const manyLargeObjects = `SELECT lo_create(0) FROM generate_series(1,
 // Neither do more large objects than one transaction can lock: those of a binding become the instance's. Those that a
 // role owns in the database of another customer go, with other objects beside them.
 func TestManyLargeObjects(t *testing.T) {
-	r := newRig(t)
-	d := r.open()
+	r, d := newDatabases(t)
 	of, other := createInstance(t, d), createInstance(t, d)
 	name, others := postgres.NameOf(of.request.Key), postgres.NameOf(other.request.Key)
 	pgtest.Exec(t, r.customer(other.request.Key), "GRANT ALL ON DATABASE "+others+" TO "+name)
@@ -234,16 +225,14 @@ func TestManyLargeObjects(t *testing.T) {
 	bind, binding := bound(t, d, other.request.Key)
 	hold(t, r.login(binding.Username, binding.Password, binding.Database), "SET ROLE NONE", manyLargeObjects)
 	diff.NoError(t, d.DeleteBinding(bind.ctx, bind.request), "DeleteBinding")
-	diff.NoError(t, d.Delete(of.ctx, of.request), "Delete")
-	r.wantNothing(of.request.Key)
+	r.wantDeletion(d, of)
 	wantThere(t, d, other, broker.Whole)
 }
 
 // Roles of which the broker's role isn't a member any more keep nothing. On PostgreSQL 14 a role that has logged in can
 // bring that about.
 func TestRolesThatAreLeft(t *testing.T) {
-	r := newRig(t)
-	d := r.open()
+	r, d := newDatabases(t)
 	of, other := createInstance(t, d), createInstance(t, d)
 	bind, one := bound(t, d, other.request.Key)
 	unbound, two := bound(t, d, other.request.Key)
@@ -270,8 +259,7 @@ func TestRolesThatAreLeft(t *testing.T) {
 
 // Settings of a database that are so long that no session is opened there in time are reset.
 func TestLongSettings(t *testing.T) {
-	r := newRig(t)
-	d := r.open()
+	r, d := newDatabases(t)
 	it := createInstance(t, d)
 	name := postgres.NameOf(it.request.Key)
 	pgtest.Exec(t, r.customer(it.request.Key), "ALTER DATABASE "+name+" SET application_name = 'short'")
@@ -290,8 +278,7 @@ func wantReset(t *testing.T, d *postgres.Databases, it lockedKey, want bool) {
 // What the role owns in another customer's database goes, and what that customer has made to depend on it. The rest of
 // the other database stays.
 func TestWhatDependsOnIt(t *testing.T) {
-	r := newRig(t)
-	d := r.open()
+	r, d := newDatabases(t)
 	of, other := createInstance(t, d), createInstance(t, d)
 	name, others := postgres.NameOf(of.request.Key), postgres.NameOf(other.request.Key)
 	pgtest.Exec(t, r.customer(other.request.Key), "GRANT ALL ON DATABASE "+others+" TO "+name, "CREATE TABLE kept ()")
@@ -306,8 +293,7 @@ func TestWhatDependsOnIt(t *testing.T) {
 // What a binding's role owns in another customer's database goes too. It becomes nobody's, and not the other
 // customer's.
 func TestWhatABindingOwnsElsewhere(t *testing.T) {
-	r := newRig(t)
-	d := r.open()
+	r, d := newDatabases(t)
 	of, other := createInstance(t, d), createInstance(t, d)
 	bind, one := bound(t, d, of.request.Key)
 	others := postgres.NameOf(other.request.Key)
@@ -329,8 +315,7 @@ func TestWhatABindingOwnsElsewhere(t *testing.T) {
 // A session that the server can't end, such as one in a long call of libxml, is waited for a short time, and keeps no
 // binding.
 func TestASessionThatDoesNotEnd(t *testing.T) {
-	r := newRig(t)
-	d := r.open()
+	r, d := newDatabases(t)
 	of := createInstance(t, d)
 	bind, one := bound(t, d, of.request.Key)
 	session := hold(t, r.login(one.Username, one.Password, postgres.NameOf(of.request.Key)))
@@ -358,8 +343,7 @@ func stopSession(t *testing.T, session *sql.Conn, user string) {
 
 // A database that another customer has closed altogether is opened again.
 func TestADatabaseThatAcceptsNobody(t *testing.T) {
-	r := newRig(t)
-	d := r.open()
+	r, d := newDatabases(t)
 	of, other := createInstance(t, d), createInstance(t, d)
 	pgtest.Exec(t, r.customer(other.request.Key), "GRANT CONNECT ON DATABASE "+postgres.NameOf(other.request.Key)+
 		" TO "+postgres.NameOf(of.request.Key), "CREATE TABLE t (x integer)",
@@ -372,8 +356,7 @@ func TestADatabaseThatAcceptsNobody(t *testing.T) {
 
 // A customer that connects again and again, and holds up what it can, keeps nothing.
 func TestACustomerThatComesAgain(t *testing.T) {
-	r := newRig(t)
-	d := r.open()
+	r, d := newDatabases(t)
 	it := createInstance(t, d)
 	ctx, cancel := context.WithCancel(context.Background())
 	var all sync.WaitGroup
@@ -419,26 +402,22 @@ func holdOnce(ctx context.Context, db *sql.DB, statement string, entered chan<- 
 
 // What the role has made in the brokers' database, should it have got there, goes too.
 func TestInTheBrokersDatabase(t *testing.T) {
-	r := newRig(t)
-	d := r.open()
+	r, d := newDatabases(t)
 	it := createInstance(t, d)
 	name := postgres.NameOf(it.request.Key)
 	pgtest.Exec(t, r.admin, "GRANT CONNECT ON DATABASE "+r.role+" TO "+name)
 	pgtest.Exec(t, r.login(name, postgres.PasswordOf(secret, it.request.Key), r.role), "SELECT lo_create(0)")
-	diff.NoError(t, d.Delete(it.ctx, it.request), "Delete")
-	r.wantNothing(it.request.Key)
+	r.wantDeletion(d, it)
 }
 
 // Bindings that nobody has unbound go with the instance.
 func TestBindingsGoToo(t *testing.T) {
-	r := newRig(t)
-	d := r.open()
+	r, d := newDatabases(t)
 	it := createInstance(t, d)
 	_, one := bound(t, d, it.request.Key)
 	hold(t, r.login(one.Username, one.Password, one.Database), "SET ROLE NONE", "CREATE TABLE t (x integer)", "BEGIN",
 		"LOCK TABLE t")
-	diff.NoError(t, d.Delete(it.ctx, it.request), "Delete")
-	r.wantNothing(it.request.Key)
+	r.wantDeletion(d, it)
 }
 
 // A faultyCall is a call of which each statement fails once. It is called again and again until it succeeds.
@@ -603,8 +582,7 @@ func TestWarningsThatFail(t *testing.T) {
 // Nothing that was granted to a role keeps the role, whoever has granted it: the owner, or another customer with the
 // right to grant it further. Neither if both have no right in the schema any more.
 func TestWhatSomebodyElseHasGranted(t *testing.T) {
-	r := newRig(t)
-	d := r.open()
+	r, d := newDatabases(t)
 	of, owner, grantor := createInstance(t, d), createInstance(t, d), createInstance(t, d)
 	name, owners, grantors := postgres.NameOf(of.request.Key), postgres.NameOf(owner.request.Key), postgres.NameOf(grantor.request.Key)
 	grants := []string{"SELECT ON s.\"a table\" TO", "UPDATE (y) ON s.t TO", "USAGE ON SEQUENCE s.q TO",
@@ -623,8 +601,7 @@ func TestWhatSomebodyElseHasGranted(t *testing.T) {
 	pgtest.Exec(t, r.customer(owner.request.Key), first...)
 	pgtest.Exec(t, r.login(grantors, postgres.PasswordOf(secret, grantor.request.Key), owners), second...)
 	pgtest.Exec(t, r.customer(owner.request.Key), "REVOKE USAGE ON SCHEMA s FROM "+owners)
-	diff.NoError(t, d.Delete(of.ctx, of.request), "Delete")
-	r.wantNothing(of.request.Key)
+	r.wantDeletion(d, of)
 	wantThere(t, d, owner, broker.Whole)
 	for _, grant := range grants { // the grantor's own rights stay
 		pgtest.Exec(t, r.login(grantors, postgres.PasswordOf(secret, grantor.request.Key), owners),
@@ -636,8 +613,7 @@ func TestWhatSomebodyElseHasGranted(t *testing.T) {
 // for each of them again.
 func TestGrantsOnManyColumns(t *testing.T) {
 	const count = 150
-	r := newRig(t)
-	d := r.open()
+	r, d := newDatabases(t)
 	of, other, third := createInstance(t, d), createInstance(t, d), createInstance(t, d)
 	columns := make([]string, count)
 	for n := range columns {
@@ -653,8 +629,7 @@ func TestGrantsOnManyColumns(t *testing.T) {
 		return bytes
 	}
 	before := size()
-	diff.NoError(t, d.Delete(of.ctx, of.request), "Delete")
-	r.wantNothing(of.request.Key)
+	r.wantDeletion(d, of)
 	if grown := size() - before; grown > 1<<20 {
 		t.Errorf("got a catalogue of columns that grew by %d bytes, want at most 1 MiB", grown)
 	}
@@ -667,8 +642,7 @@ func TestGrantsOnManyColumns(t *testing.T) {
 // A binding that is deleted leaves what it owns to the instance, although the instance's role has taken from itself the
 // rights that this needs.
 func TestTheHeirLacksRights(t *testing.T) {
-	r := newRig(t)
-	d := r.open()
+	r, d := newDatabases(t)
 	of := createInstance(t, d)
 	bind, binding := bound(t, d, of.request.Key)
 	const function = "() RETURNS integer LANGUAGE sql AS 'SELECT 1'"
@@ -684,13 +658,11 @@ func TestTheHeirLacksRights(t *testing.T) {
 
 // A customer keeps a role of another one neither by coming again and again, nor by a lock that it holds from elsewhere.
 func TestWhoHoldsALockFromElsewhere(t *testing.T) {
-	r := newRig(t)
-	d := r.open()
+	r, d := newDatabases(t)
 	of, other, elsewhere := createInstance(t, d), createInstance(t, d), createInstance(t, d)
 	name, others := postgres.NameOf(of.request.Key), postgres.NameOf(other.request.Key)
 	pgtest.Exec(t, r.customer(other.request.Key), "GRANT CONNECT ON DATABASE "+others+" TO "+name,
 		"GRANT CONNECT ON DATABASE "+others+" TO "+postgres.NameOf(elsewhere.request.Key)+" WITH GRANT OPTION")
 	hold(t, r.customer(elsewhere.request.Key), "BEGIN", "GRANT CONNECT ON DATABASE "+others+" TO "+r.role)
-	diff.NoError(t, d.Delete(of.ctx, of.request), "Delete")
-	r.wantNothing(of.request.Key)
+	r.wantDeletion(d, of)
 }

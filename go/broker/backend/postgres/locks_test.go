@@ -57,8 +57,7 @@ func TestLocks(t *testing.T) {
 
 // Lock waits until the lock is free, also beyond the time that a statement waits, or until its context is done.
 func TestLockWaits(t *testing.T) {
-	r := newRig(t)
-	d := r.open()
+	r, d := newDatabases(t)
 	key := newInstance(t)
 	taken := take(t, d, key)
 	ctx, cancel := context.WithCancel(context.Background())
@@ -118,8 +117,7 @@ func TestLockExcludes(t *testing.T) {
 
 // A call needs the lock of its own key.
 func TestCallsWithoutTheLock(t *testing.T) {
-	r := newRig(t)
-	d := r.open()
+	_, d := newDatabases(t)
 	it := createInstance(t, d)
 	other := lock(t, d, newInstance(t))
 	binding := request(osb.BindingKey(it.request.Key.Instance, it.request.Key.Instance))
@@ -167,8 +165,7 @@ func TestALockThatOutlivesItsClient(t *testing.T) {
 }
 
 func TestALockThatIsLost(t *testing.T) {
-	r := newRig(t)
-	d := r.open()
+	r, d := newDatabases(t)
 	it := lock(t, d, newInstance(t))
 	pgtest.Exec(t, r.admin, "SELECT pg_terminate_backend(pid, 5000) FROM pg_locks JOIN pg_database "+
 		"ON pg_database.oid = database WHERE locktype = 'advisory' AND datname = '"+r.role+"'")

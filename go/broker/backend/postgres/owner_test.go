@@ -125,8 +125,7 @@ func (r *rig) wantPassword(key broker.Key, opens, doesnt []byte) {
 }
 
 func TestRekey(t *testing.T) {
-	r := newRig(t)
-	d := r.open()
+	r, d := newDatabases(t)
 	it := createInstance(t, d)
 	bind, _ := bound(t, d, it.request.Key)
 	for n := 0; n < 2; n++ { // the second time all is done already
@@ -165,8 +164,7 @@ func TestRekeyRejects(t *testing.T) {
 
 // A customer that holds its own role, also by a binding, has its sessions ended, and gets its new password.
 func TestRekeyBesideACustomer(t *testing.T) {
-	r := newRig(t)
-	d := r.open()
+	r, d := newDatabases(t)
 	key, second := createInstance(t, d).request.Key, createInstance(t, d).request.Key
 	hold(t, r.customer(key), "BEGIN", "ALTER ROLE CURRENT_USER PASSWORD 'x'")
 	_, binding := bound(t, d, second)
@@ -213,8 +211,7 @@ func TestRekeyBesideAnotherStore(t *testing.T) {
 
 // What is created beside a Rekey has the new password, or isn't created.
 func TestRekeyBesideCreations(t *testing.T) {
-	r := newRig(t)
-	d := r.open()
+	r, d := newDatabases(t)
 	keys := make([]broker.Key, 3)
 	given := make([]error, len(keys))
 	var all sync.WaitGroup
@@ -281,8 +278,7 @@ func (r *rig) create02(key broker.Key, password string) {
 
 // Two stores on one server, with one role or with two, don't take each other's databases for their own.
 func TestAnotherStore(t *testing.T) {
-	r := newRig(t)
-	d := r.open()
+	r, d := newDatabases(t)
 	it := createInstance(t, d)
 	pgtest.Exec(t, r.customer(it.request.Key), "CREATE TABLE t (x integer)")
 	for name, other := range map[string]*rig{"with a role of its own": newRig(t), "with the same role": r.sibling()} {
@@ -362,8 +358,7 @@ func wantOurs(t *testing.T, r *rig, d *postgres.Databases, locked lockedKey) {
 	t.Helper()
 	wantThere(t, d, locked, broker.Whole)
 	bound(t, d, locked.request.Key)
-	diff.NoError(t, d.Delete(locked.ctx, locked.request), "Delete")
-	r.wantNothing(locked.request.Key)
+	r.wantDeletion(d, locked)
 }
 
 // dropByForce drops what a test has taken away from the broker.

@@ -25,8 +25,7 @@ func wantWarning(t *testing.T, d *postgres.Databases, has string, isWanted bool)
 
 // What is wrong on the server that runs. Finding M5 is of PostgreSQL 15 and older.
 func TestWarnings(t *testing.T) {
-	r := newRig(t)
-	d := r.open()
+	r, d := newDatabases(t)
 	version := r.column("SELECT current_setting('server_version_num')")[0]
 	wantWarning(t, d, "operating system account", version < "160000")
 	sibling := diff.Value(url.Parse(r.sibling().url))(t)
