@@ -64,7 +64,6 @@ func TestURLThatLeadsToAnotherStore(t *testing.T) {
 	const one, other, name = "osb_store_one", "osb_store_other", "osb_store_moves"
 	ctx, db := context.Background(), pgtest.DB(t, pgtest.URL(t))
 	store := open(t, pgtest.With(t, pgtest.Schema(t, pgtest.URL(t), one), "application_name", name))
-	defer store.Close()
 	second := open(t, pgtest.Schema(t, pgtest.URL(t), other))
 	for _, opened := range []*postgres.Store{store, second} {
 		diff.Value(opened.Begin(ctx, broker.Untied))(t)
@@ -97,28 +96,25 @@ func TestURLThatLeadsToAnotherStore(t *testing.T) {
 	swap() // as the end of the test expects it
 }
 
+// open returns a store, which is closed at the end of the test.
 func open(t *testing.T, url string) *postgres.Store {
 	t.Helper()
 	store := diff.Value(postgres.Open(context.Background(), url, 4, broker.Silent{}))(t)
+	t.Cleanup(func() { _ = store.Close() })
 	return store
 }
 
 // A store isn't ready before it has a name, and isn't tied.
 func TestReadyWithoutAName(t *testing.T) {
 	store := open(t, pgtest.Schema(t, pgtest.URL(t), "osb_store_without_a_name"))
-	defer store.Close()
 	diff.ErrorContains(t, store.Ready(context.Background()), "no name yet", "")
-	tied := store.Tie(context.Background(), func(bool) error { return nil })
-	if tied == nil || !strings.Contains(tied.Error(), "no name yet") {
-		t.Errorf("Tie: got %v, want that it has no name yet", tied)
-	}
+	diff.ErrorContains(t, store.Tie(context.Background(), func(bool) error { return nil }), "no name yet", "Tie")
 }
 
 // A store isn't ready if what it writes can't be committed.
 func TestReadyCommits(t *testing.T) {
 	url, ctx := pgtest.Schema(t, pgtest.URL(t), "osb_store_ready"), context.Background()
 	store := open(t, url)
-	defer store.Close()
 	diff.Value(store.Begin(ctx, broker.Untied))(t)
 	diff.NoError(t, store.Ready(ctx), "")
 	trigger(t, url, "osb_store", "DEFERRABLE INITIALLY DEFERRED", "RAISE EXCEPTION 'no';")
@@ -174,7 +170,6 @@ func TestTablesOf02(t *testing.T) {
 		diff.NoError(t, store.Close(), "")
 	}
 	store := open(t, url)
-	defer store.Close()
 	err := store.Change(ctx, osb.InstanceKey(id(1)), func(snapshot broker.Snapshot) (*broker.Entry, error) {
 		snapshot.Description = "extended"
 		return &snapshot.Entry, nil
@@ -242,7 +237,6 @@ func TestTombstonesWithoutATime(t *testing.T) {
 	_ = open(t, url).Close()
 	time.Sleep(50 * time.Millisecond)
 	store := open(t, url) // which changes no time
-	defer store.Close()
 	for _, key := range []broker.Key{
 		osb.InstanceKey(id(3)), osb.InstanceKey(id(4)), osb.BindingKey(id(1), id(2)),
 	} {
@@ -384,15 +378,14 @@ func TestServerThatIsAway(t *testing.T) {
 	proxy.Cut("")
 	check(t, change("back"))
 	proxy.Cut("COMMIT\x00")
-	if err := change("lost"); !errors.Is(err, broker.ErrAway) || !errors.Is(err, pg.ErrUnknownCommit) {
-		t.Errorf("Change without an answer to the COMMIT: got %v, want %v", err, pg.ErrUnknownCommit)
-	}
+	lost := change("lost")
+	diff.ErrorIs(t, lost, broker.ErrAway, "Change without an answer to the COMMIT")
+	diff.ErrorIs(t, lost, pg.ErrUnknownCommit, "Change without an answer to the COMMIT")
 	proxy.Cut("")
 	own := errors.New("the step's own")
 	err = store.Change(ctx, key, func(broker.Snapshot) (*broker.Entry, error) { return nil, own })
-	if !errors.Is(err, own) || errors.Is(err, broker.ErrAway) {
-		t.Errorf("Change after an error of the step: got %v, want %v", err, own)
-	}
+	diff.ErrorIs(t, err, own, "Change after an error of the step")
+	diff.Equal(t, errors.Is(err, broker.ErrAway), false, "it is ErrAway: %v", err)
 	diff.Equal(t, descriptionOf(t, store, key), "lost", "the store")
 }
 
@@ -413,25 +406,20 @@ func TestServerThatIsSilent(t *testing.T) {
 		"Read":         func() error { _, err := store.Read(ctx, key); return err },
 		"HeldBindings": func() error { _, err := store.HeldBindings(ctx, key.Instance); return err },
 	}
-	done := make(chan error, 2*len(all))
+	done := make(chan struct{}, 2*len(all))
 	for name, call := range all {
 		for n := 0; n < 2; n++ {
 			name, call := name, call
 			go func() {
-				err := call()
-				if !errors.Is(err, broker.ErrAway) {
-					done <- fmt.Errorf("%s returned %v", name, err)
-					return
-				}
-				done <- nil
+				diff.ErrorIs(t, call(), broker.ErrAway, "%s", name)
+				done <- struct{}{}
 			}()
 		}
 	}
 	late := time.After(time.Minute)
 	for n := 0; n < cap(done); n++ {
 		select {
-		case err := <-done:
-			diff.NoError(t, err, "")
+		case <-done:
 		case <-late:
 			t.Fatal("got a call that waits for the silent server, want its end")
 		}
@@ -445,7 +433,6 @@ func TestReadOfASilentServer(t *testing.T) {
 	ctx, calls := context.Background(), 0
 	proxy, through := storefaults.NewProxy(t, pgtest.Schema(t, pgtest.URL(t), "osb_silent_read"))
 	store := open(t, through)
-	t.Cleanup(func() { _ = store.Close() })
 	instance := osb.MustParseID("00000000-0000-0000-0000-000000000001")
 	for _, key := range []broker.Key{osb.InstanceKey(instance), osb.BindingKey(instance, instance)} {
 		t.Run(key.String(), func(t *testing.T) {
@@ -508,7 +495,6 @@ func TestACommitThatFails(t *testing.T) {
 		t.Run(test.name, func(t *testing.T) {
 			url := pgtest.Schema(t, pgtest.URL(t), test.schema)
 			store := open(t, url)
-			defer store.Close()
 			trigger(t, url, "osb_holdings", "DEFERRABLE INITIALLY DEFERRED", test.statement)
 			key, calls := osb.InstanceKey(id(1)), 0
 			err := store.Change(context.Background(), key, describe("x", &calls))
@@ -525,13 +511,11 @@ func TestACommitThatFails(t *testing.T) {
 func TestACommitWhoseAnswerIsLost(t *testing.T) {
 	proxy, url := storefaults.NewProxy(t, pgtest.Schema(t, pgtest.URL(t), "osb_store_lost"))
 	store := open(t, url)
-	defer store.Close()
 	proxy.Cut("COMMIT\x00")
 	key, calls := osb.InstanceKey(id(1)), 0
 	err := store.Change(context.Background(), key, describe("x", &calls))
-	if !errors.Is(err, pg.ErrUnknownCommit) || calls != 1 { // once more could write it twice
-		t.Errorf("after %d calls: got %v, want %v after 1", calls, err, pg.ErrUnknownCommit)
-	}
+	diff.ErrorIs(t, err, pg.ErrUnknownCommit, "")
+	diff.Equal(t, calls, 1, "calls: once more could write it twice")
 	proxy.Cut("")
 	diff.NoError(t, store.Change(context.Background(), key, describe("y", &calls)), "the next change")
 }
@@ -574,7 +558,6 @@ func TestSessionsThatTheServerEnds(t *testing.T) {
 	const most = 4
 	url := pgtest.With(t, pgtest.Schema(t, pgtest.URL(t), "osb_store_ends"), "application_name", "osb_store_ends")
 	store := open(t, url)
-	defer store.Close()
 	key, calls := osb.BindingKey(id(1), id(1)), 0
 	calling := map[string]func() error{
 		"Change":     func() error { return store.Change(context.Background(), key, describe("x", &calls)) },
@@ -631,7 +614,6 @@ func TestALookAtARowThatIsEnded(t *testing.T) {
 	const name = "osb_store_look"
 	ctx, url := context.Background(), pgtest.Schema(t, pgtest.URL(t), name)
 	store := open(t, pgtest.With(t, url, "application_name", name))
-	defer store.Close()
 	key, calls := osb.InstanceKey(id(1)), 0
 	check(t, store.Change(ctx, key, describe("before", new(int))))
 	db := pgtest.DB(t, url)
@@ -659,7 +641,6 @@ func TestALookAtARowThatIsEnded(t *testing.T) {
 func TestASessionThatEndsDuringAStep(t *testing.T) {
 	url := pgtest.With(t, pgtest.Schema(t, pgtest.URL(t), "osb_store_step"), "application_name", "osb_store_step")
 	store := open(t, url)
-	defer store.Close()
 	key := osb.InstanceKey(id(1))
 	err := store.Change(context.Background(), key, func(snapshot broker.Snapshot) (*broker.Entry, error) {
 		pgtest.Exec(t, pgtest.DB(t, pgtest.URL(t)),
@@ -667,15 +648,13 @@ func TestASessionThatEndsDuringAStep(t *testing.T) {
 		snapshot.Description = "x"
 		return &snapshot.Entry, nil
 	})
-	if err == nil || descriptionOf(t, store, key) != "" {
-		t.Errorf("the change: got %v, want an error and nothing written", err)
-	}
+	diff.Error(t, err, "the change")
+	diff.Equal(t, descriptionOf(t, store, key), "", "what is written")
 }
 
 // A context that ends while a step runs, or while the row is waited for, writes nothing, and frees the row.
 func TestAContextThatEnds(t *testing.T) {
 	store := open(t, pgtest.Schema(t, pgtest.URL(t), "osb_store_context"))
-	defer store.Close()
 	key, calls := osb.InstanceKey(id(1)), 0
 	ctx, cancel := context.WithCancel(context.Background())
 	err := store.Change(ctx, key, func(snapshot broker.Snapshot) (*broker.Entry, error) {
@@ -686,9 +665,8 @@ func TestAContextThatEnds(t *testing.T) {
 	diff.ErrorIs(t, err, context.Canceled, "in the step")
 	diff.Equal(t, descriptionOf(t, store, key), "", "in the step")
 	ctx, cancel = context.WithCancel(context.Background())
-	waited := make(chan error, 1)
 	err = store.Change(context.Background(), key, func(snapshot broker.Snapshot) (*broker.Entry, error) {
-		go func() { waited <- store.Change(ctx, key, describe("of the second", &calls)) }()
+		waited := waits.Begin(func() error { return store.Change(ctx, key, describe("of the second", &calls)) })
 		cancel()
 		diff.ErrorIs(t, <-waited, context.Canceled, "the second")
 		snapshot.Description = "of the first"
@@ -703,20 +681,17 @@ func TestAContextThatEnds(t *testing.T) {
 func TestARowThatIsGone(t *testing.T) {
 	url := pgtest.Schema(t, pgtest.URL(t), "osb_store_gone")
 	store := open(t, url)
-	defer store.Close()
 	pgtest.Exec(t, pgtest.DB(t, url), "CREATE RULE gone AS ON INSERT TO osb_holdings DO INSTEAD NOTHING")
 	calls := 0
 	err := store.Change(context.Background(), osb.InstanceKey(id(1)), describe("x", &calls))
-	if err == nil || !strings.Contains(err.Error(), "Never delete rows") || calls != 0 {
-		t.Errorf("after %d calls: got %v, want one before any that says what not to delete", calls, err)
-	}
+	diff.ErrorContains(t, err, "Never delete rows", "")
+	diff.Equal(t, calls, 0, "calls")
 }
 
 // A change that writes no row has failed.
 func TestAChangeThatWritesNoRow(t *testing.T) {
 	url := pgtest.Schema(t, pgtest.URL(t), "osb_store_no_row")
 	store := open(t, url)
-	defer store.Close()
 	pgtest.Exec(t, pgtest.DB(t, url),
 		"CREATE FUNCTION f() RETURNS trigger LANGUAGE plpgsql AS 'BEGIN RETURN NULL; END'",
 		"CREATE TRIGGER of_test BEFORE UPDATE ON osb_holdings FOR EACH ROW EXECUTE FUNCTION f()",
@@ -725,9 +700,8 @@ func TestAChangeThatWritesNoRow(t *testing.T) {
 		t.Run(key.String(), func(t *testing.T) {
 			calls := 0
 			err := store.Change(context.Background(), key, describe("x", &calls))
-			if err == nil || !strings.Contains(err.Error(), "Never delete rows") || calls != 1 {
-				t.Errorf("%v: got %v after %d calls, want that the row is gone, after 1", key, err, calls)
-			}
+			diff.ErrorContains(t, err, "Never delete rows", "%v", key)
+			diff.Equal(t, calls, 1, "%v: calls", key)
 		})
 	}
 }
