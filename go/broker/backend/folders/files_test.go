@@ -12,6 +12,7 @@ import (
 
 	"pippinterm/internal/diff"
 	"pippinterm/internal/waits"
+	"pippinterm/osb"
 )
 
 // The fsyncs happen when they have to: after the names have changed, and before the content is deleted.

@@ -12,6 +12,7 @@ import (
 	"pippinterm/internal/pg/pgtest"
 	"pippinterm/internal/storefaults"
 	"pippinterm/internal/waits"
+	"pippinterm/osb"
 )
 
 func take(t *testing.T, d *postgres.Databases, key broker.Key) broker.Lock {
