@@ -216,10 +216,9 @@ func TestLongestBody(t *testing.T) {
 			request := diff.Value(http.NewRequest("PUT", s.url+path, reader))(t)
 			request.SetBasicAuth("platform", "secret")
 			request.Header.Set("X-Broker-API-Version", "2.17")
-			if status, body := s.do(request); status != test.status {
-				t.Errorf("%d bytes, chunked %v: got %d %s, want %d", test.bytes, test.isChunked, status, body, test.status)
-			}
-			status, _ := s.ask("GET", path+"/last_operation", "")
+			status, body := s.do(request)
+			diff.Equal(t, status, test.status, "%d bytes, chunked %v, %s", test.bytes, test.isChunked, body)
+			status, _ = s.ask("GET", path+"/last_operation", "")
 			diff.Equal(t, status, map[int]int{201: 200, 413: 410}[test.status],
 				"a Poll after %d bytes, chunked %v", test.bytes, test.isChunked)
 		})
@@ -283,13 +282,9 @@ func prepareState(t *testing.T, send func(message) int) {
 		{method: "PUT", instance: "kept", binding: "b", body: bind, access: access},
 		{method: "PUT", instance: "kept", binding: "c", body: bind, access: access},
 	} {
-		if status := send(message); status != 201 {
-			t.Fatalf("%s: got %d, want 201", message.path(), status)
-		}
+		diff.Equal(t, send(message), 201, "%s", message.path())
 	}
-	if status := send(message{method: "DELETE", instance: "ended", query: idQuery, access: access}); status != 200 {
-		t.Fatalf("got %v, want 200", status)
-	}
+	diff.Equal(t, send(message{method: "DELETE", instance: "ended", query: idQuery, access: access}), 200, "")
 }
 
 // checkValid carries out the valid messages: those that the hostile ones were made of.

@@ -45,13 +45,14 @@ const (
 // A folder gets a file for each run. With SIGTERM the journal ends with stopped.
 func TestJournal(t *testing.T) {
 	state, folder := t.TempDir(), t.TempDir()
-	for _, test := range []struct{ method, path, body, want string }{
-		{"PUT", one, order, creating}, {"DELETE", one + names, "", deleting},
+	for _, test := range []struct {
+		status                   int
+		method, path, body, want string
+	}{
+		{201, "PUT", one, order, creating}, {200, "DELETE", one + names, "", deleting},
 	} {
 		s := start(t, []string{password}, "--state", state, "--journal", folder)
-		if status, body := s.ask(test.method, test.path, test.body); status > 201 {
-			t.Fatalf("got %d %s, want 201 or less", status, body)
-		}
+		s.expect(test.status, test.method, test.path, test.body)
 		s.stop()
 		files := eventsIn(t, folder)
 		diff.Equal(t, files[len(files)-1], "started, "+test.want+", stopped", "")
@@ -64,16 +65,12 @@ func TestJournalAfterAKill(t *testing.T) {
 	state, file := t.TempDir(), filepath.Join(t.TempDir(), "journal")
 	for n := 0; n < 2; n++ {
 		s := start(t, []string{password}, "--state", state, "--journal", file)
-		if status, body := s.ask("PUT", one, order); status > 201 {
-			t.Fatalf("got %d %s, want 201 or less", status, body)
-		}
+		s.expect([]int{201, 200}[n], "PUT", one, order)
 		check(t, s.Process.Kill())
 		_ = s.Wait()
 	}
-	got := eventsIn(t, filepath.Dir(file))
-	if want := "started, " + creating + ", started, arrived, answered"; len(got) != 1 || got[0] != want {
-		t.Errorf("got %q, want %q", got, want)
-	}
+	want := []string{"started, " + creating + ", started, arrived, answered"}
+	diff.Check(t, eventsIn(t, filepath.Dir(file)), want, "the files")
 }
 
 // Two brokers can't write to one file, and a journal needs a place that can be written.

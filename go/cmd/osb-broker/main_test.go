@@ -116,21 +116,14 @@ const (
 func TestServe(t *testing.T) {
 	state := t.TempDir()
 	s := start(t, []string{password}, "--state", state)
-	if status, body := s.ask("PUT", one, order); status != 201 {
-		t.Fatalf("got %d %s, want 201", status, body)
-	}
-	status, bound := s.ask("PUT", one+"/service_bindings/b", bind)
-	if status != 201 || !strings.Contains(bound, "token") {
-		t.Fatalf("got %d %s, want 201 and a token", status, bound)
-	}
+	s.expect(201, "PUT", one, order)
+	bound := s.expect(201, "PUT", one+"/service_bindings/b", bind)
+	diff.Contains(t, bound, "token", "the binding")
 	s.stop()
 	s = start(t, []string{password}, "--state", state, "--existing")
-	if status, body := s.ask("GET", one+"/service_bindings/b", ""); status != 200 || body != bound {
-		t.Errorf("got %d %s, want 200 %s", status, body, bound)
-	}
+	diff.Equal(t, s.expect(200, "GET", one+"/service_bindings/b", ""), bound, "the binding")
 	for _, path := range []string{one + "/service_bindings/b", one} {
-		status, body := s.ask("DELETE", path+names, "")
-		diff.Equal(t, status, 200, "%s", body)
+		s.expect(200, "DELETE", path+names, "")
 	}
 	s.stop()
 	for _, pattern := range []string{"instances/*-*", "instances/.bindings/*", "instances/.part-*"} {
@@ -221,9 +214,9 @@ func TestHealth(t *testing.T) {
 		t.Run(path, func(t *testing.T) {
 			request := diff.Value(http.NewRequest("GET", s.url+path, nil))(t)
 			s.ask("GET", "/v2/catalog", "")
-			if status, body := s.do(request); status != 200 || !strings.Contains(body, text) {
-				t.Errorf("%s: got %d %.100s, want 200 and its text", path, status, body)
-			}
+			status, body := s.do(request)
+			diff.Equal(t, status, 200, "%s", path)
+			diff.Contains(t, body, text, "%s", path)
 		})
 	}
 	s.stop()
@@ -258,15 +251,13 @@ func TestTLS(t *testing.T) {
 		return nil
 	}
 	transport.TLSClientConfig = &tls.Config{InsecureSkipVerify: true, VerifyConnection: remember}
-	if status, _ := s.ask("GET", "/v2/catalog", ""); status != 200 || seen != "first" {
-		t.Errorf("got %d and %q, want 200 and \"first\"", status, seen)
-	}
+	s.expect(200, "GET", "/v2/catalog", "")
+	diff.Equal(t, seen, "first", "the certificate")
 	make("second")
 	check(t, s.Process.Signal(syscall.SIGHUP))
 	s.Event("certificates_reloaded")
-	if status, _ := s.ask("GET", "/v2/catalog", ""); status != 200 || seen != "second" {
-		t.Errorf("got %d and %q, want 200 and \"second\"", status, seen)
-	}
+	s.expect(200, "GET", "/v2/catalog", "")
+	diff.Equal(t, seen, "second", "the certificate")
 }
 
 // SIGTERM waits for the work that runs.
@@ -514,9 +505,8 @@ func TestWarningWithoutTLS(t *testing.T) {
 	diff.Equal(t, hasEvent(out, "no_tls"), true, "a warning in %s", out)
 	command = osbBroker([]string{password}, "serve", "--state", t.TempDir(), "--listen", "127.0.0.1:0",
 		"--health-listen", "192.0.2.1:1")
-	if out, _ = command.CombinedOutput(); hasEvent(out, "no_tls") {
-		t.Errorf("this machine: got a warning in %s, want none", out)
-	}
+	out, _ = command.CombinedOutput()
+	diff.Equal(t, hasEvent(out, "no_tls"), false, "this machine: a warning in %s", out)
 }
 
 // Each user with a password that can be guessed is named in a warning, once and without the password. No other user is.
@@ -682,9 +672,8 @@ func TestExampleDatabases(t *testing.T) {
 				Credentials struct{ Database, Token string }
 			}
 			text := s.expect(200, "GET", binding, "")
-			if err := json.Unmarshal([]byte(text), &bound); err != nil || bound.Credentials.Token == "" {
-				t.Errorf("the binding: got %s, %v, want a token", text, err)
-			}
+			check(t, json.Unmarshal([]byte(text), &bound))
+			diff.Equal(t, bound.Credentials.Token != "", true, "the binding has a token: %s", text)
 			path := filepath.Join(state, "command", bound.Credentials.Database)
 			diff.NoError(t, diff.Err(os.Stat(path)), "")
 			diff.Equal(t, s.expect(200, "PUT", binding+async, ids+"}"), text, "the binding")

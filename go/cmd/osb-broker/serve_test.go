@@ -319,9 +319,8 @@ func TestHealthWhileAllConnectionsAreTaken(t *testing.T) {
 	for _, path := range []string{"/healthz", "/readyz", "/metrics"} {
 		t.Run(path, func(t *testing.T) {
 			given := diff.Value(s.client.Get("http://" + address + path))(t)
-			if _ = given.Body.Close(); given.StatusCode != 200 {
-				t.Errorf("%s: got %s, want 200", path, given.Status)
-			}
+			_ = given.Body.Close()
+			diff.Equal(t, given.StatusCode, 200, "%s", path)
 		})
 	}
 	s.stop()
@@ -346,9 +345,8 @@ func TestRequestsWhileItStops(t *testing.T) {
 			}
 			for _, path := range []string{"/healthz", "/readyz"} {
 				given := diff.Value(s.client.Get("http://" + address + path))(t)
-				if _ = given.Body.Close(); given.StatusCode != 503 {
-					t.Errorf("%s at --health-listen: got %s, want 503", path, given.Status)
-				}
+				_ = given.Body.Close()
+				diff.Equal(t, given.StatusCode, 503, "%s at --health-listen", path)
 			}
 			g.open()
 			s.ends(true)
@@ -369,9 +367,9 @@ func TestHealthWhileItStops(t *testing.T) {
 			s.Event("stopping")
 			if !isShared {
 				for _, path := range []string{"/healthz", "/readyz"} {
-					if status, body := s.plain(path); status != 503 || !isRejection(body) {
-						t.Errorf("%s: got %d %s, want 503 and a rejection", path, status, body)
-					}
+					status, body := s.plain(path)
+					diff.Equal(t, status, 503, "%s", path)
+					diff.Equal(t, isRejection(body), true, "%s: %s is a rejection", path, body)
 				}
 			}
 			waits.Until(t, "the shared address is left", func() bool {

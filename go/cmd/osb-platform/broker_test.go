@@ -3,7 +3,6 @@ package main
 import (
 	"bytes"
 	"encoding/pem"
-	"errors"
 	"fmt"
 	"io"
 	"io/fs"
@@ -82,9 +81,7 @@ first pace	0.5
 func TestStoredPassword(t *testing.T) {
 	store, key := newStore(t), newKey(t)
 	add := []string{"--store", store, "broker", "add", "two", "http://127.0.0.1:1", "--store-password"}
-	if got := callWith(t, "hunter2\n", add...); got.status != 78 || !strings.Contains(got.failed, "--key-file FILE") {
-		t.Errorf("without a key: got %+v, want 78 and the option", got)
-	}
+	callWith(t, "hunter2\n", add...).wants(t, 78, ``, `.*--key-file FILE.*`)
 	diff.Equal(t, callWith(t, "hunter2\n", append(add, "--key-file", key)...).status, 0, "with a key")
 	got := call(t, "--store", store, "broker", "show", "two")
 	diff.Contains(t, got.out, "password\tin the store, encrypted\n", "%+v", got)
@@ -119,9 +116,7 @@ func TestRejectedBrokerLeavesNoStore(t *testing.T) {
 		t.Run(expected.arguments, func(t *testing.T) {
 			expected.arguments = "broker add " + expected.arguments
 			wantLines(t, store, []line{expected})
-			if _, err := os.Stat(folder); !errors.Is(err, fs.ErrNotExist) {
-				t.Fatalf("%s: got %s (%v), want no such folder", expected.arguments, folder, err)
-			}
+			diff.ErrorIs(t, diff.Err(os.Stat(folder)), fs.ErrNotExist, "%s", expected.arguments)
 		})
 	}
 	wantLines(t, store, []line{

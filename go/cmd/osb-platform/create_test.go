@@ -84,9 +84,7 @@ func TestParameters(t *testing.T) {
 		got := callWith(t, `{"size": 3}`, "--store", store, "create", "--plan", "small", "--id", id,
 			"--parameters", text, "--context", `{"platform": "here"}`, "--identity", `here={"user":1}`,
 			"--organization", "o")
-		if got.status != 0 {
-			t.Fatalf("%s: got %+v, want the status 0", text, got)
-		}
+		diff.Equal(t, got.status, 0, "%s, %+v", text, got)
 		over(t, store, func(ctx context.Context, in platform.Store) error {
 			key, err := platform.ParseKey(id)
 			if err != nil {
@@ -359,9 +357,7 @@ func requestsIn(t *testing.T, log string) map[string]string {
 	found := map[string]string{}
 	for _, line := range strings.Split(strings.TrimSpace(log), "\n") {
 		var of loggedRequest
-		if err := json.Unmarshal([]byte(line), &of); err != nil {
-			t.Fatalf("the line %q: got %v, want no error", line, err)
-		}
+		diff.NoError(t, json.Unmarshal([]byte(line), &of), "the line %q", line)
 		if of.Event == "request" && of.Instance != "" {
 			if found[of.Request] != "" || of.Request == "" {
 				t.Errorf("the identity: got %q, want one of one request", of.Request)
@@ -398,9 +394,8 @@ func TestIdentityInBothLogs(t *testing.T) {
 	first := call(t, "--store", store, "run", "--once")
 	wantLines(t, store, []line{{"remove one", 0, ``, ``}})
 	second := call(t, "--store", store, "run", "--once")
-	if first.status != 0 || second.status != 0 {
-		t.Fatalf("got %+v and\n%+v, want the status 0 twice", first, second)
-	}
+	diff.Equal(t, first.status, 0, "%+v", first)
+	diff.Equal(t, second.status, 0, "%+v", second)
 	sent, received := requestsIn(t, first.failed+second.failed), requestsIn(t, ofBroker.String())
 	kinds := map[string]bool{}
 	for identity, kind := range sent {

@@ -44,14 +44,11 @@ func TestLatest(t *testing.T) {
 		return strings.Split(strings.TrimSpace(got.out), "\n")
 	}
 	first, latest := linesOf(), linesOf("--latest")
-	if len(first) != readAtOnce+20 || len(latest) != len(first) {
-		t.Fatalf("got %d and %d lines, want %d twice", len(first), len(latest), readAtOnce+20)
+	diff.Equal(t, len(first), readAtOnce+20, "lines")
+	for left, right := 0, len(latest)-1; left < right; left, right = left+1, right-1 {
+		latest[left], latest[right] = latest[right], latest[left]
 	}
-	for at := range first {
-		if first[at] != latest[len(latest)-1-at] {
-			t.Fatalf("line %d: got %[3]q from the end, want %[2]q", at, first[at], latest[len(latest)-1-at])
-		}
-	}
+	diff.Check(t, latest, first, "the lines from the end")
 }
 
 // A moving is a store in which rows change to other states after each call that reads some.
@@ -124,9 +121,8 @@ func TestListWithoutReader(t *testing.T) {
 	_ = reader.Close()
 	var failed bytes.Buffer
 	command.Stdout, command.Stderr = writer, &failed
-	if err := command.Run(); err != nil || failed.Len() > 0 {
-		t.Errorf("got %v and %q, want no error and no message", err, failed.String())
-	}
+	diff.NoError(t, command.Run(), "")
+	diff.Equal(t, failed.String(), "", "the messages")
 	_ = writer.Close()
 }
 
@@ -135,9 +131,7 @@ func TestMissingStore(t *testing.T) {
 	for _, arguments := range ofExistingStores(t) {
 		store := filepath.Join(t.TempDir(), "folder", "store")
 		wantLines(t, store, []line{{arguments, 78, ``, noStore}})
-		if _, err := os.Stat(filepath.Dir(store)); !os.IsNotExist(err) {
-			t.Errorf("%s: got %v, want no folder for it", arguments, err)
-		}
+		diff.ErrorIs(t, diff.Err(os.Stat(filepath.Dir(store))), os.ErrNotExist, "%s", arguments)
 	}
 }
 
@@ -240,9 +234,7 @@ func TestMoment(t *testing.T) {
 func TestIsTerminal(t *testing.T) {
 	file := diff.Value(os.Open(os.DevNull))(t)
 	defer file.Close()
-	if isTerminal(file) || isTerminal(nil) {
-		t.Error("isTerminal: got true of what is no terminal, want false")
-	}
+	diff.Equal(t, isTerminal(file) || isTerminal(nil), false, "isTerminal of what is no terminal")
 }
 
 // A reason is one short sentence, whatever was lost by the way.
@@ -290,9 +282,8 @@ func TestReasonOfBroker(t *testing.T) {
 		{entryWithBroker{Entry: ready, broker: away}, "", ""},
 	} {
 		t.Run(string(test.of.State)+" "+test.want, func(t *testing.T) {
-			if got, facts := test.of.reason(), textOf(test.of.brokerReason()); got != test.want || facts != test.facts {
-				t.Errorf("%s: got %q and %q, want %q and %q", test.of.State, got, facts, test.want, test.facts)
-			}
+			diff.Equal(t, test.of.reason(), test.want, "%s", test.of.State)
+			diff.Equal(t, textOf(test.of.brokerReason()), test.facts, "%s", test.of.State)
 		})
 	}
 }

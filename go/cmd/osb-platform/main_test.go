@@ -37,6 +37,7 @@ func TestMain(m *testing.M) {
 
 // A programRun is what a command has printed, and its exit status.
 type programRun struct {
+	arguments   []string
 	status      int
 	out, failed string
 }
@@ -57,7 +58,7 @@ func callWith(t *testing.T, stdin string, arguments ...string) programRun {
 	root.SetOut(&out)
 	root.SetErr(&failed)
 	status := a.exit(cli.Run(context.Background(), root))
-	return programRun{status: status, out: out.String(), failed: failed.String()}
+	return programRun{arguments: arguments, status: status, out: out.String(), failed: failed.String()}
 }
 
 // osbPlatform is the program with these arguments and variables, as a process.
@@ -80,10 +81,16 @@ func wantLines(t *testing.T, store string, lines []line) {
 	t.Helper()
 	for _, line := range lines {
 		arguments := append([]string{"--store", store}, strings.Fields(line.arguments)...)
-		got := call(t, arguments...)
-		if got.status != line.status || !isAll(line.out, got.out) || !isAll(line.failed, got.failed) {
-			t.Errorf("%s: got the status %d\n%q\n%q\nwant what the page says", line.arguments, got.status, got.out, got.failed)
-		}
+		call(t, arguments...).wants(t, line.status, line.out, line.failed)
+	}
+}
+
+// wants checks the exit status, and by regular expressions all that is printed.
+func (r programRun) wants(t *testing.T, status int, out, failed string) {
+	t.Helper()
+	if r.status != status || !isAll(out, r.out) || !isAll(failed, r.failed) {
+		t.Errorf("%q: got the status %d\n%q\n%q\nwant %d\n%s\n%s", r.arguments, r.status, r.out, r.failed, status,
+			out, failed)
 	}
 }
 
@@ -142,9 +149,7 @@ func newKey(t *testing.T) string {
 	t.Helper()
 	file := filepath.Join(t.TempDir(), "key")
 	made := call(t, "key")
-	if made.status != 0 {
-		t.Fatalf("got %+v, want the status 0", made)
-	}
+	diff.Equal(t, made.status, 0, "%+v", made)
 	write(t, file, made.out)
 	return file
 }
@@ -225,9 +230,7 @@ func TestHelp(t *testing.T) {
 			}
 		}
 	}
-	if got := call(t, "create", "--help"); got.status != 0 || !strings.Contains(got.out, "Examples:") {
-		t.Errorf("got %+v, want the status 0 and examples", got)
-	}
+	call(t, "create", "--help").wants(t, 0, `.*Examples:.*`, ``)
 }
 
 // A shell completes commands, and the states of a list.
@@ -240,9 +243,7 @@ func TestCompletion(t *testing.T) {
 		{[]string{"__complete", "list", "--state", ""}, "ordered\nwithdrawn\n"},
 	} {
 		t.Run(strings.Join(test.arguments, " "), func(t *testing.T) {
-			if got := call(t, test.arguments...); got.status != 0 || !strings.HasPrefix(got.out, test.want) {
-				t.Errorf("%v: got %+v, want the status 0 and first %q", test.arguments, got, test.want)
-			}
+			call(t, test.arguments...).wants(t, 0, regexp.QuoteMeta(test.want)+`.*`, `.*`)
 		})
 	}
 }
@@ -337,9 +338,8 @@ func TestFurtherTryThatWaits(t *testing.T) {
 				Before platform.Reason `json:"try_before_failure"`
 			}
 			shown := call(t, "--store", store, "show", next, "--json")
-			if err := json.Unmarshal([]byte(shown.out), &row); err != nil || row.Before.Status != 503 {
-				t.Errorf("got %s, %v, want the status 503 of the try before", shown.out, err)
-			}
+			diff.NoError(t, json.Unmarshal([]byte(shown.out), &row), "%s", shown.out)
+			diff.Equal(t, row.Before.Status, 503, "the try before, %s", shown.out)
 			checkWait(t, store, next, until)
 			wantLines(t, store, []line{
 				{"retry " + next, 0, ``, ``}, {"list --reasons --state ordered", 0, next + "\tordered\t[^\n]*\t", ``},
@@ -393,9 +393,7 @@ func TestEmptyIDs(t *testing.T) {
 		{"create", "--plan", "small", "--id", ""}, {"create", "--plan", "small", "--id="},
 		{"bind", "one", "--id", "", "--key-file", key},
 	} {
-		if got := call(t, append(pair, "--store", store)...); got.status != 2 || !isAll(said, got.failed) || got.out != "" {
-			t.Errorf("%q: got %+v, want the status 2, and that the id is empty", pair, got)
-		}
+		call(t, append(pair, "--store", store)...).wants(t, 2, ``, said)
 	}
 	wantLines(t, store, []line{{"list", 0, ``, ``}})
 }

@@ -137,9 +137,8 @@ func TestLogAndMetrics(t *testing.T) {
 		answered["kind"] != "provision" || answered["level"] != "info" || answered["instance"] == nil {
 		t.Errorf("got %v and %v, want the Provision at the broker default, with its number, and 201", sent, answered)
 	}
-	if changed := p.Event("state_changed"); changed["before"] != "ordered" || changed["after"] != "ready" {
-		t.Errorf("got %v, want the change from ordered to ready", changed)
-	}
+	changed := p.Event("state_changed")
+	diff.Check(t, []any{changed["before"], changed["after"]}, []any{"ordered", "ready"}, "%v", changed)
 	p.stop()
 }
 
@@ -153,9 +152,9 @@ func TestHealth(t *testing.T) {
 		"/metrics": `osb_platform_requests_total{broker="default",kind="provision",status="201"} 1`,
 	} {
 		t.Run(path, func(t *testing.T) {
-			if status, body := get(t, p.health+path); status != 200 || !strings.Contains(body, text) {
-				t.Errorf("got %d %s, want 200 with %s", status, body, text)
-			}
+			status, body := get(t, p.health+path)
+			diff.Equal(t, status, 200, "%s", body)
+			diff.Contains(t, body, text, "")
 		})
 	}
 	_, body := get(t, p.health+"/metrics")

@@ -171,13 +171,11 @@ func TestServe(t *testing.T) {
 	c.call(201, "POST", "/v1/instances", `{"plan": "at-once", "id": "one"}`)
 	status, _ := get(t, p.page+"/")
 	diff.Equal(t, status, 401, "without a password")
-	if status, text := get(t, strings.Replace(p.page, "//", "//operator:hidden@", 1)+"/instance/one"); status != 200 ||
-		!strings.Contains(text, "ordered") {
-		t.Errorf("the page: got %d %s, want 200 and the order", status, text)
-	}
-	if status, _ := get(t, p.health+"/readyz"); status != 200 {
-		t.Errorf("/readyz: got %d, want 200", status)
-	}
+	status, text := get(t, strings.Replace(p.page, "//", "//operator:hidden@", 1)+"/instance/one")
+	diff.Equal(t, status, 200, "the page")
+	diff.Contains(t, text, "ordered", "the page")
+	status, _ = get(t, p.health+"/readyz")
+	diff.Equal(t, status, 200, "/readyz")
 	c.await("/v1/instances/one", "ordered")
 	wantLines(t, store, []line{{"run --once", 0, "20.*\tone\tready", `.*"worker":".*`}})
 	c.await("/v1/instances/one", "ready")
@@ -421,9 +419,9 @@ func TestPageBesideBusyAPI(t *testing.T) {
 		}()
 		<-store.listing
 	}
-	if got := answerOf(page, "/"); got.Code != 200 || !strings.Contains(got.Body.String(), "0 instances") {
-		t.Errorf("the page: got %d %s, want 200 and no instance", got.Code, got.Body)
-	}
+	got := answerOf(page, "/")
+	diff.Equal(t, got.Code, 200, "the page")
+	diff.Contains(t, got.Body.String(), "0 instances", "the page")
 	diff.Equal(t, written.String(), "", "the log")
 	close(store.letGo)
 	all.Wait()
@@ -531,9 +529,7 @@ func checkUnwritten(t *testing.T, store string, environment []string, execute fu
 	time.Sleep(2 * time.Second)
 	readyIs(t, p, 503)
 	wantLines(t, store, []line{{"show one", 0, "id\tone\nstate\tordered\n.*", ``}})
-	if count := s.requests(); count > 0 {
-		t.Errorf("got %d requests sent, want none", count)
-	}
+	diff.Equal(t, s.requests(), 0, "requests sent")
 	execute(repair)
 	readyIs(t, p, 200)
 	waits.Until(t, "the order has gone on", func() bool { return countListed(t, store, "ready") > 0 })
