@@ -274,9 +274,7 @@ func TestListsWithAnUnreadableID(t *testing.T) {
 // alter executes a statement in the file of a store.
 func alter(t *testing.T, s *Store, statement string) {
 	t.Helper()
-	if err := s.file.Write(context.Background(), func(c *connection) error { return c.exec(statement) }); err != nil {
-		t.Fatalf("%s: got the error %v, want none", statement, err)
-	}
+	check(t, s.file.Write(context.Background(), func(c *connection) error { return c.exec(statement) }))
 }
 
 // Of a row that can't be read nothing is known: a Change ends with the error, without its step, and the row stays.

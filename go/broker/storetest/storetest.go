@@ -194,9 +194,7 @@ func testID(t *testing.T, open func(*testing.T) broker.NamedStore) {
 	for n := 1; n < cap(ids); n++ {
 		diff.Equal(t, <-ids, first, "another store of the database")
 	}
-	if _, err := openStore(t, open).Begin(context.Background(), "a name"); err != nil {
-		t.Error(err)
-	}
+	diff.NoError(t, diff.Err(openStore(t, open).Begin(context.Background(), "a name")), "Begin")
 	diff.Equal(t, diff.Value(openStore(t, open).ID(context.Background()))(t), first, "the id later")
 }
 
@@ -245,9 +243,9 @@ func testTie(t *testing.T, open func(*testing.T) broker.NamedStore) {
 		{"a store that is tied", second, wrong, true},
 		{"that once more", first, nil, true},
 	} {
-		if isUsed, err := tie(test.store, test.with); isUsed != test.isUsed || !errors.Is(err, test.with) {
-			t.Errorf("%s: got used %t, %v, want %t, %v", test.what, isUsed, err, test.isUsed, test.with)
-		}
+		isUsed, err := tie(test.store, test.with)
+		diff.Equal(t, isUsed, test.isUsed, "%s: used", test.what)
+		diff.ErrorIs(t, err, test.with, "%s", test.what)
 	}
 }
 
@@ -257,22 +255,20 @@ func testUsedByRows(t *testing.T, open func(*testing.T) broker.NamedStore) {
 			store := openStore(t, open)
 			begin(t, store)
 			wrong := errors.New("wrong")
-			if isUsed, err := tie(store, wrong); isUsed || !errors.Is(err, wrong) {
-				t.Errorf("without rows: got used %t, %v, want false and %v", isUsed, err, wrong)
-			}
+			isUsed, err := tie(store, wrong)
+			diff.Equal(t, isUsed, false, "used, without rows")
+			diff.ErrorIs(t, err, wrong, "without rows")
 			write(t, store, key, broker.Entry{Holding: tombstone(t)})
-			if isUsed, err := tie(store, wrong); !isUsed || !errors.Is(err, wrong) {
-				t.Errorf("with a row: got used %t, %v, want true and %v", isUsed, err, wrong)
-			}
+			isUsed, err = tie(store, wrong)
+			diff.Equal(t, isUsed, true, "used, with a row")
+			diff.ErrorIs(t, err, wrong, "with a row")
 		})
 	}
 }
 
 func begin(t *testing.T, store broker.NamedStore) {
 	t.Helper()
-	if _, err := store.Begin(context.Background(), "one"); err != nil {
-		t.Fatal(err)
-	}
+	diff.Must(t, diff.Err(store.Begin(context.Background(), "one")))
 }
 
 // The second of two who tie waits for the first, and sees that the store is tied.
@@ -298,9 +294,7 @@ func testReady(t *testing.T, open func(*testing.T) broker.NamedStore) {
 	begin(t, store)
 	diff.NoError(t, store.Ready(context.Background()), "a store that works")
 	diff.Equal(t, diff.Value(store.Name(context.Background()))(t), "one", "the name")
-	if isUsed, err := tie(store, nil); isUsed || err != nil {
-		t.Errorf("got used %t, %v, want false", isUsed, err)
-	}
+	diff.Equal(t, diff.Value(tie(store, nil))(t), false, "used")
 }
 
 func testStats(t *testing.T, open func(*testing.T) broker.NamedStore) {

@@ -17,6 +17,7 @@ import (
 
 	"github.com/mattn/go-sqlite3"
 
+	"pippinterm/internal/diff"
 	"pippinterm/internal/pg"
 )
 
@@ -118,17 +119,9 @@ type Answers struct {
 func NewProxy(t testing.TB, address string) (*Proxy, string) {
 	t.Helper()
 	host, port, err := pg.HostAndPort(address)
-	if err != nil {
-		t.Fatal(err)
-	}
-	parsed, err := url.Parse(address)
-	if err != nil {
-		t.Fatal(err)
-	}
-	listener, err := net.Listen("tcp", "127.0.0.1:0")
-	if err != nil {
-		t.Fatal(err)
-	}
+	diff.Must(t, err)
+	parsed := diff.Value(url.Parse(address))(t)
+	listener := diff.Value(net.Listen("tcp", "127.0.0.1:0"))(t)
 	p := &Proxy{listener: listener, server: net.JoinHostPort(host, port)}
 	p.resumes = sync.NewCond(&p.mutex)
 	p.running.Add(1)

@@ -245,9 +245,8 @@ func TestLifeOfABinding(t *testing.T) {
 	diff.Equal(t, read.Folder, f.top+"/"+first.Key.Instance.String(), "the folder")
 	diff.Equal(t, len(read.Token), 43, "the token")
 	diff.Equal(t, string(diff.Value(f.Credentials(ctx, bound))(t)), text, "Credentials")
-	if again, _ := bind(t, f, bound); again != text {
-		t.Errorf("a second creation: got %s, want %s", again, text)
-	}
+	again, _ := bind(t, f, bound)
+	diff.Equal(t, again, text, "a second creation")
 	found := diff.Value(os.Stat(f.binding(bound.Key)))(t)
 	diff.Equal(t, found.Mode(), 0o600, "the mode of the file")
 	check(t, f.Sync(ctx, bound))
@@ -351,9 +350,7 @@ func TestFoldersWithoutAnOwner(t *testing.T) {
 		t.Run(name, func(t *testing.T) {
 			f := newFolders(t, t.TempDir())
 			check(t, os.Mkdir(f.top+"/"+name, 0o700))
-			if owner, err := f.Own(ctx, "one"); err == nil || !strings.Contains(err.Error(), ".owner") {
-				t.Errorf("with %s: Own got %q, %v, want an error that names .owner", name, owner, err)
-			}
+			diff.ErrorContains(t, diff.Err(f.Own(ctx, "one")), ".owner", "Own with %s", name)
 			diff.Equal(t, diff.Value(f.Owner(ctx))(t), "", "the owner with %s", name)
 		})
 	}
@@ -413,9 +410,9 @@ func TestOwnerOfATopThatCanNotBeListed(t *testing.T) {
 // A new folder is there after a power cut: the folder that it is in is synced. If that fails, so does New.
 func TestNewFoldersAreSynced(t *testing.T) {
 	top := filepath.Join(unlistableFolder(t), "top")
-	if _, err := New(top); !errors.Is(err, fs.ErrPermission) || !strings.Contains(err.Error(), filepath.Dir(top)) {
-		t.Errorf("got %v, want the error of syncing %s", err, filepath.Dir(top))
-	}
+	err := diff.Err(New(top))
+	diff.ErrorIs(t, err, fs.ErrPermission, "")
+	diff.ErrorContains(t, err, filepath.Dir(top), "the error of syncing")
 }
 
 func TestLabel(t *testing.T) {

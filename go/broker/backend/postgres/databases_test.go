@@ -108,9 +108,7 @@ func TestLimits(t *testing.T) {
 	diff.Error(t, r.customer(key).Ping(), "a fourth connection")
 	hold(t, r.login(r.role, "of the broker", r.role), "SELECT 1")
 	limit := r.column("SELECT datconnlimit::text FROM pg_database WHERE datname = $1", postgres.NameOf(key))
-	if len(limit) != 1 || limit[0] != "3" {
-		t.Errorf("the limit of the database: got %v, want 3", limit)
-	}
+	diff.Check(t, limit, []string{"3"}, "the limit of the database")
 }
 
 func TestNoRoleLiftsItsLimit(t *testing.T) {
@@ -119,9 +117,7 @@ func TestNoRoleLiftsItsLimit(t *testing.T) {
 	diff.Error(t, diff.Err(r.customer(key).Exec("ALTER ROLE CURRENT_USER CONNECTION LIMIT -1")),
 		"the role lifts its limit")
 	limit := r.column("SELECT rolconnlimit::text FROM pg_roles WHERE rolname = $1", postgres.NameOf(key))
-	if len(limit) != 1 || limit[0] != "20" {
-		t.Errorf("the limit of the role: got %v, want 20", limit)
-	}
+	diff.Check(t, limit, []string{"20"}, "the limit of the role")
 }
 
 // The limits of what a session may do are settings of its role. That of temporary files is set if the broker may set
@@ -292,9 +288,7 @@ func TestARoleThatOwnsALot(t *testing.T) {
 	diff.NoError(t, d.DeleteBinding(bind.ctx, bind.request), "DeleteBinding")
 	in := &rig{t: t, admin: pgtest.DB(t, pgtest.In(t, pgtest.URL(t), name))}
 	got := in.column("SELECT count(*)::text FROM pg_views WHERE schemaname = 's' AND viewowner = $1", name)
-	if len(got) != 1 || got[0] != count {
-		t.Errorf("the instance: got %v views, want %s", got, count)
-	}
+	diff.Check(t, got, []string{count}, "the views of the instance")
 	_ = in.admin.Close() // the broker can't end a superuser's session
 	pgtest.Exec(t, r.customer(other.request.Key), "GRANT ALL ON DATABASE "+others+" TO "+name)
 	createMany(t, r, r.login(name, postgres.PasswordOf(secret, it.request.Key), others), manyViews,
@@ -576,9 +570,7 @@ type credentials struct {
 
 func read(t *testing.T, text json.RawMessage) (it credentials) {
 	t.Helper()
-	if err := json.Unmarshal(text, &it); err != nil {
-		t.Fatalf("%s: got the error %v, want none", text, err)
-	}
+	check(t, json.Unmarshal(text, &it))
 	return it
 }
 
@@ -600,9 +592,7 @@ func hold(t *testing.T, db *sql.DB, statements ...string) *sql.Conn {
 	check(t, err)
 	t.Cleanup(func() { _ = conn.Close() })
 	for _, statement := range statements {
-		if _, err := conn.ExecContext(context.Background(), statement); err != nil {
-			t.Fatalf("%s: got the error %v, want none", statement, err)
-		}
+		diff.NoError(t, diff.Err(conn.ExecContext(context.Background(), statement)), "%s", statement)
 	}
 	return conn
 }

@@ -186,9 +186,7 @@ func TestPoliciesOnManyTables(t *testing.T) {
 	r.wantDeletion(d, of)
 	in := &rig{t: t, admin: pgtest.DB(t, pgtest.In(t, pgtest.URL(t), postgres.NameOf(other.request.Key)))}
 	got := in.column("SELECT DISTINCT concat_ws(' ', policyname, roles, count(*)) FROM pg_policies GROUP BY policyname, roles")
-	if want := "two {" + thirds + "} " + count; len(got) != 1 || got[0] != want {
-		t.Errorf("the policies: got %v, want %s", got, want)
-	}
+	diff.Check(t, got, []string{"two {" + thirds + "} " + count}, "the policies")
 }
 
 // What a binding owns in the database of another customer goes, although it has become a part of an extension.
@@ -307,9 +305,7 @@ func TestWhatABindingOwnsElsewhere(t *testing.T) {
 	in := &rig{t: t, admin: r.customer(other.request.Key)}
 	left := in.column("SELECT relname FROM pg_class WHERE relname IN ('kept', 't', 'v') UNION ALL " +
 		"SELECT nspname FROM pg_namespace WHERE nspname = 'theirs'")
-	if len(left) != 1 || left[0] != "kept" {
-		t.Errorf("left in the other database: got %v, want kept", left)
-	}
+	diff.Check(t, left, []string{"kept"}, "left in the other database")
 }
 
 // A session that the server can't end, such as one in a long call of libxml, is waited for a short time, and keeps no
@@ -526,9 +522,7 @@ func TestSyncCommits(t *testing.T) {
 	instance := createInstance(t, d)
 	proxy.Countdown.Fail(3, storefaults.Refused)
 	diff.Error(t, d.Sync(instance.ctx, instance.request), "")
-	if failed := proxy.Countdown.FailedStatement(); !storefaults.IsCommit(failed) {
-		t.Errorf("got %q as the statement that failed, want a COMMIT", failed)
-	}
+	diff.HasPrefix(t, proxy.Countdown.FailedStatement(), "COMMIT", "the statement that failed")
 }
 
 // Each statement of Open, and of Rekey, fails once: the error is returned. Later they succeed. It is the same over a
@@ -634,9 +628,9 @@ func TestGrantsOnManyColumns(t *testing.T) {
 		t.Errorf("got a catalogue of columns that grew by %d bytes, want at most 1 MiB", grown)
 	}
 	var left int
-	if err := others.QueryRow("SELECT sum(cardinality(attacl)) FROM pg_attribute WHERE attrelid = 't'::regclass").Scan(&left); err != nil || left != count {
-		t.Errorf("got %d grants, %v, want those to the third customer, %d", left, err, count)
-	}
+	const grants = "SELECT sum(cardinality(attacl)) FROM pg_attribute WHERE attrelid = 't'::regclass"
+	check(t, others.QueryRow(grants).Scan(&left))
+	diff.Equal(t, left, count, "grants to the third customer")
 }
 
 // A binding that is deleted leaves what it owns to the instance, although the instance's role has taken from itself the

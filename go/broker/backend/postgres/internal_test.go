@@ -77,9 +77,7 @@ func TestLongestStatementOfRekey(t *testing.T) {
 	key := []byte(strings.Repeat("k", 32))
 	address := "postgresql://osb@" + listener.Addr().String() + "/osb?sslmode=disable"
 	diff.Error(t, diff.Err(Rekey(context.Background(), address, key, key)), "")
-	if got, want := <-begun, "statement_timeout\x00600000\x00"; !strings.Contains(got, want) {
-		t.Errorf("got the session %q, want %q in it", got, want)
-	}
+	diff.Contains(t, <-begun, "statement_timeout\x00600000\x00", "the session")
 }
 
 // What version 0.2 gives for these arguments, so that what it has sold goes on working.

@@ -17,11 +17,7 @@ import (
 
 func take(t *testing.T, d *postgres.Databases, key broker.Key) broker.Lock {
 	t.Helper()
-	taken, err := d.Locks().TryLock(context.Background(), key)
-	if err != nil {
-		t.Fatalf("TryLock of %v: got %v, want no error", key, err)
-	}
-	return taken
+	return diff.Value(d.Locks().TryLock(context.Background(), key))(t)
 }
 
 func TestLocks(t *testing.T) {

@@ -171,9 +171,9 @@ func TestATemplateThatIsGone(t *testing.T) {
 	d := r.open(withTemplate(name))
 	pgtest.Exec(t, r.admin, "ALTER DATABASE "+name+" RENAME TO "+name+"_gone")
 	it := lock(t, d, newInstance(t))
-	if err := d.Create(it.ctx, it.request); !pg.IsCode(err, pg.InvalidCatalogName) || !strings.Contains(err.Error(), name) {
-		t.Errorf("got %v, want that there is no database %s", err, name)
-	}
+	err := d.Create(it.ctx, it.request)
+	diff.Equal(t, pg.IsCode(err, pg.InvalidCatalogName), true, "%v", err)
+	diff.ErrorContains(t, err, name, "")
 	diff.Equal(t, r.exists("pg_roles WHERE rolname = $1 AND rolcanlogin", postgres.NameOf(it.request.Key)), false,
 		"a role that logs in")
 	pgtest.Exec(t, r.admin, "ALTER DATABASE "+name+"_gone RENAME TO "+name)

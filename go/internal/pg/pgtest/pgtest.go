@@ -8,6 +8,7 @@ import (
 	"testing"
 	"time"
 
+	"pippinterm/internal/diff"
 	"pippinterm/internal/pg"
 )
 
@@ -52,22 +53,14 @@ func In(t *testing.T, address, database string) string {
 
 func parse(t *testing.T, address string) *url.URL {
 	t.Helper()
-	parsed, err := url.Parse(address)
-	if err != nil {
-		t.Fatal(err)
-	}
-	return parsed
+	return diff.Value(url.Parse(address))(t)
 }
 
 // DB returns connections to a URL, which are closed at the end of the test.
 func DB(t *testing.T, address string) *sql.DB {
 	t.Helper()
-	db, err := pg.Open(address, pg.Options{
-		Most: 4, Lock: 20 * time.Second, Statement: 20 * time.Second, Idle: time.Minute,
-	})
-	if err != nil {
-		t.Fatal(err)
-	}
+	limits := pg.Options{Most: 4, Lock: 20 * time.Second, Statement: 20 * time.Second, Idle: time.Minute}
+	db := diff.Value(pg.Open(address, limits))(t)
 	t.Cleanup(func() { _ = db.Close() })
 	return db
 }
