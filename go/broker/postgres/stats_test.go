@@ -19,10 +19,7 @@ func TestLimitsOfASession(t *testing.T) {
 		"lock_timeout": "30s", "statement_timeout": "30s", "idle_in_transaction_session_timeout": "1min",
 	} {
 		t.Run(name, func(t *testing.T) {
-			var got string
-			if err := store.db.QueryRow("SHOW " + name).Scan(&got); err != nil || got != want {
-				t.Errorf("got %s, %v, want %s", got, err, want)
-			}
+			pgtest.WantSetting(t, store.db, name, want)
 		})
 	}
 }

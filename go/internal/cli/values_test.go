@@ -175,9 +175,7 @@ func TestASecretThatIsNotWritten(t *testing.T) {
 	err := WriteSecret(file, []byte("secret"))
 	check(t, syscall.Setrlimit(syscall.RLIMIT_FSIZE, &limit))
 	diff.ErrorIs(t, err, syscall.EFBIG, "")
-	if _, err := os.Stat(file); !os.IsNotExist(err) {
-		t.Errorf("the file: got %v, want none", err)
-	}
+	diff.ErrorIs(t, diff.Err(os.Stat(file)), os.ErrNotExist, "the file")
 }
 
 func TestKeyIsWritten(t *testing.T) {
@@ -185,18 +183,14 @@ func TestKeyIsWritten(t *testing.T) {
 	if status, out, failed := key("--to", file); status != StatusDone || out+failed != "" {
 		t.Fatalf("got the status %d, %q and %q, want 0 and nothing printed", status, out, failed)
 	}
-	written, err := os.ReadFile(file)
-	if err != nil || !oneKey.Match(written) {
-		t.Errorf("got %q and the error %v, want one key", written, err)
-	}
+	written := diff.Value(os.ReadFile(file))(t)
+	diff.Equal(t, oneKey.Match(written), true, "%q is one key", written)
 	diff.Equal(t, diff.Value(os.Stat(file))(t).Mode().Perm(), 0o600, "the mode")
 	status, out, failed := key("--to", file)
 	if status != StatusUnusable || out != "" || !strings.Contains(failed, file+" exists already") {
 		t.Errorf("again: got the status %d, %q and %q, want %d and that the file exists", status, out, failed, StatusUnusable)
 	}
-	if after, err := os.ReadFile(file); err != nil || !bytes.Equal(after, written) {
-		t.Errorf("the key: got %q (%v), want %q", after, err, written)
-	}
+	diff.Equal(t, string(diff.Value(os.ReadFile(file))(t)), string(written), "the key")
 	if status, _, failed := key("--to", file+"/below"); status != StatusUnusable || !strings.Contains(failed, file) {
 		t.Errorf("below a file: got the status %d and %q, want %d and the file", status, failed, StatusUnusable)
 	}

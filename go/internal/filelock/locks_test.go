@@ -76,9 +76,8 @@ func TestKeysHaveLocksOfTheirOwn(t *testing.T) {
 	locks := newLocks(t, filepath.Join(t.TempDir(), "locks"))
 	lock := mustLock(t, locks, one)
 	diff.Equal(t, isFree(t, locks, one), false, "the lock that was taken")
-	if !isFree(t, locks, two) || !isFree(t, locks, bound) {
-		t.Error("the lock of another instance, or of a binding: got it taken, want it free")
-	}
+	diff.Equal(t, isFree(t, locks, two), true, "the lock of another instance")
+	diff.Equal(t, isFree(t, locks, bound), true, "the lock of a binding")
 	lock.Unlock()
 	diff.Equal(t, isFree(t, locks, one), true, "the lock that was unlocked")
 }
@@ -222,9 +221,7 @@ func TestLentFile(t *testing.T) {
 	diff.Equal(t, diff.Value(Lend(context.Background(), time.Second))(t) == nil, true, "Lend without a lock")
 	lent := lend(t, lock)
 	defer lent.Close()
-	if lent.Name() != path {
-		t.Fatalf("the file: got %s, want %s", lent.Name(), path)
-	}
+	diff.Equal(t, lent.Name(), path, "the file")
 	flags, _, errno := syscall.Syscall(syscall.SYS_FCNTL, lent.Fd(), syscall.F_GETFD, 0)
 	if errno != 0 || flags&syscall.FD_CLOEXEC == 0 {
 		t.Errorf("the file: got the flags %d and %v, want it closed on exec", flags, errno)
@@ -243,18 +240,15 @@ func TestFilesThatNewRejects(t *testing.T) {
 			diff.Error(t, diff.Err(New(path)), "New with %s", name)
 		})
 	}
-	if _, err := os.Lstat(target); !os.IsNotExist(err) {
-		t.Errorf("New: got %v, want a link that isn't followed", err)
-	}
+	diff.ErrorIs(t, diff.Err(os.Lstat(target)), os.ErrNotExist, "where the link leads")
 }
 
 func TestNewCreatesAPrivateFile(t *testing.T) {
 	path := filepath.Join(t.TempDir(), "locks")
 	newLocks(t, path)
-	found, err := os.Stat(path)
-	if err != nil || found.Mode() != 0o600 || found.Size() != 0 {
-		t.Errorf("the file: got %v, %v, want an empty one of mode 0600", found, err)
-	}
+	found := diff.Value(os.Stat(path))(t)
+	diff.Equal(t, found.Mode(), 0o600, "the mode")
+	diff.Equal(t, found.Size(), 0, "the size")
 }
 
 func TestFileThatWasReplaced(t *testing.T) {

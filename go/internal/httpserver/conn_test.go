@@ -193,9 +193,7 @@ func TestASilentConnectionIsClosed(t *testing.T) {
 			diff.Equal(t, client.rest(), "", "after %q", sent)
 		})
 	}
-	if got := observer.waitForStatuses(t, 0); got != nil {
-		t.Errorf("the observer: got %v, want none", got)
-	}
+	diff.Empty(t, observer.waitForStatuses(t, 0), "the observer")
 }
 
 func TestAConnectionThatHasSentARequestMayBeSilent(t *testing.T) {
@@ -229,12 +227,8 @@ func TestACutHeadBehindAnotherRequest(t *testing.T) {
 				client.send(pipelined + "GET /b HT")
 				client.closeWrite()
 				got := client.rest()
-				if count := strings.Count(got, "GET /a ;"); count != len(pipelined)/len(whole) {
-					t.Fatalf("got %d requests answered (%q), want %d", count, got, len(pipelined)/len(whole))
-				}
-				if !strings.HasSuffix(got, "GET /a ;"+rejection408) {
-					t.Fatalf("the end: got %q, want the answer of /a and a 408", got)
-				}
+				diff.Equal(t, strings.Count(got, "GET /a ;"), len(pipelined)/len(whole), "requests answered (%q)", got)
+				diff.HasSuffix(t, got, "GET /a ;"+rejection408, "the answer of /a and a 408")
 			}
 		})
 	}
@@ -271,9 +265,7 @@ func TestConnectionsOfAnAddress(t *testing.T) {
 	}
 	first, _ := ask(from(t, "127.0.0.1", listener)), ask(from(t, "127.0.0.1", listener))
 	for count := 0; count < 3; count++ {
-		if !isRejected() {
-			t.Fatal("the third connection of an address: got an answer, want it closed")
-		}
+		diff.Equal(t, isRejected(), true, "the third connection of an address is closed")
 	}
 	ask(from(t, "127.0.0.2", listener))
 	want := []string{"address_at_limit: 127.0.0.1/32 has 2 connections, and gets no further one"}
@@ -398,9 +390,7 @@ func TestBadPROXYHeaders(t *testing.T) {
 			client := dial(t, listener)
 			client.send(test.sent)
 			diff.Check(t, statusesIn(client.rest()), []string{"400"}, "")
-			if got := observer.waitForRejections(t, 1); len(got) != 1 || got[0].Status != 400 {
-				t.Errorf("the observer got %v, want 400", got)
-			}
+			diff.Check(t, observer.waitForStatuses(t, 1), []int{400}, "the observer")
 		})
 	}
 }

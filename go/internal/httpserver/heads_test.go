@@ -6,7 +6,6 @@ import (
 	"io"
 	"math/rand"
 	"net/http"
-	"reflect"
 	"strings"
 	"testing"
 
@@ -203,9 +202,7 @@ func TestBadHeadsAreRejected(t *testing.T) {
 			client := dial(t, listener)
 			client.send(whole + request + whole)
 			got := client.rest()
-			if statuses := statusesIn(got); !reflect.DeepEqual(statuses, []string{"200", "400"}) {
-				t.Fatalf("the answers: got %q, want 200 and 400", got)
-			}
+			diff.Check(t, statusesIn(got), []string{"200", "400"}, "the answers")
 			diff.Lacks(t, got, "PUT", "a handler")
 			diff.Lacks(t, got, "json", "a handler")
 			diff.Check(t, observer.waitForStatuses(t, 1), []int{400}, "the observer")
@@ -290,9 +287,7 @@ func TestAnAnswerOfAHandlerIsNoRejection(t *testing.T) {
 			}))
 			client.send(whole)
 			diff.HasPrefix(t, client.rest(), fmt.Sprintf("HTTP/1.1 %d ", status), "")
-			if got := observer.waitForStatuses(t, 0); got != nil {
-				t.Errorf("%d: the observer: got %v, want none", status, got)
-			}
+			diff.Empty(t, observer.waitForStatuses(t, 0), "%d: the observer", status)
 		})
 	}
 }

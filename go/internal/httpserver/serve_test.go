@@ -9,7 +9,6 @@ import (
 	"net/http"
 	"os"
 	"os/exec"
-	"reflect"
 	"strconv"
 	"strings"
 	"sync"
@@ -159,9 +158,8 @@ func TestDefaultTimes(t *testing.T) {
 	} {
 		t.Run(test.name, func(t *testing.T) {
 			got := test.server.withDefaults()
-			if got.Request != test.request || got.Idle != test.idle || got.Stop != test.stop {
-				t.Errorf("got %v, %v, %v, want %v, %v, %v", got.Request, got.Idle, got.Stop, test.request, test.idle, test.stop)
-			}
+			want := []time.Duration{test.request, test.idle, test.stop}
+			diff.Check(t, []time.Duration{got.Request, got.Idle, got.Stop}, want, "the times")
 		})
 	}
 }
@@ -271,9 +269,7 @@ func TestWhileWorkRunsRequestsAreAnswered(t *testing.T) {
 	})
 	diff.Equal(t, idle.rest(), "", "the idle connection")
 	for count := 0; count < 3; count++ {
-		if got := statusAt(t, listener); !reflect.DeepEqual(got, []string{"503"}) {
-			t.Fatalf("another request while one runs: got %v, want 503", got)
-		}
+		diff.Check(t, statusAt(t, listener), []string{"503"}, "another request while one runs")
 	}
 	select {
 	case <-begun:
@@ -339,9 +335,7 @@ const limited = "OSB_TEST_LIMITED"
 func TestTheLimitOfFilesIsRaised(t *testing.T) {
 	if os.Getenv(limited) != "" {
 		check(t, CheckFiles(65))
-		if err := CheckFiles(1 << 62); err == nil || !strings.Contains(err.Error(), "LimitNOFILE") {
-			t.Fatalf("no limit: got %v, want an error with LimitNOFILE", err)
-		}
+		diff.ErrorContains(t, CheckFiles(1<<62), "LimitNOFILE", "no limit")
 		return
 	}
 	const script = `ulimit -S -n 64 && exec "$0" -test.run '^TestTheLimitOfFilesIsRaised$' -test.v`
@@ -418,9 +412,7 @@ func TestABodyThatNeverComesIsntWaitedFor(t *testing.T) {
 			if took := time.Since(began); took > drainTime/2 {
 				t.Errorf("got an answer after %v, want one within %v", took, drainTime/2)
 			}
-			if got := client.rest(); got != "" { // which fails after 10 seconds
-				t.Errorf("after the answer: got %q, want none", got)
-			}
+			diff.Equal(t, client.rest(), "", "after the answer") // rest fails after 10 seconds
 		})
 	}
 }

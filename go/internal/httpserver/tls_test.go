@@ -110,9 +110,7 @@ func TestClientsThatCantShakeHands(t *testing.T) {
 		t.Run(name, func(t *testing.T) {
 			observer := &recorder{}
 			listener, _ := startTLS(t, authority.issue("server"), Options{Observer: observer}, Server{})
-			if err := tls.Client(dial(t, listener).Conn, test.config).Handshake(); err == nil {
-				t.Fatal("the handshake: got no error, want one")
-			}
+			diff.Error(t, tls.Client(dial(t, listener).Conn, test.config).Handshake(), "the handshake")
 			waits.Until(t, "an event", func() bool { return len(observer.events()) > 0 })
 			if got := observer.events()[0]; !strings.HasPrefix(got, "tls_handshake_failed: client 127.0.0.1: ") ||
 				!strings.Contains(got, test.event) {
@@ -153,9 +151,7 @@ func TestAProbeOfThePortIsNoFailure(t *testing.T) {
 	dial(t, listener).Close()
 	diff.Equal(t, dial(t, listener).rest(), "", "a silent client")
 	waits.Until(t, "both are closed", func() bool { return listener.Connections() == 1 })
-	if got := observer.events(); got != nil {
-		t.Errorf("the observer: got %q, want none", got)
-	}
+	diff.Empty(t, observer.events(), "the observer")
 }
 
 func TestClientCertificates(t *testing.T) {
@@ -190,9 +186,7 @@ func TestReload(t *testing.T) {
 	diff.Equal(t, shown(), first, "")
 	check(t, certificates.Reload())
 	second := shown()
-	if second == first {
-		t.Error("got the same certificate after it was read, want another")
-	}
+	diff.Equal(t, second == first, false, "the certificate that was read is the same")
 	check(t, os.WriteFile(files.Key, []byte("no key"), 0o600))
 	diff.ErrorContains(t, certificates.Reload(), files.Key, "a key that is none")
 	diff.Equal(t, shown(), second, "")

@@ -56,9 +56,8 @@ func linesOf(t *testing.T, path string) (lines []line) {
 		if text == "" {
 			continue
 		}
-		if err := json.Unmarshal([]byte(text), &read); err != nil || !strings.HasSuffix(text, "}\n") {
-			t.Fatalf("%s: got %q and the error %v, want a whole line of JSON", path, text, err)
-		}
+		diff.NoError(t, json.Unmarshal([]byte(text), &read), "%s: %q", path, text)
+		diff.HasSuffix(t, text, "}\n", "%s", path)
 		lines = append(lines, read)
 	}
 	return lines
@@ -88,9 +87,7 @@ func wantEvents(t *testing.T, path, want string) {
 func TestALineAfterTheEnd(t *testing.T) {
 	w := &Writer{lines: make(chan *job), ending: make(chan struct{})}
 	close(w.ending)
-	if err := w.hand(&job{}, time.After(10*time.Second)); err != errClosed {
-		t.Errorf("got %v, want %v", err, errClosed)
-	}
+	diff.ErrorIs(t, w.hand(&job{}, time.After(10*time.Second)), errClosed, "")
 }
 
 // filesIn are the paths of the files of a folder, by name.

@@ -18,10 +18,8 @@ const toy = "pippinterm/internal/mutants/testdata/toy"
 // loadToy returns the package testdata/toy.
 func loadToy(t *testing.T) *pkg {
 	t.Helper()
-	packages, err := load(context.Background(), tags, toy)
-	if err != nil || len(packages) != 1 {
-		t.Fatalf("got %d packages, %v, want one", len(packages), err)
-	}
+	packages := diff.Value(load(context.Background(), tags, toy))(t)
+	diff.Equal(t, len(packages), 1, "packages")
 	return packages[0]
 }
 
@@ -92,10 +90,8 @@ func TestDraw(t *testing.T) {
 	var texts []string
 	for _, seed := range []int64{1, 1, 2} {
 		p := loadToy(t)
-		drawn, err := draw([]*pkg{p}, seed, 20)
-		if err != nil || len(drawn) != 20 {
-			t.Fatalf("got %d mutants, %v, want 20", len(drawn), err)
-		}
+		drawn := diff.Value(draw([]*pkg{p}, seed, 20))(t)
+		diff.Equal(t, len(drawn), 20, "mutants")
 		if good, bad, err := compilable(p, drawn); err != nil || len(good) != 20 {
 			t.Errorf("got %v, %v, want each to compile", bad, err)
 		}
@@ -105,9 +101,8 @@ func TestDraw(t *testing.T) {
 		}
 		texts = append(texts, text.String())
 	}
-	if texts[0] != texts[1] || texts[0] == texts[2] {
-		t.Errorf("got %q, %q and %q, want the first two the same", texts[0], texts[1], texts[2])
-	}
+	diff.Equal(t, texts[1], texts[0], "the same seed")
+	diff.Equal(t, texts[2] == texts[0], false, "the same mutants of another seed: %q", texts[2])
 }
 
 // TestMutantsThatDoNotCompile: each is left out, and no other one.
@@ -177,10 +172,9 @@ func TestTraceOfAnotherUser(t *testing.T) {
 	drawn := diff.Value(draw([]*pkg{p}, 1, 20))(t)
 	binaries := diff.Value(build(context.Background(), t.TempDir(), tags, 1, []*pkg{p}, drawn))(t)
 	r := run{binary: binaries[p.path], test: "TestAsNobody", most: longestTest}
-	found, err := trace(context.Background(), &worker{}, r)
-	if err != nil || found.Ending != passed || len(found.Reaches) == 0 {
-		t.Errorf("got %+v, %v, want that it reaches some", found, err)
-	}
+	found := diff.Value(trace(context.Background(), &worker{}, r))(t)
+	diff.Equal(t, found.Ending, passed, "%+v", found)
+	diff.Equal(t, len(found.Reaches) > 0, true, "it reaches some: %+v", found)
 }
 
 // TestInterruptedServer: pg_virtualenv ends the server itself, also after an interruption.

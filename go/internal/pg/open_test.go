@@ -59,10 +59,7 @@ func TestSettings(t *testing.T) {
 		"tcp_user_timeout": "60000",
 	} {
 		t.Run(name, func(t *testing.T) {
-			var got string
-			if err := db.QueryRow("SHOW " + name).Scan(&got); err != nil || got != want {
-				t.Errorf("got %s, %v, want %s", got, err, want)
-			}
+			pgtest.WantSetting(t, db, name, want)
 		})
 	}
 }
@@ -110,10 +107,7 @@ func TestSettingsThatAreEmptyOrHaveSpaces(t *testing.T) {
 	want["geqo"], want["client_min_messages"] = "off", "warning"
 	for name, want := range want {
 		t.Run(name, func(t *testing.T) {
-			var got string
-			if err := db.QueryRow("SHOW " + name).Scan(&got); err != nil || got != want {
-				t.Errorf("got %q, %v, want %q", got, err, want)
-			}
+			pgtest.WantSetting(t, db, name, want)
 		})
 	}
 }
@@ -209,9 +203,8 @@ func TestVariablesThatTheDriverRejects(t *testing.T) {
 	for name, value := range map[string]string{"PGCLIENTENCODING": "LATIN1", "PGDATESTYLE": "German"} {
 		t.Run(name, func(t *testing.T) {
 			t.Setenv(name, value)
-			if _, isLasting := pg.Remedy(open()); !isLasting {
-				t.Errorf("%s=%s: got an error that passes, want one that lasts", name, value)
-			}
+			_, isLasting := pg.Remedy(open())
+			diff.Equal(t, isLasting, true, "%s=%s: the error lasts", name, value)
 			check(t, os.Unsetenv(name))
 		})
 	}
@@ -254,9 +247,8 @@ func TestHostAndPortOfTheEnvironment(t *testing.T) {
 	} {
 		t.Run(address, func(t *testing.T) {
 			host, port, err := pg.HostAndPort(address)
-			if err != nil || host != want[0] || port != want[1] {
-				t.Errorf("got the host %s, the port %s and the error %v, want %v", host, port, err, want)
-			}
+			check(t, err)
+			diff.Equal(t, [2]string{host, port}, want, "the host and the port")
 		})
 	}
 }

@@ -434,10 +434,9 @@ func TestPaths(t *testing.T) {
 			folder := t.TempDir()
 			file := open(t, filepath.Join(folder, name), options())
 			diff.NoError(t, file.Write(background, note("x")), "%q", name)
-			info, err := os.Stat(filepath.Join(folder, name))
-			if err != nil || info.Size() == 0 || info.Mode().Perm() != 0o600 {
-				t.Errorf("%q: got %v and the error %v, want content and mode 0600", name, info, err)
-			}
+			info := diff.Value(os.Stat(filepath.Join(folder, name)))(t)
+			diff.Equal(t, info.Size() > 0, true, "%q has content", name)
+			diff.Equal(t, info.Mode().Perm(), 0o600, "%q: the mode", name)
 		})
 	}
 }
@@ -484,9 +483,8 @@ func TestPatiently(t *testing.T) {
 			return errWrong
 		}
 	}
-	if err := Patiently(background, busy(5)); err != errWrong || calls != 5 {
-		t.Errorf("got %v after %d calls, want %v after 5", err, calls, errWrong)
-	}
+	diff.Check(t, Patiently(background, busy(5)), errWrong, "Patiently")
+	diff.Equal(t, calls, 5, "calls")
 	ending, cancel := context.WithTimeout(background, 10*time.Millisecond)
 	defer cancel()
 	calls = 0
@@ -566,9 +564,7 @@ func TestUnknownCommit(t *testing.T) {
 	}
 	file := open(t, filepath.Join(t.TempDir(), "file"), with)
 	errOwn := errors.New("its own")
-	if err := file.Write(background, func(*notes) error { return errOwn }); err != errOwn {
-		t.Errorf("a job: got %v, want %v", err, errOwn)
-	}
+	diff.Check(t, file.Write(background, func(*notes) error { return errOwn }), errOwn, "a job")
 	err := file.Write(background, func(n *notes) error { return n.Exec("INSERT INTO of VALUES ('missing')") })
 	var failed sqlite3.Error
 	if !errors.Is(err, ErrUnknownCommit) || !errors.As(err, &failed) || failed.Code != sqlite3.ErrConstraint {
@@ -584,9 +580,7 @@ func TestCommitsAreSynced(t *testing.T) {
 	file := open(t, filepath.Join(t.TempDir(), "file"), options())
 	look := func(n *notes) error {
 		return n.Each("PRAGMA synchronous", nil, func(row []driver.Value) error {
-			if got, want := row[0], int64(2); got != want {
-				t.Errorf("got synchronous = %v, want %d", got, want)
-			}
+			diff.Check(t, row[0], int64(2), "synchronous")
 			return nil
 		})
 	}

@@ -137,9 +137,7 @@ func TestOneCallForAllWhoWait(t *testing.T) {
 	}
 	s.end <- wrong
 	for n, returned := range late { // a third call would block here
-		if err := <-returned; err != wrong {
-			t.Errorf("%d: got %v, want %v", n, err, wrong)
-		}
+		diff.Check(t, <-returned, wrong, "%d", n)
 	}
 }
 

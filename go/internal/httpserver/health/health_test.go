@@ -214,9 +214,7 @@ func TestEachReasonIsReportedOnce(t *testing.T) {
 		if !step.isReported {
 			continue
 		}
-		if err := <-reported; err != step.err {
-			t.Errorf("got %v, want %v", err, step.err)
-		}
+		diff.Check(t, <-reported, step.err, "what is reported")
 	}
 	diff.Equal(t, len(reported), 0, "more reported")
 }

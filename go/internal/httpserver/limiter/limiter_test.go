@@ -50,9 +50,7 @@ func TestTheTurns(t *testing.T) {
 	limiter, pass := at()
 	failures(limiter, "192.0.2.1")
 	for count := time.Duration(2); count <= 100; count++ { // failures has taken the first turn
-		if got, want := limiter.FailedLogin("192.0.2.1"), count*delay; got != want {
-			t.Fatalf("got %v for failure %d, want %v", got, count, want)
-		}
+		diff.Equal(t, limiter.FailedLogin("192.0.2.1"), count*delay, "failure %d", count)
 	}
 	diff.Equal(t, limiter.FailedLogin("192.0.2.2"), 0, "another address")
 	pass(18 * delay)
@@ -103,9 +101,7 @@ func TestAFullLimiterKeepsTheWorst(t *testing.T) {
 	for number := 0; number < 2*capacity; number++ {
 		limiter.FailedLogin(fmt.Sprintf("10.%d.%d.%d", number>>16&255, number>>8&255, number&255))
 	}
-	if limiter.FailedLogin("192.0.2.1") == 0 {
-		t.Error("an address at its limit: got it forgotten for others that failed once, want it kept")
-	}
+	diff.Equal(t, limiter.FailedLogin("192.0.2.1") > 0, true, "an address at its limit is kept")
 }
 
 func TestManyGoroutines(t *testing.T) {

@@ -75,6 +75,14 @@ func Exec(t *testing.T, db *sql.DB, statements ...string) {
 	}
 }
 
+// WantSetting sees which value a session has of a setting.
+func WantSetting(t *testing.T, db *sql.DB, name, want string) {
+	t.Helper()
+	var got string
+	diff.Must(t, db.QueryRow("SHOW "+name).Scan(&got))
+	diff.Equal(t, got, want, "%s", name)
+}
+
 // Schema creates an empty schema, which is dropped at the end of the test, and returns a URL that uses it.
 func Schema(t *testing.T, address, name string) string {
 	t.Helper()
