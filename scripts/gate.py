@@ -60,7 +60,7 @@ NAMED = (
     "PYTHONPATH",
     "PYTEST_ADDOPTS",
 )
-BUILD = "for it in osb-broker osb-platform osb-storm; do [ ! -x $it ] || ./$it --help >/dev/null; done"
+BUILD = "for program in osb-broker osb-platform osb-storm; do [ ! -x $program ] || ./$program --help >/dev/null; done"
 """Builds the programs. Each reports that it is built, if it must be. A test that needs it waits for it."""
 NICENESS = 10
 """That of the tests that leave the processors to those that go by the clock."""

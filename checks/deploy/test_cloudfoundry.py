@@ -66,7 +66,7 @@ def services() -> dict[str, Value]:
 
 
 STAND_IN = """#!/bin/sh
-for it in "$@"; do echo "$it"; done >arguments
+for argument in "$@"; do echo "$argument"; done >arguments
 env >environment
 cat "$PGPASSFILE" >pgpass
 folder=$(dirname "$PGPASSFILE")

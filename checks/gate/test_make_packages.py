@@ -80,7 +80,7 @@ def test_who_is_not_root_uses_sudo(machine: Machine) -> None:
 
 
 def test_all_are_installed(machine: Machine) -> None:
-    machine.script("bin/dpkg-query", "for it in make wrk g++ libc6-dev; do echo installed $it; done")
+    machine.script("bin/dpkg-query", "for package in make wrk g++ libc6-dev; do echo installed $package; done")
     assert (machine.make("packages").returncode, machine.calls()) == (0, [])
 
 

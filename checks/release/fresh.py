@@ -30,7 +30,9 @@ mount -t proc proc proc
 mount -t sysfs -o ro sysfs sys
 for at in run tmp dev; do mount -t tmpfs -o mode=755 tmpfs "$at"; done
 chmod 1777 tmp
-for it in null zero full random urandom tty; do touch "dev/$it" && mount --bind "/dev/$it" "dev/$it"; done
+for device in null zero full random urandom tty; do
+    touch "dev/$device" && mount --bind "/dev/$device" "dev/$device"
+done
 mkdir dev/pts dev/shm .outside
 mount -t devpts -o newinstance,ptmxmode=0666,mode=620 devpts dev/pts
 mount -t tmpfs -o mode=1777 tmpfs dev/shm

@@ -176,7 +176,7 @@ def check_command_lines(debian: Fresh) -> None:
         trap 'tail -n 20 broker.log platform.log >&2' ERR
         export OSB_PLATFORM_STORE=/tmp/state/osb-platform/instances.sqlite
         export OSB_PLATFORM_KEY_FILE=/tmp/credentials/key
-        for it in {{1..300}}; do
+        for try in {{1..300}}; do
             if curl -s http://127.0.0.1:8080/healthz && [ -e $OSB_PLATFORM_STORE ]; then break; fi >/dev/null
             sleep 0.1
         done
@@ -202,7 +202,7 @@ def check_without_systemd(debian: Fresh) -> None:
         mkdir -p /tmp/var/log /tmp/var/lib
         {starts}
         trap 'tail -n 20 /tmp/var/log/*.log >&2' ERR
-        for it in {{1..300}}; do
+        for try in {{1..300}}; do
             if curl -s http://127.0.0.1:8080/healthz && ls /tmp/var/lib/osb-platform/*.sqlite; then break; fi
             sleep 0.1
         done >/dev/null 2>&1

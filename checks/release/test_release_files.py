@@ -196,7 +196,7 @@ def test_wheel(dist: Path, version: str, tmp_path: Path) -> None:
     run(python, "-m", "pip", "install", "--no-index", "--disable-pip-version-check", wheel)
     script = (
         "import osb, osb._lib\n"
-        "ids = [osb.Id.of(f'00000000-0000-0000-0000-00000000000{it}') for it in (1, 2, 3)]\n"
+        "ids = [osb.Id.of(f'00000000-0000-0000-0000-00000000000{number}') for number in (1, 2, 3)]\n"
         "record, request = osb.Record.create(*ids, False)\n"
         "print(record.state, request.kind, osb.version(), osb._lib.lib._name)\n"
     )
