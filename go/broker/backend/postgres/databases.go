@@ -347,11 +347,7 @@ func quote(name string) string { return pq.QuoteIdentifier(name) }
 //
 // Errors: ErrForeign, ErrWrongKey; those of the server.
 func (d *Databases) Create(ctx context.Context, request broker.Request) error {
-	conn, err := sessionOf(ctx, request.Key)
-	if err != nil {
-		return err
-	}
-	f, err := instance(ctx, conn, request)
+	conn, f, err := instance(ctx, request)
 	if err != nil {
 		return err
 	}
@@ -519,54 +515,52 @@ func (f resource) there() broker.There {
 	return broker.None
 }
 
-// instance returns what is found of an instance, if it is this store's.
-func instance(ctx context.Context, conn *sql.Conn, request broker.Request) (resource, error) {
-	f, err := find(ctx, conn, request.Key)
-	if err != nil {
-		return f, err
+// instance returns the session that holds the lock of an instance, and what is found of the instance, if that is this
+// store's.
+func instance(ctx context.Context, request broker.Request) (conn *sql.Conn, f resource, err error) {
+	if conn, err = sessionOf(ctx, request.Key); err != nil {
+		return conn, f, err
 	}
-	return f, f.check(request.Body == nil)
+	if f, err = find(ctx, conn, request.Key); err != nil {
+		return conn, f, err
+	}
+	return conn, f, f.check(request.Body == nil)
 }
 
 // Look returns what exists of an instance.
 //
 // Errors: ErrForeign if the name is taken by what isn't this store's; those of the server.
 func (d *Databases) Look(ctx context.Context, request broker.Request) (broker.There, error) {
-	conn, err := sessionOf(ctx, request.Key)
-	if err != nil {
-		return broker.None, err
-	}
-	f, err := instance(ctx, conn, request)
+	_, f, err := instance(ctx, request)
 	if err != nil {
 		return broker.None, err
 	}
 	return f.there(), nil
 }
 
-// binding returns what is found of a binding, and of its instance. It fails unless both are this store's. The request
-// of a binding doesn't show whether version 0.2 created the instance.
-func binding(ctx context.Context, conn *sql.Conn, request broker.Request) (own, of resource, err error) {
+// binding returns the session that holds the lock of a binding, and what is found of the binding and of its instance. It
+// fails unless both are this store's. The request of a binding doesn't show whether version 0.2 created the instance.
+func binding(ctx context.Context, request broker.Request) (conn *sql.Conn, own, of resource, err error) {
+	if conn, err = sessionOf(ctx, request.Key); err != nil {
+		return conn, own, of, err
+	}
 	if of, err = find(ctx, conn, osb.InstanceKey(request.Key.Instance)); err != nil {
-		return own, of, err
+		return conn, own, of, err
 	}
 	if err := of.check(true); err != nil {
-		return own, of, err
+		return conn, own, of, err
 	}
 	if own, err = find(ctx, conn, request.Key); err != nil {
-		return own, of, err
+		return conn, own, of, err
 	}
-	return own, of, own.check(false)
+	return conn, own, of, own.check(false)
 }
 
 // LookBinding returns what exists of a binding: its role, or a part if the role can't log in.
 //
 // Errors: ErrForeign; those of the server.
 func (d *Databases) LookBinding(ctx context.Context, request broker.Request) (broker.There, error) {
-	conn, err := sessionOf(ctx, request.Key)
-	if err != nil {
-		return broker.None, err
-	}
-	own, _, err := binding(ctx, conn, request)
+	_, own, _, err := binding(ctx, request)
 	switch {
 	case err != nil || !own.hasRole:
 		return broker.None, err
@@ -582,11 +576,7 @@ func (d *Databases) LookBinding(ctx context.Context, request broker.Request) (br
 //
 // Errors: ErrForeign, ErrWrongKey, that there is no such database; those of the server.
 func (d *Databases) CreateBinding(ctx context.Context, request broker.Request) (json.RawMessage, error) {
-	conn, err := sessionOf(ctx, request.Key)
-	if err != nil {
-		return nil, err
-	}
-	own, of, err := binding(ctx, conn, request)
+	conn, own, of, err := binding(ctx, request)
 	if err != nil {
 		return nil, err
 	}
@@ -614,11 +604,7 @@ func (d *Databases) CreateBinding(ctx context.Context, request broker.Request) (
 //
 // Errors: ErrForeign; ErrWrongKey if the key has been changed by Rekey; those of the server.
 func (d *Databases) DeleteBinding(ctx context.Context, request broker.Request) error {
-	conn, err := sessionOf(ctx, request.Key)
-	if err != nil {
-		return err
-	}
-	own, of, err := binding(ctx, conn, request)
+	conn, own, of, err := binding(ctx, request)
 	if err != nil {
 		return err
 	}

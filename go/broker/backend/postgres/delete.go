@@ -28,11 +28,7 @@ const (
 //
 // Errors: ErrForeign; those of the server.
 func (d *Databases) Delete(ctx context.Context, request broker.Request) error {
-	conn, err := sessionOf(ctx, request.Key)
-	if err != nil {
-		return err
-	}
-	f, err := instance(ctx, conn, request)
+	conn, f, err := instance(ctx, request)
 	if err != nil {
 		return err
 	}
