@@ -410,21 +410,10 @@ func (j *platformJournal) open(s journalSettings, worker string, vault platform.
 		},
 	})
 	if err != nil {
-		return journalError(err)
+		return ofFiles("--journal", err)
 	}
 	j.to = journal.New(j.writer, vault, isDoubtful)
 	return nil
-}
-
-// journalError is the error of a journal that can't be opened: an operator has to change something, unless the disk is
-// full.
-func journalError(err error) error {
-	mayPass := sqlitefile.MayPass(err)
-	err = fmt.Errorf("--journal: %w", err)
-	if mayPass {
-		return cli.Unavailable(err)
-	}
-	return cli.Unusable(err)
 }
 
 // isDoubtful reports whether a transaction that has failed with an error may have been committed.

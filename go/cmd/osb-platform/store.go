@@ -149,11 +149,13 @@ func openFile(ctx context.Context, path string) (platform.Store, error) {
 	return store, nil
 }
 
-// ofFile is the error of a file: an operator has to change something, unless it may be over later.
-func ofFile(err error) error {
-	mayPass := sqlitefile.MayPass(err)
-	err = fmt.Errorf("the store can't be used: %w", err)
-	if mayPass {
+// ofFile is the error of the store's file.
+func ofFile(err error) error { return ofFiles("the store can't be used", err) }
+
+// ofFiles is the error of files of this machine: an operator has to change something, unless it may be over later.
+func ofFiles(what string, err error) error {
+	err = fmt.Errorf("%s: %w", what, err)
+	if sqlitefile.MayPass(err) {
 		return cli.Unavailable(err)
 	}
 	return cli.Unusable(err)
