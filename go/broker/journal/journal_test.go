@@ -466,9 +466,7 @@ func TestCommitted(t *testing.T) {
 	check(t, change(store, 3))
 	arrives(4)
 	s.store.stepped, s.store.fails = nil, errFull
-	if err := change(store, 5); !errors.Is(err, errFull) {
-		t.Error(err)
-	}
+	diff.ErrorIs(t, change(store, 5), errFull, "")
 	arrives(5)
 }
 

@@ -437,9 +437,7 @@ func TestReadOfASilentServer(t *testing.T) {
 	for _, key := range []broker.Key{osb.InstanceKey(instance), osb.BindingKey(instance, instance)} {
 		t.Run(key.String(), func(t *testing.T) {
 			check(t, store.Change(ctx, key, describe("text", &calls)))
-			if text := descriptionOf(t, store, key); text != "text" {
-				t.Fatalf("%v: got %q, want \"text\"", key, text)
-			}
+			diff.Equal(t, descriptionOf(t, store, key), "text", "%v", key)
 			proxy.Hang(true)
 			diff.ErrorIs(t, diff.Err(store.Read(ctx, key)), broker.ErrAway, "%v", key)
 			proxy.Hang(false)

@@ -143,18 +143,12 @@ func TestTransactionFails(t *testing.T) {
 	})
 	check(t, err)
 	broken := s.Change(context.Background(), keyOf(1), func(snapshot broker.Snapshot) (*broker.Entry, error) {
-		if err := writer.exec("ROLLBACK"); err != nil { // as SQLite does of itself if the disk is full
-			t.Error(err)
-		}
+		diff.NoError(t, writer.exec("ROLLBACK"), "") // as SQLite does of itself if the disk is full
 		return provision(keyOf(1))(snapshot)
 	})
-	if broken == nil {
-		t.Error("got no error of a commit that failed, want one")
-	}
+	diff.Error(t, broken, "a commit that failed")
 	diff.NoError(t, s.Change(context.Background(), keyOf(2), provision(keyOf(2))), "")
-	if snapshot, err := s.Read(context.Background(), keyOf(1)); err != nil || snapshot.Holding.IsHeld() {
-		t.Errorf("got %v and the error %v, want nothing held", snapshot.Holding, err)
-	}
+	diff.Equal(t, diff.Value(s.Read(context.Background(), keyOf(1)))(t).Holding.IsHeld(), false, "held")
 }
 
 // A change isn't reported before its commit: another connection reads it then.
@@ -163,9 +157,7 @@ func TestTellsAfterCommit(t *testing.T) {
 	s, other := open(t, path, broker.Silent{}), open(t, path, broker.Silent{})
 	for n := 0; n < 50; n++ {
 		check(t, s.Change(context.Background(), keyOf(n), provision(keyOf(n))))
-		if snapshot, err := other.Read(context.Background(), keyOf(n)); err != nil || !snapshot.Holding.IsHeld() {
-			t.Fatalf("%d: got %v, want it written", n, err)
-		}
+		diff.Equal(t, diff.Value(other.Read(context.Background(), keyOf(n)))(t).Holding.IsHeld(), true, "%d", n)
 	}
 }
 
@@ -200,9 +192,7 @@ func TestMigration(t *testing.T) {
 	if err != nil || !isHeld || row != (osb.BrokerRow{Service: service, Plan: plan, Phase: osb.PhaseReady}) {
 		t.Errorf("got %v and the error %v, want the row that is ready", first, err)
 	}
-	if second, err := s.Read(context.Background(), keyOf(1)); err != nil || !second.Holding.HasTombstone() {
-		t.Errorf("got %v and the error %v, want a tombstone", second, err)
-	}
+	diff.Equal(t, diff.Value(s.Read(context.Background(), keyOf(1)))(t).Holding.HasTombstone(), true, "a tombstone")
 	diff.Equal(t, diff.Value(s.Name(context.Background()))(t), "a store", "")
 	diff.Equal(t, diff.Value(s.Stats(context.Background()))(t), (broker.Stats{Tombstones: 1}), "")
 }
@@ -289,9 +279,8 @@ func TestChangeOfAnUnreadableRow(t *testing.T) {
 				isCalled = true
 				return provision(keyOf(1))(snapshot)
 			})
-			if err == nil || isCalled {
-				t.Errorf("%s: got %v, the step called: %t; want an error, and no call", holding, err, isCalled)
-			}
+			diff.Error(t, err, "%s", holding)
+			diff.Equal(t, isCalled, false, "%s: the step was called", holding)
 			var description string
 			if err := s.file.Read(context.Background(), func(c *connection) (err error) {
 				description, err = c.text("SELECT description FROM holdings")

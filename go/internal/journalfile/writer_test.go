@@ -195,6 +195,13 @@ func TestFolder(t *testing.T) {
 	}
 }
 
+// writeNumbers writes a line for each number from the first to the last.
+func writeNumbers(w *Writer, first, last int) {
+	for n := first; n <= last; n++ {
+		w.Write("made", member{n, ""})
+	}
+}
+
 // A file goes on in FILE.1, FILE.2 and so on, also after a restart. Other files beside it don't count.
 func TestFile(t *testing.T) {
 	folder := t.TempDir()
@@ -203,9 +210,7 @@ func TestFile(t *testing.T) {
 		check(t, os.WriteFile(filepath.Join(folder, other), nil, 0o600))
 	}
 	w := openJournal(t, path, 250)
-	for n := 1; n <= 5; n++ {
-		w.Write("made", member{n, ""})
-	}
+	writeNumbers(w, 1, 5)
 	w.Close()
 	wantEvents(t, path, "started, 1, 2")
 	wantEvents(t, path+".1", "started, 3, 4")
@@ -226,9 +231,7 @@ func TestOnlyTheOwnerReads(t *testing.T) {
 		check(t, os.WriteFile(file, nil, 0o644))
 	}
 	w := openJournal(t, path, 250)
-	for n := 1; n <= 5; n++ {
-		w.Write("made", member{n, ""})
-	}
+	writeNumbers(w, 1, 5)
 	w.Close()
 	for _, file := range []string{path, path + ".1", path + ".2"} {
 		diff.Equal(t, diff.Value(os.Stat(file))(t).Mode(), 0o600, "the mode of %s", file)
@@ -252,9 +255,7 @@ func TestOnlyTheOwnerReads(t *testing.T) {
 func TestTaken(t *testing.T) {
 	path := filepath.Join(t.TempDir(), "journal")
 	first := openJournal(t, path, 200)
-	for n := 1; n <= 5; n++ {
-		first.Write("made", member{n, ""})
-	}
+	writeNumbers(first, 1, 5)
 	_, err := Open(Options{Path: path, Side: "broker", Most: 200})
 	diff.ErrorIs(t, err, ErrTaken, "")
 	diff.Contains(t, fmt.Sprint(err), path, "")
@@ -312,9 +313,7 @@ func TestFull(t *testing.T) {
 	about := diff.Value(os.Stat(path))(t)
 	longest(t, uint64(about.Size())+20) // in the middle of the next line
 	t.Cleanup(func() { longest(t, 1<<62) })
-	for n := 2; n <= 4; n++ {
-		w.Write("made", member{n, ""})
-	}
+	writeNumbers(w, 2, 4)
 	if len(told) != 1 || !errors.Is(told[0], syscall.EFBIG) || w.LostLines() != 3 {
 		t.Errorf("got %v and %d lost, want one that the file is too large, and 3", told, w.LostLines())
 	}
@@ -353,9 +352,7 @@ func TestNoNextFile(t *testing.T) {
 	path := filepath.Join(folder, "journal")
 	w := openJournal(t, path, 250)
 	check(t, os.Mkdir(path+".1", 0o700))
-	for n := 1; n <= 3; n++ {
-		w.Write("made", member{n, ""})
-	}
+	writeNumbers(w, 1, 3)
 	check(t, os.Remove(path+".1"))
 	w.Write("made", member{4, ""})
 	w.Close()
@@ -392,9 +389,7 @@ func TestDiskHangs(t *testing.T) {
 	disk, read := full(t)
 	w.patience, w.file = 50*time.Millisecond, disk
 	begun := time.Now()
-	for n := 1; n <= 100; n++ {
-		w.Write("made", member{n, ""})
-	}
+	writeNumbers(w, 1, 100)
 	if took := time.Since(begun); took < w.patience || took > 60*w.patience { // each of them would wait
 		t.Errorf("100 lines: got %v, want one wait for all of them", took)
 	}

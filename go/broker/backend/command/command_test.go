@@ -89,12 +89,10 @@ func TestCapabilities(t *testing.T) {
 			_, hasCredentials := backend.(broker.CredentialsBackend)
 			diff.Equal(t, hasBindings, c.bindings, "")
 			diff.Equal(t, hasCredentials, c.credentials, "")
-			if _, hasLocks := backend.(broker.LockBackend); !hasLocks {
-				t.Error("got a backend without locks, want one with them")
-			}
-			if _, hasSync := backend.(broker.SyncBackend); hasSync {
-				t.Error("got a backend that claims to know what is on disk, want one that doesn't")
-			}
+			_, hasLocks := backend.(broker.LockBackend)
+			diff.Equal(t, hasLocks, true, "the backend has locks")
+			_, hasSync := backend.(broker.SyncBackend)
+			diff.Equal(t, hasSync, false, "the backend claims to know what is on disk")
 		})
 	}
 }
@@ -274,9 +272,7 @@ func all(backend bindingsWithCredentials) map[string]error {
 func TestEachCallIsItsName(t *testing.T) {
 	backend := newBackend(t, Options{}, `echo "called with $*" >&2; exit 1`)
 	for call, err := range all(backend) {
-		if err == nil || !strings.HasSuffix(err.Error(), "called with "+call) {
-			t.Errorf("%s: got the error %v, want one that ends with the call", call, err)
-		}
+		diff.HasSuffix(t, fmt.Sprint(err), "called with "+call, "%s", call)
 	}
 }
 

@@ -4,6 +4,7 @@ import (
 	"context"
 	"encoding/json"
 	"errors"
+	"fmt"
 	"io"
 	"net/http"
 	"os"
@@ -179,9 +180,8 @@ func TestProcessThatLeftTheGroup(t *testing.T) {
 			started, goOn := fifo(t, backend.state+"/started"), fifo(t, backend.state+"/go")
 			lock := mustLock(t, backend.Locks())
 			err := canceledCreate(t, backend, lock, started)
-			if !errors.Is(err, context.Canceled) || !strings.HasSuffix(err.Error(), c.says) {
-				t.Errorf("Create: got %v, want one that says %q", err, c.says)
-			}
+			diff.ErrorIs(t, err, context.Canceled, "Create")
+			diff.HasSuffix(t, fmt.Sprint(err), c.says, "Create")
 			there, err := backend.Look(lock.Context(ctx), instance)
 			diff.Equal(t, there, broker.None, "Look while the process runs")
 			diff.ErrorIs(t, err, filelock.ErrLent, "Look while the process runs")
@@ -238,9 +238,8 @@ func TestCallThatDoesNotBegin(t *testing.T) {
 	stopped, stop := context.WithCancel(ctx)
 	stop()
 	err := backend.Create(stopped, instance)
-	if !errors.Is(err, context.Canceled) || strings.Contains(err.Error(), "killed") {
-		t.Errorf("Create: got %v, want %v without a kill", err, context.Canceled)
-	}
+	diff.ErrorIs(t, err, context.Canceled, "Create")
+	diff.Lacks(t, fmt.Sprint(err), "killed", "Create")
 }
 
 // A run without a lock has no descriptor 3.
@@ -271,9 +270,7 @@ func TestRunsLeaveNothing(t *testing.T) {
 	diff.ErrorIs(t, backend.Create(lock.Context(ctx), instance), filelock.ErrLent, "with a lock that is lent")
 	check(t, lent.Close())
 	diff.Equal(t, openFiles(t), before, "files open")
-	if pid, err := syscall.Wait4(-1, nil, syscall.WNOHANG, nil); err != syscall.ECHILD {
-		t.Errorf("the children: got %d, %v, want %v", pid, err, syscall.ECHILD)
-	}
+	diff.ErrorIs(t, diff.Err(syscall.Wait4(-1, nil, syscall.WNOHANG, nil)), syscall.ECHILD, "the children")
 }
 
 // openFiles returns how many files are open, without those that were deleted: the locks of an earlier test leave some
@@ -297,9 +294,7 @@ func TestFailureEndsTheGroup(t *testing.T) {
 	} {
 		t.Run(name, func(t *testing.T) {
 			backend := newBackend(t, Options{}, "sleep 600 >/dev/null 2>&1 3>&- & echo $! >pid; "+end)
-			if err := backend.Create(ctx, instance); err == nil {
-				t.Fatal("create: got no error, want one")
-			}
+			diff.Error(t, backend.Create(ctx, instance), "create")
 			waitForEnd(t, pidOf(t, backend))
 		})
 	}
@@ -308,9 +303,7 @@ func TestFailureEndsTheGroup(t *testing.T) {
 // What a look has left that reports no existence is killed too.
 func TestBadResultEndsTheGroup(t *testing.T) {
 	backend := newBackend(t, Options{}, `sleep 600 >/dev/null 2>&1 3>&- & echo $! >pid; echo '{"exists": "no"}'`)
-	if _, err := backend.Look(ctx, instance); err == nil {
-		t.Fatal("look: got no error, want one")
-	}
+	diff.Error(t, diff.Err(backend.Look(ctx, instance)), "look")
 	waitForEnd(t, pidOf(t, backend))
 }
 

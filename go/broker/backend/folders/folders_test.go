@@ -3,7 +3,6 @@ package folders
 import (
 	"context"
 	"encoding/json"
-	"errors"
 	"io/fs"
 	"os"
 	"path/filepath"
@@ -254,9 +253,8 @@ func TestLifeOfABinding(t *testing.T) {
 	has(t, f, bound, broker.None)
 	diff.ErrorIs(t, diff.Err(f.Credentials(ctx, bound)), fs.ErrNotExist,
 		"the credentials of a binding that was deleted")
-	if _, after := bind(t, f, bound); after.Token == read.Token {
-		t.Error("a new binding: got the token of the old one, want another")
-	}
+	_, after := bind(t, f, bound)
+	diff.Equal(t, after.Token == read.Token, false, "a new binding has the token of the old one")
 }
 
 func TestBindingsLeaveTheRestAlone(t *testing.T) {
@@ -393,9 +391,7 @@ func unlistableFolder(t *testing.T) string {
 	}
 	check(t, os.Chmod(folder, 0o300))
 	t.Cleanup(func() { _ = os.Chmod(folder, 0o700) })
-	if _, err := os.ReadDir(folder); !errors.Is(err, fs.ErrPermission) {
-		t.Fatalf("got %v, want a folder that can't be listed", err)
-	}
+	diff.ErrorIs(t, diff.Err(os.ReadDir(folder)), fs.ErrPermission, "a folder that can't be listed")
 	return folder
 }
 

@@ -149,10 +149,7 @@ func (r *rig) wantSettings(role, want string) {
 
 func wantTempFileLimit(t *testing.T, db *sql.DB, want string) {
 	t.Helper()
-	var got string
-	if err := db.QueryRow("SHOW temp_file_limit").Scan(&got); err != nil || got != want {
-		t.Errorf("temp_file_limit: got %s, %v, want %s", got, err, want)
-	}
+	pgtest.WantSetting(t, db, "temp_file_limit", want)
 }
 
 func TestCredentials(t *testing.T) {

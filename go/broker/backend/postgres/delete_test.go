@@ -506,9 +506,7 @@ func (c faultyCall) fails(t *testing.T, countdown *storefaults.Countdown) {
 		diff.Equal(t, diff.Value(c.look())(t), c.want, "%s, and %q has failed", c.name, failed)
 		if failed != "" {
 			diff.Equal(t, isDispensable(failed), true, "%s, and %q has failed without an error: it is dispensable", c.name, failed)
-			if err := c.undo(); err != nil {
-				t.Fatalf("%s: the opposite: got %v, want no error", c.name, err)
-			}
+			diff.NoError(t, c.undo(), "%s: the opposite", c.name)
 		}
 	}
 }

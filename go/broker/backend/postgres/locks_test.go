@@ -145,9 +145,7 @@ func TestALockThatOutlivesItsClient(t *testing.T) {
 	template := hold(t, r.admin, "BEGIN", "COMMENT ON DATABASE template0 IS 'unmodifiable empty database'")
 	proxy.Cut("CREATE DATABASE")
 	err = d.Create(taken.Context(context.Background()), request(key))
-	if err == nil {
-		t.Fatal("Create: got no error, want one")
-	}
+	diff.Error(t, err, "Create")
 	taken.Unlock()
 	second := r.open()
 	diff.Equal(t, take(t, second, key) == nil, true, "the lock is taken while the server creates the database")

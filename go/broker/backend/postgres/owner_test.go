@@ -157,9 +157,7 @@ func TestRekeyRejects(t *testing.T) {
 		})
 	}
 	r.wantPassword(key, secret, another)
-	if _, err := r.openWith(secret); err != nil {
-		t.Error(err)
-	}
+	diff.NoError(t, diff.Err(r.openWith(secret)), "Open")
 }
 
 // A customer that holds its own role, also by a binding, has its sessions ended, and gets its new password.

@@ -110,14 +110,12 @@ func TestNoCustomerTakesAdvisoryLocks(t *testing.T) {
 		"CREATE FUNCTION anew(bigint) RETURNS void LANGUAGE internal AS 'pg_advisory_lock_int8'",
 		"CREATE OPERATOR ### (PROCEDURE = pg_advisory_lock, LEFTARG = integer, RIGHTARG = integer)")
 	for _, call := range calls {
-		if _, err := owner.Exec(call); !pg.IsCode(err, pg.InsufficientPrivilege) {
-			t.Errorf("the owner: %s: got %v, want a lack of rights", call, err)
-		}
+		err := diff.Err(owner.Exec(call))
+		diff.Equal(t, pg.IsCode(err, pg.InsufficientPrivilege), true, "the owner lacks rights: %s: %v", call, err)
 	}
 	application := r.login(binding.Username, binding.Password, binding.Database)
-	if _, err := application.Exec("SELECT pg_advisory_lock(1)"); !pg.IsCode(err, pg.InsufficientPrivilege) {
-		t.Errorf("the application: got %v, want a lack of rights", err)
-	}
+	err := diff.Err(application.Exec("SELECT pg_advisory_lock(1)"))
+	diff.Equal(t, pg.IsCode(err, pg.InsufficientPrivilege), true, "the application lacks rights: %v", err)
 }
 
 // The template is looked at when the broker starts.
@@ -157,9 +155,8 @@ func TestTemplatesThatCantBeCopied(t *testing.T) {
 			options := postgres.Options{Key: secret, Sessions: 1, Template: template}
 			_, err := postgres.Open(context.Background(), r.url, options)
 			diff.ErrorContains(t, err, has, "")
-			if _, isLasting := pg.Remedy(err); !isLasting {
-				t.Errorf("%v: got an error that passes, want one that lasts", err)
-			}
+			_, isLasting := pg.Remedy(err)
+			diff.Equal(t, isLasting, true, "the error lasts: %v", err)
 		})
 	}
 }
