@@ -199,8 +199,7 @@ func endedText(t *testing.T, write func(osb.Holding) ([]byte, error)) []byte {
 	t.Helper()
 	var ended osb.Holding
 	check(t, ended.UnmarshalJSON([]byte(`{"marked":true,"row":null,"version":1,"work":null}`)))
-	text := diff.Value(write(ended))(t)
-	return text
+	return diff.Value(write(ended))(t)
 }
 
 // The tables of a broker of version 0.3, with the numbers of its workers: they are forgotten.
@@ -456,8 +455,7 @@ func describe(text string, calls *int) broker.Step {
 
 func descriptionOf(t *testing.T, store broker.Store, key broker.Key) string {
 	t.Helper()
-	snapshot := diff.Value(store.Read(context.Background(), key))(t)
-	return snapshot.Description
+	return diff.Value(store.Read(context.Background(), key))(t).Description
 }
 
 // failures are what an observer got.

@@ -561,8 +561,7 @@ func (s *servedBroker) expect(status int, method, path, body string) string {
 // soldInstances are the instances that exist as folders.
 func soldInstances(t *testing.T, state string) []string {
 	t.Helper()
-	found := diff.Value(filepath.Glob(filepath.Join(state, "instances", "*-*")))(t)
-	return found
+	return diff.Value(filepath.Glob(filepath.Join(state, "instances", "*-*")))(t)
 }
 
 // The asynchronous plan of the standard catalogue. Its creation begins with the first poll.

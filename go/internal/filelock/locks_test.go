@@ -28,8 +28,7 @@ const (
 
 func newLocks(t *testing.T, path string) *Locks {
 	t.Helper()
-	locks := diff.Value(New(path))(t)
-	return locks
+	return diff.Value(New(path))(t)
 }
 
 // isFree reports whether the lock of a key is free.
@@ -48,8 +47,7 @@ func mustLock(t *testing.T, locks *Locks, key string) *Lock {
 	t.Helper()
 	ctx, cancel := context.WithTimeout(context.Background(), time.Minute)
 	defer cancel()
-	lock := diff.Value(locks.Lock(ctx, key))(t)
-	return lock
+	return diff.Value(locks.Lock(ctx, key))(t)
 }
 
 func TestGoroutinesExcludeEachOther(t *testing.T) {
@@ -153,17 +151,6 @@ func TestLockWaitsUntilItsContextIsDone(t *testing.T) {
 	diff.Equal(t, openFiles(t), before, "files open")
 }
 
-// A countingContext counts the looks at its end: Lock takes one before each try.
-type countingContext struct {
-	context.Context
-	looks int
-}
-
-func (c *countingContext) Err() error {
-	c.looks++
-	return c.Context.Err()
-}
-
 // Whoever waits for a lock rests after each try: for 1, 2, 4, 8 and 16 ms, and then for as long as the longest pause.
 func TestLockRestsBetweenItsTries(t *testing.T) {
 	locks := newLocks(t, filepath.Join(t.TempDir(), "locks"))
@@ -172,10 +159,10 @@ func TestLockRestsBetweenItsTries(t *testing.T) {
 	begun := time.Now()
 	ctx, cancel := context.WithTimeout(context.Background(), 100*time.Millisecond)
 	defer cancel()
-	waiting := &countingContext{Context: ctx}
+	waiting := &turns{Context: ctx, call: func(int) {}}
 	diff.ErrorIs(t, diff.Err(locks.Lock(waiting, one)), context.DeadlineExceeded, "")
-	if most := 8 + int(time.Since(begun)/longestPause); waiting.looks < 2 || waiting.looks > most {
-		t.Errorf("got %d tries, want from 2 to %d", waiting.looks, most)
+	if most := 8 + int(time.Since(begun)/longestPause); waiting.count < 2 || waiting.count > most {
+		t.Errorf("got %d tries, want from 2 to %d", waiting.count, most)
 	}
 }
 
@@ -456,8 +443,7 @@ func catWith(t *testing.T, lock *Lock) (*exec.Cmd, io.Closer) {
 // lend lends a lock. It fails if that isn't possible within ten seconds.
 func lend(t *testing.T, lock *Lock) *os.File {
 	t.Helper()
-	lent := diff.Value(Lend(lock.Context(context.Background()), 10*time.Second))(t)
-	return lent
+	return diff.Value(Lend(lock.Context(context.Background()), 10*time.Second))(t)
 }
 
 // While a child has the lock, it isn't lent to another one, and nobody else gets it. Afterwards it is lent again.

@@ -239,16 +239,14 @@ func newAuthority(t *testing.T) *authority {
 
 func (a *authority) newKey() *ecdsa.PrivateKey {
 	a.t.Helper()
-	key := diff.Value(ecdsa.GenerateKey(elliptic.P256(), rand.Reader))(a.t)
-	return key
+	return diff.Value(ecdsa.GenerateKey(elliptic.P256(), rand.Reader))(a.t)
 }
 
 func (a *authority) sign(file string, template, parent *x509.Certificate, of *ecdsa.PrivateKey) *x509.Certificate {
 	a.t.Helper()
 	der := diff.Value(x509.CreateCertificate(rand.Reader, template, parent, &of.PublicKey, a.key))(a.t)
 	a.write(file, "CERTIFICATE", der)
-	certificate := diff.Value(x509.ParseCertificate(der))(a.t)
-	return certificate
+	return diff.Value(x509.ParseCertificate(der))(a.t)
 }
 
 func (a *authority) write(file, kind string, der []byte) {

@@ -80,8 +80,7 @@ func TestExampleLife(t *testing.T) {
 // resources returns the paths of all resources, whole and in part.
 func resources(t *testing.T, backend bindingsWithCredentials) []string {
 	t.Helper()
-	found := diff.Value(filepath.Glob(backend.state + "/[0-9a-f]*"))(t)
-	return found
+	return diff.Value(filepath.Glob(backend.state + "/[0-9a-f]*"))(t)
 }
 
 // Other users of the machine can't read what the program creates.

@@ -145,8 +145,7 @@ func mustLock(t *testing.T, locks broker.Locks) broker.Lock {
 	t.Helper()
 	limited, cancel := context.WithTimeout(ctx, time.Minute)
 	defer cancel()
-	lock := diff.Value(locks.Lock(limited, instance.Key))(t)
-	return lock
+	return diff.Value(locks.Lock(limited, instance.Key))(t)
 }
 
 // If the broker stops, the program is killed.
@@ -228,8 +227,7 @@ func TestServerThatHasTheLock(t *testing.T) {
 func pidOf(t *testing.T, backend bindingsWithCredentials) int {
 	t.Helper()
 	text := diff.Value(os.ReadFile(filepath.Join(backend.state, "pid")))(t)
-	pid := diff.Value(strconv.Atoi(strings.TrimSpace(string(text))))(t)
-	return pid
+	return diff.Value(strconv.Atoi(strings.TrimSpace(string(text))))(t)
 }
 
 // Once its context is done, no call begins.

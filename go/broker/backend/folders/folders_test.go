@@ -32,8 +32,7 @@ func requestOf(key broker.Key) broker.Request {
 
 func newFolders(t *testing.T, top string) *Folders {
 	t.Helper()
-	f := diff.Value(New(top))(t)
-	return f
+	return diff.Value(New(top))(t)
 }
 
 var check = diff.Must
