@@ -155,38 +155,32 @@ func seconds(text json.RawMessage) time.Duration {
 // Service returns the service of this name or id, and if none is named the only one. It returns nil if there is no
 // such service.
 func (c *Catalogue) Service(named string) *CatalogueService {
-	if named == "" && len(c.Services) == 1 {
-		return &c.Services[0]
-	}
-	for _, isIt := range []func(CatalogueService) bool{
-		func(s CatalogueService) bool { return s.ID == named },
-		func(s CatalogueService) bool { return s.Name == named },
-	} {
-		for at := range c.Services {
-			if named != "" && isIt(c.Services[at]) {
-				return &c.Services[at]
-			}
-		}
-	}
-	return nil
+	return find(c.Services, named, func(s *CatalogueService) (id, name string) { return s.ID, s.Name })
 }
 
 // Plan returns the plan of this name or id, and if none is named the only one. It returns nil if there is no such plan.
 func (s *CatalogueService) Plan(named string) *CataloguePlan {
-	if named == "" && len(s.Plans) == 1 {
-		return &s.Plans[0]
+	return find(s.Plans, named, func(p *CataloguePlan) (id, name string) { return p.ID, p.Name })
+}
+
+// find returns what has this id, or else what has this name; if none is named, the only one; and otherwise nil.
+func find[T any](all []T, named string, textsOf func(*T) (id, name string)) (found *T) {
+	switch {
+	case named == "" && len(all) == 1:
+		return &all[0]
+	case named == "":
+		return nil
 	}
-	for _, isIt := range []func(CataloguePlan) bool{
-		func(p CataloguePlan) bool { return p.ID == named },
-		func(p CataloguePlan) bool { return p.Name == named },
-	} {
-		for at := range s.Plans {
-			if named != "" && isIt(s.Plans[at]) {
-				return &s.Plans[at]
-			}
+	for at := range all {
+		id, name := textsOf(&all[at])
+		if id == named {
+			return &all[at]
+		}
+		if name == named && found == nil {
+			found = &all[at]
 		}
 	}
-	return nil
+	return found
 }
 
 // plan returns the service and the plan of these numbers, or nil for what there isn't.

@@ -263,6 +263,7 @@ func NewMemory(clock func() time.Time) Store { return newMemory(clock) }
 // A memory is a Store in memory. It locks rows as a database does, keeps whole milliseconds, and can be stopped between
 // any two statements.
 type memory struct {
+	Store // nil: what it doesn't have is called by nobody here
 	clock func() time.Time
 	// between is called before a transaction, and between two statements: without a lock of the memory, but with those
 	// of the rows.
@@ -625,22 +626,10 @@ func (m *memory) Positions(ctx context.Context, filter Filter) (positions []Posi
 	return positions, err
 }
 
-func (m *memory) Moment(context.Context) (Moment, error) {
-	return "", errors.New("nobody asks for this here")
-}
-
 func (m *memory) Life(_ context.Context, key Key) ([]Stay, error) {
 	m.mu.Lock()
 	defer m.mu.Unlock()
 	return append([]Stay(nil), m.lives[key]...), nil
-}
-
-func (m *memory) Counts(context.Context) ([]Count, error) {
-	return nil, errors.New("nobody counts here")
-}
-
-func (m *memory) InFlight(context.Context, int) ([]Entry, error) {
-	return nil, errors.New("nobody asks for this here")
 }
 
 func (m *memory) NextDue(_ context.Context, brokers []string) (due, now time.Time, err error) {
@@ -659,10 +648,6 @@ func (m *memory) NextDue(_ context.Context, brokers []string) (due, now time.Tim
 		}
 	}
 	return due, now, nil
-}
-
-func (m *memory) OldestDue(context.Context) (due, now time.Time, err error) {
-	return due, now, errors.New("nobody asks for this here")
 }
 
 func (m *memory) Brokers(context.Context) ([]Broker, error) {
@@ -758,8 +743,6 @@ func (m *memory) setFull(err error) {
 	defer m.mu.Unlock()
 	m.full = err
 }
-
-var _ Store = (*memory)(nil)
 
 // id is the id with these last digits.
 func id(last string) osb.ID {
