@@ -83,9 +83,7 @@ func TestValuesThatCannotBeWritten(t *testing.T) {
 	entry := Entry{Order: Order{Key: anInstance}, IsSent: true}
 	diff.ErrorIs(t, diff.Err((*recordText)(&entry).MarshalText()), osb.ErrBadRecord, "")
 	defer func() {
-		if recover() == nil {
-			t.Error("a float64: got a value, want a panic")
-		}
+		diff.Equal(t, recover() != nil, true, "a float64 panics")
 	}()
 	_, _ = Column[Entry]{Member: func(*Entry) any { return new(float64) }}.Value(&entry)
 }

@@ -226,9 +226,7 @@ func TestDecide(t *testing.T) {
 
 func checkExpected(t *testing.T, got decision, want expectation, now time.Time) {
 	t.Helper()
-	if got.err != nil {
-		t.Fatalf("got the error %v, want none", got.err)
-	}
+	check(t, got.err)
 	kind := ""
 	if got.send != nil {
 		kind = kindOf(got.send.out.Request.Kind, got.entry.Key)

@@ -105,9 +105,8 @@ func TestObserver(t *testing.T) {
 		{Broker: "shelf", Key: key, Kind: "provision", Attempt: 1, Status: 201},
 		{Broker: "shelf", Key: key, Kind: "deprovision", Attempt: 2, Status: 200},
 	} {
-		if want.RequestID = p.sent[at].RequestID; want.RequestID == "" {
-			t.Error("got no identity of a request, want one")
-		}
+		want.RequestID = p.sent[at].RequestID
+		diff.Equal(t, want.RequestID != "", true, "the request has an identity")
 		diff.Check(t, p.answered[at], want, "the exchange %d", at)
 	}
 }
@@ -184,9 +183,7 @@ func TestWithoutVault(t *testing.T) {
 	p.untilState(instance, Ready)
 	e := diff.Value(p.orders.Bind(background, NewBinding{Instance: instance.String()}))(t)
 	p.untilState(e.Key, Gone)
-	if p.hasFailed("credentials_lost") == 0 {
-		t.Error("the reports: got none, want credentials_lost")
-	}
+	diff.AtLeast(t, p.hasFailed("credentials_lost"), 1, "reports")
 }
 
 // What is reported and kept of an error isn't long, as that of a certificate with many names. What it wraps is found.

@@ -389,9 +389,7 @@ func (s *scene) checkReported(t *testing.T) {
 	t.Helper()
 	s.mu.Lock()
 	defer s.mu.Unlock()
-	if len(s.exchanges) == 0 {
-		t.Error("the reports: got none, want one")
-	}
+	diff.AtLeast(t, len(s.exchanges), 1, "the reports")
 	for _, exchange := range s.exchanges {
 		lost := ""
 		if exchange.Lost != nil {
@@ -444,9 +442,7 @@ func (s *scene) checkEnding(t *testing.T, want ending) {
 		t.Errorf("kept: got %q, %q and %q, want %q, %q and %q", first.Dashboard, first.Metadata, first.Because,
 			want.dashboard, want.metadata, want.because)
 	}
-	if got, want := strings.Join(s.orphans, ", "), strings.Join(want.orphans, ", "); got != want {
-		t.Errorf("the orphans: got %q, want %q", got, want)
-	}
+	diff.Equal(t, strings.Join(s.orphans, ", "), strings.Join(want.orphans, ", "), "the orphans")
 }
 
 func checkReason(t *testing.T, what string, got platform.Reason, want reason) {

@@ -281,9 +281,8 @@ func (s *stage) check(t *testing.T, key Key, hold time.Duration) {
 				request.at.Sub(e.Lease.Until))
 		}
 		name := fmt.Sprint(e.Key, e.Record.Attempt(), request.IsFetch, e.State == Gone, e.Lease.Until)
-		if sent[name]++; sent[name] > 1 {
-			t.Errorf("%v of %v: got it sent %d times, want once", request.Request.Kind, e.Key, sent[name])
-		}
+		sent[name]++
+		diff.AtMost(t, sent[name], 1, "%v of %v: times that it is sent", request.Request.Kind, e.Key)
 		switch request.Request.Kind {
 		case osb.KindProvision:
 			created[e.Key] = request.at
@@ -297,9 +296,8 @@ func (s *stage) check(t *testing.T, key Key, hold time.Duration) {
 	tries := map[string]int{}
 	for _, e := range rows {
 		name := fmt.Sprint(e.First, e.Try)
-		if tries[name]++; tries[name] > 1 {
-			t.Errorf("try %d of %v: got it ordered %d times, want once", e.Try, e.First, tries[name])
-		}
+		tries[name]++
+		diff.AtMost(t, tries[name], 1, "try %d of %v: times that it is ordered", e.Try, e.First)
 		isRight := e.State == Ready && s.seller.isThere(e.Key) || e.State == Gone && s.seller.isNone(e.Key)
 		if !isRight || !e.Rests() || e.Lease != (Lease{}) {
 			t.Errorf("%v: got it recorded %s, due %v, %v, want it at rest as the broker has it: %s", e.Key, e.State, e.Due,

@@ -107,9 +107,7 @@ func TestDocumentIsWhole(t *testing.T) {
 	for name, schema := range described.Components.Schemas {
 		diff.Contains(t, text, `"#/components/schemas/`+name+`"`, "the schema %s", name)
 		for _, needed := range schema.Value.Required {
-			if schema.Value.Properties[needed] == nil {
-				t.Errorf("the schema %s: got no %s, which it needs, want one", name, needed)
-			}
+			diff.Equal(t, schema.Value.Properties[needed] != nil, true, "the schema %s has %s", name, needed)
 		}
 	}
 	for name, response := range described.Components.Responses {
@@ -177,9 +175,7 @@ func TestSchemasHaveTheMembers(t *testing.T) {
 				schema = schemas[name]
 			}
 			for member := range schema.Value.Properties {
-				if !members[member] {
-					t.Errorf("%s: got no member %s, want one", name, member)
-				}
+				diff.Equal(t, members[member], true, "%s has the member %s", name, member)
 				delete(members, member)
 			}
 			diff.Equal(t, len(members), 0, "the schema %s", name)

@@ -186,9 +186,7 @@ func TestPages(t *testing.T) {
 	}
 	diff.Equal(t, len(seen), 8, "")
 	diff.Equal(t, sizes, "3 3 2 ", "")
-	if got := r.call("GET", "/v1/instances?limit=8", "").want(200, ""); got.body["next"] != nil {
-		t.Errorf("the last page: got the next %s, want none", got.at("next"))
-	}
+	diff.Equal(t, r.call("GET", "/v1/instances?limit=8", "").want(200, "").body["next"] == nil, true, "no page is next")
 }
 
 func TestFilters(t *testing.T) {
@@ -321,9 +319,8 @@ func TestTokens(t *testing.T) {
 				got.want(200, "")
 				continue
 			}
-			if got.want(401, "unauthorized").header.Get("WWW-Authenticate") == "" {
-				t.Error("WWW-Authenticate: got none, want route")
-			}
+			challenge := got.want(401, "unauthorized").header.Get("WWW-Authenticate")
+			diff.Equal(t, challenge != "", true, "WWW-Authenticate is there")
 		}
 		for text, has := range map[string]Permission{reading: Read, writing: Write, opening: Credentials} {
 			if route.needs != 0 && has != route.needs {
@@ -593,9 +590,7 @@ func TestNoControlsInAnswers(t *testing.T) {
 	diff.Equal(t, shown.at("last", "description"), hostile, "%s", shown.text)
 	diff.Equal(t, shown.at("metadata", "labels", "a"), hostile, "%s", shown.text)
 	wrong := r.call("GET", "/v1/instances/"+strings.Repeat("%C2%9B", 3), "").want(404, "not_found")
-	if strings.ContainsRune(wrong.text, 0x9b) {
-		t.Errorf("a problem: got %q, want no control in it", wrong.text)
-	}
+	diff.Lacks(t, wrong.text, "\u009b", "a problem")
 }
 
 func TestPrintable(t *testing.T) {

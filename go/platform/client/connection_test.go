@@ -559,9 +559,8 @@ func TestClock(t *testing.T) {
 		t.Errorf("got %v in %v, want at least 10 ms", passed, whole)
 	}
 	other := sinceStart()
-	if first := other(); other().Before(first) {
-		t.Error("the clock: got an earlier time, want a later one")
-	}
+	first := other()
+	diff.Equal(t, other().Before(first), false, "the clock goes back")
 }
 
 // What a client can't be made of.

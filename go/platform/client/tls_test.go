@@ -345,7 +345,6 @@ func TestInClear(t *testing.T) {
 	}
 	diff.ErrorIs(t, exchange(t, c, "http://broker.example", osb.KindProvision).Lost, ErrNotSent, "")
 	far := platform.Broker{Name: "x", URL: "http://broker.example"}
-	if _, _, err := c.Catalogue(context.Background(), far); err == nil {
-		t.Error("the catalogue: got no error, want one")
-	}
+	_, _, err := c.Catalogue(context.Background(), far)
+	diff.Error(t, err, "the catalogue")
 }

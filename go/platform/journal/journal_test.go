@@ -278,9 +278,7 @@ func TestUsed(t *testing.T) {
 	s := newTestPlatform(t)
 	s.create("one")
 	_, err := s.orders.Create(background, platform.NewInstance{Service: service, Plan: plan, ID: "one"})
-	if err == nil {
-		t.Fatal("the id that is used: got no error, want one")
-	}
+	diff.Error(t, err, "the id that is used")
 	want(t, "twice", s.events(1), "order ordered; order ordered; undone")
 	from := len(s.lines())
 	s.store.tries = 2

@@ -303,9 +303,7 @@ func TestOpenExisting(t *testing.T) {
 	pgtest.Exec(t, db, of02...)
 	for _, tables := range []string{"those of version 0.2", "those of this version"} {
 		store, err := postgres.OpenExisting(background, url, 1)
-		if err != nil {
-			t.Fatalf("%s: got %v, want no error", tables, err)
-		}
+		check(t, err)
 		diff.Equal(t, len(diff.Value(store.Brokers(background))(t)), 1, "%s", tables)
 		diff.NoError(t, store.Close(), "")
 	}

@@ -135,9 +135,7 @@ func TestOpenExisting(t *testing.T) {
 	path := old(t)
 	for _, tables := range []string{"those of version 0.2", "those of this version"} {
 		store, err := OpenExisting(background, path)
-		if err != nil {
-			t.Fatalf("%s: got %v, want no error", tables, err)
-		}
+		check(t, err)
 		diff.Equal(t, len(diff.Value(store.Brokers(background))(t)), 1, "%s", tables)
 		diff.NoError(t, store.Close(), "")
 	}

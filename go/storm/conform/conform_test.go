@@ -96,9 +96,7 @@ func TestModelPasses(t *testing.T) {
 		})
 	}
 	for _, test := range Cases() {
-		if !passed[test.Name] {
-			t.Errorf("%s: got no run at either, want one", test.Name)
-		}
+		diff.Equal(t, passed[test.Name], true, "%s has run at either", test.Name)
 	}
 }
 
@@ -128,23 +126,17 @@ func TestMistakes(t *testing.T) {
 func TestEveryCaseHasAMistake(t *testing.T) {
 	known, met := map[string]bool{}, map[string]bool{}
 	for _, test := range Cases() {
-		if known[test.Name] {
-			t.Errorf("%s: got it twice, want it once", test.Name)
-		}
+		diff.Equal(t, known[test.Name], false, "%s stands twice", test.Name)
 		known[test.Name] = true
 	}
 	for _, mistake := range mistakes {
 		for _, name := range strings.Fields(mistake.fails) {
 			met[name] = true
-			if !known[name] {
-				t.Errorf("%s: got no case %s, want one", mistake.name, name)
-			}
+			diff.Equal(t, known[name], true, "%s: the case %s is there", mistake.name, name)
 		}
 	}
 	for name := range known {
-		if !met[name] {
-			t.Errorf("got no mistake about %s, want one", name)
-		}
+		diff.Equal(t, met[name], true, "a mistake about %s is there", name)
 	}
 }
 

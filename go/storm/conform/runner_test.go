@@ -106,9 +106,7 @@ func TestHangingBroker(t *testing.T) {
 	left := r.CleanUp(context.Background())
 	diff.Empty(t, left, "left")
 	diff.Equal(t, m.countExisting(), 0, "count existing")
-	if m.count == 0 {
-		t.Error("got no creation, want one")
-	}
+	diff.AtLeast(t, m.count, 1, "creations")
 }
 
 // owing returns a Runner that owes instances at a model: first one whose creation wasn't answered and that doesn't

@@ -44,9 +44,7 @@ func TestBySeed(t *testing.T) {
 		other.Next(Subject{1 + n%5, n % 2})
 	}
 	diff.Check(t, other.Faults(), one.Faults(), "the faults by one seed, in another order")
-	if reflect.DeepEqual(one.Faults(), next.Faults()) {
-		t.Errorf("got the faults %v by two seeds, want others by the next seed", one.Faults())
-	}
+	diff.Equal(t, reflect.DeepEqual(one.Faults(), next.Faults()), false, "the same faults by two seeds")
 	if count := len(one.Faults()); count < 60 || count > 140 {
 		t.Errorf("got %d of 200 requests with a fault, want 60 to 140", count)
 	}

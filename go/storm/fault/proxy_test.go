@@ -171,9 +171,7 @@ func TestKinds(t *testing.T) {
 			broker := &countingBroker{}
 			p := between(t, broker, test.kind, nil)
 			r := putOf(p, test.kind)
-			if !test.gets(r) {
-				t.Errorf("the platform: got %+v, want what the fault gives", r)
-			}
+			diff.Equal(t, test.gets(r), true, "the platform gets what the fault gives: %+v", r)
 			if whole, _, _ := broker.counts(); test.whole >= 0 && whole != test.whole {
 				t.Errorf("the broker: got %d requests, want %d", whole, test.whole)
 			}
@@ -186,9 +184,8 @@ func TestKinds(t *testing.T) {
 			if len(all) != 1 || all[0].Fault != test.kind || all[0].Number.String() != "1.1" || all[0].Receipt.Words == "" {
 				t.Fatalf("the capture: got %+v, want the fault of 1.1", all)
 			}
-			if again := put(p, path); !answered(again) {
-				t.Errorf("the next request: got %+v, want an answer", again)
-			}
+			again := put(p, path)
+			diff.Equal(t, answered(again), true, "the next request is answered: %+v", again)
 		})
 	}
 }
@@ -427,9 +424,7 @@ func TestForwardsOthers(t *testing.T) {
 		answer := diff.Value(http.DefaultTransport.RoundTrip(sent))(t)
 		_ = answer.Body.Close()
 	}
-	if put(p, path).err == nil {
-		t.Error("the request about an instance: got no fault, want one")
-	}
+	diff.Error(t, put(p, path).err, "the request about an instance")
 	wanted := strings.Join(others, " ")
 	if whole, _, _ := broker.counts(); whole != len(others) || strings.Join(broker.paths, " ") != wanted {
 		t.Errorf("the broker: got %q, want %q", broker.paths, wanted)

@@ -78,9 +78,7 @@ func TestBreaksMust(t *testing.T) {
 	if BreaksMust(nil) || BreaksMust([]Violation{of(conform.Should), of(conform.May)}) {
 		t.Error("got a MUST that is broken, want none")
 	}
-	if !BreaksMust([]Violation{of(conform.Should), of(conform.Must)}) {
-		t.Error("got no MUST that is broken, want one")
-	}
+	diff.Equal(t, BreaksMust([]Violation{of(conform.Should), of(conform.Must)}), true, "a MUST is broken")
 }
 
 // Each rule stands once, with the first request, how often it was broken, and the number of each request that has one.

@@ -257,13 +257,9 @@ func TestSecondSignal(t *testing.T) {
 		listed[strings.Trim(leftover.Instance+"_"+leftover.Binding, "_")] = true
 	}
 	for _, name := range m.list(t) {
-		if !listed[name] {
-			t.Errorf("%s: got it left, and not listed, want it listed", name)
-		}
+		diff.Equal(t, listed[name], true, "%s, which is left, is listed", name)
 	}
-	if len(m.list(t)) == 0 {
-		t.Error("got everything deleted, want something left")
-	}
+	diff.AtLeast(t, len(m.list(t)), 1, "what is left")
 }
 
 // What others have at the broker is neither deleted nor reported, even if its id is like one of the run.
@@ -413,9 +409,7 @@ func TestLives(t *testing.T) {
 	all := lives(7, 40, time.Minute, true, nil)
 	again, others := lives(7, 40, time.Minute, true, nil), lives(8, 40, time.Minute, true, nil)
 	diff.Check(t, again, all, "the lives of the same seed again")
-	if reflect.DeepEqual(all, others) {
-		t.Error("got the same lives of another seed, want others")
-	}
+	diff.Equal(t, reflect.DeepEqual(all, others), false, "another seed has the same lives")
 	var early, stays, whole, bindings int
 	for _, life := range all {
 		counted := map[*int]bool{&early: life.early, &stays: life.stays, &whole: life.whole, &bindings: life.bindings > 0}

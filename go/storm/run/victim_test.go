@@ -77,9 +77,7 @@ func TestVictimIsKilled(t *testing.T) {
 		t.Errorf("got %d starts, %d kills, %v visited and odd %v, want at least 8 kills, each of one start", started, its.kills,
 			its.visited, its.odd)
 	}
-	if process := v.running.Process; process.Signal(syscall.Signal(0)) == nil {
-		t.Error("got a process left, want none")
-	}
+	diff.Error(t, v.running.Process.Signal(syscall.Signal(0)), "a process is left")
 }
 
 // A paused process does nothing meanwhile, and goes on then.
@@ -104,9 +102,7 @@ func TestVictimIsPaused(t *testing.T) {
 	time.Sleep(100 * time.Millisecond)
 	diff.Equal(t, state(), "T", "the state while it is paused")
 	<-done
-	if it := state(); it == "T" {
-		t.Error("got it still paused, want it to go on")
-	}
+	diff.Equal(t, state() == "T", false, "it is still paused")
 }
 
 // Each crash point is visited once, also if the program doesn't reach it in its first life.

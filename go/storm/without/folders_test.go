@@ -81,9 +81,7 @@ func TestTogether(t *testing.T) {
 	}
 	within(binding)
 	check(t, s.Create(ctx, request(instance)))
-	if _, err := os.Stat(filepath.Join(state, "together")); !os.IsNotExist(err) {
-		t.Errorf("two keys: got %v, want them to count as two", err)
-	}
+	diff.ErrorIs(t, diff.Err(os.Stat(filepath.Join(state, "together"))), os.ErrNotExist, "two keys that count as one")
 	within(instance)
 	check(t, s.Create(ctx, request(instance)))
 	within(binding)
@@ -96,15 +94,10 @@ func TestTogether(t *testing.T) {
 func TestForgetful(t *testing.T) {
 	s, _ := newSlowFolders(t)
 	var made broker.Backend = forgetfulFolders{s}
-	if _, ok := made.(broker.CredentialsBackend); ok {
-		t.Error("got credentials, want none")
-	}
-	if _, ok := made.(broker.TiedBackend); !ok {
-		t.Error("got no owner, want one")
-	}
-	if _, ok := made.(broker.LockBackend); !ok {
-		t.Error("got no locks, want some")
-	}
+	_, hasCredentials := made.(broker.CredentialsBackend)
+	_, hasOwner := made.(broker.TiedBackend)
+	_, hasLocks := made.(broker.LockBackend)
+	diff.Equal(t, [3]bool{hasCredentials, hasOwner, hasLocks}, [3]bool{false, true, true}, "credentials, owner, locks")
 }
 
 func TestPauseEndsWithItsContext(t *testing.T) {

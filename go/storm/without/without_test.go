@@ -40,9 +40,7 @@ func TestALifeWithoutAPart(t *testing.T) {
 			s.remove(200, binding, now)
 			s.remove(200, instance, now)
 			s.remove(410, instance, now)
-			if _, err := os.Stat(filepath.Join(s.top, one.String())); !os.IsNotExist(err) {
-				t.Errorf("the folder: got %v, want that there is none", err)
-			}
+			diff.ErrorIs(t, diff.Err(os.Stat(filepath.Join(s.top, one.String()))), os.ErrNotExist, "the folder")
 		})
 	}
 }
@@ -194,9 +192,7 @@ func TestLateAnswerIsTaken(t *testing.T) {
 	store, entry := inFlight(t)
 	client := lateClient{make(chan platform.Incoming), make(chan time.Time, 1)}
 	out := platform.Outgoing{Entry: entry, Until: time.Now()}
-	if in := ClientWithoutAttempts(client, store).Exchange(ctx, out); in.Lost == nil {
-		t.Fatalf("got %+v, want no answer", in)
-	}
+	diff.Error(t, ClientWithoutAttempts(client, store).Exchange(ctx, out).Lost, "the answer")
 	check(t, store.Change(ctx, entry.Key, func(_ time.Time, snapshot platform.Snapshot) (*platform.Change, error) {
 		e := snapshot.Entry
 		record, _, err := diff.Value(e.Record.Timeout(1))(t).Send(one)

@@ -315,12 +315,11 @@ func TestAfterRun(t *testing.T) {
 	defer storm.Close()
 	m := newModel(t, storm.URL(), mistakes{}, options.RequestTime)
 	m.send(context.Background(), http.MethodGet, "/v2/service_instances/one/last_operation", nil)
-	if storm.source.Next(fault.Subject{Instance: 100}).Kind == fault.None {
-		t.Error("got an end of the faults before the run, want it after that")
-	}
+	next := storm.source.Next(fault.Subject{Instance: 100})
+	diff.Equal(t, next.Kind == fault.None, false, "the faults end before the run")
 	diff.Equal(t, storm.Run(context.Background()).Ended, "", "why the run ended before")
-	next := storm.source.Next(fault.Subject{Instance: 99})
-	diff.Equal(t, next.Kind, fault.None, "the fault of a request after the run")
+	after := storm.source.Next(fault.Subject{Instance: 99})
+	diff.Equal(t, after.Kind, fault.None, "the fault of a request after the run")
 	a := m.send(context.Background(), http.MethodGet, "/v2/catalog", nil)
 	diff.Equal(t, a.status, 0, "the status of a request after the run")
 }
@@ -457,9 +456,7 @@ func TestDocumented(t *testing.T) {
 			found = found || len(columns) == 4 && strings.Contains(columns[0], "`"+test.Name+"`") &&
 				columns[1] == string(test.Level) && strings.Contains(columns[2], test.Section)
 		}
-		if !found {
-			t.Errorf("%s: got no row of it (%s, section %s), want one", test.Name, test.Level, test.Section)
-		}
+		diff.Equal(t, found, true, "%s has a row (%s, section %s)", test.Name, test.Level, test.Section)
 	}
 }
 

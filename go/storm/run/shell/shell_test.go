@@ -219,9 +219,7 @@ time.sleep(1000)'`, // the command itself has left its group
 			if name == "has ended" {
 				awaitEnd(t, c)
 			}
-			if !stormtest.IsRunning(fmt.Sprint(pid)) {
-				t.Errorf("%s: got the child ended before, want it to run", name)
-			}
+			diff.Equal(t, stormtest.IsRunning(fmt.Sprint(pid)), true, "%s: the child runs", name)
 			diff.NoError(t, c.End(), "%s", name)
 			waits.Until(t, "what the command has started ends", func() bool { return !stormtest.IsRunning(fmt.Sprint(pid)) })
 		})
