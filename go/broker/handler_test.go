@@ -318,7 +318,7 @@ func (panickingBackend) Create(context.Context, broker.Request) error { panic("b
 
 // The creation of a later plan waits for its first Poll, if that is the rule, and fails after a while without one.
 func TestFirstPoll(t *testing.T) {
-	s := newTestBroker(t, setting{rules: broker.ServiceOptions{FirstPoll: true, WaitForPoll: time.Hour}})
+	s := newTestBroker(t, setting{options: broker.ServiceOptions{FirstPoll: true, WaitForPoll: time.Hour}})
 	s.expect(t, 202, "PUT", instances+"i?accepts_incomplete=true", bodyOf(later, ""))
 	stats, err := s.store.Stats(context.Background())
 	if err != nil || stats.Waiting != 1 || s.shelf.there(keyOf("i")) != broker.None {
@@ -326,7 +326,7 @@ func TestFirstPoll(t *testing.T) {
 	}
 	s.until(t, "succeeded", "GET", instances+"i/last_operation")
 
-	s = newTestBroker(t, setting{rules: broker.ServiceOptions{FirstPoll: true}})
+	s = newTestBroker(t, setting{options: broker.ServiceOptions{FirstPoll: true}})
 	s.expect(t, 202, "PUT", instances+"i?accepts_incomplete=true", bodyOf(later, ""))
 	for end := time.Now().Add(time.Minute); ; time.Sleep(time.Millisecond) {
 		snapshot, err := s.store.Read(context.Background(), keyOf("i"))

@@ -47,7 +47,7 @@ type world struct {
 	seed      int64
 	chance    *rand.Rand
 	calm      bool
-	rules     broker.ServiceOptions
+	options   broker.ServiceOptions
 	shelf     *shelf
 	expected  *sentRequests // of the shelf
 	backend   broker.Backend
@@ -72,9 +72,9 @@ type tally struct {
 
 func newWorld(t *testing.T, seed int64, open opener, seen *tally, walks *bufio.Writer) *world {
 	w := &world{t: t, seed: seed, chance: rand.New(rand.NewSource(seed)), open: open, tally: seen}
-	w.rules = broker.ServiceOptions{FirstPoll: seed%3 != 0, WaitForPoll: time.Hour}
+	w.options = broker.ServiceOptions{FirstPoll: seed%3 != 0, WaitForPoll: time.Hour}
 	if seed%6 == 1 {
-		w.rules.WaitForPoll = 0
+		w.options.WaitForPoll = 0
 	}
 	w.shelf, w.expected = newShelf(w.mood), newExpected()
 	w.shelf.asked = w.checkSent
@@ -93,7 +93,7 @@ func newWorld(t *testing.T, seed int64, open opener, seen *tally, walks *bufio.W
 		it.start()
 		w.processes = append(w.processes, it)
 	}
-	w.walk.begin(w.plan, w.rules.FirstPoll)
+	w.walk.begin(w.plan, w.options.FirstPoll)
 	return w
 }
 
@@ -209,7 +209,7 @@ func (w *world) anyPoint() string {
 	if w.chance.Intn(8) == 0 {
 		return "work-half"
 	}
-	if w.rules.WaitForPoll == 0 && w.chance.Intn(2) == 0 {
+	if w.options.WaitForPoll == 0 && w.chance.Intn(2) == 0 {
 		return []string{"wait-next", "wait-written"}[w.chance.Intn(2)]
 	}
 	return points[w.chance.Intn(len(points))]
@@ -309,7 +309,7 @@ func (f inventory) isUsed() bool { return f.there != broker.None || f.Holding.Is
 
 // beginCalmly is a calm beginning of most runs, in which the instance is created, and sometimes a binding.
 func (w *world) beginCalmly() {
-	w.calm = w.seed%5 != 0 && w.rules.WaitForPoll > 0
+	w.calm = w.seed%5 != 0 && w.options.WaitForPoll > 0
 	for round := 0; w.calm && round < 4; round++ {
 		w.sweep()
 		w.step(w.instance)
@@ -490,7 +490,7 @@ func (p *process) start() {
 	w.check(err)
 	p.store, p.close, p.isDead = store, closing, false
 	seen := recordingStore{store, p}
-	p.service = broker.NewService(w.catalogue, seen, w.backend, patientLocks{locks, w}, w.rules, broker.Silent{})
+	p.service = broker.NewService(w.catalogue, seen, w.backend, patientLocks{locks, w}, w.options, broker.Silent{})
 	p.handler = handlerFor(w.t, p.service)
 	p.handler.Observer = p
 }

@@ -273,8 +273,8 @@ func (h hangingBackend) Create(ctx context.Context, request broker.Request) erro
 func newHanging(t *testing.T, threads int) (*testBroker, hangingBackend) {
 	t.Helper()
 	backend := hangingBackend{begun: make(chan struct{}, 100), goOn: make(chan struct{}, 100)}
-	rules := broker.ServiceOptions{FirstPoll: true, WaitForPoll: time.Hour}
-	s := newTestBroker(t, setting{atOnce: threads - 1, rules: rules, over: func(s *shelf) broker.Backend {
+	options := broker.ServiceOptions{FirstPoll: true, WaitForPoll: time.Hour}
+	s := newTestBroker(t, setting{atOnce: threads - 1, options: options, over: func(s *shelf) broker.Backend {
 		backend.shelf = s
 		return backend
 	}})

@@ -89,20 +89,20 @@ type lives struct {
 
 var anHour = broker.ServiceOptions{IDsReturnAfter: time.Hour}
 
-func newLives(t *testing.T, backend broker.Backend, rules broker.ServiceOptions) *lives {
+func newLives(t *testing.T, backend broker.Backend, options broker.ServiceOptions) *lives {
 	t.Helper()
 	b := newBench(t, backend, newMemoryLocks())
 	l := &lives{bench: b, clock: &clockStore{Store: b.store}, seen: &returnRecorder{recorder: b.observed}}
-	b.Service = l.service(t, backend, newMemoryLocks(), rules)
+	b.Service = l.service(t, backend, newMemoryLocks(), options)
 	return l
 }
 
 // service is one more broker over the same store.
 func (l *lives) service(
-	t *testing.T, backend broker.Backend, locks broker.Locks, rules broker.ServiceOptions,
+	t *testing.T, backend broker.Backend, locks broker.Locks, options broker.ServiceOptions,
 ) *broker.Service {
 	t.Helper()
-	return broker.NewService(catalogueFor(t, catalogue), l.clock, backend, locks, rules, l.seen)
+	return broker.NewService(catalogueFor(t, catalogue), l.clock, backend, locks, options, l.seen)
 }
 
 // expect sends a request, and checks the status of its answer.
@@ -389,9 +389,9 @@ func TestALateWorkerOfTheOldLife(t *testing.T) {
 // doesn't matter how long that was.
 func TestALateRequestOfTheOldLife(t *testing.T) {
 	ctx := context.Background()
-	for _, rules := range []broker.ServiceOptions{anHour, {}} {
-		t.Run(fmt.Sprintf("ids return %t", rules.IDsReturnAfter > 0), func(t *testing.T) {
-			l := newLives(t, newShelf(calm), rules)
+	for _, options := range []broker.ServiceOptions{anHour, {}} {
+		t.Run(fmt.Sprintf("ids return %t", options.IDsReturnAfter > 0), func(t *testing.T) {
+			l := newLives(t, newShelf(calm), options)
 			if given, err := l.Handle(ctx, provision(now)); err != nil || given.Status != http.StatusCreated {
 				t.Fatalf("got %+v, %v, want 201", given, err)
 			}
@@ -399,7 +399,7 @@ func TestALateRequestOfTheOldLife(t *testing.T) {
 			late.Arrived = time.Now().Add(-2 * time.Minute)
 			given, err := l.Handle(ctx, late)
 			isPutOff := errors.Is(err, broker.ErrAway)
-			if isPutOff != (rules.IDsReturnAfter > 0) || isPutOff == (given.Status == http.StatusOK) {
+			if isPutOff != (options.IDsReturnAfter > 0) || isPutOff == (given.Status == http.StatusOK) {
 				t.Errorf("got %+v and the error %v, want it put off if ids return, and else 200", given, err)
 			}
 			if l.holding(t, keyOf("i")).IsHeld() != isPutOff {
@@ -416,8 +416,8 @@ func TestALateRequestOfTheOldLife(t *testing.T) {
 // A broker that gives up waiting for the first Poll does so only in the life that has waited for long.
 func TestALateEndOfWaiting(t *testing.T) {
 	ctx, one, key := context.Background(), instances+"i", keyOf("i")
-	rules := broker.ServiceOptions{IDsReturnAfter: time.Hour, FirstPoll: true, WaitForPoll: time.Minute}
-	l := newLives(t, newShelf(calm), rules)
+	options := broker.ServiceOptions{IDsReturnAfter: time.Hour, FirstPoll: true, WaitForPoll: time.Minute}
+	l := newLives(t, newShelf(calm), options)
 	l.expect(t, 202, "PUT", one+query, bodyOf(later, ""))
 	l.since(t, key, time.Hour)
 	l.clock.once = func(broker.Key) {
@@ -454,11 +454,11 @@ func TestALateUnbindOfAFailedBinding(t *testing.T) {
 // The catalogue of a broker whose ids return doesn't say that none ever does.
 func TestCatalogueOfIDsThatReturn(t *testing.T) {
 	for _, test := range []struct {
-		rules broker.ServiceOptions
-		says  string
+		options broker.ServiceOptions
+		says    string
 	}{{broker.ServiceOptions{}, `"x-osb-tombstones":true`}, {anHour, `"x-osb-tombstones":false`}} {
 		t.Run(test.says, func(t *testing.T) {
-			l := newLives(t, newShelf(calm), test.rules)
+			l := newLives(t, newShelf(calm), test.options)
 			given := l.expect(t, 200, "GET", "/v2/catalog", "")
 			if !strings.Contains(string(given.body), test.says) || strings.Count(string(given.body), "x-osb-tombstones") != 1 ||
 				!strings.Contains(string(given.body), "00000000-0000-0000-0000-0000000000c4") {
@@ -471,10 +471,10 @@ func TestCatalogueOfIDsThatReturn(t *testing.T) {
 // A Fetch that a broker has kept for too long isn't answered with credentials: they may be of another life.
 func TestALateFetchOfTheOldLife(t *testing.T) {
 	bound := instances + "i/service_bindings/b"
-	for _, rules := range []broker.ServiceOptions{anHour, {}} {
-		t.Run(fmt.Sprintf("ids return %t", rules.IDsReturnAfter > 0), func(t *testing.T) {
-			l, status := newLives(t, newShelf(calm), rules), http.StatusOK
-			if rules.IDsReturnAfter > 0 {
+	for _, options := range []broker.ServiceOptions{anHour, {}} {
+		t.Run(fmt.Sprintf("ids return %t", options.IDsReturnAfter > 0), func(t *testing.T) {
+			l, status := newLives(t, newShelf(calm), options), http.StatusOK
+			if options.IDsReturnAfter > 0 {
 				status = http.StatusServiceUnavailable
 			}
 			l.expect(t, 201, "PUT", instances+"i", bodyOf(now, ""))
@@ -492,9 +492,9 @@ func TestADeletionRenewsATombstone(t *testing.T) {
 	const pause, inexact = 100 * time.Millisecond, 10 * time.Millisecond
 	one := instances + "i"
 	bound, binding := one+"/service_bindings/b", osb.BindingKey(keyOf("i").Instance, keyOf("b").Instance)
-	for _, rules := range []broker.ServiceOptions{anHour, {}} {
-		t.Run(fmt.Sprintf("ids return %t", rules.IDsReturnAfter > 0), func(t *testing.T) {
-			l := newLives(t, newShelf(calm), rules)
+	for _, options := range []broker.ServiceOptions{anHour, {}} {
+		t.Run(fmt.Sprintf("ids return %t", options.IDsReturnAfter > 0), func(t *testing.T) {
+			l := newLives(t, newShelf(calm), options)
 			l.expect(t, 201, "PUT", one, bodyOf(now, ""))
 			l.expect(t, 201, "PUT", bound, bodyOf(now, ""))
 			for _, test := range []struct {
@@ -511,7 +511,7 @@ func TestADeletionRenewsATombstone(t *testing.T) {
 				again := time.Now()
 				l.expect(t, 410, "DELETE", test.target+names(now), "")
 				age := l.age(t, test.key)
-				if isYoung := age <= time.Since(again)+inexact; isYoung != (rules.IDsReturnAfter > 0) {
+				if isYoung := age <= time.Since(again)+inexact; isYoung != (options.IDsReturnAfter > 0) {
 					t.Errorf("%v: got the age %v after a deletion, want a new one exactly if ids return", test.key, age)
 				}
 			}

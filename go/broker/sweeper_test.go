@@ -553,8 +553,8 @@ func TestLocksThatAreSilent(t *testing.T) {
 	store := diff.Value(sqlite.Open(context.Background(), filepath.Join(t.TempDir(), "store"), broker.Silent{}))(t)
 	t.Cleanup(func() { _ = store.Close() })
 	locks := &silentLocks{memoryLocks: newMemoryLocks()}
-	rules := broker.ServiceOptions{LocksAtOnce: 2} // of the 3 threads that may do work
-	service := broker.NewService(catalogueFor(t, catalogue), store, newShelf(calm), locks, rules, broker.Silent{})
+	options := broker.ServiceOptions{LocksAtOnce: 2} // of the 3 threads that may do work
+	service := broker.NewService(catalogueFor(t, catalogue), store, newShelf(calm), locks, options, broker.Silent{})
 	handler := handlerFor(t, service)
 	ask := func(method, target, body string) int {
 		request := httptest.NewRequest(method, instances+target, strings.NewReader(body))

@@ -32,7 +32,7 @@ type testBroker struct {
 type setting struct {
 	atOnce  int
 	over    func(*shelf) broker.Backend
-	rules   broker.ServiceOptions
+	options broker.ServiceOptions
 	limiter broker.Limiter
 	users   map[string][]string
 }
@@ -49,7 +49,7 @@ func newTestBroker(t *testing.T, s setting) *testBroker {
 		backend = s.over(it.shelf)
 	}
 	named := diff.Value(catalogueFor(t, catalogue).OfStore(storeID))(t)
-	service := broker.NewService(named, it.store, backend, newMemoryLocks(), s.rules, it.observed)
+	service := broker.NewService(named, it.store, backend, newMemoryLocks(), s.options, it.observed)
 	sweeper := broker.NewSweeper(service, it.observed)
 	stop, cancel := context.WithCancel(ctx)
 	swept := make(chan struct{})

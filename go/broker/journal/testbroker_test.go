@@ -206,8 +206,8 @@ func newTestBroker(t *testing.T) *testBroker {
 	})
 	check(t, err)
 	to := New(s.writer, func(err error) bool { return errors.Is(err, errDoubt) })
-	rules := broker.ServiceOptions{FirstPoll: true}
-	s.service = broker.NewService(sold, to.Store(s.store), to.Backend(s.seller), locks, rules, broker.Silent{})
+	options := broker.ServiceOptions{FirstPoll: true}
+	s.service = broker.NewService(sold, to.Store(s.store), to.Backend(s.seller), locks, options, broker.Silent{})
 	users, err := broker.NewUsers(map[string][]string{"platform": {password}})
 	check(t, err)
 	s.Handler, err = broker.NewHandler(context.Background(), s.service, broker.HandlerOptions{

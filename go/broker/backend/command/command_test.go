@@ -570,9 +570,9 @@ func benchOf(t *testing.T, backend lockingBackend, observer broker.Observer) *be
 	catalogue := diff.Value(broker.NewCatalogue(document, true))(t)
 	store := diff.Value(sqlite.Open(ctx, filepath.Join(t.TempDir(), "holdings.sqlite"), broker.Silent{}))(t)
 	t.Cleanup(func() { _ = store.Close() })
-	rules := broker.ServiceOptions{WaitForPoll: time.Minute}
+	options := broker.ServiceOptions{WaitForPoll: time.Minute}
 	locks := &countedLocks{Locks: backend.Locks()}
-	return &bench{broker.NewService(catalogue, store, backend, locks, rules, observer), store, locks}
+	return &bench{broker.NewService(catalogue, store, backend, locks, options, observer), store, locks}
 }
 
 // isEndedAfter fails unless the work stays pending as long as a process has its lock, whatever a sweeper does, and ends
