@@ -176,18 +176,13 @@ func (m message) request() (request broker.Request, isGiven bool) {
 		}
 		names[at] = name
 	}
-	instance, err := osb.IDOfText(names[0])
-	if err != nil {
-		return request, false
-	}
-	request.Key, request.InstanceID = osb.InstanceKey(instance), names[0]
+	request.InstanceID = names[0]
 	if len(names) == 3 && names[1] == "service_bindings" {
-		binding, err := osb.IDOfText(names[2])
-		if err != nil {
-			return request, false
-		}
-		request.Key, request.BindingID = osb.BindingKey(instance, binding), names[2]
-	} else if len(names) > 1 {
+		request.BindingID = names[2]
+	}
+	var err error
+	request.Key, err = osb.KeyOfTexts(request.InstanceID, request.BindingID)
+	if err != nil || len(names) > 1 && !request.Key.IsBinding {
 		return request, false
 	}
 	request.Origin = originIn(m.header)

@@ -731,9 +731,8 @@ func (r *reportingStore) Change(ctx context.Context, key broker.Key, step broker
 
 // No transaction writes a binding that is ready without its credentials: a crash after it would lose them.
 func TestCredentialsAreWrittenWithTheRow(t *testing.T) {
-	number, err := osb.IDOfText("b")
+	key, err := osb.KeyOfTexts("i", "b")
 	must(err)
-	key := osb.BindingKey(keyOf("i").Instance, number)
 	for _, plan := range []string{now, bindLater} {
 		t.Run(plan, func(t *testing.T) {
 			ready := 0
