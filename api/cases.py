@@ -19,6 +19,7 @@ INSTANCE, BINDING, SERVICE, _SYNC, _ASYNC = (
 PLANS = {"sync": _SYNC, "async": _ASYNC}
 OF_A_BINDING = {"bind": "provision", "unbind": "deprovision", "poll-binding": "poll"}
 PHASES = "waiting making ready failed deleting delete-failed".split()
+OUTCOMES = "done before after refused-400 refused-422".split()
 
 
 class Case(NamedTuple):
@@ -79,6 +80,18 @@ class Holding(NamedTuple):
     attributes: bytes
 
 
+class Driver(NamedTuple):
+    stage: str
+    number: bytes
+    is_request: bool
+    is_locked: bool
+    ok: bool
+    task: Optional[Request]
+    outcome: Optional[str]
+    answer: Optional[bytes]
+    """Its status and its body, as a cell has them."""
+
+
 def record(cell: bytes) -> Record:
     """The record that a cell stands for. Its service is SERVICE, and its plan PLANS["sync"]."""
     state, attempt, *out = cell.decode().split()
@@ -110,6 +123,22 @@ def holding(cell: bytes) -> Holding:
             found = found._replace(row=(name, PLANS[plan]))
         elif word != b"none":
             found = found._replace(work=request(word))
+    return found
+
+
+def driver(cell: bytes) -> Driver:
+    """The driver that a cell stands for."""
+    stage, *words = cell.decode().split()
+    found = Driver(stage, digest(b"01")[:16], "request" in words, "locked" in words, "ok" in words, None, None, None)
+    for word in words:
+        if word.startswith("#"):
+            found = found._replace(number=digest(word[1:].encode())[:16])
+        elif "/" in word:
+            found = found._replace(answer=word.replace("/", " ").encode())
+        elif ":" in word:
+            found = found._replace(task=request(word.encode()))
+        elif word in OUTCOMES or word.isdigit():
+            found = found._replace(outcome=word)
     return found
 
 

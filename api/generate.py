@@ -280,7 +280,11 @@ def python_call(call: Call) -> list[str]:
         kinds += [text if is_text else f"_AT({plain})" if parameter.pointer else plain]
     taken = ", ".join(kinds).replace("written, c.c_size_t, _AT(c.c_size_t)", "*_WRITTEN")
     taken = taken.replace("c.c_char_p, c.c_size_t", "*_READ")
-    return listed("    (", [f'"{call.name}"', ctypes_of(call.given), f"[{taken}]"], "),")
+    given = ctypes_of(call.given)
+    if len(taken) > 100:
+        parts = listed("        [", taken.split(", "), "],")
+        return ["    (", f'        "{call.name}",', f"        {given},", *parts, "    ),"]
+    return listed("    (", [f'"{call.name}"', given, f"[{taken}]"], "),")
 
 
 def python_header() -> str:

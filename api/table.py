@@ -41,9 +41,9 @@ REMOVED = (2, 3, 4, 5, 8, 12, 23, 35)
 """The numbers of statuses that are gone. They are never used again."""
 
 REMOVED_CALLS = """
-    osb_asked_operation osb_decide_provision osb_decide_restart osb_decide_timeout osb_mitigates
-    osb_read_binding_request osb_read_operation osb_read_request osb_well_formed osb_write_answer osb_write_body
-    osb_write_target
+    osb_asked_operation osb_asks_for_catalogue osb_decide_provision osb_decide_restart osb_decide_timeout
+    osb_mitigates osb_read_binding_request osb_read_operation osb_read_request osb_well_formed osb_write_answer
+    osb_write_body osb_write_target
 """.split()
 """The names of calls that are gone. No other call ever has one of them. CHANGELOG.md has what to call instead."""
 
@@ -135,6 +135,8 @@ STATUS = Enum(
     Value(80, "NOT_BINDING_TEXT", "the text isn't that of the request's binding, or no path can carry it"),
     Value(81, "NO_BINDING", "the response has no object of the binding"),
     Value(82, "NOT_RETRIEVABLE", "a plan binds asynchronously, and its service isn't bindings_retrievable"),
+    Value(83, "BAD_DRIVER", "the struct is no driver that a call gives", packages="no call gives such a driver"),
+    Value(84, "WRONG_STAGE", "the driver is at a stage that asks for no such report"),
 )
 
 EXACTLY = {
@@ -151,6 +153,8 @@ EXACTLY = {
     "in it stands for nothing",
     "BAD_HOLDING": "the holding can't come about ([which can](instance.md#what-a-broker-keeps-holding)), or a number "
     "in it that counts stands for nothing",
+    "BAD_DRIVER": "the driver can't come about, its number is zeroes, or a number in it that counts stands for "
+    "nothing; for `osb_driver_new`, the number is zeroes",
     "BAD_ROW": "the row isn't `wanted` with its Provision in flight, nor any other state with nothing in flight or "
     "what is due there",
     "BAD_ASKED": "the kind stands for none, or it is a Provision or a Deprovision and service or plan is missing",
@@ -618,6 +622,105 @@ INTERFACE: list[Part] = [
         "OSB_DONE, OSB_BAD_HOLDING.",
     ),
     Section(
+        """What a broker does next. A driver is the way of one request through a broker, or of one take-up, which goes
+        on with what a dead worker has left. A driver says the one action that the program carries out next, and the
+        program reports what came of it. So the program decides nothing, and branches on no state of an instance. A
+        driver owns nothing, and no call takes memory. The program passes to every transaction what it has read and
+        locked in it, writes what the call returns before it commits, and goes on only as the commit went."""
+    ),
+    Enum(
+        "stage",
+        "the action that the program carries out next for a driver",
+        Value(0, "TRY_LOCK", "take the lock of the key, if it is free, and report it by osb_driver_locked"),
+        Value(1, "BEGIN", "run the first transaction"),
+        Value(2, "AWAIT_LOCK", "wait for the lock of the key, and report it by osb_driver_locked"),
+        Value(3, "WORK", "do the work under the lock, and report it by osb_driver_worked"),
+        Value(4, "END", "run the last transaction of pending work"),
+        Value(5, "FINISH", "run the last transaction of an operation"),
+        Value(6, "UNSURE", "read the row in a transaction, since nobody knows what was committed"),
+        Value(7, "ANSWER", "free the lock, and send the answer"),
+        Value(8, "DONE", "free the lock; if a request isn't answered yet, answer 500 or 503"),
+    ),
+    Enum(
+        "effect",
+        "the event that a transaction is, once it is committed",
+        Value(0, "NOTHING", "no event"),
+        Value(1, "ARRIVE", "the request arrives"),
+        Value(2, "PUT_OFF", "the request is answered as if work were pending"),
+        Value(3, "END", "the pending work ends, with the outcome of the struct"),
+        Value(4, "FINISH", "the operation ends: it succeeded if ok is true"),
+        Value(5, "GIVE_UP_WAITING", "the instance has waited too long for its first Poll"),
+    ),
+    Struct(
+        "driver",
+        Member("uint8_t number[16]", "the driver's own number, never zeroes"),
+        Member("struct osb_request task", "at WORK, if is_pending is true: the request whose work is pending"),
+        Member("struct osb_answer answer", "at ANSWER the answer; at END, if has_answer is true, an earlier try's"),
+        Member("enum osb_stage stage", "an enum osb_stage"),
+        Member("enum osb_outcome outcome", "at END: an enum osb_outcome"),
+        Member("bool is_request", "whether it answers a request; if not, it is of a take-up"),
+        Member("bool is_locked", "at BEGIN: whether it has the lock"),
+        Member("bool is_pending", "at WORK: whether the work is pending; if not, it is the operation that runs"),
+        Member("bool has_answer", "at END: whether nobody knows if an earlier try was committed"),
+        Member("bool ok", "at FINISH: whether the operation succeeded"),
+        comment="A driver. In what a call gives, members that don't count are zeroes.",
+        is_private=True,
+    ),
+    Struct(
+        "transaction",
+        Member("struct osb_driver committed", "the driver once the commit has returned"),
+        Member("struct osb_driver unsure", "the driver if nobody knows whether the transaction was committed"),
+        Member("enum osb_effect effect", "an enum osb_effect"),
+        Member("enum osb_outcome outcome", "of OSB_EFFECT_END: an enum osb_outcome"),
+        Member("bool ok", "of OSB_EFFECT_FINISH: whether the operation succeeded"),
+        Member("bool writes", "whether the row or its number has to be written: one of them changed"),
+        Member("enum osb_work work", "if committed is at OSB_STAGE_WORK: an enum osb_work, the work to do"),
+        comment="What a transaction comes to, besides the row and the number that it writes.",
+        is_private=True,
+    ),
+    Call(
+        "uint32_t osb_driver_new(const uint8_t number[16], bool is_request, struct osb_driver *driver)",
+        """Begins a driver, of a request (is_request) or of a take-up. The number is the driver's own: no other driver
+        ever has it, so draw 128 random bits.""",
+        "OSB_DONE, OSB_BAD_DRIVER.",
+    ),
+    Call(
+        "uint32_t osb_driver_locked(struct osb_driver *driver, bool has_lock)",
+        """Reports whether the driver has the lock of its key: at OSB_STAGE_TRY_LOCK whether the lock was free, at
+        OSB_STAGE_AWAIT_LOCK whether the driver had it after it has waited. A lock of which nobody knows isn't had.""",
+        "OSB_DONE, OSB_BAD_DRIVER, OSB_WRONG_STAGE.",
+    ),
+    Call(
+        "uint32_t osb_driver_worked(struct osb_driver *driver, uint8_t outcome)",
+        """Reports how the work of OSB_STAGE_WORK has ended, as a last look at the resource has shown. An operation has
+        succeeded exactly if the outcome is OSB_OUTCOME_DONE.""",
+        "OSB_DONE, OSB_BAD_DRIVER, OSB_BAD_OUTCOME, OSB_WRONG_STAGE.",
+    ),
+    Call(
+        "uint32_t osb_driver_read(const struct osb_driver *driver, struct osb_holding *holding, uint8_t number[16], "
+        "uint8_t mode, bool first_poll, bool may_begin, bool may_give_up, const struct osb_request *request, "
+        "const uint8_t attributes[32], struct osb_transaction *transaction)",
+        """The transaction of an instance's driver, at OSB_STAGE_BEGIN, OSB_STAGE_END, OSB_STAGE_FINISH and
+        OSB_STAGE_UNSURE. The holding and the number are those of the row, read and locked in this transaction; a row
+        without a number has zeroes. The call writes to both what the row has to have. If transaction->writes is true,
+        write both. Once the commit has returned, go on with transaction->committed. If nobody knows whether the
+        transaction was committed, go on with transaction->unsure. The mode is that of the plan, may_begin is as in
+        osb_holding_begin_if, and may_give_up is whether the row has waited too long for its first Poll. first_poll, the
+        request and its attributes are those of osb_holding_begin; they count only at the first transaction of a
+        request, and are zeroes for a take-up.""",
+        "OSB_DONE, OSB_BAD_DRIVER, OSB_BAD_HOLDING, OSB_BAD_MODE, OSB_BAD_KIND, OSB_WRONG_STAGE.",
+    ),
+    Call(
+        "uint32_t osb_binding_driver_read(const struct osb_driver *driver, struct osb_holding *holding, "
+        "uint8_t number[16], const struct osb_holding *instance, uint8_t mode, bool first_poll, bool may_give_up, "
+        "const struct osb_request *request, const uint8_t attributes[32], struct osb_transaction *transaction)",
+        """The transaction of a binding's driver, as osb_driver_read is that of an instance's. `instance` is the holding
+        of the binding's instance, read and locked in this transaction. What may begin is what osb_binding_begin lets
+        begin. If the instance has a tombstone, and nothing is kept of the binding, nothing is written.""",
+        "OSB_DONE, OSB_BAD_DRIVER, OSB_BAD_HOLDING (holding or instance), OSB_BAD_MODE, OSB_BAD_KIND, "
+        "OSB_WRONG_STAGE.",
+    ),
+    Section(
         """Requests and answers as HTTP and JSON have them (docs/wire.md). No connection is opened, and no HTTP is
         written: methods, targets, statuses and bodies go into an HTTP library and come out of one. Every body is JSON
         (Content-Type: application/json); a platform names the version 2.17 in the header X-Broker-API-Version."""
@@ -826,12 +929,6 @@ INTERFACE: list[Part] = [
         "OSB_DONE, OSB_NOT_AN_OBJECT, OSB_TOO_SMALL, OSB_MEMORY.",
     ),
     Call(
-        "bool osb_asks_for_catalogue(const uint8_t *prefix, size_t prefix_length, const uint8_t *target, "
-        "size_t target_length)",
-        """Whether a target asks for the catalogue: the path is the prefix and /v2/catalog, or stands for that as in
-        osb_receive_request. False too where the prefix isn't UTF-8.""",
-    ),
-    Call(
         "uint32_t osb_plan_version(const uint8_t *document, size_t length, struct osb_id service, struct osb_id plan, "
         f"{BUFFER})",
         """Writes the maintenance_info.version that a catalogue's document has of a plan of a service (section Catalog
@@ -850,6 +947,24 @@ INTERFACE: list[Part] = [
         """Requests and answers of service bindings as HTTP and JSON have them (docs/binding.md). These calls serve for
         bindings too: osb_write_method (a Fetch has the method of a Poll), osb_read_answer for a Bind, an Unbind and a
         Poll, osb_read_details, osb_asked_request, osb_write_told_answer and osb_member_text."""
+    ),
+    Enum(
+        "target",
+        "what the target of a request names",
+        Value(0, "NONE", "nothing that a broker serves"),
+        Value(1, "CATALOGUE", "the catalogue"),
+        Value(2, "INSTANCE", "an instance"),
+        Value(3, "INSTANCE_OPERATION", "the last operation of an instance"),
+        Value(4, "BINDING", "a binding"),
+        Value(5, "BINDING_OPERATION", "the last operation of a binding"),
+    ),
+    Call(
+        "uint8_t osb_read_target(const uint8_t *prefix, size_t prefix_length, const uint8_t *target, "
+        "size_t target_length)",
+        """What a target names, an enum osb_target, whatever the method is and the ids are: so a broker knows which call
+        reads the request. The path begins with the prefix, or stands for such a path as in osb_receive_request.
+        OSB_TARGET_NONE if osb_receive_request and osb_receive_binding_request return OSB_REFUSED_TARGET, and if the
+        prefix isn't UTF-8.""",
     ),
     Struct(
         "binding_asked",

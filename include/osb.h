@@ -128,7 +128,9 @@ enum osb_status {
     OSB_REFUSED_APP = 79,                /* refused with 422: the Bind names no application, and its plan needs one */
     OSB_NOT_BINDING_TEXT = 80,           /* the text isn't that of the request's binding, or no path can carry it */
     OSB_NO_BINDING = 81,                 /* the response has no object of the binding */
-    OSB_NOT_RETRIEVABLE = 82             /* a plan binds asynchronously, and its service isn't bindings_retrievable */
+    OSB_NOT_RETRIEVABLE = 82,            /* a plan binds asynchronously, and its service isn't bindings_retrievable */
+    OSB_BAD_DRIVER = 83,                 /* the struct is no driver that a call gives */
+    OSB_WRONG_STAGE = 84                 /* the driver is at a stage that asks for no such report */
 };
 
 /* ---- Ids. The id of an instance, a service or a plan is any text of 1 to 255 bytes of UTF-8, and the calls know it by
@@ -491,6 +493,94 @@ uint32_t osb_binding_begin(struct osb_holding *holding, const struct osb_holding
  * OSB_DONE, OSB_BAD_HOLDING. */
 uint32_t osb_binding_fetch(const struct osb_holding *holding, struct osb_answer *answer);
 
+/* ---- What a broker does next. A driver is the way of one request through a broker, or of one take-up, which goes on
+ *      with what a dead worker has left. A driver says the one action that the program carries out next, and the
+ *      program reports what came of it. So the program decides nothing, and branches on no state of an instance. A
+ *      driver owns nothing, and no call takes memory. The program passes to every transaction what it has read and
+ *      locked in it, writes what the call returns before it commits, and goes on only as the commit went. */
+
+enum osb_stage {
+    OSB_STAGE_TRY_LOCK = 0,   /* take the lock of the key, if it is free, and report it by osb_driver_locked */
+    OSB_STAGE_BEGIN = 1,      /* run the first transaction */
+    OSB_STAGE_AWAIT_LOCK = 2, /* wait for the lock of the key, and report it by osb_driver_locked */
+    OSB_STAGE_WORK = 3,       /* do the work under the lock, and report it by osb_driver_worked */
+    OSB_STAGE_END = 4,        /* run the last transaction of pending work */
+    OSB_STAGE_FINISH = 5,     /* run the last transaction of an operation */
+    OSB_STAGE_UNSURE = 6,     /* read the row in a transaction, since nobody knows what was committed */
+    OSB_STAGE_ANSWER = 7,     /* free the lock, and send the answer */
+    OSB_STAGE_DONE = 8        /* free the lock; if a request isn't answered yet, answer 500 or 503 */
+};
+
+enum osb_effect {
+    OSB_EFFECT_NOTHING = 0,        /* no event */
+    OSB_EFFECT_ARRIVE = 1,         /* the request arrives */
+    OSB_EFFECT_PUT_OFF = 2,        /* the request is answered as if work were pending */
+    OSB_EFFECT_END = 3,            /* the pending work ends, with the outcome of the struct */
+    OSB_EFFECT_FINISH = 4,         /* the operation ends: it succeeded if ok is true */
+    OSB_EFFECT_GIVE_UP_WAITING = 5 /* the instance has waited too long for its first Poll */
+};
+
+/* A driver. In what a call gives, members that don't count are zeroes. */
+struct osb_driver {
+    uint8_t number[16];       /* the driver's own number, never zeroes */
+    struct osb_request task;  /* at WORK, if is_pending is true: the request whose work is pending */
+    struct osb_answer answer; /* at ANSWER the answer; at END, if has_answer is true, an earlier try's */
+    uint8_t stage;            /* an enum osb_stage */
+    uint8_t outcome;          /* at END: an enum osb_outcome */
+    bool is_request;          /* whether it answers a request; if not, it is of a take-up */
+    bool is_locked;           /* at BEGIN: whether it has the lock */
+    bool is_pending;          /* at WORK: whether the work is pending; if not, it is the operation that runs */
+    bool has_answer;          /* at END: whether nobody knows if an earlier try was committed */
+    bool ok;                  /* at FINISH: whether the operation succeeded */
+};
+
+/* What a transaction comes to, besides the row and the number that it writes. */
+struct osb_transaction {
+    struct osb_driver committed; /* the driver once the commit has returned */
+    struct osb_driver unsure;    /* the driver if nobody knows whether the transaction was committed */
+    uint8_t effect;              /* an enum osb_effect */
+    uint8_t outcome;             /* of OSB_EFFECT_END: an enum osb_outcome */
+    bool ok;                     /* of OSB_EFFECT_FINISH: whether the operation succeeded */
+    bool writes;                 /* whether the row or its number has to be written: one of them changed */
+    uint8_t work;                /* if committed is at OSB_STAGE_WORK: an enum osb_work, the work to do */
+};
+
+/* Begins a driver, of a request (is_request) or of a take-up. The number is the driver's own: no other driver ever has
+ * it, so draw 128 random bits.
+ * OSB_DONE, OSB_BAD_DRIVER. */
+uint32_t osb_driver_new(const uint8_t number[16], bool is_request, struct osb_driver *driver);
+
+/* Reports whether the driver has the lock of its key: at OSB_STAGE_TRY_LOCK whether the lock was free, at
+ * OSB_STAGE_AWAIT_LOCK whether the driver had it after it has waited. A lock of which nobody knows isn't had.
+ * OSB_DONE, OSB_BAD_DRIVER, OSB_WRONG_STAGE. */
+uint32_t osb_driver_locked(struct osb_driver *driver, bool has_lock);
+
+/* Reports how the work of OSB_STAGE_WORK has ended, as a last look at the resource has shown. An operation has
+ * succeeded exactly if the outcome is OSB_OUTCOME_DONE.
+ * OSB_DONE, OSB_BAD_DRIVER, OSB_BAD_OUTCOME, OSB_WRONG_STAGE. */
+uint32_t osb_driver_worked(struct osb_driver *driver, uint8_t outcome);
+
+/* The transaction of an instance's driver, at OSB_STAGE_BEGIN, OSB_STAGE_END, OSB_STAGE_FINISH and OSB_STAGE_UNSURE.
+ * The holding and the number are those of the row, read and locked in this transaction; a row without a number has
+ * zeroes. The call writes to both what the row has to have. If transaction->writes is true, write both. Once the commit
+ * has returned, go on with transaction->committed. If nobody knows whether the transaction was committed, go on with
+ * transaction->unsure. The mode is that of the plan, may_begin is as in osb_holding_begin_if, and may_give_up is
+ * whether the row has waited too long for its first Poll. first_poll, the request and its attributes are those of
+ * osb_holding_begin; they count only at the first transaction of a request, and are zeroes for a take-up.
+ * OSB_DONE, OSB_BAD_DRIVER, OSB_BAD_HOLDING, OSB_BAD_MODE, OSB_BAD_KIND, OSB_WRONG_STAGE. */
+uint32_t osb_driver_read(const struct osb_driver *driver, struct osb_holding *holding, uint8_t number[16], uint8_t mode,
+                         bool first_poll, bool may_begin, bool may_give_up, const struct osb_request *request,
+                         const uint8_t attributes[32], struct osb_transaction *transaction);
+
+/* The transaction of a binding's driver, as osb_driver_read is that of an instance's. `instance` is the holding of the
+ * binding's instance, read and locked in this transaction. What may begin is what osb_binding_begin lets begin. If the
+ * instance has a tombstone, and nothing is kept of the binding, nothing is written.
+ * OSB_DONE, OSB_BAD_DRIVER, OSB_BAD_HOLDING (holding or instance), OSB_BAD_MODE, OSB_BAD_KIND, OSB_WRONG_STAGE. */
+uint32_t osb_binding_driver_read(const struct osb_driver *driver, struct osb_holding *holding, uint8_t number[16],
+                                 const struct osb_holding *instance, uint8_t mode, bool first_poll, bool may_give_up,
+                                 const struct osb_request *request, const uint8_t attributes[32],
+                                 struct osb_transaction *transaction);
+
 /* ---- Requests and answers as HTTP and JSON have them (docs/wire.md). No connection is opened, and no HTTP is written:
  *      methods, targets, statuses and bodies go into an HTTP library and come out of one. Every body is JSON
  *      (Content-Type: application/json); a platform names the version 2.17 in the header X-Broker-API-Version. */
@@ -677,10 +767,6 @@ uint32_t osb_catalogue_check(const uint8_t *document, size_t length, const struc
  * OSB_DONE, OSB_NOT_AN_OBJECT, OSB_TOO_SMALL, OSB_MEMORY. */
 uint32_t osb_served_catalogue(const uint8_t *document, size_t length, uint8_t *buffer, size_t bytes, size_t *needed);
 
-/* Whether a target asks for the catalogue: the path is the prefix and /v2/catalog, or stands for that as in
- * osb_receive_request. False too where the prefix isn't UTF-8. */
-bool osb_asks_for_catalogue(const uint8_t *prefix, size_t prefix_length, const uint8_t *target, size_t target_length);
-
 /* Writes the maintenance_info.version that a catalogue's document has of a plan of a service (section Catalog
  * Management).
  * OSB_DONE, OSB_NO_PLAN_VERSION, OSB_TOO_SMALL, OSB_MEMORY. */
@@ -697,6 +783,20 @@ uint32_t osb_maintenance_conflict(bool has_version, const uint8_t *version, size
 /* ---- Requests and answers of service bindings as HTTP and JSON have them (docs/binding.md). These calls serve for
  *      bindings too: osb_write_method (a Fetch has the method of a Poll), osb_read_answer for a Bind, an Unbind and a
  *      Poll, osb_read_details, osb_asked_request, osb_write_told_answer and osb_member_text. */
+
+enum osb_target {
+    OSB_TARGET_NONE = 0,               /* nothing that a broker serves */
+    OSB_TARGET_CATALOGUE = 1,          /* the catalogue */
+    OSB_TARGET_INSTANCE = 2,           /* an instance */
+    OSB_TARGET_INSTANCE_OPERATION = 3, /* the last operation of an instance */
+    OSB_TARGET_BINDING = 4,            /* a binding */
+    OSB_TARGET_BINDING_OPERATION = 5   /* the last operation of a binding */
+};
+
+/* What a target names, an enum osb_target, whatever the method is and the ids are: so a broker knows which call reads
+ * the request. The path begins with the prefix, or stands for such a path as in osb_receive_request. OSB_TARGET_NONE if
+ * osb_receive_request and osb_receive_binding_request return OSB_REFUSED_TARGET, and if the prefix isn't UTF-8. */
+uint8_t osb_read_target(const uint8_t *prefix, size_t prefix_length, const uint8_t *target, size_t target_length);
 
 /* What a request asks of a binding. A Bind is an OSB_KIND_PROVISION, an Unbind an OSB_KIND_DEPROVISION. A Fetch has the
  * kind OSB_KIND_POLL, and may lack its service and its plan as a Poll may. Unless is_fetch is true, osb_asked_request

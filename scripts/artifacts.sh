@@ -41,9 +41,10 @@ is_program() {
 crates_of() {
     case $1 in
         replay) echo osb_replay ;;
-        # Each is a static library of its own, so that they are proved side by side. osb_c_binding stands on
-        # osb_c_instance, and osb_c_binding_wire on osb_c_wire, which are then libraries too.
-        library) echo osb_c,osb_c_instance,osb_c_binding,osb_c_wire,osb_c_binding_wire ;;
+        # Each is a static library of its own, so that they are proved side by side. osb_c_driver stands on
+        # osb_c_binding, which stands on osb_c_instance, and osb_c_binding_wire on osb_c_wire. These are then libraries
+        # too.
+        library) echo osb_c,osb_c_instance,osb_c_binding,osb_c_driver,osb_c_wire,osb_c_binding_wire ;;
         cases) artifacts_of cases | tr ' ' , ;;
     esac
 }

@@ -24,7 +24,7 @@ LONGEST = 500
 # What a call writes to, by the type that it points to, if the member of `out` hasn't the name of the struct.
 WRITTEN = {"uint64_t": "seconds", "bool": "retrievable"}
 # What a call changes: it is written before the call, if the case has it.
-CHANGED = {"struct osb_record": "record", "struct osb_holding": "holding"}
+CHANGED = {"struct osb_record": "record", "struct osb_holding": "holding", "struct osb_driver": "driver"}
 # The struct with the lengths of the texts that a call writes one after the other.
 LENGTHS = {"read_details": "details", "receive_request": "received", "receive_binding_request": "binding_received"}
 
@@ -59,6 +59,18 @@ def begun_of(cell: bytes) -> Value:
     return {"answer": answer_of(cell), "work": "none"} if b" " in cell else {"work": cell.decode()}
 
 
+def driver_of(cell: bytes) -> Value:
+    """What doesn't count in it is zeroes."""
+    of = api.cases.driver(cell)
+    return {
+        **of._asdict(),
+        "task": request_of(of.task) if of.task else {},
+        "is_pending": of.task is not None,
+        "answer": answer_of(of.answer) if of.answer else {},
+        "has_answer": of.stage == "end" and of.answer is not None,
+    }
+
+
 # The structs of which cells have the words.
 OF_CELLS: dict[str, Callable[[bytes], Value]] = {
     "record": record_of,
@@ -66,6 +78,7 @@ OF_CELLS: dict[str, Callable[[bytes], Value]] = {
     "request": lambda cell: request_of(api.cases.request(cell)),
     "answer": answer_of,
     "begun": begun_of,
+    "driver": driver_of,
 }
 
 
@@ -184,8 +197,10 @@ class CaseText:
             return "out.plans, PLANS, &out.needed"
         if param.name in ("digest", "platform"):
             return f"{'&' * (param.name == 'platform')}out.{param.name}"
-        if param.name == "attributes":
-            return self.constant("uint8_t", literal("uint8_t", api.cases.digest(self.given[param.name]), 32), "[32]")
+        if param.name in ("attributes", "number"):
+            if not param.const:
+                return "out.number"
+            return self.constant("uint8_t", literal("uint8_t", self.digest(param), param.length), f"[{param.length}]")
         if param.plain == "uint8_t" and param.pointer:
             return self.text(self.cell(param.name))
         if param.pointer and not param.const:
@@ -198,13 +213,18 @@ class CaseText:
                 param.type, literal(param.type, self.value(param.name, param.type))
             )
         if param.type == "bool":
+            if param.name in self.given:
+                return flag(self.given[param.name])
             counts = {"has_held": "held_service"}.get(param.name, param.name.replace("has_", ""))
-            return flag(self.given[counts] is not None if param.name.startswith("has_") else self.given[param.name])
+            return flag(self.given[counts] is not None)
         if param.name in ("kind", "state", "mode", "outcome"):
             return number_in(param.name, self.word(param.name))
         if param.type == "uint64_t":
             return f"UINT64_C({self.word(param.name)})"
         return f"OSB_{self.word(param.name)}" if param.name == "refusal" else self.word(param.name)
+
+    def digest(self, param: Variable) -> bytes:
+        return api.cases.digest(self.given[param.name])[: param.length]
 
     def arguments(self) -> list[str]:
         taken = (
@@ -236,7 +256,8 @@ class CaseText:
         if self.call.given == "bool":
             return flag(self.gives[result])
         word = self.word(result)
-        return number_in("work" if result == "work" else "state", word) if self.call.given == "uint8_t" else word
+        enum = {"work": "work", "names": "target"}.get(result, "state")
+        return number_in(enum, word) if self.call.given == "uint8_t" else word
 
     def values(self) -> Iterator[tuple[str, Any]]:
         """The members of `out` that the call writes, each with its value."""
@@ -265,6 +286,15 @@ class CaseText:
         yield from ((name, gives[name]) for name in ("id", "retrievable") if name in gives)
         if "seconds" in gives:
             yield "seconds", self.word("seconds")
+        if "committed" in gives:
+            yield "transaction", self.transaction()
+
+    def transaction(self) -> Value:
+        effect, *words = self.word("effect").split()
+        drivers = {name: driver_of(self.gives[name] or b"") for name in ("committed", "unsure")}
+        outcome = {"outcome": words[0]} if effect == "end" else {}
+        flags = {"ok": words == ["ok"], "writes": self.gives["writes"] == b"yes"}
+        return {**drivers, "effect": effect, **outcome, **flags, "work": self.word("work")}
 
     def then(self) -> Iterator[str]:
         """What is so after the call."""
@@ -276,6 +306,8 @@ class CaseText:
             yield from same(f"out.{name}", kind, value)
         if self.case.call == "originating_identity":
             yield f"out.platform == {len(self.gives['platform'] or b'')}"
+        if "number" in self.gives:
+            yield from same("out.number", "uint8_t", api.cases.digest(self.gives["number"])[:16], 16)
         if "digest" in self.gives:
             yield from same("out.digest", "uint8_t", bytes.fromhex(self.word("digest")), 32)
         if "error" in self.gives and self.case.call not in LENGTHS:
@@ -298,6 +330,9 @@ class CaseText:
             for of in self.call.parameters
             if of.type in CHANGED and not of.const and of.name in self.given
         ]
+        for number in (of for of in self.call.parameters if of.name == "number" and not of.const):
+            own = self.constant("uint8_t", literal("uint8_t", self.digest(number), number.length), "[16]")
+            calls.append(f"memcpy(out.number, {own}, {number.length});")
         calls += [f"CALL({self.returned()}, {f'({call}, 0)' if self.call.given == 'void' else call});"]
         calls += [f"THEN({value});" for value in (self.then() if self.case.status == "DONE" else ())]
         length = len(self.plans()) if "plans" in self.gives else len(self.joined() or b"")

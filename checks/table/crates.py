@@ -5,7 +5,15 @@ import re
 from pathlib import Path
 
 TOP = Path(__file__).resolve().parents[2]
-CRATES = ("osb_c_types", "osb_c", "osb_c_instance", "osb_c_binding", "osb_c_wire", "osb_c_binding_wire")
+CRATES = (
+    "osb_c_types",
+    "osb_c",
+    "osb_c_instance",
+    "osb_c_binding",
+    "osb_c_driver",
+    "osb_c_wire",
+    "osb_c_binding_wire",
+)
 
 # How the names of an enum's numbers begin in C, if not with the name of the enum.
 FRONTS = {"Status": "", "LastState": "BODY_", "ErrorCode": "BODY_", "HoldingPhase": "PHASE_", "WorkOutcome": "OUTCOME_"}
@@ -18,7 +26,7 @@ NAMES = {
 
 # The numbers for none: the function that gives or takes one, or the constant.
 NONE_IN = {"KIND_NONE": "out_out", "MODE_NONE": "mode_from"}
-NONE_AS = {"STATE_NONE": "NO_STATE", "WORK_NONE": "NO_WORK"}
+NONE_AS = {"STATE_NONE": "NO_STATE", "WORK_NONE": "NO_WORK", "TARGET_NONE": "NO_TARGET"}
 
 PATH = r"\w+::\w+(?:\(\w+::\w+\))?"
 EXPORT = re.compile(
@@ -105,7 +113,10 @@ def _name(path: str) -> str:
 def numbers() -> dict[str, int]:
     """Each number, wherever the sources give it: VARIANT => NUMBER, or NUMBER => Some(VARIANT); and the version."""
     found: dict[str, int] = {}
-    given = [(_name(path), number) for path, number in re.findall(rf"(?:Some\()?({PATH})\)? => (\d+),", TEXT)]
+    given = [
+        (_name(path), number)
+        for path, number in re.findall(rf"(?:Some\()?({PATH})(?: \{{ \.\. \}}|\(_\))?\)? => (\d+),", TEXT)
+    ]
     taken = [(_name(path), number) for number, path in re.findall(rf"\b(\d+) => (?:Some\()+({PATH})\)+,", TEXT)]
     for name, function in NONE_IN.items():
         taken += [

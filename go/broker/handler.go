@@ -138,7 +138,7 @@ type arrival struct {
 	Exchange
 	request *http.Request
 	header  http.Header // of the answer
-	path    path        // once the request is admitted
+	target  osb.Target  // once the request is admitted
 	arrived time.Time
 }
 
@@ -184,7 +184,7 @@ func (h *Handler) answer(a *arrival) answer {
 	if refused, ok := h.admit(a); !ok {
 		return refused
 	}
-	if a.path = pathOf(a.request.RequestURI); a.path.isCatalogue {
+	if a.target = osb.ReadTarget("", a.request.RequestURI); a.target == osb.TargetCatalogue {
 		return h.catalogue(a)
 	}
 	if h.isForAnother(a.request) {

@@ -162,58 +162,48 @@ var stopping = []byte(`{"description":"The broker is being stopped. Send the req
 
 // read reads what a request asks, and judges what the plan asks of it.
 func (h *Handler) read(a *arrival, body []byte) (visit Visit, err error) {
-	if a.path.isBinding {
+	if route, isServed := routes[endpoint{a.target, a.request.Method}]; isServed {
+		a.Route = route
+	}
+	switch a.target {
+	case osb.TargetBinding, osb.TargetBindingOperation:
 		visit, err = h.readBinding(a, body)
-	} else {
+	default: // it rejects what names nothing
 		visit, err = h.readInstance(a, body)
 	}
 	if err != nil {
-		if !errors.Is(err, osb.ErrRefusedTarget) && !errors.Is(err, osb.ErrRefusedMethod) {
-			a.Route = a.path.route(a.request.Method)
-		}
 		return visit, err
 	}
 	a.Key, a.IsNamed = visit.Key, true
 	return visit, nil
 }
 
-// A path is what the path of a target asks for: the catalogue, a binding, or else an instance. If a target asks for
-// none of them, the library rejects the target as an instance's and as a binding's.
-type path struct{ isCatalogue, isBinding, isLastOperation bool }
-
-// pathOf decides what the path of a target asks for. It agrees with the library on each target that the library takes,
-// since neither an id there nor the host of a URL has a slash.
-func pathOf(target string) path {
-	text, _, _ := strings.Cut(target, "?")
-	_, names, isBelow := strings.Cut(text, "/v2/service_instances/")
-	if !isBelow {
-		return path{isCatalogue: osb.AsksForCatalogue("", target)}
-	}
-	const bindings = "service_bindings/"
-	_, rest, _ := strings.Cut(names, "/") // beyond the instance's id, which may be service_bindings or last_operation
-	isBinding := strings.HasPrefix(rest, bindings)
-	if isBinding {
-		_, rest, _ = strings.Cut(rest[len(bindings):], "/")
-	}
-	return path{isBinding: isBinding, isLastOperation: strings.TrimSuffix(rest, "/") == "last_operation"}
+// An endpoint is one of the requests that a broker takes: a method of what a target names.
+type endpoint struct {
+	target osb.Target
+	method string
 }
 
-// route is the route of a request that was rejected, although there is its target with this method.
-func (p path) route(method string) string {
-	kind := osb.KindPoll
-	switch method {
-	case http.MethodPut:
-		kind = osb.KindProvision
-	case http.MethodDelete:
-		kind = osb.KindDeprovision
+// routes has the name of each endpoint in logs and metrics, but that of the catalogue.
+var routes = map[endpoint]string{
+	{osb.TargetInstance, http.MethodPut}:          "provision",
+	{osb.TargetInstance, http.MethodDelete}:       "deprovision",
+	{osb.TargetInstanceOperation, http.MethodGet}: "poll",
+	{osb.TargetBinding, http.MethodGet}:           "fetch-binding",
+	{osb.TargetBinding, http.MethodPut}:           "bind",
+	{osb.TargetBinding, http.MethodDelete}:        "unbind",
+	{osb.TargetBindingOperation, http.MethodGet}:  "poll-binding",
+}
+
+// methodsOf are those that a broker takes of what a target names.
+func methodsOf(target osb.Target) string {
+	var methods []string
+	for _, method := range []string{http.MethodGet, http.MethodPut, http.MethodDelete} {
+		if routes[endpoint{target, method}] != "" {
+			methods = append(methods, method)
+		}
 	}
-	switch {
-	case !p.isBinding:
-		return routes[kind]
-	case kind == osb.KindPoll && !p.isLastOperation:
-		return "fetch-binding"
-	}
-	return bindingRoutes[kind]
+	return strings.Join(methods, ", ")
 }
 
 func (h *Handler) readInstance(a *arrival, body []byte) (visit Visit, err error) {
@@ -223,7 +213,6 @@ func (h *Handler) readInstance(a *arrival, body []byte) (visit Visit, err error)
 	}
 	visit.Asked, visit.Key, visit.Names.Instance =
 		received.Asked, osb.InstanceKey(received.Asked.ID), received.Names.Instance
-	a.Route = routes[visit.Asked.Kind]
 	if visit.Asked.Kind != osb.KindProvision {
 		visit.Origin = h.origin(a)
 		return visit, nil
@@ -235,10 +224,6 @@ func (h *Handler) readInstance(a *arrival, body []byte) (visit Visit, err error)
 		return visit, err
 	}
 	return h.creation(a, visit, body, Request{ServiceID: received.Names.Service, PlanID: received.Names.Plan})
-}
-
-var routes = map[osb.Kind]string{
-	osb.KindProvision: "provision", osb.KindPoll: "poll", osb.KindDeprovision: "deprovision",
 }
 
 // conflict judges the maintenance_info of a Provision.
@@ -261,9 +246,6 @@ func (h *Handler) readBinding(a *arrival, body []byte) (visit Visit, err error) 
 	visit.Asked, visit.IsFetch = received.Asked.Asked, received.Asked.IsFetch
 	visit.Key = osb.BindingKey(received.Asked.Instance, visit.Asked.ID)
 	visit.Names = Names{Instance: received.Names.Instance, Binding: received.Names.Binding}
-	if a.Route = bindingRoutes[visit.Asked.Kind]; visit.IsFetch {
-		a.Route = "fetch-binding"
-	}
 	if visit.Asked.Kind != osb.KindProvision {
 		visit.Origin = h.origin(a)
 		return visit, nil
@@ -275,10 +257,6 @@ func (h *Handler) readBinding(a *arrival, body []byte) (visit Visit, err error) 
 		return visit, err
 	}
 	return h.creation(a, visit, body, Request{ServiceID: received.Names.Service, PlanID: received.Names.Plan})
-}
-
-var bindingRoutes = map[osb.Kind]string{
-	osb.KindProvision: "bind", osb.KindPoll: "poll-binding", osb.KindDeprovision: "unbind",
 }
 
 // creation adds what is stored of a creation.
@@ -430,7 +408,7 @@ func (h *Handler) refuse(a *arrival, err error) answer {
 		return h.fail(a, err)
 	}
 	if refusal == osb.ErrRefusedMethod && a.header.Get("Allow") == "" {
-		a.header.Set("Allow", a.path.methods())
+		a.header.Set("Allow", methodsOf(a.target))
 	}
 	if sentence := h.refusal(refusal); sentence != "" {
 		return h.otherError(a, status, sentence)
@@ -440,17 +418,6 @@ func (h *Handler) refuse(a *arrival, err error) answer {
 		return h.fail(a, err)
 	}
 	return answer{int(status), body}
-}
-
-// methods are those that the library takes at a path of which it rejects a method.
-func (p path) methods() string {
-	switch {
-	case p.isLastOperation:
-		return http.MethodGet
-	case p.isBinding:
-		return http.MethodGet + ", " + http.MethodPut + ", " + http.MethodDelete
-	}
-	return http.MethodPut + ", " + http.MethodDelete
 }
 
 // fail answers 500, or 503 if the store or the locks are away or there is no memory, and reports why. The work may have

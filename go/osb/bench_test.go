@@ -30,12 +30,15 @@ type steps struct {
 	none, begun, running      osb.Holding
 	record, holding           []byte
 	asked                     osb.Asked
+	new, begin, work          osb.Driver
+	reading                   osb.Reading
 }
 
 func newSteps(b *testing.B) steps {
 	s := steps{failed: osb.Answer{Status: 500, Body: osb.BodyOtherError}}
 	accepted := osb.Answer{Status: 202, Body: osb.BodyEmpty}
-	var errs [8]error
+	var errs [11]error
+	var transaction osb.Transaction
 	var received osb.Received
 	s.wanted, s.sent = osb.Create(instance, service, plan, true)
 	s.cleaning, errs[0] = s.wanted.Answer(1, s.failed)
@@ -47,6 +50,11 @@ func newSteps(b *testing.B) steps {
 	received, errs[6] = osb.ReceiveRequest("", 1000, "PUT", target, []byte(provisionBody))
 	s.asked = received.Asked
 	s.ready, errs[7] = s.wanted.Answer(1, osb.Answer{Status: 201, Body: osb.BodyEmpty})
+	s.reading = osb.Reading{Holding: s.none, Mode: osb.ModeAsync, Request: s.sent.Request, MayBegin: true}
+	s.new, errs[8] = osb.NewDriver(osb.ID{1}, true)
+	s.begin, errs[9] = s.new.Locked(true)
+	transaction, errs[10] = s.begin.Read(s.reading)
+	s.work = transaction.Committed()
 	for _, err := range errs {
 		check(b, err)
 	}
@@ -94,6 +102,11 @@ func (s steps) ofHoldings() []step {
 		{"Holding.IsThere", func() error { s.begun.IsThere(service, plan); return nil }},
 		{"Holding.End", func() error { _, _, err := s.begun.End(osb.ModeAsync, osb.OutcomeDone); return err }},
 		{"Holding.Finish", func() error { return second(s.running.Finish(true)) }},
+		{"NewDriver", func() error { return second(osb.NewDriver(osb.ID{1}, true)) }},
+		{"Driver.Locked", func() error { return second(s.new.Locked(true)) }},
+		{"Driver.Worked", func() error { return second(s.work.Worked(osb.OutcomeDone)) }},
+		{"Driver.Read", func() error { return second(s.begin.Read(s.reading)) }},
+		{"Driver.ReadBinding", func() error { return second(s.begin.ReadBinding(s.reading, s.none)) }},
 		{"WorkOf", func() error { osb.WorkOf(osb.KindProvision, osb.ModeSync); return nil }},
 		{"Holding.MarshalJSON", func() error { return second(s.begun.MarshalJSON()) }},
 		{"Holding.UnmarshalJSON", func() error { var read osb.Holding; return read.UnmarshalJSON(s.holding) }},
@@ -134,7 +147,7 @@ func (s steps) ofTheWire() []step {
 		{"CataloguePlans", func() error { return second(osb.CataloguePlans(catalogue)) }},
 		{"CheckCatalogue", func() error { return osb.CheckCatalogue([]byte(sold), all) }},
 		{"ServedCatalogue", func() error { return second(osb.ServedCatalogue(catalogue)) }},
-		{"AsksForCatalogue", func() error { osb.AsksForCatalogue("", "/v2/catalog"); return nil }},
+		{"ReadTarget", func() error { osb.ReadTarget("", "/v2/catalog"); return nil }},
 		{"PlanVersion", func() error { return second(osb.PlanVersion([]byte(sold), hashID("a0"), hashID("b1"))) }},
 		{"MaintenanceConflict", func() error { return osb.MaintenanceConflict(&version, []byte(provisionBody)) }},
 	}

@@ -338,8 +338,8 @@ var calls = map[string]func(arguments) (results, error){
 	"served_catalogue": func(a arguments) (results, error) {
 		return one(osb.ServedCatalogue(a.bytes("document")))
 	},
-	"asks_for_catalogue": func(a arguments) (results, error) {
-		return results{word(osb.AsksForCatalogue(a.text("prefix"), a.text("target")))}, nil
+	"read_target": func(a arguments) (results, error) {
+		return results{text(osb.ReadTarget(a.text("prefix"), a.text("target")).String())}, nil
 	},
 	"plan_version": func(a arguments) (results, error) {
 		return one(osb.PlanVersion(a.bytes("document"), a.id("service"), a.id("plan")))

@@ -75,13 +75,6 @@ func ServedCatalogue(document []byte) ([]byte, error) {
 	})
 }
 
-// AsksForCatalogue reports whether a target asks for the catalogue: the path is the prefix and /v2/catalog, or stands
-// for that as in ReceiveRequest (section Catalog Management). It is false too if the prefix isn't UTF-8.
-func AsksForCatalogue(prefix, target string) bool {
-	before, uri := []byte(prefix), []byte(target)
-	return bool(C.osb_asks_for_catalogue(pointer(before), size(before), pointer(uri), size(uri)))
-}
-
 // PlanVersion is the maintenance_info.version that a catalogue's document has of a plan of a service (section Catalog
 // Management).
 //

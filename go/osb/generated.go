@@ -156,6 +156,10 @@ const (
 	ErrNoBinding Status = C.OSB_NO_BINDING
 	// A plan binds asynchronously, and its service isn't bindings_retrievable.
 	ErrNotRetrievable Status = C.OSB_NOT_RETRIEVABLE
+	// No call gives such a driver.
+	ErrBadDriver Status = C.OSB_BAD_DRIVER
+	// The driver is at a stage that asks for no such report.
+	ErrWrongStage Status = C.OSB_WRONG_STAGE
 )
 
 var meanings = map[Status]string{
@@ -233,6 +237,8 @@ var meanings = map[Status]string{
 	ErrNotBindingText:           "the text isn't that of the request's binding, or no path can carry it",
 	ErrNoBinding:                "the response has no object of the binding",
 	ErrNotRetrievable:           "a plan binds asynchronously, and its service isn't bindings_retrievable",
+	ErrBadDriver:                "no call gives such a driver",
+	ErrWrongStage:               "the driver is at a stage that asks for no such report",
 }
 
 // A Kind is what a request asks for.
@@ -372,6 +378,75 @@ var phaseNames = [...]string{
 // String is the name of the number, in lower case.
 func (it Phase) String() string { return name("Phase", uint8(it), phaseNames[:]) }
 
+// A Stage is the action that the program carries out next for a driver.
+type Stage uint8
+
+const (
+	// Take the lock of the key, if it is free, and report it by osb_driver_locked.
+	StageTryLock Stage = C.OSB_STAGE_TRY_LOCK
+	// Run the first transaction.
+	StageBegin Stage = C.OSB_STAGE_BEGIN
+	// Wait for the lock of the key, and report it by osb_driver_locked.
+	StageAwaitLock Stage = C.OSB_STAGE_AWAIT_LOCK
+	// Do the work under the lock, and report it by osb_driver_worked.
+	StageWork Stage = C.OSB_STAGE_WORK
+	// Run the last transaction of pending work.
+	StageEnd Stage = C.OSB_STAGE_END
+	// Run the last transaction of an operation.
+	StageFinish Stage = C.OSB_STAGE_FINISH
+	// Read the row in a transaction, since nobody knows what was committed.
+	StageUnsure Stage = C.OSB_STAGE_UNSURE
+	// Free the lock, and send the answer.
+	StageAnswer Stage = C.OSB_STAGE_ANSWER
+	// Free the lock; if a request isn't answered yet, answer 500 or 503.
+	StageDone Stage = C.OSB_STAGE_DONE
+)
+
+var stageNames = [...]string{
+	"try-lock", "begin", "await-lock", "work", "end", "finish", "unsure", "answer", "done",
+}
+
+// String is the name of the number, in lower case.
+func (it Stage) String() string { return name("Stage", uint8(it), stageNames[:]) }
+
+// An Effect is the event that a transaction is, once it is committed.
+type Effect uint8
+
+const (
+	EffectNothing       Effect = C.OSB_EFFECT_NOTHING         // no event
+	EffectArrive        Effect = C.OSB_EFFECT_ARRIVE          // the request arrives
+	EffectPutOff        Effect = C.OSB_EFFECT_PUT_OFF         // the request is answered as if work were pending
+	EffectEnd           Effect = C.OSB_EFFECT_END             // the pending work ends, with the outcome of the struct
+	EffectFinish        Effect = C.OSB_EFFECT_FINISH          // the operation ends: it succeeded if ok is true
+	EffectGiveUpWaiting Effect = C.OSB_EFFECT_GIVE_UP_WAITING // the instance has waited too long for its first Poll
+)
+
+var effectNames = [...]string{
+	"nothing", "arrive", "put-off", "end", "finish", "give-up-waiting",
+}
+
+// String is the name of the number, in lower case.
+func (it Effect) String() string { return name("Effect", uint8(it), effectNames[:]) }
+
+// A Target is what the target of a request names.
+type Target uint8
+
+const (
+	TargetNone              Target = C.OSB_TARGET_NONE               // nothing that a broker serves
+	TargetCatalogue         Target = C.OSB_TARGET_CATALOGUE          // the catalogue
+	TargetInstance          Target = C.OSB_TARGET_INSTANCE           // an instance
+	TargetInstanceOperation Target = C.OSB_TARGET_INSTANCE_OPERATION // the last operation of an instance
+	TargetBinding           Target = C.OSB_TARGET_BINDING            // a binding
+	TargetBindingOperation  Target = C.OSB_TARGET_BINDING_OPERATION  // the last operation of a binding
+)
+
+var targetNames = [...]string{
+	"none", "catalogue", "instance", "instance-operation", "binding", "binding-operation",
+}
+
+// String is the name of the number, in lower case.
+func (it Target) String() string { return name("Target", uint8(it), targetNames[:]) }
+
 func (it Request) c() (to C.struct_osb_request) {
 	to.kind = C.uint8_t(it.Kind)
 	to.accepts_incomplete = C.bool(it.AcceptsIncomplete)
@@ -420,6 +495,22 @@ func (it Holding) c() (to C.struct_osb_holding) {
 	for at, one := range it.attributes {
 		to.attributes[at] = C.uint8_t(one)
 	}
+	return to
+}
+
+func (it Driver) c() (to C.struct_osb_driver) {
+	for at, one := range it.number {
+		to.number[at] = C.uint8_t(one)
+	}
+	to.task = it.task.c()
+	to.answer = it.answer.c()
+	to.stage = C.uint8_t(it.stage)
+	to.outcome = C.uint8_t(it.outcome)
+	to.is_request = C.bool(it.isRequest)
+	to.is_locked = C.bool(it.isLocked)
+	to.is_pending = C.bool(it.isPending)
+	to.has_answer = C.bool(it.hasAnswer)
+	to.ok = C.bool(it.ok)
 	return to
 }
 
@@ -495,6 +586,33 @@ func holdingOf(from C.struct_osb_holding) (it Holding) {
 func begunOf(from C.struct_osb_begun) (it Begun) {
 	it.Answer = answerOf(from.answer)
 	it.Work = Work(from.work)
+	return it
+}
+
+func driverOf(from C.struct_osb_driver) (it Driver) {
+	for at, one := range from.number {
+		it.number[at] = uint8(one)
+	}
+	it.task = requestOf(from.task)
+	it.answer = answerOf(from.answer)
+	it.stage = Stage(from.stage)
+	it.outcome = Outcome(from.outcome)
+	it.isRequest = bool(from.is_request)
+	it.isLocked = bool(from.is_locked)
+	it.isPending = bool(from.is_pending)
+	it.hasAnswer = bool(from.has_answer)
+	it.ok = bool(from.ok)
+	return it
+}
+
+func transactionOf(from C.struct_osb_transaction) (it Transaction) {
+	it.committed = driverOf(from.committed)
+	it.unsure = driverOf(from.unsure)
+	it.effect = Effect(from.effect)
+	it.outcome = Outcome(from.outcome)
+	it.ok = bool(from.ok)
+	it.writes = bool(from.writes)
+	it.work = Work(from.work)
 	return it
 }
 

@@ -61,6 +61,30 @@ func HoldingByHand(row *BrokerRow, work *Request, hasTombstone bool, attributes 
 	return holding
 }
 
+// DriverParts are the parts of a driver. A Task makes its work pending, and at StageEnd an Answer is an earlier try's.
+type DriverParts struct {
+	Number                  ID
+	Stage                   Stage
+	IsRequest, IsLocked, OK bool
+	Task                    *Request
+	Outcome                 Outcome
+	Answer                  *Answer
+}
+
+// DriverByHand returns a driver of these parts, which may be one that no call gives.
+func DriverByHand(of DriverParts) Driver {
+	driver := Driver{
+		number: of.Number, stage: of.Stage, outcome: of.Outcome, isRequest: of.IsRequest, isLocked: of.IsLocked, ok: of.OK,
+	}
+	if of.Task != nil {
+		driver.task, driver.isPending = *of.Task, true
+	}
+	if of.Answer != nil {
+		driver.answer, driver.hasAnswer = *of.Answer, of.Stage == StageEnd
+	}
+	return driver
+}
+
 // The empty record, which no call gives, is refused, and is neither ready nor gone.
 func TestEmptyRecord(t *testing.T) {
 	var none Record

@@ -143,6 +143,14 @@ type Parts struct {
 	Others json.RawMessage
 }
 
+// ReadTarget is what a target names, whatever the method is and the ids are: so a broker knows which call reads the
+// request. The path begins with the prefix, or stands for such a path as in ReceiveRequest. It is TargetNone if both
+// ReceiveRequest and ReceiveBindingRequest return ErrRefusedTarget, and if the prefix isn't UTF-8.
+func ReadTarget(prefix, target string) Target {
+	before, uri := []byte(prefix), []byte(target)
+	return Target(C.osb_read_target(pointer(before), size(before), pointer(uri), size(uri)))
+}
+
 // ReceiveRequest reads what a request asks of a broker, from its method, its target (path and query, as the request
 // line has them) and all of its body, with the texts of its ids and the parts of a Provision's body (sections
 // Provisioning, Polling Last Operation for Service Instances and Deprovisioning). A body of more than longestBody

@@ -7,7 +7,7 @@ from typing import Any, Callable
 
 import osb
 import pytest
-from osb import Answer, Holding, Id, Kind, OsbError, Record, Refusal, Request, State, Status, binding_wire, wire
+from osb import Answer, Driver, Holding, Id, Kind, OsbError, Record, Refusal, Request, State, Status, binding_wire, wire
 from osb._lib import lib
 from osb._texts import written
 from osb.tables import decide_deprovision, decide_poll
@@ -71,6 +71,13 @@ class Given:
     def holding(self, name: str = "holding") -> Holding:
         return holding_of(self.bytes(name))
 
+    def driver(self) -> Driver:
+        return driver_of(self.bytes("driver"))
+
+    def row(self) -> tuple[Holding, bytes]:
+        """A holding and a number."""
+        return self.holding(), number_of(self.bytes("number"))
+
     def asked(self) -> tuple[Any, Request]:
         """The mode and the request that begins."""
         return self.mode(), request_of(api.cases.request(self.bytes("request")))
@@ -109,6 +116,29 @@ def answer_of(cell: bytes) -> Answer:
     return Answer(int(status), named(osb.Body, body))
 
 
+def number_of(cell: bytes) -> bytes:
+    return digest(cell)[:16]
+
+
+def driver_of(cell: bytes) -> Driver:
+    driver = api.cases.driver(cell)
+    return Driver(
+        driver.number,
+        named(osb.Stage, driver.stage),
+        driver.is_request,
+        driver.is_locked,
+        request_of(driver.task) if driver.task else None,
+        named(osb.Outcome, driver.outcome) if driver.outcome else None,
+        answer_of(driver.answer) if driver.answer else None,
+        driver.ok,
+    )
+
+
+def effect_of(cell: bytes) -> tuple[Any, Any, bool]:
+    effect, *words = cell.decode().split()
+    return named(osb.Effect, effect), named(osb.Outcome, words[0]) if effect == "end" else None, words == ["ok"]
+
+
 # What the words of a column mean.
 VALUES: dict[str, Callable[[bytes], Any]] = {
     "record": record_of,
@@ -116,6 +146,11 @@ VALUES: dict[str, Callable[[bytes], Any]] = {
     "holding": holding_of,
     "answer": answer_of,
     "begun": lambda cell: answer_of(cell) if b" " in cell else named(osb.Work, cell.decode()),
+    "driver": driver_of,
+    "committed": driver_of,
+    "unsure": driver_of,
+    "number": number_of,
+    "effect": effect_of,
 }
 
 
@@ -241,6 +276,21 @@ def record_from_row(of: Given) -> Record:
     return Record.from_platform_row(osb.PlatformRow(SERVICE, SYNC, state, out))
 
 
+def transaction(of: osb.Transaction) -> list[Any]:
+    effect = of.effect, of.outcome, of.ok
+    return [of.holding, of.number, of.writes, of.committed, of.unsure, effect, str(of.work or "none")]
+
+
+def driver_read(of: Given) -> list[Any]:
+    may = {name: of.flag(name) for name in ("may_begin", "may_give_up")}
+    return transaction(of.driver().read(*of.row(), *of.asked(), **may, **of.rules()))
+
+
+def binding_driver_read(of: Given) -> list[Any]:
+    row, may_give_up = (*of.row(), of.holding("instance")), of.flag("may_give_up")
+    return transaction(of.driver().read_binding(*row, *of.asked(), may_give_up=may_give_up, **of.rules()))
+
+
 CALLS: dict[str, Callable[[Given], Any]] = {
     "id_of_text": lambda of: Id.of_text(of.text("text")),
     "id_from_text": lambda of: Id.of(of.text("text")),
@@ -267,7 +317,7 @@ CALLS: dict[str, Callable[[Given], Any]] = {
     "catalogue_plans": lambda of: plans(wire.catalogue_plans(of.bytes("document"))),
     "catalogue_check": check_catalogue,
     "served_catalogue": lambda of: wire.served_catalogue(of.bytes("document")),
-    "asks_for_catalogue": lambda of: wire.asks_for_catalogue(of.bytes("target"), of.text("prefix")),
+    "read_target": lambda of: str(wire.read_target(of.bytes("target"), of.text("prefix")) or "none"),
     "plan_version": lambda of: wire.plan_version(of.bytes("document"), of.id("service"), of.id("plan")),
     "maintenance_conflict": lambda of: wire.maintenance_conflict(of.optional("version"), of.bytes("body")),
     "write_binding_target": write_binding_target,
@@ -316,9 +366,16 @@ CALLS: dict[str, Callable[[Given], Any]] = {
     "binding_fetch": lambda of: of.holding().fetch(),
     "binding_holding_to_text": lambda of: of.holding().to_binding_text(),
     "binding_holding_from_text": lambda of: Holding.from_binding_text(of.text("text")),
+    "driver_new": lambda of: Driver.new(number_of(of.bytes("number")), is_request=of.flag("is_request")),
+    "driver_locked": lambda of: of.driver().locked(of.flag("has_lock")),
+    "driver_worked": lambda of: of.driver().worked(named(osb.Outcome, of.text("outcome"))),
+    "driver_read": driver_read,
+    "binding_driver_read": binding_driver_read,
 }
 # The columns that may have a number instead of a name.
-NUMBERED = ("kind", "state", "mode", "outcome", "record", "request")
+NUMBERED = ("kind", "state", "mode", "outcome", "record", "request", "driver")
+NUMBER = re.compile(rb"\d"), re.compile(rb"\d|.* \d+(:| |$)")
+"""A number at the front of a cell, and one among the words of a driver."""
 # The status for which a call of this package returns None or False.
 NOTHING = {
     "read_answer": "NO_ANSWER",
@@ -334,7 +391,7 @@ NOTHING = {
 
 def said(value: Any) -> Any:
     """A result as a cell has it, or the value of which a cell has the words."""
-    if value is None or isinstance(value, (bytes, Record, Holding, Request, Answer, osb.Work)):
+    if value is None or isinstance(value, (bytes, tuple, Record, Holding, Request, Answer, Driver, osb.Work)):
         return value
     return ("yes" if value else "no").encode() if isinstance(value, bool) else str(value).encode()
 
@@ -365,7 +422,7 @@ def test_a_call(call: str) -> None:
 
 def check(case: Case) -> None:
     of = Given(case.given)
-    if any((case.given.get(name) or b"")[:1].isdigit() for name in NUMBERED):
+    if any(NUMBER[name == "driver"].match(case.given.get(name) or b"") for name in NUMBERED):
         with pytest.raises(ValueError):  # the enums don't take a number that has no name
             CALLS[case.call](of)
         return

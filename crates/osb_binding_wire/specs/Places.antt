@@ -4,12 +4,15 @@ use Rattle.std.specs.Prelude.{Option, Some, None, option_map, option_and_then, R
 use Rattle.std.specs.Str.{bytes_eq}
 use Rattle.osb_message.specs.declared.messages.Kind.TheVariants.{Provision, Poll, Deprovision}
 use Rattle.osb_wire.specs.Paths.{slash_at, plain_path, segment_text, segment_number}
-use Rattle.osb_wire.specs.Targets.{after_front, place_below, below_instances}
+use Rattle.osb_wire.specs.Targets.{after_front, place_below, below_instances, asks_for_catalogue}
+use Rattle.osb_wire.specs.Targets as instances
 use Rattle.osb_wire.specs.declared.refusal.Refusal.TheVariants.{NoSuchTarget, NoSuchMethod, BadInstance}
 use Rattle.osb_binding_wire.specs.declared.place.Place.{Place}
 use Rattle.osb_binding_wire.specs.declared.place.Wanted.{Wanted}
 use Rattle.osb_binding_wire.specs.declared.refusal.BindingRefusal.{BindingRefusal}
 use Rattle.osb_binding_wire.specs.declared.refusal.BindingRefusal.TheVariants.{BadBinding, Refused}
+use Rattle.osb_binding_wire.specs.declared.target.Target.{Target}
+use Rattle.osb_binding_wire.specs.declared.target.Target.TheVariants.{Catalogue, Instance, InstanceOperation, Binding, BindingOperation}
 
 -- what follows the instance's id (section Binding)
 abbrev pub bindings_path : List ℕ
@@ -77,3 +80,24 @@ place_at method (Some segments) = place_named segments (wanted_at method segment
 -- what is asked for, and of which binding; the path is judged first, then the method, then the ids
 abbrev pub place_in : List ℕ → List ℕ → List ℕ → Result Place BindingRefusal
 place_in prefix method path = place_at method (segments_in prefix path)
+
+-- ---- what a path names, whatever the method is and the ids are
+
+abbrev pub instance_target : Bool → Target
+instance_target true = InstanceOperation
+instance_target false = Instance
+
+abbrev pub binding_target : Bool → Target
+binding_target true = BindingOperation
+binding_target false = Binding
+
+-- of whether it is the catalogue's, of the place of an instance, and of the segments of a binding
+abbrev pub target_of : Bool → Option instances.Place → Option Segments → Option Target
+target_of true instance binding = Some Catalogue
+target_of false (Some instance) binding = Some (instance_target instance.1)
+target_of false None (Some binding) = Some (binding_target binding.1.1)
+target_of false None None = None
+
+abbrev pub target_in : List ℕ → List ℕ → Option Target
+target_in prefix path =
+    target_of (asks_for_catalogue prefix path) (instances.place_in prefix path) (segments_in prefix path)

@@ -32,6 +32,7 @@ mod reading;
 mod received;
 mod refusal;
 mod retrievable;
+mod target;
 mod writing;
 
 pub use answers::{BindingAnswer, read_binding_answer, read_fetched, write_binding};
@@ -44,4 +45,5 @@ pub use reading::read_binding_request;
 pub use received::BindingReceived;
 pub use refusal::BindingRefusal;
 pub use retrievable::bindings_retrievable;
+pub use target::{Target, read_target};
 pub use writing::{write_binding_body, write_binding_request, write_binding_target, write_fetch};

@@ -20,9 +20,9 @@ use osb_c_types::{OsbAnswer, OsbRequest, Status, answer_out, mode_from, request_
 use osb_instance::{Begun, Digest, Holding};
 use osb_message::{InstanceId, Mode, Request};
 
-// The request of a binding from that of the tables, which has the id of the binding alone. Nothing that begins depends
-// on the id of the instance.
-fn asked_from(request: Request) -> BindingRequest
+/// The request of a binding from that of the tables, which has the id of the binding alone. Nothing that begins depends
+/// on the id of the instance. It takes no memory.
+pub fn asked_from(request: Request) -> BindingRequest
     ensures asked { result ≡ binding_request 0 request }
 {
     BindingRequest {

@@ -15,3 +15,5 @@ mod binding_records;
 mod instance_holdings;
 mod instance_records;
 mod texts;
+
+pub use binding_holdings::asked_from;

@@ -4,3 +4,4 @@ pub mod Objects
 pub mod Received
 pub mod Refusals
 pub mod Sent
+pub mod Targets

@@ -17,3 +17,4 @@ mod catalogues;
 mod receiving;
 mod refusals;
 mod sending;
+mod targets;

@@ -4,8 +4,8 @@ ghost use Rattle.osb_c_instance.specs.Outcomes.{outcome_of};
 
 use osb_instance::{Rejection, WorkOutcome};
 
-// The outcome that a number stands for.
-pub(crate) fn outcome_from(code: u8) -> Option<WorkOutcome>
+/// The outcome that a number stands for. It takes no memory.
+pub fn outcome_from(code: u8) -> Option<WorkOutcome>
     ensures outcome { result ≡ outcome_of code }
 {
     match code {

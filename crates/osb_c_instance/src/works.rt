@@ -20,8 +20,8 @@ fn work_out(work: Work) -> u8
     }
 }
 
-// The number of the work, or of none.
-pub(crate) fn some_work_out(work: Option<Work>) -> u8
+/// The number of the work, or of none. It takes no memory.
+pub fn some_work_out(work: Option<Work>) -> u8
     ensures code { result ≡ code_or_none work }
 {
     match work {

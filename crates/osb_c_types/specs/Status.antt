@@ -21,7 +21,7 @@ use Rattle.osb_c_types.specs.declared.status.Status.TheVariants.{NoDescription, 
 use Rattle.osb_c_types.specs.declared.status.Status.TheVariants.{BindableUnserved, UpdateUnserved, InstancesUnserved}
 use Rattle.osb_c_types.specs.declared.status.Status.TheVariants.{BindingsUnserved, SameNumber, NotReady, Bound}
 use Rattle.osb_c_types.specs.declared.status.Status.TheVariants.{RefusedBinding, RefusedApp, NotBindingText, NoBinding}
-use Rattle.osb_c_types.specs.declared.status.Status.TheVariants.{NotRetrievable}
+use Rattle.osb_c_types.specs.declared.status.Status.TheVariants.{NotRetrievable, BadDriver, WrongStage}
 
 abbrev pub code : Status → ℕ
 code Done = 0
@@ -99,6 +99,8 @@ code RefusedApp = 79
 code NotBindingText = 80
 code NoBinding = 81
 code NotRetrievable = 82
+code BadDriver = 83
+code WrongStage = 84
 
 -- whether a number is one of those of the statuses
 abbrev pub is_one_of : List Status → ℕ → Bool

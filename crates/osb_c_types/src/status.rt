@@ -157,6 +157,10 @@ pub enum Status {
     NoBinding,
     /// A plan binds asynchronously, and its service isn't `bindings_retrievable`.
     NotRetrievable,
+    /// The struct is no driver that a call gives.
+    BadDriver,
+    /// The driver is at a stage that asks for no such report.
+    WrongStage,
 }
 
 impl Status {
@@ -240,6 +244,8 @@ impl Status {
             Status::NotBindingText => 80,
             Status::NoBinding => 81,
             Status::NotRetrievable => 82,
+            Status::BadDriver => 83,
+            Status::WrongStage => 84,
         }
     }
 }

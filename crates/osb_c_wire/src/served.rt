@@ -1,9 +1,6 @@
 //! The catalogue that a broker serves.
-ghost use Rattle.std.specs.Prelude.{◌≡◌, ◌≢◌, [], ◌∷◌, false, None, IsTrue, IsSomeAnd, drop};
-ghost use Rattle.std.specs.Str.{IsUtf8};
-ghost use Rattle.form_urlencoded.specs.Form.{split_once};
+ghost use Rattle.std.specs.Prelude.{◌≡◌, ◌≢◌, [], ◌∷◌, None, IsTrue, IsSomeAnd, drop};
 ghost use Rattle.osb_wire.specs.JsonTexts.{served_text};
-ghost use Rattle.osb_wire.specs.Targets.{asks_for_catalogue};
 ghost use Rattle.osb_c_types.specs.Status.{code, is_one_of};
 ghost use Rattle.osb_c_wire.specs.Texts as texts;
 
@@ -43,20 +40,5 @@ pub extern "C" fn osb_served_catalogue(
         Ok(Some(text)) => write_text(text.as_str(), buffer, needed).code(),
         Ok(None) => Status::NotAnObject.code(),
         Err(Memory) => Status::Memory.code(),
-    }
-}
-
-/// Whether a target asks for the catalogue, `/v2/catalog` after the prefix: empty, or what the broker's own URL has
-/// before `/v2`. The path may be in absolute form, and have more slashes at its front and one at its end; the query
-/// counts for nothing (section Catalog Management; that other forms of the path are taken is this project's choice). It
-/// is false too where the prefix isn't UTF-8. It takes no memory.
-#[unsafe(no_mangle)]
-pub extern "C" fn osb_asks_for_catalogue(prefix: &[u8], target: &[u8]) -> bool
-    ensures asks { IsUtf8 prefix.now → result ≡ asks_for_catalogue prefix.now ((split_once 63 target.now).0) }
-    ensures not_utf8 { ¬ (IsUtf8 prefix.now) → result ≡ false }
-{
-    match std::str::from_utf8(prefix) {
-        Ok(prefix) => osb_wire::asks_for_catalogue(prefix, target),
-        Err(_) => false,
     }
 }

@@ -3,6 +3,7 @@ whose resources are created in Python is a command backend of osb-broker (docs/b
 osb-platform, with an API over HTTP (docs/platform-guide.md).
 
 - `Record` and `Holding`: one instance as a value, as a platform and as a broker keep it in a database, with its text.
+- `Driver`: what a broker does next.
 - `osb.wire`: requests and answers as HTTP and JSON have them. `osb.binding_wire`: those of bindings.
 - `osb.tables`: two of the platform's tables.
 
@@ -14,7 +15,8 @@ from __future__ import annotations
 
 from osb._header import VERSION
 from osb._lib import version
-from osb.enums import Body, Kind, Mode, Outcome, Phase, State, Status, Work
+from osb.driver import NO_NUMBER, Driver, Transaction
+from osb.enums import Body, Effect, Kind, Mode, Outcome, Phase, Stage, State, Status, Work
 from osb.errors import OsbError, Refusal
 from osb.holding import NO_ATTRIBUTES, Holding, work_of
 from osb.ids import Id
@@ -28,12 +30,15 @@ __all__ = [
     "Answer",
     "Body",
     "BrokerRow",
+    "Driver",
+    "Effect",
     "Endpoints",
     "Holding",
     "Id",
     "Kind",
     "Mode",
     "NO_ATTRIBUTES",
+    "NO_NUMBER",
     "OsbError",
     "Outcome",
     "Phase",
@@ -42,8 +47,10 @@ __all__ = [
     "Record",
     "Refusal",
     "Request",
+    "Stage",
     "State",
     "Status",
+    "Transaction",
     "Work",
     "__version__",
     "version",

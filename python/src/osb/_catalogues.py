@@ -51,14 +51,6 @@ def served_catalogue(document: bytes) -> bytes:
     return text_of(lib.osb_served_catalogue, document, len(document))
 
 
-def asks_for_catalogue(target: bytes, prefix: str = "") -> bool:
-    """Whether a target asks for the catalogue: the path is the prefix and /v2/catalog, or stands for that as in
-    `receive_request` (section Catalog Management). False too where the prefix isn't UTF-8.
-    """
-    front = utf8(prefix)
-    return bool(lib.osb_asks_for_catalogue(front, len(front), target, len(target)))
-
-
 def plan_version(document: bytes, service: Id, plan: Id) -> str | None:
     """The `maintenance_info.version` that a catalogue's document has of a plan of a service, or None (section Catalog
     Management).

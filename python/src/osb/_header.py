@@ -16,6 +16,7 @@ KIND_NONE = 255
 STATE_NONE = 255
 MODE_NONE = 255
 WORK_NONE = 0
+TARGET_NONE = 0
 
 
 class CId(c.Structure):
@@ -59,6 +60,33 @@ class CHolding(c.Structure):
 
 class CBegun(c.Structure):
     _fields_ = [("answer", CAnswer), ("work", c.c_uint8)]
+
+
+class CDriver(c.Structure):
+    _fields_ = [
+        ("number", c.c_uint8 * 16),
+        ("task", CRequest),
+        ("answer", CAnswer),
+        ("stage", c.c_uint8),
+        ("outcome", c.c_uint8),
+        ("is_request", c.c_bool),
+        ("is_locked", c.c_bool),
+        ("is_pending", c.c_bool),
+        ("has_answer", c.c_bool),
+        ("ok", c.c_bool),
+    ]
+
+
+class CTransaction(c.Structure):
+    _fields_ = [
+        ("committed", CDriver),
+        ("unsure", CDriver),
+        ("effect", c.c_uint8),
+        ("outcome", c.c_uint8),
+        ("ok", c.c_bool),
+        ("writes", c.c_bool),
+        ("work", c.c_uint8),
+    ]
 
 
 class CDetails(c.Structure):
@@ -189,6 +217,41 @@ EXPORTS: list[tuple[str, Any, list[Any]]] = [
         [_AT(CHolding), _AT(CHolding), c.c_uint8, c.c_bool, _AT(CRequest), c.c_char_p, _AT(CBegun)],
     ),
     ("osb_binding_fetch", c.c_uint32, [_AT(CHolding), _AT(CAnswer)]),
+    ("osb_driver_new", c.c_uint32, [c.c_char_p, c.c_bool, _AT(CDriver)]),
+    ("osb_driver_locked", c.c_uint32, [_AT(CDriver), c.c_bool]),
+    ("osb_driver_worked", c.c_uint32, [_AT(CDriver), c.c_uint8]),
+    (
+        "osb_driver_read",
+        c.c_uint32,
+        [
+            _AT(CDriver),
+            _AT(CHolding),
+            c.c_char_p,
+            c.c_uint8,
+            c.c_bool,
+            c.c_bool,
+            c.c_bool,
+            _AT(CRequest),
+            c.c_char_p,
+            _AT(CTransaction),
+        ],
+    ),
+    (
+        "osb_binding_driver_read",
+        c.c_uint32,
+        [
+            _AT(CDriver),
+            _AT(CHolding),
+            c.c_char_p,
+            _AT(CHolding),
+            c.c_uint8,
+            c.c_bool,
+            c.c_bool,
+            _AT(CRequest),
+            c.c_char_p,
+            _AT(CTransaction),
+        ],
+    ),
     ("osb_read_answer", c.c_uint32, [c.c_uint8, c.c_uint16, *_READ, _AT(CAnswer)]),
     ("osb_read_details", c.c_uint32, [*_READ, _AT(CDetails), *_WRITTEN]),
     ("osb_write_method", c.c_uint32, [c.c_uint8, *_WRITTEN]),
@@ -218,9 +281,9 @@ EXPORTS: list[tuple[str, Any, list[Any]]] = [
     ("osb_catalogue_plans", c.c_uint32, [*_READ, _AT(CPlan), c.c_size_t, _AT(c.c_size_t)]),
     ("osb_catalogue_check", c.c_uint32, [*_READ, _AT(CEndpoints)]),
     ("osb_served_catalogue", c.c_uint32, [*_READ, *_WRITTEN]),
-    ("osb_asks_for_catalogue", c.c_bool, [*_READ, *_READ]),
     ("osb_plan_version", c.c_uint32, [*_READ, CId, CId, *_WRITTEN]),
     ("osb_maintenance_conflict", c.c_uint32, [c.c_bool, *_READ, *_READ]),
+    ("osb_read_target", c.c_uint8, [*_READ, *_READ]),
     (
         "osb_receive_binding_request",
         c.c_uint32,

@@ -88,6 +88,8 @@ class Status(Named):
     NOT_BINDING_TEXT = 80, "the text isn't that of the request's binding, or no path can carry it"
     NO_BINDING = 81, "the response has no object of the binding"
     NOT_RETRIEVABLE = 82, "a plan binds asynchronously, and its service isn't bindings_retrievable"
+    BAD_DRIVER = 83, "no call gives such a driver"
+    WRONG_STAGE = 84, "the driver is at a stage that asks for no such report"
 
 
 class Kind(Named):
@@ -158,3 +160,38 @@ class Phase(Named):
     DELETING = 3, "it is being deleted"
     DELETE_FAILED = 4, "it could not be deleted"
     WAITING = 5, "its making begins with the first Poll"
+
+
+class Stage(Named):
+    """The action that the program carries out next for a driver."""
+
+    TRY_LOCK = 0, "take the lock of the key, if it is free, and report it by osb_driver_locked"
+    BEGIN = 1, "run the first transaction"
+    AWAIT_LOCK = 2, "wait for the lock of the key, and report it by osb_driver_locked"
+    WORK = 3, "do the work under the lock, and report it by osb_driver_worked"
+    END = 4, "run the last transaction of pending work"
+    FINISH = 5, "run the last transaction of an operation"
+    UNSURE = 6, "read the row in a transaction, since nobody knows what was committed"
+    ANSWER = 7, "free the lock, and send the answer"
+    DONE = 8, "free the lock; if a request isn't answered yet, answer 500 or 503"
+
+
+class Effect(Named):
+    """The event that a transaction is, once it is committed."""
+
+    NOTHING = 0, "no event"
+    ARRIVE = 1, "the request arrives"
+    PUT_OFF = 2, "the request is answered as if work were pending"
+    END = 3, "the pending work ends, with the outcome of the struct"
+    FINISH = 4, "the operation ends: it succeeded if ok is true"
+    GIVE_UP_WAITING = 5, "the instance has waited too long for its first Poll"
+
+
+class Target(Named):
+    """What the target of a request names."""
+
+    CATALOGUE = 1, "the catalogue"
+    INSTANCE = 2, "an instance"
+    INSTANCE_OPERATION = 3, "the last operation of an instance"
+    BINDING = 4, "a binding"
+    BINDING_OPERATION = 5, "the last operation of a binding"

@@ -47,7 +47,7 @@ class Holding:
         """Whether the holding can come about at a plan of the mode. Asked of each that comes from a database, with the
         mode of the row's plan, or of the pending request's if there is no row.
         """
-        return bool(lib.osb_holding_fits(_to(self), mode_to(mode)))
+        return bool(lib.osb_holding_fits(holding_to(self), mode_to(mode)))
 
     def begin(
         self, mode: Mode | None, request: Request, *, first_poll: bool = False, attributes: bytes = NO_ATTRIBUTES
@@ -61,10 +61,10 @@ class Holding:
 
         The holding is written to the database if it differs, before the work begins or the answer is sent.
         """
-        holding, begun = _to(self), CBegun()
-        digest = bytes(_digest(attributes))
+        holding, begun = holding_to(self), CBegun()
+        digest = bytes(digest_to(attributes))
         check(lib.osb_holding_begin(holding, mode_to(mode), first_poll, request_to(request), digest, begun))
-        return _from(holding), _due(begun)
+        return holding_from(holding), _due(begun)
 
     def begin_if(
         self,
@@ -81,10 +81,10 @@ class Holding:
         For an instance that may have bindings, `may_begin` is whether `is_held` is false of each of them. Read it in
         the transaction that writes the holding. A Deprovision is then answered with 422.
         """
-        holding, begun = _to(self), CBegun()
-        digest, asked = bytes(_digest(attributes)), request_to(request)
+        holding, begun = holding_to(self), CBegun()
+        digest, asked = bytes(digest_to(attributes)), request_to(request)
         check(lib.osb_holding_begin_if(holding, mode_to(mode), first_poll, asked, digest, may_begin, begun))
-        return _from(holding), _due(begun)
+        return holding_from(holding), _due(begun)
 
     def begin_binding(
         self,
@@ -105,17 +105,17 @@ class Holding:
         If the instance has a tombstone, and nothing is kept of the binding, nothing changes: every Bind is answered
         with 503, and an Unbind with 410. So the tombstones of bindings may be deleted once their instance has one.
         """
-        holding, begun = _to(self), CBegun()
-        digest, asked = bytes(_digest(attributes)), request_to(request)
-        check(lib.osb_binding_begin(holding, _to(instance), mode_to(mode), first_poll, asked, digest, begun))
-        return _from(holding), _due(begun)
+        holding, begun = holding_to(self), CBegun()
+        digest, asked = bytes(digest_to(attributes)), request_to(request)
+        check(lib.osb_binding_begin(holding, holding_to(instance), mode_to(mode), first_poll, asked, digest, begun))
+        return holding_from(holding), _due(begun)
 
     def fetch(self) -> Answer:
         """The answer to a Fetch of this binding: 200 if the row is `ready` and no work is pending, and else 404. Send a
         200 with the credentials that are stored beside the holding.
         """
         answer = CAnswer()
-        check(lib.osb_binding_fetch(_to(self), answer))
+        check(lib.osb_binding_fetch(holding_to(self), answer))
         return answer_from(answer)
 
     @property
@@ -123,40 +123,40 @@ class Holding:
         """Whether there is a row, or work is pending. True also of a holding that no call gives, so that nothing begins
         then. While a binding is held, the deletion of its instance doesn't begin.
         """
-        return bool(lib.osb_holding_is_held(_to(self)))
+        return bool(lib.osb_holding_is_held(holding_to(self)))
 
     def is_there(self, service: Id, plan: Id) -> bool:
         """Whether the row is `ready`, with this service and plan, and no work is pending. `begin_binding` asks this of
         the instance's holding.
         """
-        return bool(lib.osb_holding_is_there(_to(self), id_to(service), id_to(plan)))
+        return bool(lib.osb_holding_is_there(holding_to(self), id_to(service), id_to(plan)))
 
     def end(self, mode: Mode | None, outcome: Outcome) -> tuple[Holding, Answer]:
         """Ends the pending work with this outcome, and gives the answer to its request. The mode has to fit. A refusal
         leaves the tombstone. The holding is written to the database before the answer is sent. Raises NOTHING_BEGUN,
         NOT_A_PROVISION.
         """
-        holding, answer = _to(self), CAnswer()
+        holding, answer = holding_to(self), CAnswer()
         check(lib.osb_holding_end(holding, mode_to(mode), Outcome(outcome).value, answer))
-        return _from(holding), answer_from(answer)
+        return holding_from(holding), answer_from(answer)
 
     def finish(self, ok: bool) -> Holding:
         """Ends the operation that runs on the instance, well (ok) or badly. Raises NOTHING_RUNNING."""
-        holding = _to(self)
+        holding = holding_to(self)
         check(lib.osb_holding_finish(holding, ok))
-        return _from(holding)
+        return holding_from(holding)
 
     def give_up_waiting(self) -> Holding:
         """Gives up an instance that has waited too long for its first Poll: it has failed then, and nothing of it was
         made. Raises NOT_WAITING.
         """
-        holding = _to(self)
+        holding = holding_to(self)
         check(lib.osb_holding_give_up_waiting(holding))
-        return _from(holding)
+        return holding_from(holding)
 
     def to_text(self) -> str:
         """The text of the holding, for a column of a database."""
-        return text_of(lib.osb_holding_to_text, _to(self)).decode()
+        return text_of(lib.osb_holding_to_text, holding_to(self)).decode()
 
     @classmethod
     def from_text(cls, text: str) -> Holding:
@@ -165,18 +165,18 @@ class Holding:
         """
         holding, given = CHolding(), utf8(text)
         check(lib.osb_holding_from_text(given, len(given), holding))
-        return _from(holding)
+        return holding_from(holding)
 
     def to_binding_text(self) -> str:
         """The text of a binding's holding, for a column of a database: that of `to_text`, with a version of its own."""
-        return text_of(lib.osb_binding_holding_to_text, _to(self)).decode()
+        return text_of(lib.osb_binding_holding_to_text, holding_to(self)).decode()
 
     @classmethod
     def from_binding_text(cls, text: str) -> Holding:
         """Reads the text of a binding's holding. Raises what `from_text` raises."""
         holding, given = CHolding(), utf8(text)
         check(lib.osb_binding_holding_from_text(given, len(given), holding))
-        return _from(holding)
+        return holding_from(holding)
 
 
 Holding.NONE = Holding()
@@ -195,18 +195,18 @@ def _due(begun: CBegun) -> Answer | Work:
     return answer_from(begun.answer) if begun.work == WORK_NONE else Work(begun.work)
 
 
-def _digest(attributes: bytes) -> ctypes.Array[ctypes.c_uint8]:
+def digest_to(attributes: bytes) -> ctypes.Array[ctypes.c_uint8]:
     if len(attributes) != 32:
         raise ValueError("a digest of attributes has 32 bytes")
     return (ctypes.c_uint8 * 32)(*attributes)
 
 
-def _to(holding: Holding) -> CHolding:
+def holding_to(holding: Holding) -> CHolding:
     made = CHolding(
         has_row=holding.row is not None,
         has_work=holding.work is not None,
         has_tombstone=bool(holding.has_tombstone),
-        attributes=_digest(holding.attributes),
+        attributes=digest_to(holding.attributes),
     )
     if holding.row is not None:
         made.row = broker_row_to(holding.row)
@@ -215,7 +215,7 @@ def _to(holding: Holding) -> CHolding:
     return made
 
 
-def _from(holding: CHolding) -> Holding:
+def holding_from(holding: CHolding) -> Holding:
     return Holding(
         broker_row_from(holding.row) if holding.has_row else None,
         request_from(holding.work) if holding.has_work else None,

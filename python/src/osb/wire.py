@@ -8,19 +8,12 @@ from __future__ import annotations
 import ctypes as c
 from dataclasses import dataclass
 
-from osb._catalogues import (
-    asks_for_catalogue,
-    catalogue_plans,
-    check_catalogue,
-    maintenance_conflict,
-    plan_version,
-    served_catalogue,
-)
+from osb._catalogues import catalogue_plans, check_catalogue, maintenance_conflict, plan_version, served_catalogue
 from osb._crossing import answer_from, answer_to, id_from, id_to, longest_to, request_from, request_to, status_to
-from osb._header import CAnswer, CAsked, CDetails, CId, CReceived, CRequest
+from osb._header import TARGET_NONE, CAnswer, CAsked, CDetails, CId, CReceived, CRequest
 from osb._lib import lib
 from osb._texts import texts_of, utf8, with_lengths, written
-from osb.enums import Kind, Status
+from osb.enums import Kind, Status, Target
 from osb.errors import Refusal, check, found, text_of
 from osb.ids import Id
 from osb.messages import Answer, Request
@@ -39,7 +32,6 @@ __all__ = [
     "Received",
     "Refusal",
     "api_version",
-    "asks_for_catalogue",
     "attributes_digest",
     "basic_auth",
     "catalogue_plans",
@@ -51,6 +43,7 @@ __all__ = [
     "plan_version",
     "read_answer",
     "read_details",
+    "read_target",
     "receive_request",
     "request_identity",
     "retry_after",
@@ -233,6 +226,15 @@ class Received:
     """The text of the plan's id. Only a Poll may lack it."""
     parts: Parts
     """The parts of a Provision's body. Other requests have none."""
+
+
+def read_target(target: bytes, prefix: str = "") -> Target | None:
+    """What a target names, whatever the method is and the ids are: so a broker knows which call reads the request. None
+    if it is nothing that a broker serves, or if the prefix isn't UTF-8. The forms of the path are those of
+    `receive_request`.
+    """
+    named = lib.osb_read_target(*with_lengths(prefix), target, len(target))
+    return None if named == TARGET_NONE else Target(named)
 
 
 def receive_request(method: str, target: bytes, body: bytes, longest_body: int, prefix: str = "") -> Received:

@@ -1,0 +1,3 @@
+pub mod Drivers
+pub mod Transactions
+pub mod Reads

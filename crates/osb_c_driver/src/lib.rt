@@ -1,0 +1,15 @@
+//! The driver of a broker, callable from C: what a program does next with a request, or with what a dead worker has
+//! left.
+//!
+//! Each export is one call of `osb_driver` or of `osb_binding_driver`, and its contract says again what that call's
+//! says, of what crossed. A driver crosses as a struct that owns nothing, and so does what a transaction comes to. A
+//! struct may say anything: a driver that no call gives is refused. No call takes memory.
+//!
+//! `include/osb.h` declares all of it. All of it is this project's choice.
+#![tactic(auto)]
+
+mod binding_reads;
+mod driver_calls;
+mod drivers;
+mod reads;
+mod transactions;

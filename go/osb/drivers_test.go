@@ -1,0 +1,146 @@
+package osb_test
+
+import (
+	"strings"
+	"testing"
+
+	"pippinterm/osb"
+)
+
+var (
+	stageNames  = numbersOf(func(n uint8) string { return osb.Stage(n).String() })
+	effectNames = numbersOf(func(n uint8) string { return osb.Effect(n).String() })
+)
+
+func driverNumberOf(t *testing.T, cell string) (number osb.ID) {
+	t.Helper()
+	digest := digestOf(t, cell)
+	copy(number[:], digest[:])
+	return number
+}
+
+func driverOf(t *testing.T, cell string) osb.Driver {
+	t.Helper()
+	words := strings.Fields(cell)
+	parts := osb.DriverParts{Number: driverNumberOf(t, "01"), Stage: osb.Stage(numberOf(t, words[0], stageNames))}
+	for _, word := range words[1:] {
+		switch {
+		case word == "take-up":
+		case word == "request":
+			parts.IsRequest = true
+		case word == "locked":
+			parts.IsLocked = true
+		case word == "ok":
+			parts.OK = true
+		case word[0] == '#':
+			parts.Number = driverNumberOf(t, word[1:])
+		case strings.Contains(word, "/"):
+			answer := answerOf(t, strings.ReplaceAll(word, "/", " "))
+			parts.Answer = &answer
+		case strings.Contains(word, ":"):
+			task := requestOf(t, word)
+			parts.Task = &task
+		default:
+			parts.Outcome = osb.Outcome(numberOf(t, word, outcomeNames))
+		}
+	}
+	return osb.DriverByHand(parts)
+}
+
+// An event is what a transaction is once it is committed.
+type event struct {
+	effect  osb.Effect
+	outcome osb.Outcome
+	ok      bool
+}
+
+func eventOf(t *testing.T, cell string) event {
+	t.Helper()
+	words := append(strings.Fields(cell), "")
+	found := event{effect: osb.Effect(numberOf(t, words[0], effectNames)), ok: words[1] == "ok"}
+	if found.effect == osb.EffectEnd {
+		found.outcome = osb.Outcome(numberOf(t, words[1], outcomeNames))
+	}
+	return found
+}
+
+// reading is what a transaction is given.
+func (a arguments) reading() osb.Reading {
+	return osb.Reading{
+		Holding: a.holding(), Number: driverNumberOf(a.t, a.text("number")), Mode: a.mode(),
+		Request: a.requestCell(), Rules: a.rules(), MayGiveUp: a.flag("may_give_up"),
+	}
+}
+
+func (a arguments) resultsOfRead(transaction osb.Transaction, err error) (results, error) {
+	if err != nil {
+		return a.resultsOf(err, output{"committed", transaction.Committed(), osb.Driver{}})
+	}
+	holding, number := transaction.Row()
+	effect, outcome, ok := transaction.Effect()
+	return a.resultsOf(nil,
+		output{"holding", holding, nil}, output{"number", number, nil}, output{"writes", transaction.Writes(), nil},
+		output{"committed", transaction.Committed(), nil}, output{"unsure", transaction.Unsure(), nil},
+		output{"effect", event{effect, outcome, ok}, nil}, output{"work", transaction.Work(), nil})
+}
+
+// The calls of drivers.
+func init() {
+	for _, column := range []string{"driver", "committed", "unsure"} {
+		parsed[column] = func(t *testing.T, cell string) any { return driverOf(t, cell) }
+	}
+	parsed["number"] = func(t *testing.T, cell string) any { return driverNumberOf(t, cell) }
+	parsed["writes"] = func(_ *testing.T, cell string) any { return cell == "yes" }
+	parsed["effect"] = func(t *testing.T, cell string) any { return eventOf(t, cell) }
+	parsed["work"] = func(t *testing.T, cell string) any { return osb.Work(numberOf(t, cell, workNames)) }
+
+	calls["driver_new"] = func(a arguments) (results, error) {
+		driver, err := osb.NewDriver(driverNumberOf(a.t, a.text("number")), a.flag("is_request"))
+		return a.resultsOf(err, output{"driver", driver, osb.Driver{}})
+	}
+	calls["driver_locked"] = func(a arguments) (results, error) {
+		before := driverOf(a.t, a.text("driver"))
+		driver, err := before.Locked(a.flag("has_lock"))
+		return a.resultsOf(err, output{"driver", driver, before})
+	}
+	calls["driver_worked"] = func(a arguments) (results, error) {
+		before := driverOf(a.t, a.text("driver"))
+		driver, err := before.Worked(osb.Outcome(a.enum("outcome", outcomeNames)))
+		return a.resultsOf(err, output{"driver", driver, before})
+	}
+	calls["driver_read"] = func(a arguments) (results, error) {
+		row := a.reading()
+		row.MayBegin = a.flag("may_begin")
+		return a.resultsOfRead(driverOf(a.t, a.text("driver")).Read(row))
+	}
+	calls["binding_driver_read"] = func(a arguments) (results, error) {
+		of := holdingOf(a.t, a.text("instance"))
+		return a.resultsOfRead(driverOf(a.t, a.text("driver")).ReadBinding(a.reading(), of))
+	}
+}
+
+// A driver says what its action needs, and nothing else.
+func TestDriver(t *testing.T) {
+	task := requestOf(t, "provision:sync")
+	for _, test := range []struct {
+		cell    string
+		stage   osb.Stage
+		hasTask bool
+		answer  osb.Answer
+	}{
+		{"work request provision:sync", osb.StageWork, true, osb.Answer{}},
+		{"work take-up", osb.StageWork, false, osb.Answer{}},
+		{"answer request 200/empty", osb.StageAnswer, false, answerOf(t, "200 empty")},
+	} {
+		t.Run(test.cell, func(t *testing.T) {
+			driver := driverOf(t, test.cell)
+			got, hasTask := driver.Task()
+			if driver.Stage() != test.stage || hasTask != test.hasTask || hasTask && got != task {
+				t.Errorf("got %v, and the task %+v, %t; want %v, %t", driver.Stage(), got, hasTask, test.stage, test.hasTask)
+			}
+			if driver.Answer() != test.answer || driver.Number() != driverNumberOf(t, "01") {
+				t.Errorf("got %+v and the number %x, want %+v and ones", driver.Answer(), driver.Number(), test.answer)
+			}
+		})
+	}
+}
