@@ -72,21 +72,21 @@ class Build:
         found: dict[str, int] = {}
         for name in reversed(self.crates):
             files = [file for part in SOURCES for file in (TOP / "crates" / name / part).rglob("*")]
-            above = [found[it] for it, (_, uses) in self.crates.items() if name in uses]
-            found[name] = sum(it.lstat().st_size for it in files) + max(above, default=0)
+            above = [found[user] for user, (_, uses) in self.crates.items() if name in uses]
+            found[name] = sum(file.lstat().st_size for file in files) + max(above, default=0)
         return found
 
     def furnish(self, name: str) -> Path:
         """Makes the crate's work directory, and returns its folder there. The line of an archive says staticlib."""
         workdir, names = self.workdirs / name, ledger.below(self.crates, [name])
-        for it, part in [*((it, part) for it in names for part in (*SOURCES, "out/rlib")), (name, KEPT)]:
-            source = TOP / "crates" / it / part
+        for crate, part in [*((crate, part) for crate in names for part in (*SOURCES, "out/rlib")), (name, KEPT)]:
+            source = TOP / "crates" / crate / part
             if source.is_dir():
-                shutil.copytree(source, workdir / "crates" / it / part, symlinks=True, copy_function=os.link)
-        rows = {it: row for it, (row, _) in self.crates.items() if it in names}
+                shutil.copytree(source, workdir / "crates" / crate / part, symlinks=True, copy_function=os.link)
+        rows = {crate: row for crate, (row, _) in self.crates.items() if crate in names}
         if name in self.wanted:
             rows[name] = rows[name].replace(name, f"{name} staticlib", 1)
-        (workdir / "crates.txt").write_text("".join(f"{it}\n" for it in rows.values()))
+        (workdir / "crates.txt").write_text("".join(f"{row}\n" for row in rows.values()))
         return workdir / "crates" / name
 
     def empty(self, name: str) -> None:

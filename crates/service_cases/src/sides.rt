@@ -109,9 +109,9 @@ pub(crate) fn tell(rt: &impl Print, service: &Service) -> Result<()> {
 pub(crate) fn tell_more(rt: &impl Print, instance: &Instance, before: usize) -> Result<()> {
     let (sent, given) = (instance.sent(), instance.given());
     print!(rt; " # {} sent, {} given", sent.len(), given.len())?;
-    for it in given.iter().skip(before) {
-        let (status, body) = (it.answer.status, body_word(it.answer.body));
-        print!(rt; "; {}: {status} {body}", it.attempt)?;
+    for reply in given.iter().skip(before) {
+        let (status, body) = (reply.answer.status, body_word(reply.answer.body));
+        print!(rt; "; {}: {status} {body}", reply.attempt)?;
     }
     Ok(())
 }
