@@ -19,8 +19,8 @@ from ports import free_address
 
 pytestmark = pytest.mark.slow
 
-SOURCE = "broker/service.go"
-"""The file of the broker that has the order of writes."""
+SOURCE = "broker/executor.go"
+"""The file of the broker that carries out the order of writes."""
 BUILT = TOP / "out" / "gopath" / "src" / "pippinterm"
 """The folder of the sources, under the name by which scripts/go builds them."""
 
@@ -39,16 +39,27 @@ class Slip(NamedTuple):
     journal: str
 
 
-END = "\treturn s.end(ctx, key, due.entry.Worker, done)\n"
-BEGIN = "\t\tnext, given, err = s.begin(snapshot, visit)\n"
+TRANSACT = "\t\tdefault:\n\t\t\tdriver, err = s.transact(ctx, driver, c)\n"
+STEP = "\t\ttransaction, next, err = s.step(driver, snapshot, c)\n"
 SLIPS = {
     "an answer before the commit": Slip(
-        END,
+        TRANSACT,
         """
-        time.AfterFunc(time.Hour, func() { _, _ = s.end(ctx, key, due.entry.Worker, done) })
-        _, answer, err := due.entry.Holding.End(mode, done.outcome)
-        return Response{Answer: answer}, err
-        """,
+        case osb.StageEnd:
+            late, beside := driver, *c
+            go func() {
+                wait, cancel := context.WithTimeout(context.Background(), 3600e9)
+                defer cancel()
+                <-wait.Done()
+                _, _ = s.transact(ctx, late, &beside)
+            }()
+            held := c.entry.Holding
+            row := osb.Reading{Holding: held, Number: driver.Number(), Mode: s.modeOf(c.key, rowOf(held))}
+            early, err := driver.Read(row)
+            c.response = Response{Answer: early.Committed().Answer()}
+            return err
+        """
+        + TRANSACT,
         {"side": "broker", "event": "answered", "status": 201},
         "",
         "it is answered while its work is pending",
@@ -56,12 +67,11 @@ SLIPS = {
         "201",
     ),
     "work before the commit": Slip(
-        BEGIN,
-        BEGIN
+        STEP,
+        STEP
         + """
-        if err == nil && given.work != osb.WorkNone {
-            early, _ := given.pending.requestOf(visit.Key)
-            _, err = s.worker.do(ctx, given.work, early)
+        if early := transaction.Committed(); err == nil && early.Stage() == osb.StageWork {
+            _, err = s.work(ctx, early, c)
         }
         """,
         {"side": "broker", "event": "work", "call": "create", "stage": "begun"},
@@ -71,8 +81,8 @@ SLIPS = {
         "step applied",
     ),
     "other attributes than the request's": Slip(
-        BEGIN,
-        "\t\tvisit.Attributes[0] = 5\n" + BEGIN,
+        STEP,
+        "\t\tif c.visit != nil {\n\t\t\tc.visit.Attributes[0] = 5\n\t\t}\n" + STEP,
         {"side": "broker", "event": "changed", "before": ""},
         "",
         "what is held has another service, plan or attributes than the request that began it",
@@ -80,17 +90,19 @@ SLIPS = {
         f"attributes 05{'0' * 62}",
     ),
     "end twice": Slip(
-        END,
+        TRANSACT,
         """
-        response, err := s.end(ctx, key, due.entry.Worker, done)
-        if err != nil {
-            return response, err
-        }
-        return response, s.change(ctx, key, func(Snapshot) (*Entry, error) {
-            due.entry.Holding, _, err = due.entry.Holding.End(mode, osb.OutcomeBefore)
-            return &due.entry, err
-        })
-        """,
+        case osb.StageEnd:
+            entry := c.entry
+            if driver, err = s.transact(ctx, driver, c); err == nil {
+                err = s.change(ctx, c.key, func(Snapshot) (*Entry, error) {
+                    mode := s.modeOf(c.key, rowOf(entry.Holding))
+                    entry.Holding, _, err = entry.Holding.End(mode, osb.OutcomeBefore)
+                    return &entry, err
+                })
+            }
+        """
+        + TRANSACT,
         {"side": "broker", "event": "changed", "after": ""},
         "arrive I 1",
         "after the event, the model has something else than the journal",
@@ -101,7 +113,7 @@ SLIPS = {
 
 
 EARLY = SLIPS["an answer before the commit"]
-SOON = EARLY.wrong.replace("time.Hour", "time.Second/10").replace("s.end(ctx", "s.end(context.Background()")
+SOON = EARLY.wrong.replace("3600e9", "1e8").replace("s.transact(ctx, late", "s.transact(context.Background(), late")
 IN_STORM = {
     "an answer before the commit": (EARLY._replace(wrong=SOON), (0,)),  # else the platform couldn't delete anything
     "work before the commit": (SLIPS["work before the commit"], (0,)),

@@ -1,11 +1,9 @@
 // Package broker is a broker under the Open Service Broker API 2.17: an http.Handler over a Store, a Backend and Locks.
-// What becomes of an instance or a binding is decided by the proved library (package osb). Here is the order in which
-// it is written, worked and answered.
+// What becomes of an instance or a binding is decided by the proved library (package osb).
 //
-// A request goes these ways (docs/instance.md, docs/binding.md). In one transaction it is answered, or, under the lock of
-// its key, its work becomes pending with the number of its worker. The work is done, outside of any transaction, under
-// the same lock. In a second transaction the work ends, if the row still has the worker's number. Then the answer is
-// sent. Whatever fails on the way ends the request: what was committed until then stays, and the Sweeper goes on with it.
+// The order in which a request is locked, written, worked and answered is that of a driver (osb.Driver), which drive
+// steps. Here is what each of its transactions reads and keeps beside the holding, and what is answered. Whatever fails
+// on the way ends the request: what was committed until then stays, and the Sweeper goes on with it.
 package broker
 
 import (
@@ -16,11 +14,10 @@ import (
 	"net/http"
 	"time"
 
-	"pippinterm/internal/crash"
 	"pippinterm/osb"
 )
 
-// A Service carries requests out: it has the one order of writes. Any number of goroutines use it.
+// A Service carries requests out. Any number of goroutines use it.
 type Service struct {
 	catalogue *Catalogue
 	store     Store
@@ -30,6 +27,7 @@ type Service struct {
 	observer  Observer
 	options   ServiceOptions
 	stay      time.Duration // how long a request is kept, if ids return
+	poller    osb.Driver    // of a Poll that needs no transaction: it hasn't the lock, so it takes nothing over
 }
 
 // ServiceOptions are this project's choice (docs/instance.md).
@@ -60,7 +58,26 @@ func NewService(
 		catalogue: catalogue, store: store, locks: locks, observer: observer, options: options, stay: longestStay,
 		gate:   newGate(locks, options.LocksAtOnce),
 		worker: worker{backend: backend, observer: observer},
+		poller: newPoller(),
 	}
+}
+
+// newPoller returns the driver of a request that hasn't the lock.
+func newPoller() osb.Driver {
+	driver, err := newDriver(true).Locked(false)
+	if err != nil {
+		panic(err) // it isn't at its beginning
+	}
+	return driver
+}
+
+// newDriver returns the driver of a request or of a take-up, with a number of its own.
+func newDriver(isRequest bool) osb.Driver {
+	driver, err := osb.NewDriver(newNumber(), isRequest)
+	if err != nil {
+		panic(err) // the number is zero
+	}
+	return driver
 }
 
 // A Visit is one arrival of a request: what it asks of an instance or of a binding.
@@ -96,31 +113,24 @@ func (s *Service) Handle(ctx context.Context, visit Visit) (Response, error) {
 	if visit.IsFetch {
 		return s.fetch(ctx, visit)
 	}
-	if visit.Asked.Kind == osb.KindPoll {
-		if response, isDone, err := s.poll(ctx, visit); err != nil || isDone {
-			return response, err
+	c := &course{key: visit.Key, visit: &visit}
+	switch err := s.answer(ctx, c); {
+	case errors.Is(err, errAnother):
+		return visit.unknownResponse(), nil
+	case err != nil:
+		return Response{}, err
+	}
+	return c.response, nil
+}
+
+// answer answers a request. A Poll that changes nothing waits for nobody, and needs no transaction.
+func (s *Service) answer(ctx context.Context, c *course) error {
+	if c.visit.Asked.Kind == osb.KindPoll {
+		if _, isOver, err := s.peek(ctx, s.poller, c); err != nil || isOver {
+			return err
 		}
 	}
-	lock, away := s.tryLock(ctx, visit.Key)
-	if away != nil && !errors.Is(away, ErrAway) {
-		return Response{}, away
-	}
-	defer func() {
-		if lock != nil {
-			lock.Unlock()
-		}
-	}()
-	begun, err := s.record(ctx, visit, lock != nil, away)
-	if err == nil && begun.work != osb.WorkNone && lock == nil {
-		if lock, err = s.lock(ctx, visit.Key); err != nil {
-			return Response{}, err
-		}
-		begun, err = s.record(ctx, visit, true, nil)
-	}
-	if err != nil || begun.work == osb.WorkNone {
-		return begun.answered, err
-	}
-	return s.do(ctx, lock, visit.Key, begun.pending)
+	return s.drive(ctx, newDriver(true), c)
 }
 
 // tryLock takes the lock of a key if it is free. The observer gets the failure.
@@ -149,19 +159,6 @@ func (s *Service) lock(ctx context.Context, key Key) (Lock, error) {
 	}
 	s.observer.OnCallFailure("lock")
 	return nil, err
-}
-
-// poll answers a Poll that changes nothing, which waits for nobody.
-func (s *Service) poll(ctx context.Context, visit Visit) (response Response, isDone bool, err error) {
-	snapshot, err := s.read(ctx, visit.Key)
-	if err != nil {
-		return response, false, err
-	}
-	next, begun, err := s.begin(snapshot, visit)
-	if err != nil {
-		return response, false, err
-	}
-	return begun.answered, next == nil, nil
 }
 
 // fetch answers the Fetch of a binding with what is stored.
@@ -198,78 +195,6 @@ func (s *Service) withBinding(key Key, answer osb.Answer, object json.RawMessage
 	return Response{Answer: answer, Binding: object}, nil
 }
 
-// beginning is the immediate result of a request.
-type beginning struct {
-	answered Response
-	work     osb.Work
-	pending  pendingEntry // what was written, if work is due
-	returned *Return      // if the id returns with what was written
-}
-
-// pendingEntry is an entry with pending work.
-type pendingEntry struct {
-	entry   Entry
-	request *Request // what entry.Request is the text of, or nil if it has to be read
-}
-
-// requestOf is the request whose work is pending.
-func (p pendingEntry) requestOf(key Key) (Request, error) {
-	if p.request != nil {
-		return *p.request, nil
-	}
-	return requestOf(key, rowOf(p.entry.Holding), p.entry.Request)
-}
-
-// record is the first transaction of a request: it is answered, or, if the lock of its key is held, its work becomes
-// pending under the number of a new worker. Without the lock, nothing is written if work is due. If the locks are away,
-// the error says so then.
-func (s *Service) record(ctx context.Context, visit Visit, isLocked bool, away error) (given beginning, err error) {
-	point := ""
-	err = s.change(ctx, visit.Key, func(snapshot Snapshot) (next *Entry, err error) {
-		point = ""
-		next, given, err = s.begin(snapshot, visit)
-		if err == nil && given.work != osb.WorkNone {
-			if !isLocked {
-				given = beginning{work: given.work}
-				return nil, away
-			}
-			next.Worker = newNumber()
-			given.pending.entry.Worker = next.Worker
-		}
-		if err == nil && next != nil {
-			if point = "begin"; given.work == osb.WorkNone {
-				point = "mark"
-			}
-			crash.At(point + "-next")
-		}
-		return next, err
-	})
-	if err == nil && point != "" {
-		crash.At(point + "-written")
-	}
-	if err == nil && given.returned != nil {
-		s.tellReturn(*given.returned)
-	}
-	return given, err
-}
-
-// do does pending work under the lock, and ends it. The entry was written under that lock, with the worker's number.
-//
-// Errors: those of the store and the backend.
-func (s *Service) do(ctx context.Context, lock Lock, key Key, due pendingEntry) (Response, error) {
-	request, err := due.requestOf(key)
-	if err != nil {
-		return Response{}, err
-	}
-	work, _ := due.entry.Holding.Work()
-	mode := s.catalogue.mode(key.IsBinding, planIDs{work.Service, work.Plan})
-	done, err := s.worker.do(lock.Context(ctx), osb.WorkOf(work.Kind, mode), request)
-	if err != nil {
-		return Response{}, err
-	}
-	return s.end(ctx, key, due.entry.Worker, done)
-}
-
 // rowOf is the row, or the one that the pending work would make.
 func rowOf(holding osb.Holding) osb.BrokerRow {
 	row, isHeld := holding.Row()
@@ -278,35 +203,6 @@ func rowOf(holding osb.Holding) osb.BrokerRow {
 		row = osb.BrokerRow{Service: work.Service, Plan: work.Plan}
 	}
 	return row
-}
-
-// end is the second transaction of a request: its work ends, if the row has the number of its worker.
-func (s *Service) end(ctx context.Context, key Key, worker osb.ID, done result) (response Response, err error) {
-	err = s.change(ctx, key, func(snapshot Snapshot) (*Entry, error) {
-		if snapshot.Worker != worker {
-			return nil, ErrLostWork
-		}
-		crash.At("end-next")
-		entry := snapshot.Entry
-		pending, _ := entry.Holding.Work()
-		mode := s.catalogue.mode(key.IsBinding, planIDs{pending.Service, pending.Plan})
-		holding, answer, err := snapshot.Holding.End(mode, done.outcome)
-		if err != nil {
-			return nil, err
-		}
-		entry.Holding = holding
-		entry.noteEnd(key, done)
-		response = Response{Answer: answer, Description: done.description, Rejected: done.rejected}
-		if pending.Kind == osb.KindProvision && key.IsBinding && answer.Status == http.StatusCreated {
-			response, err = s.withBinding(key, answer, entry.Binding)
-		}
-		response.IsUnfinished = entry.IsUnfinished()
-		return &entry, err
-	})
-	if err == nil {
-		crash.At("end-written")
-	}
-	return response, err
 }
 
 // noteEnd writes down, beside a holding whose work or operation has ended, the outcome.
@@ -349,70 +245,147 @@ func (s *Service) read(ctx context.Context, key Key) (Snapshot, error) {
 // now is the time that is stored, in milliseconds.
 func now() time.Time { return time.Now().UTC().Truncate(time.Millisecond) }
 
-// begin is what becomes of what is held, or nil if that stays, and the immediate result of the request.
-func (s *Service) begin(snapshot Snapshot, visit Visit) (next *Entry, given beginning, err error) {
-	if s.isLate(visit) {
-		return nil, given, errLate
+// step has a driver read a row. It returns what the transaction comes to, and the entry to write, or nil if that stays.
+func (s *Service) step(driver osb.Driver, snapshot Snapshot, c *course) (osb.Transaction, *Entry, error) {
+	if c.visit != nil && driver.Stage() == osb.StageBegin {
+		return s.begin(driver, snapshot, c)
 	}
-	snapshot, returned := s.options.enter(snapshot, visit)
-	if isAnother, err := visit.namesAnother(snapshot.Entry); err != nil || isAnother {
-		return nil, beginning{answered: visit.unknownResponse()}, err
+	row := osb.Reading{
+		Holding: snapshot.Holding, Number: snapshot.Worker, Mode: s.modeOf(c.key, rowOf(snapshot.Holding)),
+		MayGiveUp: time.Since(snapshot.Since) >= s.options.WaitForPoll,
 	}
-	request, err := visit.Asked.Request(snapshot.Holding.Row())
+	transaction, err := read(driver, row, c.key, snapshot.Instance.Holding)
 	if err != nil {
-		return nil, given, err
+		return transaction, nil, err
 	}
-	holding, happened, isBound, err := s.beginHolding(snapshot, visit, request)
-	if err != nil {
-		return nil, given, err
-	}
-	given = beginning{work: happened.Work}
-	if happened.Work == osb.WorkNone {
-		if given.answered, err = s.respond(snapshot, visit, happened.Answer); err != nil {
-			return nil, given, err
-		}
-		if isBound && visit.Asked.Kind == osb.KindDeprovision {
-			given.answered.Description = "The instance has bindings. Delete them first."
-			given.answered.IsBound = true
-		}
-		given.answered.IsUnfinished = Entry{Holding: holding}.IsUnfinished()
-	}
-	if holding == snapshot.Holding {
-		return s.options.renewal(snapshot, visit), given, nil
+	effect, _, _ := transaction.Effect()
+	isOver := transaction.Committed().Stage() == osb.StageDone
+	if isOver && effect == osb.EffectNothing && driver.Stage() != osb.StageBegin {
+		return transaction, nil, ErrLostWork
 	}
 	entry := snapshot.Entry
-	entry.Holding = holding
-	of, err := entry.noteBeginning(visit)
-	if err != nil {
-		return nil, given, err
+	entry.Holding, entry.Worker = transaction.Row()
+	switch effect {
+	case osb.EffectEnd, osb.EffectFinish:
+		entry.noteEnd(c.key, c.done)
+		err = s.tellEnd(entry, transaction, c)
+	case osb.EffectGiveUpWaiting:
+		entry.noteEnd(c.key, result{description: noPoll})
+		s.tellLate(snapshot.Entry, c)
 	}
-	given.pending, given.returned = pendingEntry{entry, of}, returned
-	return &entry, given, nil
+	c.entry, c.request, c.work = entry, nil, transaction.Work()
+	if err != nil || !transaction.Writes() {
+		return transaction, nil, err
+	}
+	return transaction, &entry, nil
 }
 
-// beginHolding asks the proved library. Nothing of an instance begins while one of its bindings is held: then isBound
-// is true.
-func (s *Service) beginHolding(
-	snapshot Snapshot, visit Visit, request osb.Request,
-) (holding osb.Holding, happened osb.Begun, isBound bool, err error) {
-	mode := s.catalogue.mode(visit.Key.IsBinding, planIDs{request.Service, request.Plan})
-	rules := osb.Rules{FirstPoll: s.options.FirstPoll, Attributes: visit.Attributes}
+// read has the driver of an instance or of a binding read its row.
+func read(driver osb.Driver, row osb.Reading, key Key, instance osb.Holding) (osb.Transaction, error) {
+	if key.IsBinding {
+		return driver.ReadBinding(row, instance)
+	}
+	return driver.Read(row)
+}
+
+// modeOf is the mode of a row's plan.
+func (s *Service) modeOf(key Key, row osb.BrokerRow) osb.Mode {
+	return s.catalogue.mode(key.IsBinding, planIDs{row.Service, row.Plan})
+}
+
+// begin is the first transaction of a request.
+func (s *Service) begin(driver osb.Driver, snapshot Snapshot, c *course) (
+	transaction osb.Transaction, next *Entry, err error,
+) {
+	visit := *c.visit
+	if s.isLate(visit) {
+		return transaction, nil, errLate
+	}
+	snapshot, returned := s.options.enter(snapshot, visit)
+	isAnother, err := visit.namesAnother(snapshot.Entry)
+	if err == nil && isAnother {
+		err = errAnother
+	}
+	if err != nil {
+		return transaction, nil, err
+	}
+	transaction, isBound, err := s.beginHolding(driver, snapshot, visit)
+	if err != nil {
+		return transaction, nil, err
+	}
+	entry := snapshot.Entry
+	entry.Holding, entry.Worker = transaction.Row()
+	if after := transaction.Committed(); after.Stage() == osb.StageAnswer {
+		if c.response, err = s.respond(snapshot, visit, after.Answer()); err != nil {
+			return transaction, nil, err
+		}
+		if isBound && visit.Asked.Kind == osb.KindDeprovision {
+			c.response.Description, c.response.IsBound = "The instance has bindings. Delete them first.", true
+		}
+		c.response.IsUnfinished = entry.IsUnfinished()
+	}
+	if !transaction.Writes() {
+		return transaction, s.options.renewal(snapshot, visit), nil
+	}
+	if returned != nil {
+		c.after = append(c.after, func() { s.tellReturn(*returned) })
+	}
+	c.request, err = entry.noteBeginning(visit)
+	c.entry, c.work = entry, transaction.Work()
+	return transaction, &entry, err
+}
+
+// beginHolding has the driver of a request read its row. Nothing of an instance begins while one of its bindings is
+// held: then isBound is true.
+func (s *Service) beginHolding(driver osb.Driver, snapshot Snapshot, visit Visit) (
+	transaction osb.Transaction, isBound bool, err error,
+) {
+	request, err := visit.Asked.Request(snapshot.Holding.Row())
+	if err != nil {
+		return transaction, false, err
+	}
+	row := osb.Reading{
+		Holding: snapshot.Holding, Number: snapshot.Worker, Request: request, MayBegin: true,
+		Mode:  s.modeOf(visit.Key, osb.BrokerRow{Service: request.Service, Plan: request.Plan}),
+		Rules: osb.Rules{FirstPoll: s.options.FirstPoll, Attributes: visit.Attributes},
+	}
 	if visit.Key.IsBinding {
 		instance, err := visit.instance(snapshot)
 		if err == nil {
-			holding, happened, err = snapshot.Holding.BeginBinding(instance, mode, request, rules)
+			transaction, err = driver.ReadBinding(row, instance)
 		}
-		return holding, happened, false, err
+		return transaction, false, err
 	}
-	holding, happened, err = snapshot.Holding.Begin(mode, request, rules)
-	if err != nil || holding == snapshot.Holding || visit.Asked.Kind == osb.KindPoll {
-		return holding, happened, false, err
+	transaction, err = driver.Read(row)
+	begins := transaction.Writes() || transaction.Committed().Stage() == osb.StageAwaitLock
+	if err != nil || !begins || visit.Asked.Kind == osb.KindPoll {
+		return transaction, false, err // as if nothing might begin
 	}
-	if isBound, err = snapshot.AnyBinding(); err != nil || !isBound {
-		return holding, happened, isBound, err // BeginIf returns what Begin has, if something may begin
+	if isBound, err = snapshot.AnyBinding(); err == nil && isBound {
+		row.MayBegin = false
+		transaction, err = driver.Read(row)
 	}
-	holding, happened, err = snapshot.Holding.BeginIf(mode, request, rules, false)
-	return holding, happened, isBound, err
+	return transaction, isBound, err
+}
+
+// tellEnd makes the answer of work that ends, or has a take-up's end reported.
+func (s *Service) tellEnd(entry Entry, transaction osb.Transaction, c *course) (err error) {
+	done, answer := c.done, transaction.Committed().Answer()
+	isUnfinished := entry.IsUnfinished()
+	if c.visit == nil {
+		c.after = append(c.after, func() { c.went = done.went(isUnfinished) })
+		if !isUnfinished {
+			c.isEnded = true
+			c.after = append(c.after, func() { s.observer.OnEnd(c.key, done.isDone()) })
+		}
+	}
+	c.response = Response{Answer: answer, Description: done.description, Rejected: done.rejected}
+	row, _ := entry.Holding.Row()
+	if c.key.IsBinding && row.Phase == osb.PhaseReady && (c.visit == nil || answer.Status == http.StatusCreated) {
+		c.response, err = s.withBinding(c.key, answer, entry.Binding)
+	}
+	c.response.IsUnfinished = isUnfinished
+	return err
 }
 
 // respond returns an answer that needs no work, with what is stored beside the holding.

@@ -131,8 +131,9 @@ var (
 	// ErrNobodyKnows reports that nobody knows how the work went. It stays pending, and is tried again.
 	ErrNobodyKnows = errors.New("nobody knows how the work went")
 	// ErrAway reports that the store or the Locks can't be used now, for example because their server has stopped. They
-	// may be back soon. Nobody knows whether a Change that fails with it has committed. The request is answered with
-	// 503, and with 500 after any other error.
+	// may be back soon. Nobody knows whether a Change that fails with it has committed, until another Change of the key
+	// has: so by then that is decided. If that fails too, the request is answered with 503, and with 500 after any other
+	// error.
 	ErrAway = errors.New("the store or the locks can't be used now")
 )
 

@@ -4,10 +4,8 @@ import (
 	"context"
 	"errors"
 	"fmt"
-	"net/http"
 	"time"
 
-	"pippinterm/internal/crash"
 	"pippinterm/osb"
 )
 
@@ -29,125 +27,44 @@ const (
 	backendFailed                         // the backend failed or hung
 )
 
-// backendResultOf is how work went that has ended with this error.
-func backendResultOf(err error) backendResult {
-	if errors.Is(err, ErrNobodyKnows) {
-		return backendFailed
-	}
-	return backendUnused
-}
-
 // takeUp goes on with a key: it does pending work that a dead worker has left, goes on with the operation that runs,
 // and gives up a creation that has waited too long for its first Poll. If somebody else is at the key, it does nothing.
 //
 // Errors: those of the store, the locks and the backend; ErrStillTaken. What isn't done stays as it is, to be taken up
 // again.
 func (s *Service) takeUp(ctx context.Context, key Key) (backendResult, error) {
-	lock, err := s.tryLock(ctx, key)
-	if err != nil {
-		return backendUnused, err
-	}
-	if lock == nil {
-		return backendUnused, s.stillTaken(ctx, key)
-	}
-	defer lock.Unlock()
-	taken, err := s.takeOver(ctx, key)
-	if err != nil {
-		return backendUnused, err
-	}
-	if _, isPending := taken.Holding.Work(); isPending {
-		isUnfinished, done, err := s.endPending(ctx, lock, key, taken)
-		if err != nil || !isUnfinished {
-			return done, err
-		}
-		if taken, err = s.takeOver(ctx, key); err != nil {
-			return done, err
-		}
-	}
-	if taken.isOperating() {
-		return s.operate(ctx, lock, key, taken)
-	}
-	return backendUnused, nil
-}
-
-// takeOver is the first transaction of a take-up: pending work, or the operation that runs, gets the number of a new
-// worker. A creation that had no first Poll in time ends: it has failed, and nothing of it was made. It returns the
-// entry then, or the zero Entry if there is nothing to do, which needs no transaction.
-func (s *Service) takeOver(ctx context.Context, key Key) (taken Entry, err error) {
-	if snapshot, err := s.read(ctx, key); err != nil || !s.options.isDue(snapshot.Entry) {
-		return Entry{}, err
-	}
-	var late *Failure
-	err = s.change(ctx, key, func(snapshot Snapshot) (next *Entry, err error) {
-		taken, late = Entry{}, nil
-		entry := snapshot.Entry
-		row, _ := entry.Holding.Row()
-		switch {
-		case !s.options.isDue(entry):
-			return nil, nil
-		case row.Phase == osb.PhaseWaiting:
-			crash.At("wait-next")
-			request, _ := requestOf(key, row, entry.Request) // for the log alone
-			if entry.Holding, err = entry.Holding.GiveUpWaiting(); err != nil {
-				return nil, err
-			}
-			entry.noteEnd(key, result{description: noPoll})
-			late = &Failure{
-				Event: "creation_timed_out", RequestID: request.RequestID, Key: key, IsNamed: true, Err: errNoPoll,
-			}
-		default:
-			entry.Worker = newNumber()
-			crash.At("take-over-next")
-		}
-		taken = entry
-		return &entry, nil
-	})
-	switch {
+	c := &course{key: key}
+	switch err := s.drive(ctx, newDriver(false), c); {
+	case errors.Is(err, ErrNobodyKnows):
+		return backendFailed, err
 	case err != nil:
-		return Entry{}, err
-	case late != nil:
-		crash.At("wait-written")
-		s.observer.OnFailure(*late)
-	case taken.IsUnfinished():
-		crash.At("take-over-written")
+		return c.went, err
+	case !c.isLocked:
+		return c.went, s.stillTaken(ctx, key)
 	}
-	return taken, nil
+	return c.went, nil
 }
 
-// isDue reports whether somebody has to go on with an entry now: work is pending, an operation runs, or a creation has
-// waited too long for its first Poll.
-func (o ServiceOptions) isDue(entry Entry) bool {
-	row, isHeld := entry.Holding.Row()
-	if isHeld && row.Phase == osb.PhaseWaiting {
-		return time.Since(entry.Since) >= o.WaitForPoll
-	}
-	return entry.IsUnfinished()
-}
-
-// isOperating reports whether an operation runs that somebody has to go on with.
-func (e Entry) isOperating() bool {
-	row, isHeld := e.Holding.Row()
-	return isHeld && (row.Phase == osb.PhaseMaking || row.Phase == osb.PhaseDeleting)
-}
-
-// endPending does the pending work of a key under its lock. It reports whether somebody has to go on with the key then.
-func (s *Service) endPending(
-	ctx context.Context, lock Lock, key Key, taken Entry,
-) (isUnfinished bool, done backendResult, err error) {
-	response, err := s.do(ctx, lock, key, pendingEntry{entry: taken})
-	if err != nil {
-		return false, backendResultOf(err), err
-	}
-	isDone := response.Status < http.StatusMultipleChoices
+// went is how the work went that has ended. If it was the start of an operation, the backend wasn't needed yet.
+func (r result) went(isUnfinished bool) backendResult {
 	switch {
-	case response.IsUnfinished: // an operation has begun
-		return true, backendUnused, nil
-	case isDone || response.Rejected != nil:
-		s.observer.OnEnd(key, isDone)
-		return false, backendSucceeded, nil
+	case isUnfinished:
+		return backendUnused
+	case r.isDone() || r.rejected != nil:
+		return backendSucceeded
 	}
-	s.observer.OnEnd(key, false)
-	return false, backendFailed, nil
+	return backendFailed
+}
+
+// tellLate has it reported that a creation had no first Poll in time.
+func (s *Service) tellLate(entry Entry, c *course) {
+	row, _ := entry.Holding.Row()
+	request, _ := requestOf(c.key, row, entry.Request) // for the log alone
+	c.after = append(c.after, func() {
+		s.observer.OnFailure(Failure{
+			Event: "creation_timed_out", RequestID: request.RequestID, Key: c.key, IsNamed: true, Err: errNoPoll,
+		})
+	})
 }
 
 // stillTaken returns ErrStillTaken if somebody else has been at the key for long.
@@ -155,49 +72,6 @@ func (s *Service) stillTaken(ctx context.Context, key Key) error {
 	snapshot, err := s.read(ctx, key)
 	if err == nil && snapshot.IsUnfinished() && !snapshot.Since.IsZero() && time.Since(snapshot.Since) > longWork {
 		err = ErrStillTaken
-	}
-	return err
-}
-
-// operate goes on with the operation that runs, and ends it.
-func (s *Service) operate(ctx context.Context, lock Lock, key Key, taken Entry) (backendResult, error) {
-	row, _ := taken.Holding.Row()
-	request, err := requestOf(key, row, taken.Request)
-	if err != nil {
-		return backendUnused, err
-	}
-	done, err := s.worker.operate(lock.Context(ctx), row.Phase, request)
-	if err != nil {
-		return backendResultOf(err), err
-	}
-	if err := s.finish(ctx, key, taken.Worker, done); err != nil {
-		return backendUnused, err
-	}
-	s.observer.OnEnd(key, done.isDone())
-	if !done.isDone() && done.rejected == nil {
-		return backendFailed, nil
-	}
-	return backendSucceeded, nil
-}
-
-// finish ends the operation of a row, if the row has the number of its worker.
-func (s *Service) finish(ctx context.Context, key Key, worker osb.ID, done result) error {
-	err := s.change(ctx, key, func(snapshot Snapshot) (*Entry, error) {
-		if snapshot.Worker != worker {
-			return nil, ErrLostWork
-		}
-		crash.At("finish-next")
-		holding, err := snapshot.Holding.Finish(done.isDone())
-		if err != nil {
-			return nil, err
-		}
-		entry := snapshot.Entry
-		entry.Holding = holding
-		entry.noteEnd(key, done)
-		return &entry, nil
-	})
-	if err == nil {
-		crash.At("finish-written")
 	}
 	return err
 }

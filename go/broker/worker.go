@@ -30,10 +30,10 @@ type result struct {
 // isDone reports whether what was asked for is the case.
 func (r result) isDone() bool { return r.outcome == osb.OutcomeDone }
 
-// do does pending work. An operation of an asynchronous plan only has to be sure to go on: operate does it, once its
-// start is committed.
-func (w worker) do(ctx context.Context, work osb.Work, request Request) (done result, err error) {
-	crash.At("work-next")
+// do does pending work, or the operation that runs. An operation of an asynchronous plan only has to be sure to go on: it
+// is done once its start is committed.
+func (w worker) do(ctx context.Context, point string, work osb.Work, request Request) (done result, err error) {
+	crash.At(point + "-next")
 	switch work {
 	case osb.WorkStartMaking, osb.WorkStartDeleting:
 		return result{outcome: osb.OutcomeDone}, nil
@@ -44,19 +44,7 @@ func (w worker) do(ctx context.Context, work osb.Work, request Request) (done re
 	default:
 		return done, ErrMisfit
 	}
-	crash.At("work-done")
-	return done, err
-}
-
-// operate goes on with the operation that runs, to its end.
-func (w worker) operate(ctx context.Context, phase osb.Phase, request Request) (done result, err error) {
-	crash.At("operation-next")
-	if phase == osb.PhaseMaking {
-		done, err = w.create(ctx, request)
-	} else {
-		done, err = w.delete(ctx, request)
-	}
-	crash.At("operation-done")
+	crash.At(point + "-done")
 	return done, err
 }
 

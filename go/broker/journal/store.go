@@ -36,6 +36,9 @@ func (s store) Change(ctx context.Context, key broker.Key, step broker.Step) err
 			s.journal.to.Write("undone", undoneLine{Change: number, subject: subjectOf(key), IsDoubtful: isDoubtful})
 			s.journal.changes.end(number)
 		}
+		if isDoubtful { // what is answered then rests on what the next transaction sees
+			visitIn(ctx).isChange = false
+		}
 		number = 0
 	}
 	err := s.Store.Change(ctx, key, func(snapshot broker.Snapshot) (*broker.Entry, error) {

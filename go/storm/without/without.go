@@ -298,7 +298,7 @@ func ignoreWork(_ broker.Key, step broker.Step, snapshot broker.Snapshot) (*brok
 	shown := snapshot
 	shown.Holding = without
 	next, err := step(shown)
-	if errors.Is(err, osb.ErrNothingBegun) {
+	if errors.Is(err, broker.ErrLostWork) { // it is the end of the work
 		return step(snapshot)
 	}
 	if err == nil && next != nil && !isPending(*next) {

@@ -5,6 +5,7 @@ package without
 import (
 	"context"
 	"encoding/json"
+	"errors"
 	"fmt"
 	"net/http"
 	"net/http/httptest"
@@ -297,6 +298,9 @@ func end(store broker.Store, key broker.Key) error {
 			return nil, broker.ErrLostWork
 		}
 		ended, _, err := snapshot.Holding.End(osb.ModeAsync, osb.OutcomeDone)
+		if errors.Is(err, osb.ErrNothingBegun) { // as the driver has it
+			err = broker.ErrLostWork
+		}
 		return &broker.Entry{Holding: ended}, err
 	})
 }

@@ -1,0 +1,68 @@
+package broker
+
+import "pippinterm/osb"
+
+// A course is the way of one driver: what it is of, and what has come of it until now.
+type course struct {
+	key   Key
+	visit *Visit // nil of a take-up
+
+	isLocked bool          // whether the lock of the key was had
+	entry    Entry         // as the latest transaction has left it
+	work     osb.Work      // to do, by the latest transaction
+	request  *Request      // what entry.Request is the text of, or nil if it has to be read
+	done     result        // of the work that has ended
+	response Response      // to the visit
+	went     backendResult // of a take-up
+	isEnded  bool          // whether a take-up has ended its work, and nothing is left
+	after    []func()      // what is reported once the transaction is committed
+	doubtful []func()      // what was to be reported of the latest commit of which nobody knew
+	doubts   int           // how many commits there were of which nobody knew
+	doubt    error         // why nobody knows of the latest one, or nil
+}
+
+// requestOfWork is the request whose work is to be done.
+func (c *course) requestOfWork() (Request, error) {
+	if c.request != nil {
+		return *c.request, nil
+	}
+	return requestOf(c.key, rowOf(c.entry.Holding), c.entry.Request)
+}
+
+// report reports what a transaction has brought about that is committed. If its driver had doubts, and the work that it
+// had begun is its own, the transaction before was committed, too.
+func (c *course) report(driver osb.Driver, transaction osb.Transaction) {
+	reports := c.after
+	if driver.Stage() == osb.StageUnsure && transaction.Committed().Stage() == osb.StageWork {
+		reports = c.doubtful
+	}
+	c.doubt, c.doubtful = nil, nil
+	for _, report := range reports {
+		report()
+	}
+}
+
+// over is the error with which a course ends that has no answer.
+func (c *course) over(err error) error {
+	if err == nil && c.visit != nil {
+		return ErrLostWork
+	}
+	return err
+}
+
+// pointOf is the name of the crash points of a transaction that writes.
+func pointOf(transaction osb.Transaction) string {
+	switch effect, _, _ := transaction.Effect(); {
+	case effect == osb.EffectEnd:
+		return "end"
+	case effect == osb.EffectFinish:
+		return "finish"
+	case effect == osb.EffectGiveUpWaiting:
+		return "wait"
+	case effect == osb.EffectNothing:
+		return "take-over"
+	case transaction.Committed().Stage() == osb.StageWork:
+		return "begin"
+	}
+	return "mark"
+}

@@ -1,0 +1,129 @@
+package broker
+
+import (
+	"context"
+	"errors"
+
+	"pippinterm/internal/crash"
+	"pippinterm/osb"
+)
+
+// mostDoubts is how many commits of which nobody knows a driver goes on after. If the store stays away, the next
+// transaction fails before it has read anything.
+const mostDoubts = 3
+
+// errAnother ends the course of a request that names another id than the one that is held under its number.
+var errAnother = errors.New("the request names another id with the same number")
+
+// drive carries out what a driver says, one action after the other, until it is over: the order in which is locked,
+// written, worked and answered is the library's (docs/agreement.md).
+//
+// Errors: those of the store, the locks and the backend; ErrLostWork; errAnother. What was committed until then stays,
+// and a Sweeper goes on with it.
+func (s *Service) drive(ctx context.Context, driver osb.Driver, c *course) error {
+	var lock Lock
+	defer func() {
+		if lock != nil {
+			lock.Unlock()
+		}
+	}()
+	var away error // why the lock can't be had
+	for {
+		var err error
+		switch driver.Stage() {
+		case osb.StageTryLock:
+			if lock, away = s.tryLock(ctx, c.key); away != nil && !errors.Is(away, ErrAway) {
+				return away
+			}
+			c.isLocked = lock != nil
+			driver, err = driver.Locked(c.isLocked)
+		case osb.StageAwaitLock:
+			if away == nil {
+				lock, away = s.lock(ctx, c.key)
+			}
+			c.isLocked = lock != nil
+			driver, err = driver.Locked(c.isLocked)
+		case osb.StageWork:
+			driver, err = s.work(lock.Context(ctx), driver, c)
+		case osb.StageAnswer:
+			return nil
+		case osb.StageDone:
+			return c.over(either(away, c.doubt))
+		default:
+			if c.isEnded {
+				return nil
+			}
+			driver, err = s.transact(ctx, driver, c)
+		}
+		if err != nil {
+			return err
+		}
+	}
+}
+
+// transact is one transaction of a driver.
+func (s *Service) transact(ctx context.Context, driver osb.Driver, c *course) (osb.Driver, error) {
+	if c.visit == nil && driver.Stage() == osb.StageBegin {
+		if after, isOver, err := s.peek(ctx, driver, c); err != nil || isOver {
+			return after, err
+		}
+	}
+	var transaction osb.Transaction
+	var point string
+	isRead := false
+	err := s.change(ctx, c.key, func(snapshot Snapshot) (next *Entry, err error) {
+		point, c.after = "", nil
+		transaction, next, err = s.step(driver, snapshot, c)
+		isRead = err == nil
+		switch {
+		case isRead && next != nil:
+			point = pointOf(transaction)
+			crash.At(point + "-next")
+		case isRead && c.doubt != nil: // the commit of the same row again confirms what was read
+			return &snapshot.Entry, nil
+		}
+		return next, err
+	})
+	if err != nil {
+		if !isRead || !errors.Is(err, ErrAway) || c.doubts == mostDoubts {
+			return driver, err // it failed
+		}
+		c.doubts, c.doubt, c.doubtful = c.doubts+1, err, c.after
+		return transaction.Unsure(), nil // nobody knows whether it was committed, until the row is read again
+	}
+	if point != "" {
+		crash.At(point + "-written")
+	}
+	c.report(driver, transaction)
+	return transaction.Committed(), nil
+}
+
+// peek has a driver read what is committed. If nothing is to be written, and there is nothing more to do than to answer,
+// that is all, and it needs no transaction.
+func (s *Service) peek(ctx context.Context, driver osb.Driver, c *course) (after osb.Driver, isOver bool, err error) {
+	snapshot, err := s.read(ctx, c.key)
+	if err != nil {
+		return driver, false, err
+	}
+	transaction, next, err := s.step(driver, snapshot, c)
+	after = transaction.Committed()
+	return after, next == nil && (after.Stage() == osb.StageAnswer || after.Stage() == osb.StageDone), err
+}
+
+// work does the work of a driver.
+func (s *Service) work(ctx context.Context, driver osb.Driver, c *course) (osb.Driver, error) {
+	request, err := c.requestOfWork()
+	if err != nil {
+		return driver, err
+	}
+	what := "operation"
+	if _, isPending := driver.Task(); isPending {
+		what = "work"
+	}
+	done, err := s.worker.do(ctx, what, c.work, request)
+	if err != nil {
+		return driver, err
+	}
+	c.done = done
+	return driver.Worked(done.outcome)
+}
