@@ -28,5 +28,3 @@ func TestPausedWorker(t *testing.T) {
 		return diff.Value(sqlite.Open(context.Background(), filepath.Join(folder, storetest.NameOf(t))))(t)
 	})
 }
-
-var check = diff.Must
