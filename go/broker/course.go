@@ -49,20 +49,3 @@ func (c *course) over(err error) error {
 	}
 	return err
 }
-
-// pointOf is the name of the crash points of a transaction that writes.
-func pointOf(transaction osb.Transaction) string {
-	switch effect, _, _ := transaction.Effect(); {
-	case effect == osb.EffectEnd:
-		return "end"
-	case effect == osb.EffectFinish:
-		return "finish"
-	case effect == osb.EffectGiveUpWaiting:
-		return "wait"
-	case effect == osb.EffectNothing:
-		return "take-over"
-	case transaction.Committed().Stage() == osb.StageWork:
-		return "begin"
-	}
-	return "mark"
-}

@@ -110,17 +110,33 @@ func (s *Service) peek(ctx context.Context, driver osb.Driver, c *course) (after
 	return after, next == nil && (after.Stage() == osb.StageAnswer || after.Stage() == osb.StageDone), err
 }
 
+// pointOf is the name of the crash points of a transaction that writes.
+func pointOf(transaction osb.Transaction) (point string) {
+	switch effect, _, _ := transaction.Effect(); {
+	case effect == osb.EffectEnd:
+		point = "end"
+	case effect == osb.EffectFinish:
+		point = "finish"
+	case effect == osb.EffectGiveUpWaiting:
+		point = "wait"
+	case effect == osb.EffectNothing:
+		point = "take-over"
+	case transaction.Committed().Stage() == osb.StageWork:
+		point = "begin"
+	default:
+		point = "mark"
+	}
+	return point
+}
+
 // work does the work of a driver.
 func (s *Service) work(ctx context.Context, driver osb.Driver, c *course) (osb.Driver, error) {
 	request, err := c.requestOfWork()
 	if err != nil {
 		return driver, err
 	}
-	what := "operation"
-	if _, isPending := driver.Task(); isPending {
-		what = "work"
-	}
-	done, err := s.worker.do(ctx, what, c.work, request)
+	_, isPending := driver.Task()
+	done, err := s.worker.do(ctx, isPending, c.work, request)
 	if err != nil {
 		return driver, err
 	}

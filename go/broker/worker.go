@@ -32,7 +32,11 @@ func (r result) isDone() bool { return r.outcome == osb.OutcomeDone }
 
 // do does pending work, or the operation that runs. An operation of an asynchronous plan only has to be sure to go on: it
 // is done once its start is committed.
-func (w worker) do(ctx context.Context, point string, work osb.Work, request Request) (done result, err error) {
+func (w worker) do(ctx context.Context, isPending bool, work osb.Work, request Request) (done result, err error) {
+	point := "operation"
+	if isPending {
+		point = "work"
+	}
 	crash.At(point + "-next")
 	switch work {
 	case osb.WorkStartMaking, osb.WorkStartDeleting:
