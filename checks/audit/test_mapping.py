@@ -280,6 +280,11 @@ RULES = {
         "B answer 2 200 saw=ready",
         "create I; arrive I 1; work I part; work I whole; end I done; arrive I 1",
     ),
+    "a doubtful change that its own request has read again": Rule(
+        f"{PENDING}B create; B look whole; B change 1 ready !doubtful; B answer 1 201 saw=ready; P hear r1 201; "
+        "P take 1 ready/1",
+        MADE,
+    ),
     "a kill before a commit": Rule(
         PENDING + "B create; B change 1 ready; B2 look whole; B2 change 0 ready from pending-provision",
         "create I; arrive I 1; work I part; work I whole; crash I broker; end I done",

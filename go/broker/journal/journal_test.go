@@ -211,6 +211,18 @@ func TestUndone(t *testing.T) {
 	}
 }
 
+// What is answered after a doubtful change rests on what was read again.
+func TestAnswerAfterADoubt(t *testing.T) {
+	s := newTestBroker(t)
+	s.store.fails = broker.Away(errDoubt)
+	s.store.stepped = func(next *broker.Entry) { s.store.entries[osb.InstanceKey(osb.MustParseID(one))] = *next }
+	s.ask("DELETE", one, atOnce)
+	want(t, "a doubt", s.events(1), "arrived; changed; undone doubtful; answered Gone other-error")
+	if answered := s.lines()[4]; !strings.Contains(answered.Saw, `"tombstone":true`) {
+		t.Errorf("got %+v, want an answer that has seen a tombstone", answered)
+	}
+}
+
 // The step of a transaction that is tried again is undone first.
 func TestTriedAgain(t *testing.T) {
 	s := newTestBroker(t)
