@@ -7,6 +7,7 @@ import (
 	"net/http/httptest"
 	"strings"
 	"testing"
+	"time"
 
 	"pippinterm/broker"
 	"pippinterm/internal/diff"
@@ -130,4 +131,44 @@ func TestDoubtsAreConfirmed(t *testing.T) {
 	_, err := service.Handle(context.Background(), provision(now))
 	diff.ErrorIs(t, err, broker.ErrAway, "the Provision")
 	diff.Equal(t, made, 0, "how many were created")
+}
+
+// The return of an id is reported once, also if nobody knows at first whether its creation has begun.
+func TestReturnAfterADoubt(t *testing.T) {
+	for name, isWritten := range map[string]bool{"written": true, "lost": false} {
+		t.Run(name, func(t *testing.T) {
+			l := newLives(t, newShelf(calm), anHour)
+			l.expect(t, 201, "PUT", instances+"i", bodyOf(now, ""))
+			l.expect(t, 200, "DELETE", instances+"i"+names(now), "")
+			l.clock.set(2 * time.Hour)
+			l.clock.Store = &doubtfulStore{l.clock.Store, 0, map[int]bool{1: isWritten}}
+			l.expect(t, 201, "PUT", instances+"i", bodyOf(now, ""))
+			diff.Equal(t, len(l.seen.returns), 1, "the returns")
+		})
+	}
+}
+
+// A readOnceStore is read once. After that, its reads fail.
+type readOnceStore struct {
+	broker.Store
+	reads int
+}
+
+func (r *readOnceStore) Read(ctx context.Context, key broker.Key) (broker.Snapshot, error) {
+	if r.reads++; r.reads > 1 {
+		return broker.Snapshot{}, errScripted
+	}
+	return r.Store.Read(ctx, key)
+}
+
+// A take-up that has ended its work, with nothing left to do, reads nothing more.
+func TestTakeUpReadsOnce(t *testing.T) {
+	backend := &blind{shelf: newShelf(calm)}
+	b := newBench(t, backend, newMemoryLocks())
+	key := b.leave(t, backend, "i")
+	store := &readOnceStore{Store: b.store}
+	service := broker.NewService(
+		catalogueFor(t, catalogue), store, backend, newMemoryLocks(), broker.ServiceOptions{}, b.observed)
+	diff.NoError(t, service.TakeUp(context.Background(), key), "the take-up")
+	diff.Equal(t, b.isPending(t, key), false, "the work is pending")
 }
