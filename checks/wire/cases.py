@@ -13,6 +13,7 @@ from pathlib import Path
 from typing import Any, NamedTuple
 
 from osb import Answer, Body, Endpoints, Id, Kind, OsbError, Plan, Refusal, Request, wire
+from osb.enums import Target
 from wire import model
 from wire.model import Refused
 
@@ -245,7 +246,7 @@ CALLS = {
     "asks": Call(
         "prefix bytes",
         lambda prefix, target: model.asks_for_catalogue(prefix.encode(), target),
-        lambda prefix, target: wire.asks_for_catalogue(target, prefix),
+        lambda prefix, target: wire.read_target(target, prefix) is Target.CATALOGUE,
     ),
     "conflict": Call("optional bytes", conflict, wire.maintenance_conflict),
     "details": Call("bytes", lambda of: [*model.details(of)], lambda of: [*vars(wire.read_details(of)).values()]),

@@ -74,7 +74,7 @@ class Given:
     def driver(self) -> Driver:
         return driver_of(self.bytes("driver"))
 
-    def row(self) -> tuple[Holding, bytes]:
+    def row(self) -> tuple[Holding, Any]:
         """A holding and a number."""
         return self.holding(), number_of(self.bytes("number"))
 
@@ -282,8 +282,9 @@ def transaction(of: osb.Transaction) -> list[Any]:
 
 
 def driver_read(of: Given) -> list[Any]:
-    may = {name: of.flag(name) for name in ("may_begin", "may_give_up")}
-    return transaction(of.driver().read(*of.row(), *of.asked(), **may, **of.rules()))
+    may_begin, may_give_up = of.flag("may_begin"), of.flag("may_give_up")
+    read = of.driver().read(*of.row(), *of.asked(), may_begin=may_begin, may_give_up=may_give_up, **of.rules())
+    return transaction(read)
 
 
 def binding_driver_read(of: Given) -> list[Any]:

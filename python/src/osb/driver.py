@@ -141,7 +141,7 @@ class Transaction:
 def _number(number: bytes) -> ctypes.Array[ctypes.c_char]:
     if len(number) != 16:
         raise ValueError("the number of a driver has 16 bytes")
-    return (ctypes.c_char * 16)(*number)
+    return ctypes.create_string_buffer(number, 16)
 
 
 def _request_to(request: Request | None) -> CRequest:
