@@ -43,8 +43,10 @@ class Stage(NamedTuple):
     attempt: int = 0
     # At Send: the kind of the request.
     kind: str | None = None
-    # At Take: the answer, or None if none came.
+    # At Take: the answer, or None if none came. At Fetch: the answer to the Poll.
     answer: Answer | None = None
+    # At Send, of a binding: whether the answer that ends the polling waits for that to a Fetch.
+    fetches: bool = False
 
 
 DONE = Stage("Done")

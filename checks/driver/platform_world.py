@@ -23,6 +23,7 @@ from driver.events import (
     REQUESTS,
     RETURNED,
     WRITTEN,
+    Event,
     Plan,
     answer_words,
     happen,
@@ -39,6 +40,8 @@ class Driver(NamedTuple):
     given: Given | None = None
     # At Unsure: whether the row has the driver's number.
     owns: bool = False
+    # At Take, of a binding: the credentials that it has, sealed.
+    credentials: int | None = None
     # A transaction that it has decided on and not written yet, and one whose commit is unsure and that can still be
     # written. No driver of the design has them.
     held_back: Transaction | None = None
@@ -52,6 +55,14 @@ class Sent(NamedTuple):
     kind: str
 
 
+class Credentials(NamedTuple):
+    """Those of a binding: of the resource, beside the broker's row, and beside the platform's."""
+
+    resource: int | None = None
+    held: int | None = None
+    recorded: int | None = None
+
+
 class World(NamedTuple):
     drivers: tuple[Driver, ...]
     row: Recorded | None = None
@@ -61,6 +72,7 @@ class World(NamedTuple):
     resource: str = "absent"
     # The attempt that the network answers when the pending work ends, if a driver waits for that.
     worker: int | None = None
+    credentials: Credentials = Credentials()
     # The row before the latest commit that returned. No database of the design remembers it.
     before: tuple[Recorded | None, ...] = ()
     # Why the step to this world is wrong.
@@ -175,8 +187,7 @@ class Design:
         after = happen(self.plan, event, attempt, request, world.held, world.worker, world.resource)
         if after is None:
             return
-        resource = event.removeprefix("work ") if event.startswith("work ") else world.resource
-        world = world._replace(held=after.held, worker=after.worker, resource=resource)
+        world = self.happened(world, event, after)
         yield word, world
         if after.given is None:
             return
@@ -185,6 +196,11 @@ class Design:
                 for event in ("take 0", "garbled 0"):
                     for words, heard in self.hear(world, at, event, after.given):
                         yield f"{word}, and {words}", heard
+
+    def happened(self, world: World, event: str, after: Event) -> World:
+        """What the event leaves at the broker."""
+        resource = event.removeprefix("work ") if event.startswith("work ") else world.resource
+        return world._replace(held=after.held, worker=after.worker, resource=resource)
 
     def of_gateways(self) -> list[Answer]:
         return [GATEWAY]
@@ -242,7 +258,7 @@ class Design:
             return world
         driver = world.drivers[at]
         events = tuple(driver.event if event == "answer" else event for event in tx.events)
-        after = record(world.row, events, driver.given)
+        after = self.recording(world, driver, events)
         wrong = None
         if after is None:
             wrong = f"the network has no '{', '.join(tx.events)}'"
@@ -253,6 +269,10 @@ class Design:
         drivers = tuple(driver._replace(owns=False) for driver in world.drivers)
         world = self.and_sent(world._replace(drivers=drivers, row=tx.row), after and after.sent)
         return self.is_wrong(world, wrong)
+
+    def recording(self, world: World, driver: Driver, events: tuple[str, ...]) -> Recording | None:
+        """What the network records after the events."""
+        return record(world.row, events, driver.given)
 
     def and_sent(self, world: World, sent: Sent | None) -> World:
         return world if sent is None or sent in world.sent else world._replace(sent=(*world.sent, sent))

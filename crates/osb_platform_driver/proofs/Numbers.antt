@@ -65,7 +65,7 @@ out_if : (b : Bool) (x r : Recorded) → x.row.out ≡ None → r.row.out ≡ No
 out_if true x r e f = e
 out_if false x r e f = f
 
-up_rests : (o : Option Kind) (r : Recorded) → r.row.out ≡ o
+pub up_rests : (o : Option Kind) (r : Recorded) → r.row.out ≡ o
     → (if is_some o then with_state (after_timeout r.row.state) r else r).row.out ≡ None
 up_rests None r e = e
 up_rests (Some kind) r e = refl
@@ -90,7 +90,7 @@ pub same_attempt : (w : Option CleanUp) (r : Recorded) → (cleaned w (brought_u
 same_attempt w r =
     clean_attempt w (brought_up r) ∙ attempt_if (is_some r.row.out) (after_timeout r.row.state) r
 
-taken_rests : (o : Option Kind) (r : Recorded) (a : Answer) → r.row.out ≡ o → (taken_out r o a).row.out ≡ None
+pub taken_rests : (o : Option Kind) (r : Recorded) (a : Answer) → r.row.out ≡ o → (taken_out r o a).row.out ≡ None
 taken_rests None r a e = e
 taken_rests (Some kind) r a e = refl
 

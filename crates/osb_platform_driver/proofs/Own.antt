@@ -49,16 +49,16 @@ either_own (Some kind) false n a r P e f own = inl (ap Some (other_number n a r 
 either_own (Some kind) true n a r P e f own =
     inr (own (subst IsSome (sym e) refl, same_number n r.attempt f))
 
-take_own : (n : ℕ) (a : Option Answer) (row : Option Recorded) (P : Type 0) → (IsInFlight row n → P)
+pub take_own : (n : ℕ) (a : Option Answer) (row : Option Recorded) (P : Type 0) → (IsInFlight row n → P)
     → (taken_from n a row ≡ row) ⊎ P
 take_own n a None P own = inl refl
 take_own n a (Some r) P own = either_own r.row.out (n == r.attempt) n a r P refl refl own
 
-owner_is : (o : Option ℕ) (at : ℕ) → is_owner o at ≡ true → o ≡ Some at
+pub owner_is : (o : Option ℕ) (at : ℕ) → is_owner o at ≡ true → o ≡ Some at
 owner_is None at e = cc
 owner_is (Some k) at e = ap Some (sym (same_number k at e))
 
-resume_own : (o : Bool) (n : ℕ) (row : Option Recorded) (P : Type 0) → (o ≡ true → P)
+pub resume_own : (o : Bool) (n : ℕ) (row : Option Recorded) (P : Type 0) → (o ≡ true → P)
     → (given_up_if o n row ≡ row) ⊎ P
 resume_own false n row P own = inl refl
 resume_own true n row P own = inr (own refl)

@@ -46,14 +46,14 @@ abbrev pub AllOwn : Option Recorded → Option ℕ → List Exchange → Type 0
 AllOwn row owner xs =
     (at : ℕ) (x : Exchange) → slice_get xs at ≡ Some x → HasInFlight row x.driver.stage → owner ≡ Some at
 
-same_exchange : (x y : Exchange) → Some x ≡ Some y → x ≡ y
-same_exchange x y e = cc
+same_some : {X : Type 0} (x y : X) → Some x ≡ Some y → x ≡ y
+same_some x y e = cc
 
 further : (at k : ℕ) (P Q : Type 0) → ((k ≡ at) × P) ⊎ Q → ((suc k ≡ suc at) × P) ⊎ Q
 further at k P Q (inl e) = inl (ap suc e.0, e.1)
 further at k P Q (inr f) = inr f
 
-put_at : (xs : List Exchange) (at k : ℕ) (x : Exchange)
+put_at : {X : Type 0} (xs : List X) (at k : ℕ) (x : X)
     → ((k ≡ at) × (slice_get (slice_set xs at x) k ≡ Some x)) ⊎ (slice_get (slice_set xs at x) k ≡ slice_get xs k)
 put_at [] at k x = inr refl
 put_at (y ∷ xs) zero zero x = inl (refl, refl)
@@ -61,42 +61,36 @@ put_at (y ∷ xs) zero (suc k) x = inr refl
 put_at (y ∷ xs) (suc at) zero x = inr refl
 put_at (y ∷ xs) (suc at) (suc k) x = further at k _ _ (put_at xs at k x)
 
-pushed : (xs : List Exchange) (k : ℕ) (x : Exchange)
+pushed : {X : Type 0} (xs : List X) (k : ℕ) (x : X)
     → (slice_get (xs ++ x ∷ []) k ≡ Some x) ⊎ (slice_get (xs ++ x ∷ []) k ≡ slice_get xs k)
 pushed [] zero x = inl refl
 pushed [] (suc k) x = inr refl
 pushed (y ∷ xs) zero x = inr refl
 pushed (y ∷ xs) (suc k) x = pushed xs k x
 
--- what holds of a driver that was put there, and of all others, holds of all
-either_put : (P : ℕ → Exchange → Type 0) (at k : ℕ) (o p : Option Exchange) (x y : Exchange)
+-- what holds of one that was put there, and of all others, holds of all
+either_put : {X : Type 0} (P : ℕ → X → Type 0) (at k : ℕ) (o p : Option X) (x y : X)
     → ((k ≡ at) × (o ≡ Some x)) ⊎ (o ≡ p) → P at x → (p ≡ Some y → P k y) → o ≡ Some y → P k y
 either_put P at k o p x y (inl e) new old is =
-    subst (λ (j : ℕ). P j y) (sym e.0) (subst (P at) (same_exchange x y (sym e.1 ∙ is)) new)
+    subst (λ (j : ℕ). P j y) (sym e.0) (subst (P at) (same_some x y (sym e.1 ∙ is)) new)
 either_put P at k o p x y (inr e) new old is = old (sym e ∙ is)
 
-all_put : (P : ℕ → Exchange → Type 0) (xs : List Exchange) (at : ℕ) (x : Exchange) → P at x
-    → ((k : ℕ) (y : Exchange) → slice_get xs k ≡ Some y → P k y) → (k : ℕ) (y : Exchange)
+pub all_put : {X : Type 0} (P : ℕ → X → Type 0) (xs : List X) (at : ℕ) (x : X) → P at x
+    → ((k : ℕ) (y : X) → slice_get xs k ≡ Some y → P k y) → (k : ℕ) (y : X)
     → slice_get (slice_set xs at x) k ≡ Some y → P k y
 all_put P xs at x new old k y is =
     either_put P at k (slice_get (slice_set xs at x) k) (slice_get xs k) x y (put_at xs at k x) new (old k y) is
 
-either_pushed : (P : Exchange → Type 0) (o p : Option Exchange) (x y : Exchange) → (o ≡ Some x) ⊎ (o ≡ p) → P x
+either_pushed : {X : Type 0} (P : X → Type 0) (o p : Option X) (x y : X) → (o ≡ Some x) ⊎ (o ≡ p) → P x
     → (p ≡ Some y → P y) → o ≡ Some y → P y
-either_pushed P o p x y (inl e) new old is = subst P (same_exchange x y (sym e ∙ is)) new
+either_pushed P o p x y (inl e) new old is = subst P (same_some x y (sym e ∙ is)) new
 either_pushed P o p x y (inr e) new old is = old (sym e ∙ is)
 
-know_pushed : (c : Cell) (xs : List Exchange) (x : Exchange) → Knows c x → AllKnow c xs → AllKnow c (xs ++ x ∷ [])
-know_pushed c xs x new old k y is =
-    either_pushed (Knows c) (slice_get (xs ++ x ∷ []) k) (slice_get xs k) x y (pushed xs k x) new (old k y) is
-
--- a driver that begins has no request
-own_pushed : (row : Option Recorded) (owner : Option ℕ) (xs : List Exchange) → AllOwn row owner xs
-    → AllOwn row owner (xs ++ record { driver = new_driver; source = Source.Nowhere } ∷ [])
-own_pushed row owner xs old k y is =
-    let x : Exchange = record { driver = new_driver; source = Source.Nowhere } in
-    either_pushed (λ (z : Exchange). HasInFlight row z.driver.stage → owner ≡ Some k) (slice_get (xs ++ x ∷ []) k)
-    (slice_get xs k) x y (pushed xs k x) (λ out. absurd out) (old k y) is
+pub all_pushed : {X : Type 0} (P : ℕ → X → Type 0) (xs : List X) (x : X) → ((k : ℕ) → P k x)
+    → ((k : ℕ) (y : X) → slice_get xs k ≡ Some y → P k y) → (k : ℕ) (y : X)
+    → slice_get (xs ++ x ∷ []) k ≡ Some y → P k y
+all_pushed P xs x new old k y is =
+    either_pushed (P k) (slice_get (xs ++ x ∷ []) k) (slice_get xs k) x y (pushed xs k x) (new k) (old k y) is
 
 all_on : (c n : Cell) (xs : List Exchange) → Grows c n → AllKnow c xs → AllKnow n xs
 all_on c n xs grow old k y is = knows_on c n y.driver.stage y.source grow (old k y is)
@@ -106,7 +100,7 @@ own_at row owner at x = HasInFlight row x.driver.stage → owner ≡ Some at
 
 -- ---- transactions
 
-stage_sound : (s : WorldState) (at : ℕ) (stage : Stage) (source : Source) → KnowsAt s.cell stage source
+pub stage_sound : (s : WorldState) (at : ℕ) (stage : Stage) (source : Source) → KnowsAt s.cell stage source
     → (HasInFlight s.row stage → s.owner ≡ Some at) → IsSound s → IsSound (with_stage s at stage source)
 stage_sound s at stage source new own h = record {
   row = h.row;
@@ -115,21 +109,21 @@ stage_sound s at stage source new own h = record {
   owns = all_put (own_at s.row s.owner) s.exchanges at (at_stage stage source) own h.owns;
 }
 
-abbrev owner_after : WorldState → ℕ → Transaction → Option ℕ
+abbrev pub owner_after : WorldState → ℕ → Transaction → Option ℕ
 owner_after s at tx = if tx.takes_over then Some at else s.owner
 
 -- what a driver knows and has at the stage after its transaction: once it is committed, and otherwise; and what the other
 -- drivers have then
-record GoesOn (s : WorldState) (n : Cell) (at : ℕ) (tx : Transaction) (source : Source) : Type 0 where
-  row : tx.recorded ≡ n.recorded
-  stage : KnowsAt n tx.stage source
-  unsure : KnowsAt s.cell tx.unsure source
-  failed : KnowsAt s.cell tx.failed source
-  others : AllOwn tx.recorded (owner_after s at tx) s.exchanges
-  stage_owns : HasInFlight tx.recorded tx.stage → owner_after s at tx ≡ Some at
-  unsure_owns : HasInFlight tx.recorded tx.unsure → owner_after s at tx ≡ Some at
-  unsure_own : HasInFlight s.row tx.unsure → s.owner ≡ Some at
-  failed_own : HasInFlight s.row tx.failed → s.owner ≡ Some at
+pub record GoesOn (s : WorldState) (n : Cell) (at : ℕ) (tx : Transaction) (source : Source) : Type 0 where
+  pub row : tx.recorded ≡ n.recorded
+  pub stage : KnowsAt n tx.stage source
+  pub unsure : KnowsAt s.cell tx.unsure source
+  pub failed : KnowsAt s.cell tx.failed source
+  pub others : AllOwn tx.recorded (owner_after s at tx) s.exchanges
+  pub stage_owns : HasInFlight tx.recorded tx.stage → owner_after s at tx ≡ Some at
+  pub unsure_owns : HasInFlight tx.recorded tx.unsure → owner_after s at tx ≡ Some at
+  pub unsure_own : HasInFlight s.row tx.unsure → s.owner ≡ Some at
+  pub failed_own : HasInFlight s.row tx.failed → s.owner ≡ Some at
 
 written_sound : (s : WorldState) (at : ℕ) (tx : Transaction) (es : List Event) (source : Source) (stage : Stage)
     → tx.recorded ≡ (cell_steps s.cell es).recorded → KnowsAt (cell_steps s.cell es) stage source
@@ -145,7 +139,7 @@ written_sound s at tx es source stage row new own others h =
       owns = all_put (own_at tx.recorded (owner_after s at tx)) s.exchanges at (at_stage stage source) own others;
     }
 
-transacted_sound : (commit : Commit) (s : WorldState) (at : ℕ) (tx : Transaction) (es : List Event) (source : Source)
+pub transacted_sound : (commit : Commit) (s : WorldState) (at : ℕ) (tx : Transaction) (es : List Event) (source : Source)
     → GoesOn s (cell_steps s.cell es) at tx source → IsSound s → IsSound (transacted commit s at tx es source)
 transacted_sound Commit.Returned s at tx es source g h =
     written_sound s at tx es source tx.stage g.row g.stage g.stage_owns g.others h
@@ -200,11 +194,15 @@ claim_row : (s : WorldState) (w : Wishes) → IsSound s
 claim_row s w h =
     ap (λ (x : Option Recorded). (claim_of s.cell.order w x).recorded) h.row ∙ claim_is s.cell w s.cell.recorded refl
 
+-- nothing is in flight of the drivers
+abbrev pub IsQuiet : Option Recorded → List Exchange → Type 0
+IsQuiet row xs = (at : ℕ) (x : Exchange) → slice_get xs at ≡ Some x → HasInFlight row x.driver.stage → ⊥
+
 -- what a first transaction leaves in flight is its own driver's
 record IsOwn (s : WorldState) (at : ℕ) (tx : Transaction) : Type 0 where
   unsure : KnowsAt s.cell tx.unsure Source.Nowhere
   failed : KnowsAt s.cell tx.failed Source.Nowhere
-  others : AllOwn tx.recorded (owner_after s at tx) s.exchanges
+  quiet : IsQuiet tx.recorded s.exchanges
   stage_owns : HasInFlight tx.recorded tx.stage → owner_after s at tx ≡ Some at
   unsure_owns : HasInFlight tx.recorded tx.unsure → owner_after s at tx ≡ Some at
   unsure_own : HasInFlight s.row tx.unsure → s.owner ≡ Some at
@@ -215,7 +213,7 @@ own_rest : (s : WorldState) (at : ℕ) (after : Option Recorded) → ((stage : S
 own_rest s at after quiet = record {
   unsure = tt;
   failed = tt;
-  others = λ k y is out. absurd (quiet y.driver.stage out);
+  quiet = λ k y is out. quiet y.driver.stage out;
   stage_owns = λ out. absurd out;
   unsure_owns = λ out. absurd out;
   unsure_own = λ out. absurd out;
@@ -223,12 +221,11 @@ own_rest s at after quiet = record {
 }
 
 own_sent : (s : WorldState) (at : ℕ) (r : Recorded) (sent : Sent)
-    → ((k : ℕ) (y : Exchange) → slice_get s.exchanges k ≡ Some y → HasInFlight (Some r) y.driver.stage → ⊥)
-    → IsOwn s at (claimed r sent)
+    → IsQuiet (Some r) s.exchanges → IsOwn s at (claimed r sent)
 own_sent s at r sent new = record {
   unsure = tt;
   failed = tt;
-  others = λ k y is out. absurd (new k y is out);
+  quiet = new;
   stage_owns = λ out. refl;
   unsure_owns = λ out. absurd out;
   unsure_own = λ out. absurd out;
@@ -237,7 +234,7 @@ own_sent s at r sent new = record {
 
 -- a number that nobody has sent before
 is_new : (s : WorldState) (r : Recorded) → IsSound s → ((n : ℕ) → IsSome (sent_as s.cell.sent n) → r.attempt ≡ n → ⊥)
-    → (k : ℕ) (y : Exchange) → slice_get s.exchanges k ≡ Some y → HasInFlight (Some r) y.driver.stage → ⊥
+    → IsQuiet (Some r) s.exchanges
 is_new s r h unsent k y is out =
     let was = was_sent s.cell (Some r) y.driver.stage y.source (h.knows k y is) out in
     unsent was.attempt was.sent was.out.1
@@ -278,11 +275,18 @@ own_claim s at w (Some r) e h =
     own_if s at s.cell.order.id w.send rest (rests w.clean_up r)
     (λ n some same. next_unsent s.cell r rest.attempt n e h.possible (same_attempt w.clean_up r) some same) h
 
-claim_goes : (s : WorldState) (at : ℕ) (w : Wishes) → IsSound s
+claim_owns : (s : WorldState) (at : ℕ) (w : Wishes) → IsSound s → IsOwn s at (claim_of s.cell.order w s.row)
+claim_owns s at w h =
+    subst (λ (x : Option Recorded). IsOwn s at (claim_of s.cell.order w x)) (sym h.row)
+    (own_claim s at w s.cell.recorded refl h)
+
+pub claim_quiet : (s : WorldState) (w : Wishes) → IsSound s → IsQuiet (claim_of s.cell.order w s.row).recorded s.exchanges
+claim_quiet s w h = (claim_owns s 0 w h).quiet
+
+pub claim_goes : (s : WorldState) (at : ℕ) (w : Wishes) → IsSound s
     → GoesOn s (cell_steps s.cell (claim_events w s.cell.recorded)) at (claim_of s.cell.order w s.row) Source.Nowhere
 claim_goes s at w h =
-    let own = subst (λ (x : Option Recorded). IsOwn s at (claim_of s.cell.order w x)) (sym h.row)
-    (own_claim s at w s.cell.recorded refl h) in
+    let own = claim_owns s at w h in
     let n = cell_steps s.cell (claim_events w s.cell.recorded) in
     record {
       row = claim_row s w h;
@@ -290,7 +294,7 @@ claim_goes s at w h =
           (claim_sent s.cell w s.cell.recorded refl h.possible);
       unsure = own.unsure;
       failed = own.failed;
-      others = own.others;
+      others = λ k y is out. absurd (own.quiet k y is out);
       stage_owns = own.stage_owns;
       unsure_owns = own.unsure_owns;
       unsure_own = own.unsure_own;
@@ -323,36 +327,49 @@ resume_row : (s : WorldState) (o : Bool) (n : ℕ) → IsSound s
     → (resume o n s.row).recorded ≡ (cell_steps s.cell (resume_events o s.cell.recorded n)).recorded
 resume_row s o n h = ap (λ (x : Option Recorded). (resume o n x).recorded) h.row ∙ resume_is s.cell o n
 
-take_sound : (s : WorldState) (at : ℕ) (commit : Commit) (source : Source) (stage : Stage) → KnowsAt s.cell stage source
-    → (HasInFlight s.row stage → s.owner ≡ Some at) → IsSound s → IsSound (take_by s at commit source stage)
-take_sound s at commit source (Stage.Take n a) from own h =
-    let less = (λ (stage : Stage). taken_less n a s.row stage) in
-    transacted_sound commit s at (take n a s.row) (take_events s.cell.recorded n source) source
-    (record {
-      row = take_row s n a source from.1 h;
+-- the answer that counts (`b`) may be another than the driver's (`a`)
+pub take_goes : (s : WorldState) (at n : ℕ) (b : Option Answer) (from : Source) (a : Option Answer) (source : Source)
+    → IsFrom s.cell.given n b from → KnowsAt s.cell (Stage.Take n a) source
+    → (IsInFlight s.row n → s.owner ≡ Some at) → IsSound s
+    → GoesOn s (cell_steps s.cell (take_events s.cell.recorded n from)) at
+    (record (take n b s.row) { unsure = Stage.Take n a; failed = Stage.Take n a }) source
+take_goes s at n b from a source is know own h =
+    let less = (λ (stage : Stage). taken_less n b s.row stage) in
+    record {
+      row = take_row s n b from is h;
       stage = tt;
-      unsure = from;
-      failed = from;
-      others = others_keep s (taken_from n a s.row) less h;
+      unsure = know;
+      failed = know;
+      others = others_keep s (taken_from n b s.row) less h;
       stage_owns = λ out. absurd out;
       unsure_owns = λ out. own (less (Stage.Take n a) out);
       unsure_own = own;
       failed_own = own;
-    }) h
+    }
+
+pub resume_goes : (s : WorldState) (at : ℕ) (o : Bool) (n : ℕ) → IsSound s
+    → GoesOn s (cell_steps s.cell (resume_events o s.cell.recorded n)) at (resume o n s.row) Source.Nowhere
+resume_goes s at o n h = record {
+  row = resume_row s o n h;
+  stage = tt;
+  unsure = tt;
+  failed = tt;
+  others = others_keep s (given_up_if o n s.row) (λ stage. resumed_less o n s.row stage) h;
+  stage_owns = λ out. absurd out;
+  unsure_owns = λ out. absurd out;
+  unsure_own = λ out. absurd out;
+  failed_own = λ out. absurd out;
+}
+
+take_sound : (s : WorldState) (at : ℕ) (commit : Commit) (source : Source) (stage : Stage) → KnowsAt s.cell stage source
+    → (HasInFlight s.row stage → s.owner ≡ Some at) → IsSound s → IsSound (take_by s at commit source stage)
+take_sound s at commit source (Stage.Take n a) from own h =
+    transacted_sound commit s at (take n a s.row) (take_events s.cell.recorded n source) source
+    (take_goes s at n a source a source from.1 from own h) h
 take_sound s at commit source (Stage.Unsure n) from own h =
     let o = is_owner s.owner at in
     transacted_sound commit s at (resume o n s.row) (resume_events o s.cell.recorded n) Source.Nowhere
-    (record {
-      row = resume_row s o n h;
-      stage = tt;
-      unsure = tt;
-      failed = tt;
-      others = others_keep s (given_up_if o n s.row) (λ stage. resumed_less o n s.row stage) h;
-      stage_owns = λ out. absurd out;
-      unsure_owns = λ out. absurd out;
-      unsure_own = λ out. absurd out;
-      failed_own = λ out. absurd out;
-    }) h
+    (resume_goes s at o n h) h
 take_sound s at commit source Stage.Claim from own h = h
 take_sound s at commit source (Stage.Send sent) from own h = h
 take_sound s at commit source Stage.Done from own h = h
@@ -460,14 +477,18 @@ outside_sound s e out h = record {
   owns = h.owns;
 }
 
+-- a driver that begins has no request
+abbrev new_exchange : Exchange
+new_exchange = record { driver = new_driver; source = Source.Nowhere }
+
 pub stays_sound : StaysSound
 stays_sound s (Happening.Outside e) h =
     sound_if (is_outside e) s (with_cell s e) (λ out. outside_sound s e out h) h
 stays_sound s Happening.Begin h = record {
   row = h.row;
   possible = h.possible;
-  knows = know_pushed s.cell s.exchanges (record { driver = new_driver; source = Source.Nowhere }) tt h.knows;
-  owns = own_pushed s.row s.owner s.exchanges h.owns;
+  knows = all_pushed (λ (k : ℕ) (y : Exchange). Knows s.cell y) s.exchanges new_exchange (λ k. tt) h.knows;
+  owns = all_pushed (own_at s.row s.owner) s.exchanges new_exchange (λ k out. absurd out) h.owns;
 }
 stays_sound s (Happening.Claim at w commit) h = claims_sound s at w commit (slice_get s.exchanges at) h
 stays_sound s (Happening.Answer at source) h = answers_sound s at source (slice_get s.exchanges at) refl h

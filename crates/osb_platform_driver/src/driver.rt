@@ -75,8 +75,8 @@ pub struct Driver {
     pub stage: Stage,
 }
 
-// What a crash has left in flight is given up.
-fn brought_up(row: Record) -> Record
+/// Returns the record once what a crash has left in flight is given up. It takes no memory.
+pub fn brought_up(row: Record) -> Record
     ensures row { result ≡ spec.brought_up row }
 {
     match row.timeout(row.attempt()) {
@@ -85,8 +85,8 @@ fn brought_up(row: Record) -> Record
     }
 }
 
-// It is cleaned up, if the record allows it.
-fn cleaned(row: Record, wish: Option<CleanUp>) -> Record
+/// Returns the record once it is cleaned up as is wished, if it allows that. It takes no memory.
+pub fn cleaned(row: Record, wish: Option<CleanUp>) -> Record
     ensures row { result ≡ spec.cleaned wish row }
 {
     match wish {

@@ -7,6 +7,6 @@ mod driver;
 mod laws;
 mod world;
 
-pub use driver::{CleanUp, Driver, Stage, Transaction, Wishes};
+pub use driver::{CleanUp, Driver, Stage, Transaction, Wishes, brought_up, cleaned};
 pub use laws::refines;
 pub use world::{Commit, Exchange, Happening, Source};

@@ -1,0 +1,9 @@
+pub mod Network
+pub mod Lives
+pub mod Fits
+pub mod Events
+pub mod Outside
+pub mod Transacts
+pub mod Always
+pub mod Own
+pub mod Example
