@@ -20,6 +20,8 @@ PLANS = {"sync": _SYNC, "async": _ASYNC}
 OF_A_BINDING = {"bind": "provision", "unbind": "deprovision", "poll-binding": "poll"}
 PHASES = "waiting making ready failed deleting delete-failed".split()
 OUTCOMES = "done before after refused-400 refused-422".split()
+CALLS = "look sync create delete".split()
+LOOKS = "first again tried undone".split()
 
 
 class Case(NamedTuple):
@@ -90,6 +92,28 @@ class Driver(NamedTuple):
     outcome: Optional[str]
     answer: Optional[bytes]
     """Its status and its body, as a cell has them."""
+    creates: bool
+    call: Optional[str]
+    look: Optional[str]
+    rejection: int
+
+
+class PlatformDriver(NamedTuple):
+    stage: str
+    number: bytes
+    is_binding: bool
+    attempt: int
+    request: Optional[Request]
+    fetches: bool
+    answer: Optional[bytes]
+    """Its status and its body, as a cell has them."""
+    has_credentials: bool
+
+
+class Wishes(NamedTuple):
+    create: bool
+    clean_up: str
+    send: bool
 
 
 def record(cell: bytes) -> Record:
@@ -129,7 +153,8 @@ def holding(cell: bytes) -> Holding:
 def driver(cell: bytes) -> Driver:
     """The driver that a cell stands for."""
     stage, *words = cell.decode().split()
-    found = Driver(stage, digest(b"01")[:16], "request" in words, "locked" in words, "ok" in words, None, None, None)
+    flags = "request" in words, "locked" in words, "ok" in words
+    found = Driver(stage, digest(b"01")[:16], *flags, None, None, None, "creates" in words, None, None, 0)
     for word in words:
         if word.startswith("#"):
             found = found._replace(number=digest(word[1:].encode())[:16])
@@ -139,7 +164,42 @@ def driver(cell: bytes) -> Driver:
             found = found._replace(task=request(word.encode()))
         elif word in OUTCOMES or word.isdigit():
             found = found._replace(outcome=word)
+        elif word in CALLS:
+            found = found._replace(call=word)
+        elif word in LOOKS:
+            found = found._replace(look=word)
+        elif word.startswith("rejected-"):
+            found = found._replace(rejection=int(word[9:]))
     return found
+
+
+def platform_driver(cell: bytes) -> PlatformDriver:
+    """The driver of a platform that a cell stands for."""
+    stage, *words = cell.decode().split()
+    fetches, has_credentials = "fetches" in words, "credentials" in words
+    found = PlatformDriver(stage, digest(b"01")[:16], "binding" in words, 0, None, fetches, None, has_credentials)
+    for word in words:
+        if word.startswith("#"):
+            found = found._replace(number=digest(word[1:].encode())[:16])
+        elif word.startswith("@"):
+            found = found._replace(attempt=int(word[1:]))
+        elif "/" in word:
+            found = found._replace(answer=word.replace("/", " ").encode())
+        elif ":" in word:
+            found = found._replace(request=request(word.encode()))
+    return found
+
+
+def is_of_platform(cell: bytes) -> bool:
+    """Whether a cell stands for the driver of a platform."""
+    return not {b"instance", b"binding"}.isdisjoint(cell.split())
+
+
+def wishes(cell: bytes) -> Wishes:
+    """What a program wishes."""
+    words = cell.decode().split()
+    clean_up = [word for word in words if word not in ("create", "send", "none")]
+    return Wishes("create" in words, clean_up[0] if clean_up else "none", "send" in words)
 
 
 def cases() -> Iterator[Case]:

@@ -144,7 +144,7 @@ def go_statuses() -> list[str]:
 def go_enum(enum: Enum) -> list[str]:
     """The type, its numbers, and the name of each."""
     kind, article = camel(enum.name), "An" if enum.name[0] in "aeiou" else "A"
-    names, following = [], 0
+    names, following, list_of_names = [], 0, f"{camel(enum.name, True)}Names"
     for value in enum.values:
         number = "" if value.number == following else f"{value.number}: "
         names.append(f'{number}"{value.name.lower().replace("_", "-")}",')
@@ -152,10 +152,15 @@ def go_enum(enum: Enum) -> list[str]:
     return [
         *["", *wrapped(f"{article} {kind} is {enum.what}. {enum.go}", "// ", "// "), f"type {kind} uint8"],
         *go_constants(enum, kind),
-        *[f"var {enum.name}Names = [...]string{{", *wrapped(" ".join(names), "\t", "\t"), "}", ""],
+        *[f"var {list_of_names} = [...]string{{", *wrapped(" ".join(names), "\t", "\t"), "}", ""],
         "// String is the name of the number, in lower case.",
-        f'func (it {kind}) String() string {{ return name("{kind}", uint8(it), {enum.name}Names[:]) }}',
+        *go_method(f"func (it {kind}) String() string", f'return name("{kind}", uint8(it), {list_of_names}[:])'),
     ]
+
+
+def go_method(head: str, body: str) -> list[str]:
+    """A method of one statement as gofmt writes it: on one line if both together have at most 100 characters."""
+    return [f"{head} {{ {body} }}"] if len(head + body) <= 100 else [f"{head} {{", f"\t{body}", "}"]
 
 
 def crossing(is_written: bool) -> list[Struct]:

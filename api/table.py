@@ -137,6 +137,8 @@ STATUS = Enum(
     Value(82, "NOT_RETRIEVABLE", "a plan binds asynchronously, and its service isn't bindings_retrievable"),
     Value(83, "BAD_DRIVER", "the struct is no driver that a call gives", packages="no call gives such a driver"),
     Value(84, "WRONG_STAGE", "the driver is at a stage that asks for no such report"),
+    Value(85, "BAD_THERE", "the number stands for nothing that a look finds"),
+    Value(86, "MISFIT", "the row doesn't fit its plan, or its pending work is of another id"),
 )
 
 EXACTLY = {
@@ -154,7 +156,7 @@ EXACTLY = {
     "BAD_HOLDING": "the holding can't come about ([which can](instance.md#what-a-broker-keeps-holding)), or a number "
     "in it that counts stands for nothing",
     "BAD_DRIVER": "the driver can't come about, its number is zeroes, or a number in it that counts stands for "
-    "nothing; for `osb_driver_new`, the number is zeroes",
+    "nothing; for `osb_driver_new` and `osb_platform_driver_new`, the number is zeroes",
     "BAD_ROW": "the row isn't `wanted` with its Provision in flight, nor any other state with nothing in flight or "
     "what is due there",
     "BAD_ASKED": "the kind stands for none, or it is a Provision or a Deprovision and service or plan is missing",
@@ -164,7 +166,7 @@ EXACTLY = {
     "NO_SECONDS": "the value isn't a number in decimal digits below 2^64",
     "REFUSED_INSTANCE": "refused with 400: the id of the instance isn't UTF-8 of 1 to 255 bytes, or is `.` or `..`",
     "NOT_REFUSED": "the status is none of 39 to 50, 64 and `OSB_MEMORY`; for `osb_binding_refusal_body`, none of 39 to "
-    "50, 78, 79 and `OSB_MEMORY`",
+    "50, 78, 79 and `OSB_MEMORY`; for `osb_driver_called`, none of 0, 400 and 422",
     "BAD_PLAN_MODE": "`x-osb-asynchronous` of a plan, or `asynchronous` if the plan lacks it, is neither `true` nor "
     "`false`",
     "NOT_INSTANCE_TEXT": "the text of the instance hasn't the number of the request's instance, or is `.` or `..`",
@@ -625,21 +627,45 @@ INTERFACE: list[Part] = [
         """What a broker does next. A driver is the way of one request through a broker, or of one take-up, which goes
         on with what a dead worker has left. A driver says the one action that the program carries out next, and the
         program reports what came of it. So the program decides nothing, and branches on no state of an instance. A
-        driver owns nothing, and no call takes memory. The program passes to every transaction what it has read and
-        locked in it, writes what the call returns before it commits, and goes on only as the commit went."""
+        driver owns nothing, and no call takes memory. The program takes the lock of the key, if it is free, and begins
+        the driver. It passes to every transaction what it has read and locked in it, writes what the call returns
+        before it commits, and goes on only as the commit went."""
     ),
     Enum(
         "stage",
         "the action that the program carries out next for a driver",
-        Value(0, "TRY_LOCK", "take the lock of the key, if it is free, and report it by osb_driver_locked"),
         Value(1, "BEGIN", "run the first transaction"),
         Value(2, "AWAIT_LOCK", "wait for the lock of the key, and report it by osb_driver_locked"),
-        Value(3, "WORK", "do the work under the lock, and report it by osb_driver_worked"),
+        Value(3, "WORK", "make the call of the backend, under the lock, and report it"),
         Value(4, "END", "run the last transaction of pending work"),
         Value(5, "FINISH", "run the last transaction of an operation"),
         Value(6, "UNSURE", "read the row in a transaction, since nobody knows what was committed"),
         Value(7, "ANSWER", "free the lock, and send the answer"),
         Value(8, "DONE", "free the lock; if a request isn't answered yet, answer 500 or 503"),
+    ),
+    Enum(
+        "call",
+        "the call of the backend that the program makes next for a driver at WORK",
+        Value(0, "NONE", "nobody knows how the work ended: step the driver no more"),
+        Value(1, "LOOK", "return what exists, and report it by osb_driver_looked"),
+        Value(2, "SYNC", "write to disk what exists, and report that by osb_driver_synced"),
+        Value(3, "CREATE", "create the resource, and report that by osb_driver_called"),
+        Value(4, "DELETE", "delete the resource, and report that by osb_driver_called"),
+    ),
+    Enum(
+        "look",
+        "a look of a worker",
+        Value(0, "FIRST", "before anything is done"),
+        Value(1, "AGAIN", "all was there at first, or nothing, and that is on disk now"),
+        Value(2, "TRIED", "after the creation or the deletion"),
+        Value(3, "UNDONE", "after a part that was created is deleted"),
+    ),
+    Enum(
+        "there",
+        "what a look finds",
+        Value(0, "ABSENT", "nothing"),
+        Value(1, "PART", "something that can't be used"),
+        Value(2, "WHOLE", "all of it"),
     ),
     Enum(
         "effect",
@@ -656,69 +682,212 @@ INTERFACE: list[Part] = [
         Member("uint8_t number[16]", "the driver's own number, never zeroes"),
         Member("struct osb_request task", "at WORK, if is_pending is true: the request whose work is pending"),
         Member("struct osb_answer answer", "at ANSWER the answer; at END, if has_answer is true, an earlier try's"),
+        Member("uint16_t rejection", "at WORK: the status with which the backend has rejected the creation, or 0"),
         Member("enum osb_stage stage", "an enum osb_stage"),
         Member("enum osb_outcome outcome", "at END: an enum osb_outcome"),
+        Member("enum osb_call call", "at WORK: an enum osb_call"),
+        Member("enum osb_look look", "at WORK, if the call is a look or a sync: an enum osb_look, its own or the next"),
         Member("bool is_request", "whether it answers a request; if not, it is of a take-up"),
         Member("bool is_locked", "at BEGIN: whether it has the lock"),
         Member("bool is_pending", "at WORK: whether the work is pending; if not, it is the operation that runs"),
+        Member("bool creates", "at WORK: whether the work is a creation; if not, it is a deletion"),
         Member("bool has_answer", "at END: whether nobody knows if an earlier try was committed"),
         Member("bool ok", "at FINISH: whether the operation succeeded"),
         comment="A driver. In what a call gives, members that don't count are zeroes.",
         is_private=True,
     ),
     Struct(
+        "reading",
+        Member("struct osb_holding holding", "of the row"),
+        Member("struct osb_request request", "the request, which counts only at its first transaction"),
+        Member("struct osb_id id", "of the row: the instance's, or the binding's"),
+        Member("uint8_t number[16]", "of the row, and zeroes if it has none"),
+        Member("uint8_t attributes[32]", "the digest of the request's attributes"),
+        Member("enum osb_mode row_mode", "an enum osb_mode: of the plan of the row, or else of the pending work"),
+        Member("enum osb_mode mode", "an enum osb_mode: of the request's plan"),
+        Member("bool first_poll", "the rule of the first Poll"),
+        Member("bool may_begin", "whether something may begin, which doesn't count for a binding"),
+        Member("bool may_give_up", "whether the row has waited too long for its first Poll"),
+        comment="""What a transaction is given. The holding and the number are those of the row, read and locked in the
+        transaction. request, attributes, mode, first_poll and may_begin are those of osb_holding_begin_if. They count
+        only at the first transaction of a request, and are zeroes for a take-up.""",
+    ),
+    Struct(
         "transaction",
+        Member("struct osb_holding holding", "the row has to have it"),
+        Member("uint8_t number[16]", "the row has to have it"),
         Member("struct osb_driver committed", "the driver once the commit has returned"),
         Member("struct osb_driver unsure", "the driver if nobody knows whether the transaction was committed"),
         Member("enum osb_effect effect", "an enum osb_effect"),
         Member("enum osb_outcome outcome", "of OSB_EFFECT_END: an enum osb_outcome"),
         Member("bool ok", "of OSB_EFFECT_FINISH: whether the operation succeeded"),
-        Member("bool writes", "whether the row or its number has to be written: one of them changed"),
-        Member("enum osb_work work", "if committed is at OSB_STAGE_WORK: an enum osb_work, the work to do"),
-        comment="What a transaction comes to, besides the row and the number that it writes.",
+        Member("bool writes", "whether the holding and the number have to be written: one of them changed"),
+        comment="What a transaction comes to.",
         is_private=True,
     ),
     Call(
-        "uint32_t osb_driver_new(const uint8_t number[16], bool is_request, struct osb_driver *driver)",
-        """Begins a driver, of a request (is_request) or of a take-up. The number is the driver's own: no other driver
-        ever has it, so draw 128 random bits.""",
+        "uint32_t osb_driver_new(const uint8_t number[16], bool is_request, bool has_lock, struct osb_driver *driver)",
+        """Begins a driver, of a request (is_request) or of a take-up, once the program has taken the lock of its key,
+        if that was free: has_lock is whether it was. A lock of which nobody knows isn't had. The number is the driver's
+        own: no other driver ever has it, so draw 128 random bits.""",
         "OSB_DONE, OSB_BAD_DRIVER.",
     ),
     Call(
         "uint32_t osb_driver_locked(struct osb_driver *driver, bool has_lock)",
-        """Reports whether the driver has the lock of its key: at OSB_STAGE_TRY_LOCK whether the lock was free, at
-        OSB_STAGE_AWAIT_LOCK whether the driver had it after it has waited. A lock of which nobody knows isn't had.""",
+        """Reports, at OSB_STAGE_AWAIT_LOCK, whether the driver has the lock of its key after it has waited. A lock of
+        which nobody knows isn't had.""",
         "OSB_DONE, OSB_BAD_DRIVER, OSB_WRONG_STAGE.",
     ),
     Call(
-        "uint32_t osb_driver_worked(struct osb_driver *driver, uint8_t outcome)",
-        """Reports how the work of OSB_STAGE_WORK has ended, as a last look at the resource has shown. An operation has
-        succeeded exactly if the outcome is OSB_OUTCOME_DONE.""",
-        "OSB_DONE, OSB_BAD_DRIVER, OSB_BAD_OUTCOME, OSB_WRONG_STAGE.",
+        "uint32_t osb_driver_looked(struct osb_driver *driver, uint8_t there)",
+        """Reports what a look has found (OSB_CALL_LOOK): an enum osb_there. A look that shows how the work has ended
+        moves the driver on, to OSB_STAGE_END or OSB_STAGE_FINISH. If a look or a sync has failed, nobody knows how the
+        work ended: report nothing, and step the driver no more.""",
+        "OSB_DONE, OSB_BAD_DRIVER, OSB_BAD_THERE, OSB_WRONG_STAGE.",
     ),
     Call(
-        "uint32_t osb_driver_read(const struct osb_driver *driver, struct osb_holding *holding, uint8_t number[16], "
-        "uint8_t mode, bool first_poll, bool may_begin, bool may_give_up, const struct osb_request *request, "
-        "const uint8_t attributes[32], struct osb_transaction *transaction)",
+        "uint32_t osb_driver_synced(struct osb_driver *driver)",
+        """Reports that what exists is on disk (OSB_CALL_SYNC).""",
+        "OSB_DONE, OSB_BAD_DRIVER, OSB_WRONG_STAGE.",
+    ),
+    Call(
+        "uint32_t osb_driver_called(struct osb_driver *driver, bool ok, uint16_t rejection)",
+        """Reports that the creation or the deletion has returned (OSB_CALL_CREATE, OSB_CALL_DELETE), and whether
+        without an error (ok). rejection is 400 or 422 if the backend has rejected the creation with that status, and
+        else 0.""",
+        "OSB_DONE, OSB_BAD_DRIVER, OSB_NOT_REFUSED, OSB_WRONG_STAGE.",
+    ),
+    Call(
+        "uint32_t osb_driver_read(const struct osb_driver *driver, const struct osb_reading *reading, "
+        "struct osb_transaction *transaction)",
         """The transaction of an instance's driver, at OSB_STAGE_BEGIN, OSB_STAGE_END, OSB_STAGE_FINISH and
-        OSB_STAGE_UNSURE. The holding and the number are those of the row, read and locked in this transaction; a row
-        without a number has zeroes. The call writes to both what the row has to have. If transaction->writes is true,
-        write both. Once the commit has returned, go on with transaction->committed. If nobody knows whether the
-        transaction was committed, go on with transaction->unsure. The mode is that of the plan, may_begin is as in
-        osb_holding_begin_if, and may_give_up is whether the row has waited too long for its first Poll. first_poll, the
-        request and its attributes are those of osb_holding_begin; they count only at the first transaction of a
-        request, and are zeroes for a take-up.""",
-        "OSB_DONE, OSB_BAD_DRIVER, OSB_BAD_HOLDING, OSB_BAD_MODE, OSB_BAD_KIND, OSB_WRONG_STAGE.",
+        OSB_STAGE_UNSURE. If transaction->writes is true, write its holding and its number to the row. Once the commit
+        has returned, go on with transaction->committed. If nobody knows whether the transaction was committed, go on
+        with transaction->unsure. Work that only starts an operation needs no call of the backend: the driver is at
+        OSB_STAGE_END then, with OSB_OUTCOME_DONE. A row that doesn't fit is left alone (OSB_MISFIT).""",
+        "OSB_DONE, OSB_BAD_DRIVER, OSB_BAD_HOLDING, OSB_BAD_MODE, OSB_BAD_KIND, OSB_WRONG_STAGE, OSB_MISFIT.",
     ),
     Call(
-        "uint32_t osb_binding_driver_read(const struct osb_driver *driver, struct osb_holding *holding, "
-        "uint8_t number[16], const struct osb_holding *instance, uint8_t mode, bool first_poll, bool may_give_up, "
-        "const struct osb_request *request, const uint8_t attributes[32], struct osb_transaction *transaction)",
+        "uint32_t osb_binding_driver_read(const struct osb_driver *driver, const struct osb_reading *reading, "
+        "const struct osb_holding *instance, struct osb_transaction *transaction)",
         """The transaction of a binding's driver, as osb_driver_read is that of an instance's. `instance` is the holding
-        of the binding's instance, read and locked in this transaction. What may begin is what osb_binding_begin lets
-        begin. If the instance has a tombstone, and nothing is kept of the binding, nothing is written.""",
-        "OSB_DONE, OSB_BAD_DRIVER, OSB_BAD_HOLDING (holding or instance), OSB_BAD_MODE, OSB_BAD_KIND, "
-        "OSB_WRONG_STAGE.",
+        of the binding's instance, read and locked in this transaction. The modes are those of binding. What may begin
+        is what osb_binding_begin lets begin. If the instance has a tombstone, and nothing is kept of the binding,
+        nothing is written.""",
+        "OSB_DONE, OSB_BAD_DRIVER, OSB_BAD_HOLDING (instance or reading->holding), OSB_BAD_MODE, OSB_BAD_KIND, "
+        "OSB_WRONG_STAGE, OSB_MISFIT.",
+    ),
+    Section(
+        """What a platform does next. A driver is the way of one request of a platform, of an instance or of a binding,
+        from its record to its answer. A driver says the one action that the program carries out next, and the program
+        reports what came of it. A driver owns nothing, and no call takes memory. The program passes to every
+        transaction what it has read and locked in it, writes what the call returns before it commits, and goes on only
+        as the commit went."""
+    ),
+    Enum(
+        "platform_stage",
+        "the action that the program carries out next for a platform's driver",
+        Value(0, "CLAIM", "run the first transaction"),
+        Value(1, "SEND", "send the request, and report it by osb_platform_driver_answered"),
+        Value(2, "FETCH", "send a Fetch of the binding, and report it by osb_platform_driver_fetched"),
+        Value(3, "TAKE", "run the last transaction"),
+        Value(4, "UNSURE", "run the last transaction, since nobody knows whether the first was committed"),
+        Value(5, "DONE", "nothing is left to do"),
+    ),
+    Enum(
+        "clean_up",
+        "a way to clean an instance or a binding up",
+        Value(0, "NONE", "it isn't cleaned up"),
+        Value(1, "EXPIRE", "polling has taken too long: osb_record_expire"),
+        Value(2, "RETRY", "a deletion has been polled for too long: osb_record_retry"),
+        Value(3, "REMOVE", "an operator asks for it: osb_record_remove, of an instance osb_record_remove_if"),
+    ),
+    Struct(
+        "platform_driver",
+        Member("uint8_t number[16]", "the driver's own number, never zeroes"),
+        Member("uint64_t attempt", "at SEND, FETCH, TAKE and UNSURE: the number of the request"),
+        Member("struct osb_request request", "at SEND: the request to send; that of a binding has the binding's id"),
+        Member("struct osb_answer answer", "at FETCH, and at TAKE if has_answer is true: the answer"),
+        Member("enum osb_platform_stage stage", "an enum osb_platform_stage"),
+        Member("bool is_binding", "whether it is of a binding; if not, it is of an instance"),
+        Member("bool has_answer", "at TAKE: whether there is an answer; if not, the request is given up"),
+        Member("bool has_credentials", "at TAKE, of a binding: whether its credentials came, and are sealed"),
+        Member("bool fetches", "at SEND: whether an answer that the binding is ready is taken only with a Fetch's"),
+        comment="A driver of a platform. In what a call gives, members that don't count are zeroes.",
+        is_private=True,
+    ),
+    Struct(
+        "platform_reading",
+        Member("struct osb_record record", "the row's, if has_record is true"),
+        Member("struct osb_record instance", "that of a binding's instance, if has_instance is true"),
+        Member("struct osb_id id", "the key of the row: the id of the instance, or that of the binding"),
+        Member("struct osb_id service, plan", "those with which an instance is created"),
+        Member("uint8_t number[16]", "the row's: the number of the driver that last claimed it, or zeroes"),
+        Member("enum osb_clean_up clean_up", "the wish to clean up, an enum osb_clean_up; any other number is none"),
+        Member("bool has_record", "whether the row has a record"),
+        Member("bool has_instance", "of a binding: whether its instance has a record"),
+        Member("bool all_gone", "of an instance: whether each recorded binding of it is gone"),
+        Member("bool create", "the wish to create it, if it isn't recorded"),
+        Member("bool send", "the wish to send the request that is due"),
+        Member("bool accepts_incomplete", "whether an asynchronous creation is accepted"),
+        Member("bool retrievable", "of a binding: whether the broker serves its Fetch", go="is_retrievable"),
+        comment="""What a transaction of a driver of a platform is given: what the program has read and locked in it,
+        and what it wishes. At TAKE and UNSURE only record, has_record, number and retrievable count.""",
+    ),
+    Struct(
+        "platform_transaction",
+        Member("struct osb_record record", "what the row has to have, if has_record is true"),
+        Member("uint8_t number[16]", "the number that the row has to have"),
+        Member("struct osb_platform_driver committed", "the driver once the commit has returned"),
+        Member("struct osb_platform_driver unsure", "the driver if nobody knows whether it was committed"),
+        Member("struct osb_platform_driver failed", "the driver if it wasn't committed"),
+        Member("enum osb_clean_up cleans_up", "an enum osb_clean_up: how the record was cleaned up"),
+        Member("bool has_record", "whether there is a record"),
+        Member("bool writes", "whether the record or the number has to be written: one of them changed"),
+        Member("bool times_out", "whether a request in flight was given up"),
+        Member("bool sends", "whether a request is in flight by this transaction"),
+        Member("bool takes", "whether an answer was taken"),
+        comment="What a transaction of a driver of a platform comes to.",
+        is_private=True,
+    ),
+    Call(
+        "uint32_t osb_platform_driver_new(const uint8_t number[16], bool is_binding, "
+        "struct osb_platform_driver *driver)",
+        """Begins a driver of a platform, of a binding (is_binding) or of an instance. The number is the driver's own:
+        no other driver ever has it, so draw 128 random bits.""",
+        "OSB_DONE, OSB_BAD_DRIVER.",
+    ),
+    Call(
+        "uint32_t osb_platform_driver_read(const struct osb_platform_driver *driver, "
+        "const struct osb_platform_reading *reading, struct osb_platform_transaction *transaction)",
+        """The transaction of a driver of a platform, at OSB_PLATFORM_STAGE_CLAIM, OSB_PLATFORM_STAGE_TAKE and
+        OSB_PLATFORM_STAGE_UNSURE. If transaction->writes is true, write its record and its number. Once the commit has
+        returned, go on with transaction->committed. If nobody knows whether it was committed, go on with
+        transaction->unsure, and if it wasn't, with transaction->failed.
+
+        - CLAIM gives up a request in flight, whose sender is gone. Then it cleans up as is wished, and sends the
+          request that is due if that is wished, as far as the record allows it. An instance is removed only if all_gone
+          is true. Without a record it creates one if that is wished, of a binding only if its instance is recorded
+          ready.
+        - TAKE takes the answer to the request, if that is in flight. The answer counts as lost if it promises
+          credentials of a binding that can't be fetched, or if it would make a binding ready and has_credentials of the
+          driver is false. A request whose answer is lost is given up.
+        - UNSURE gives up the request, if it is in flight and the row has the driver's number.""",
+        "OSB_DONE, OSB_BAD_DRIVER, OSB_BAD_RECORD (the row's or the instance's), OSB_WRONG_STAGE.",
+    ),
+    Call(
+        "uint32_t osb_platform_driver_answered(struct osb_platform_driver *driver, bool has_answer, "
+        "struct osb_answer answer, bool has_credentials)",
+        """Reports what came of the request of OSB_PLATFORM_STAGE_SEND. has_answer is false if no answer came in time,
+        or none that is surely the broker's; the answer doesn't count then. has_credentials is whether the answer had an
+        object of the binding, and it is sealed.""",
+        "OSB_DONE, OSB_BAD_DRIVER, OSB_WRONG_STAGE.",
+    ),
+    Call(
+        "uint32_t osb_platform_driver_fetched(struct osb_platform_driver *driver, bool has_credentials)",
+        """Reports what came of the Fetch of OSB_PLATFORM_STAGE_FETCH: whether it was answered with an object of the
+        binding, and that is sealed.""",
+        "OSB_DONE, OSB_BAD_DRIVER, OSB_WRONG_STAGE.",
     ),
     Section(
         """Requests and answers as HTTP and JSON have them (docs/wire.md). No connection is opened, and no HTTP is

@@ -130,7 +130,9 @@ enum osb_status {
     OSB_NO_BINDING = 81,                 /* the response has no object of the binding */
     OSB_NOT_RETRIEVABLE = 82,            /* a plan binds asynchronously, and its service isn't bindings_retrievable */
     OSB_BAD_DRIVER = 83,                 /* the struct is no driver that a call gives */
-    OSB_WRONG_STAGE = 84                 /* the driver is at a stage that asks for no such report */
+    OSB_WRONG_STAGE = 84,                /* the driver is at a stage that asks for no such report */
+    OSB_BAD_THERE = 85,                  /* the number stands for nothing that a look finds */
+    OSB_MISFIT = 86                      /* the row doesn't fit its plan, or its pending work is of another id */
 };
 
 /* ---- Ids. The id of an instance, a service or a plan is any text of 1 to 255 bytes of UTF-8, and the calls know it by
@@ -496,19 +498,40 @@ uint32_t osb_binding_fetch(const struct osb_holding *holding, struct osb_answer 
 /* ---- What a broker does next. A driver is the way of one request through a broker, or of one take-up, which goes on
  *      with what a dead worker has left. A driver says the one action that the program carries out next, and the
  *      program reports what came of it. So the program decides nothing, and branches on no state of an instance. A
- *      driver owns nothing, and no call takes memory. The program passes to every transaction what it has read and
- *      locked in it, writes what the call returns before it commits, and goes on only as the commit went. */
+ *      driver owns nothing, and no call takes memory. The program takes the lock of the key, if it is free, and begins
+ *      the driver. It passes to every transaction what it has read and locked in it, writes what the call returns
+ *      before it commits, and goes on only as the commit went. */
 
 enum osb_stage {
-    OSB_STAGE_TRY_LOCK = 0,   /* take the lock of the key, if it is free, and report it by osb_driver_locked */
     OSB_STAGE_BEGIN = 1,      /* run the first transaction */
     OSB_STAGE_AWAIT_LOCK = 2, /* wait for the lock of the key, and report it by osb_driver_locked */
-    OSB_STAGE_WORK = 3,       /* do the work under the lock, and report it by osb_driver_worked */
+    OSB_STAGE_WORK = 3,       /* make the call of the backend, under the lock, and report it */
     OSB_STAGE_END = 4,        /* run the last transaction of pending work */
     OSB_STAGE_FINISH = 5,     /* run the last transaction of an operation */
     OSB_STAGE_UNSURE = 6,     /* read the row in a transaction, since nobody knows what was committed */
     OSB_STAGE_ANSWER = 7,     /* free the lock, and send the answer */
     OSB_STAGE_DONE = 8        /* free the lock; if a request isn't answered yet, answer 500 or 503 */
+};
+
+enum osb_call {
+    OSB_CALL_NONE = 0,   /* nobody knows how the work ended: step the driver no more */
+    OSB_CALL_LOOK = 1,   /* return what exists, and report it by osb_driver_looked */
+    OSB_CALL_SYNC = 2,   /* write to disk what exists, and report that by osb_driver_synced */
+    OSB_CALL_CREATE = 3, /* create the resource, and report that by osb_driver_called */
+    OSB_CALL_DELETE = 4  /* delete the resource, and report that by osb_driver_called */
+};
+
+enum osb_look {
+    OSB_LOOK_FIRST = 0, /* before anything is done */
+    OSB_LOOK_AGAIN = 1, /* all was there at first, or nothing, and that is on disk now */
+    OSB_LOOK_TRIED = 2, /* after the creation or the deletion */
+    OSB_LOOK_UNDONE = 3 /* after a part that was created is deleted */
+};
+
+enum osb_there {
+    OSB_THERE_ABSENT = 0, /* nothing */
+    OSB_THERE_PART = 1,   /* something that can't be used */
+    OSB_THERE_WHOLE = 2   /* all of it */
 };
 
 enum osb_effect {
@@ -525,61 +548,191 @@ struct osb_driver {
     uint8_t number[16];       /* the driver's own number, never zeroes */
     struct osb_request task;  /* at WORK, if is_pending is true: the request whose work is pending */
     struct osb_answer answer; /* at ANSWER the answer; at END, if has_answer is true, an earlier try's */
+    uint16_t rejection;       /* at WORK: the status with which the backend has rejected the creation, or 0 */
     uint8_t stage;            /* an enum osb_stage */
     uint8_t outcome;          /* at END: an enum osb_outcome */
+    uint8_t call;             /* at WORK: an enum osb_call */
+    uint8_t look;             /* at WORK, if the call is a look or a sync: an enum osb_look, its own or the next */
     bool is_request;          /* whether it answers a request; if not, it is of a take-up */
     bool is_locked;           /* at BEGIN: whether it has the lock */
     bool is_pending;          /* at WORK: whether the work is pending; if not, it is the operation that runs */
+    bool creates;             /* at WORK: whether the work is a creation; if not, it is a deletion */
     bool has_answer;          /* at END: whether nobody knows if an earlier try was committed */
     bool ok;                  /* at FINISH: whether the operation succeeded */
 };
 
-/* What a transaction comes to, besides the row and the number that it writes. */
+/* What a transaction is given. The holding and the number are those of the row, read and locked in the transaction.
+ * request, attributes, mode, first_poll and may_begin are those of osb_holding_begin_if. They count only at the first
+ * transaction of a request, and are zeroes for a take-up. */
+struct osb_reading {
+    struct osb_holding holding; /* of the row */
+    struct osb_request request; /* the request, which counts only at its first transaction */
+    struct osb_id id;           /* of the row: the instance's, or the binding's */
+    uint8_t number[16];         /* of the row, and zeroes if it has none */
+    uint8_t attributes[32];     /* the digest of the request's attributes */
+    uint8_t row_mode;           /* an enum osb_mode: of the plan of the row, or else of the pending work */
+    uint8_t mode;               /* an enum osb_mode: of the request's plan */
+    bool first_poll;            /* the rule of the first Poll */
+    bool may_begin;             /* whether something may begin, which doesn't count for a binding */
+    bool may_give_up;           /* whether the row has waited too long for its first Poll */
+};
+
+/* What a transaction comes to. */
 struct osb_transaction {
+    struct osb_holding holding;  /* the row has to have it */
+    uint8_t number[16];          /* the row has to have it */
     struct osb_driver committed; /* the driver once the commit has returned */
     struct osb_driver unsure;    /* the driver if nobody knows whether the transaction was committed */
     uint8_t effect;              /* an enum osb_effect */
     uint8_t outcome;             /* of OSB_EFFECT_END: an enum osb_outcome */
     bool ok;                     /* of OSB_EFFECT_FINISH: whether the operation succeeded */
-    bool writes;                 /* whether the row or its number has to be written: one of them changed */
-    uint8_t work;                /* if committed is at OSB_STAGE_WORK: an enum osb_work, the work to do */
+    bool writes;                 /* whether the holding and the number have to be written: one of them changed */
 };
 
-/* Begins a driver, of a request (is_request) or of a take-up. The number is the driver's own: no other driver ever has
- * it, so draw 128 random bits.
+/* Begins a driver, of a request (is_request) or of a take-up, once the program has taken the lock of its key, if that
+ * was free: has_lock is whether it was. A lock of which nobody knows isn't had. The number is the driver's own: no
+ * other driver ever has it, so draw 128 random bits.
  * OSB_DONE, OSB_BAD_DRIVER. */
-uint32_t osb_driver_new(const uint8_t number[16], bool is_request, struct osb_driver *driver);
+uint32_t osb_driver_new(const uint8_t number[16], bool is_request, bool has_lock, struct osb_driver *driver);
 
-/* Reports whether the driver has the lock of its key: at OSB_STAGE_TRY_LOCK whether the lock was free, at
- * OSB_STAGE_AWAIT_LOCK whether the driver had it after it has waited. A lock of which nobody knows isn't had.
+/* Reports, at OSB_STAGE_AWAIT_LOCK, whether the driver has the lock of its key after it has waited. A lock of which
+ * nobody knows isn't had.
  * OSB_DONE, OSB_BAD_DRIVER, OSB_WRONG_STAGE. */
 uint32_t osb_driver_locked(struct osb_driver *driver, bool has_lock);
 
-/* Reports how the work of OSB_STAGE_WORK has ended, as a last look at the resource has shown. An operation has
- * succeeded exactly if the outcome is OSB_OUTCOME_DONE.
- * OSB_DONE, OSB_BAD_DRIVER, OSB_BAD_OUTCOME, OSB_WRONG_STAGE. */
-uint32_t osb_driver_worked(struct osb_driver *driver, uint8_t outcome);
+/* Reports what a look has found (OSB_CALL_LOOK): an enum osb_there. A look that shows how the work has ended moves the
+ * driver on, to OSB_STAGE_END or OSB_STAGE_FINISH. If a look or a sync has failed, nobody knows how the work ended:
+ * report nothing, and step the driver no more.
+ * OSB_DONE, OSB_BAD_DRIVER, OSB_BAD_THERE, OSB_WRONG_STAGE. */
+uint32_t osb_driver_looked(struct osb_driver *driver, uint8_t there);
 
-/* The transaction of an instance's driver, at OSB_STAGE_BEGIN, OSB_STAGE_END, OSB_STAGE_FINISH and OSB_STAGE_UNSURE.
- * The holding and the number are those of the row, read and locked in this transaction; a row without a number has
- * zeroes. The call writes to both what the row has to have. If transaction->writes is true, write both. Once the commit
- * has returned, go on with transaction->committed. If nobody knows whether the transaction was committed, go on with
- * transaction->unsure. The mode is that of the plan, may_begin is as in osb_holding_begin_if, and may_give_up is
- * whether the row has waited too long for its first Poll. first_poll, the request and its attributes are those of
- * osb_holding_begin; they count only at the first transaction of a request, and are zeroes for a take-up.
- * OSB_DONE, OSB_BAD_DRIVER, OSB_BAD_HOLDING, OSB_BAD_MODE, OSB_BAD_KIND, OSB_WRONG_STAGE. */
-uint32_t osb_driver_read(const struct osb_driver *driver, struct osb_holding *holding, uint8_t number[16], uint8_t mode,
-                         bool first_poll, bool may_begin, bool may_give_up, const struct osb_request *request,
-                         const uint8_t attributes[32], struct osb_transaction *transaction);
+/* Reports that what exists is on disk (OSB_CALL_SYNC).
+ * OSB_DONE, OSB_BAD_DRIVER, OSB_WRONG_STAGE. */
+uint32_t osb_driver_synced(struct osb_driver *driver);
+
+/* Reports that the creation or the deletion has returned (OSB_CALL_CREATE, OSB_CALL_DELETE), and whether without an
+ * error (ok). rejection is 400 or 422 if the backend has rejected the creation with that status, and else 0.
+ * OSB_DONE, OSB_BAD_DRIVER, OSB_NOT_REFUSED, OSB_WRONG_STAGE. */
+uint32_t osb_driver_called(struct osb_driver *driver, bool ok, uint16_t rejection);
+
+/* The transaction of an instance's driver, at OSB_STAGE_BEGIN, OSB_STAGE_END, OSB_STAGE_FINISH and OSB_STAGE_UNSURE. If
+ * transaction->writes is true, write its holding and its number to the row. Once the commit has returned, go on with
+ * transaction->committed. If nobody knows whether the transaction was committed, go on with transaction->unsure. Work
+ * that only starts an operation needs no call of the backend: the driver is at OSB_STAGE_END then, with
+ * OSB_OUTCOME_DONE. A row that doesn't fit is left alone (OSB_MISFIT).
+ * OSB_DONE, OSB_BAD_DRIVER, OSB_BAD_HOLDING, OSB_BAD_MODE, OSB_BAD_KIND, OSB_WRONG_STAGE, OSB_MISFIT. */
+uint32_t osb_driver_read(const struct osb_driver *driver, const struct osb_reading *reading,
+                         struct osb_transaction *transaction);
 
 /* The transaction of a binding's driver, as osb_driver_read is that of an instance's. `instance` is the holding of the
- * binding's instance, read and locked in this transaction. What may begin is what osb_binding_begin lets begin. If the
- * instance has a tombstone, and nothing is kept of the binding, nothing is written.
- * OSB_DONE, OSB_BAD_DRIVER, OSB_BAD_HOLDING (holding or instance), OSB_BAD_MODE, OSB_BAD_KIND, OSB_WRONG_STAGE. */
-uint32_t osb_binding_driver_read(const struct osb_driver *driver, struct osb_holding *holding, uint8_t number[16],
-                                 const struct osb_holding *instance, uint8_t mode, bool first_poll, bool may_give_up,
-                                 const struct osb_request *request, const uint8_t attributes[32],
-                                 struct osb_transaction *transaction);
+ * binding's instance, read and locked in this transaction. The modes are those of binding. What may begin is what
+ * osb_binding_begin lets begin. If the instance has a tombstone, and nothing is kept of the binding, nothing is
+ * written.
+ * OSB_DONE, OSB_BAD_DRIVER, OSB_BAD_HOLDING (instance or reading->holding), OSB_BAD_MODE, OSB_BAD_KIND,
+ * OSB_WRONG_STAGE, OSB_MISFIT. */
+uint32_t osb_binding_driver_read(const struct osb_driver *driver, const struct osb_reading *reading,
+                                 const struct osb_holding *instance, struct osb_transaction *transaction);
+
+/* ---- What a platform does next. A driver is the way of one request of a platform, of an instance or of a binding,
+ *      from its record to its answer. A driver says the one action that the program carries out next, and the program
+ *      reports what came of it. A driver owns nothing, and no call takes memory. The program passes to every
+ *      transaction what it has read and locked in it, writes what the call returns before it commits, and goes on only
+ *      as the commit went. */
+
+enum osb_platform_stage {
+    OSB_PLATFORM_STAGE_CLAIM = 0,  /* run the first transaction */
+    OSB_PLATFORM_STAGE_SEND = 1,   /* send the request, and report it by osb_platform_driver_answered */
+    OSB_PLATFORM_STAGE_FETCH = 2,  /* send a Fetch of the binding, and report it by osb_platform_driver_fetched */
+    OSB_PLATFORM_STAGE_TAKE = 3,   /* run the last transaction */
+    OSB_PLATFORM_STAGE_UNSURE = 4, /* run the last transaction, since nobody knows whether the first was committed */
+    OSB_PLATFORM_STAGE_DONE = 5    /* nothing is left to do */
+};
+
+enum osb_clean_up {
+    OSB_CLEAN_UP_NONE = 0,   /* it isn't cleaned up */
+    OSB_CLEAN_UP_EXPIRE = 1, /* polling has taken too long: osb_record_expire */
+    OSB_CLEAN_UP_RETRY = 2,  /* a deletion has been polled for too long: osb_record_retry */
+    OSB_CLEAN_UP_REMOVE = 3  /* an operator asks for it: osb_record_remove, of an instance osb_record_remove_if */
+};
+
+/* A driver of a platform. In what a call gives, members that don't count are zeroes. */
+struct osb_platform_driver {
+    uint8_t number[16];         /* the driver's own number, never zeroes */
+    uint64_t attempt;           /* at SEND, FETCH, TAKE and UNSURE: the number of the request */
+    struct osb_request request; /* at SEND: the request to send; that of a binding has the binding's id */
+    struct osb_answer answer;   /* at FETCH, and at TAKE if has_answer is true: the answer */
+    uint8_t stage;              /* an enum osb_platform_stage */
+    bool is_binding;            /* whether it is of a binding; if not, it is of an instance */
+    bool has_answer;            /* at TAKE: whether there is an answer; if not, the request is given up */
+    bool has_credentials;       /* at TAKE, of a binding: whether its credentials came, and are sealed */
+    bool fetches;               /* at SEND: whether an answer that the binding is ready is taken only with a Fetch's */
+};
+
+/* What a transaction of a driver of a platform is given: what the program has read and locked in it, and what it
+ * wishes. At TAKE and UNSURE only record, has_record, number and retrievable count. */
+struct osb_platform_reading {
+    struct osb_record record;    /* the row's, if has_record is true */
+    struct osb_record instance;  /* that of a binding's instance, if has_instance is true */
+    struct osb_id id;            /* the key of the row: the id of the instance, or that of the binding */
+    struct osb_id service, plan; /* those with which an instance is created */
+    uint8_t number[16];          /* the row's: the number of the driver that last claimed it, or zeroes */
+    uint8_t clean_up;            /* the wish to clean up, an enum osb_clean_up; any other number is none */
+    bool has_record;             /* whether the row has a record */
+    bool has_instance;           /* of a binding: whether its instance has a record */
+    bool all_gone;               /* of an instance: whether each recorded binding of it is gone */
+    bool create;                 /* the wish to create it, if it isn't recorded */
+    bool send;                   /* the wish to send the request that is due */
+    bool accepts_incomplete;     /* whether an asynchronous creation is accepted */
+    bool retrievable;            /* of a binding: whether the broker serves its Fetch */
+};
+
+/* What a transaction of a driver of a platform comes to. */
+struct osb_platform_transaction {
+    struct osb_record record;             /* what the row has to have, if has_record is true */
+    uint8_t number[16];                   /* the number that the row has to have */
+    struct osb_platform_driver committed; /* the driver once the commit has returned */
+    struct osb_platform_driver unsure;    /* the driver if nobody knows whether it was committed */
+    struct osb_platform_driver failed;    /* the driver if it wasn't committed */
+    uint8_t cleans_up;                    /* an enum osb_clean_up: how the record was cleaned up */
+    bool has_record;                      /* whether there is a record */
+    bool writes;                          /* whether the record or the number has to be written: one of them changed */
+    bool times_out;                       /* whether a request in flight was given up */
+    bool sends;                           /* whether a request is in flight by this transaction */
+    bool takes;                           /* whether an answer was taken */
+};
+
+/* Begins a driver of a platform, of a binding (is_binding) or of an instance. The number is the driver's own: no other
+ * driver ever has it, so draw 128 random bits.
+ * OSB_DONE, OSB_BAD_DRIVER. */
+uint32_t osb_platform_driver_new(const uint8_t number[16], bool is_binding, struct osb_platform_driver *driver);
+
+/* The transaction of a driver of a platform, at OSB_PLATFORM_STAGE_CLAIM, OSB_PLATFORM_STAGE_TAKE and
+ * OSB_PLATFORM_STAGE_UNSURE. If transaction->writes is true, write its record and its number. Once the commit has
+ * returned, go on with transaction->committed. If nobody knows whether it was committed, go on with
+ * transaction->unsure, and if it wasn't, with transaction->failed.
+ *
+ *   - CLAIM gives up a request in flight, whose sender is gone. Then it cleans up as is wished, and sends the request
+ *     that is due if that is wished, as far as the record allows it. An instance is removed only if all_gone is true.
+ *     Without a record it creates one if that is wished, of a binding only if its instance is recorded ready.
+ *   - TAKE takes the answer to the request, if that is in flight. The answer counts as lost if it promises credentials
+ *     of a binding that can't be fetched, or if it would make a binding ready and has_credentials of the driver is
+ *     false. A request whose answer is lost is given up.
+ *   - UNSURE gives up the request, if it is in flight and the row has the driver's number.
+ * OSB_DONE, OSB_BAD_DRIVER, OSB_BAD_RECORD (the row's or the instance's), OSB_WRONG_STAGE. */
+uint32_t osb_platform_driver_read(const struct osb_platform_driver *driver, const struct osb_platform_reading *reading,
+                                  struct osb_platform_transaction *transaction);
+
+/* Reports what came of the request of OSB_PLATFORM_STAGE_SEND. has_answer is false if no answer came in time, or none
+ * that is surely the broker's; the answer doesn't count then. has_credentials is whether the answer had an object of
+ * the binding, and it is sealed.
+ * OSB_DONE, OSB_BAD_DRIVER, OSB_WRONG_STAGE. */
+uint32_t osb_platform_driver_answered(struct osb_platform_driver *driver, bool has_answer, struct osb_answer answer,
+                                      bool has_credentials);
+
+/* Reports what came of the Fetch of OSB_PLATFORM_STAGE_FETCH: whether it was answered with an object of the binding,
+ * and that is sealed.
+ * OSB_DONE, OSB_BAD_DRIVER, OSB_WRONG_STAGE. */
+uint32_t osb_platform_driver_fetched(struct osb_platform_driver *driver, bool has_credentials);
 
 /* ---- Requests and answers as HTTP and JSON have them (docs/wire.md). No connection is opened, and no HTTP is written:
  *      methods, targets, statuses and bodies go into an HTTP library and come out of one. Every body is JSON

@@ -23,8 +23,13 @@ GUID = re.compile(rb"[0-9a-f]{8}(?:-[0-9a-f]{4}){3}-[0-9a-f]{12}")
 LONGEST = 500
 # What a call writes to, by the type that it points to, if the member of `out` hasn't the name of the struct.
 WRITTEN = {"uint64_t": "seconds", "bool": "retrievable"}
-# What a call changes: it is written before the call, if the case has it.
-CHANGED = {"struct osb_record": "record", "struct osb_holding": "holding", "struct osb_driver": "driver"}
+# What a call changes, by the column that has it: it is written before the call, if the case has it.
+CHANGED = {
+    "struct osb_record": "record",
+    "struct osb_holding": "holding",
+    "struct osb_driver": "driver",
+    "struct osb_platform_driver": "driver",
+}
 # The struct with the lengths of the texts that a call writes one after the other.
 LENGTHS = {"read_details": "details", "receive_request": "received", "receive_binding_request": "binding_received"}
 
@@ -71,6 +76,22 @@ def driver_of(cell: bytes) -> Value:
     }
 
 
+def platform_driver_of(cell: bytes) -> Value:
+    """What doesn't count in it is zeroes."""
+    of = api.cases.platform_driver(cell)
+    return {
+        **of._asdict(),
+        "request": request_of(of.request) if of.request else {},
+        "answer": answer_of(of.answer) if of.answer else {},
+        "has_answer": of.stage == "take" and of.answer is not None,
+    }
+
+
+def some_record_of(name: str, cell: bytes) -> Value:
+    """A record as a member of a struct, and whether there is one."""
+    return {f"has_{name}": cell != b"none", name: {} if cell == b"none" else record_of(cell)}
+
+
 # The structs of which cells have the words.
 OF_CELLS: dict[str, Callable[[bytes], Value]] = {
     "record": record_of,
@@ -79,6 +100,7 @@ OF_CELLS: dict[str, Callable[[bytes], Value]] = {
     "answer": answer_of,
     "begun": begun_of,
     "driver": driver_of,
+    "platform_driver": platform_driver_of,
 }
 
 
@@ -181,6 +203,10 @@ class CaseText:
             return {"status": self.cell("status").decode(), "body": self.word("body")}
         if own == "platform_row":
             return {"service": SERVICE, "plan": PLANS["sync"], "state": self.word("state"), "out": self.word("out")}
+        if own == "platform_reading":
+            return self.platform_reading()
+        if own == "reading":
+            return self.reading()
         if own == "endpoints":
             return dict.fromkeys(self.cell("serves").decode().split(), True)
         accepts = self.given.get("accepts", b"yes") == b"yes"
@@ -188,6 +214,29 @@ class CaseText:
         ids = {member.replace("_id", ""): self.given[member] for member in names}
         has = {f"has_{name}": ids[name] is not None for name in ("service", "plan")} if own == "asked" else {}
         return {"kind": self.word("kind"), "accepts_incomplete": accepts, **has, **ids}
+
+    def reading(self) -> Value:
+        flags = {name: self.given.get(name) == b"yes" for name in ("first_poll", "may_begin", "may_give_up")}
+        modes = {name: self.word(name) for name in ("row_mode", "mode")}
+        digests = {"number": self.digest("number", 16), "attributes": self.digest("attributes", 32)}
+        holding, request = (OF_CELLS[name](self.cell(name)) for name in ("holding", "request"))
+        return {"holding": holding, "request": request, "id": self.cell("id"), **digests, **modes, **flags}
+
+    def platform_reading(self) -> Value:
+        """The plan of an instance is the records'. A binding's is its instance's, whatever the reading has."""
+        is_binding = api.cases.platform_driver(self.cell("driver")).is_binding
+        return {
+            **some_record_of("record", self.cell("record")),
+            **some_record_of("instance", self.cell("instance")),
+            "id": api.cases.BINDING if is_binding else api.cases.INSTANCE,
+            "service": SERVICE,
+            "plan": PLANS["async" if is_binding else "sync"],
+            "number": api.cases.digest(self.cell("number"))[:16],
+            "all_gone": self.cell("all_gone"),
+            **api.cases.wishes(self.cell("wishes"))._asdict(),
+            "accepts_incomplete": self.cell("accepts"),
+            "retrievable": self.cell("retrievable"),
+        }
 
     def argument(self, param: Variable) -> str:
         """What the call is given for a parameter. The length of a text stands beside it."""
@@ -198,9 +247,8 @@ class CaseText:
         if param.name in ("digest", "platform"):
             return f"{'&' * (param.name == 'platform')}out.{param.name}"
         if param.name in ("attributes", "number"):
-            if not param.const:
-                return "out.number"
-            return self.constant("uint8_t", literal("uint8_t", self.digest(param), param.length), f"[{param.length}]")
+            digest = self.digest(param.name, param.length)
+            return self.constant("uint8_t", literal("uint8_t", digest, param.length), f"[{param.length}]")
         if param.plain == "uint8_t" and param.pointer:
             return self.text(self.cell(param.name))
         if param.pointer and not param.const:
@@ -217,14 +265,14 @@ class CaseText:
                 return flag(self.given[param.name])
             counts = {"has_held": "held_service"}.get(param.name, param.name.replace("has_", ""))
             return flag(self.given[counts] is not None)
-        if param.name in ("kind", "state", "mode", "outcome"):
+        if param.name in ("kind", "state", "mode", "outcome", "there"):
             return number_in(param.name, self.word(param.name))
         if param.type == "uint64_t":
             return f"UINT64_C({self.word(param.name)})"
         return f"OSB_{self.word(param.name)}" if param.name == "refusal" else self.word(param.name)
 
-    def digest(self, param: Variable) -> bytes:
-        return api.cases.digest(self.given[param.name])[: param.length]
+    def digest(self, name: str, length: int) -> bytes:
+        return api.cases.digest(self.given[name])[:length]
 
     def arguments(self) -> list[str]:
         taken = (
@@ -262,6 +310,9 @@ class CaseText:
     def values(self) -> Iterator[tuple[str, Any]]:
         """The members of `out` that the call writes, each with its value."""
         gives, call = self.gives, self.case.call
+        if call.startswith("platform_driver_"):
+            yield from self.platform_values()
+            return
         if call in LENGTHS:
             lengths = {name: len(text or b"") for name, text in gives.items()}
             flags = {name: gives.get(name) == b"yes" for name in ("instance_usable", "update_repeatable")}
@@ -282,19 +333,41 @@ class CaseText:
                 yield "binding_asked", {"is_fetch": is_fetch, "instance": gives["instance"], "asked": asked}
             else:
                 yield "asked", asked
+        if "committed" in gives:
+            yield "transaction", self.transaction()
+            return
         yield from ((name, of(gives[name] or b"")) for name, of in OF_CELLS.items() if name in gives)
         yield from ((name, gives[name]) for name in ("id", "retrievable") if name in gives)
         if "seconds" in gives:
             yield "seconds", self.word("seconds")
-        if "committed" in gives:
-            yield "transaction", self.transaction()
 
     def transaction(self) -> Value:
         effect, *words = self.word("effect").split()
+        number = api.cases.digest(self.gives["number"])[:16]
+        row = {"holding": holding_of(self.gives["holding"] or b""), "number": number}
         drivers = {name: driver_of(self.gives[name] or b"") for name in ("committed", "unsure")}
         outcome = {"outcome": words[0]} if effect == "end" else {}
         flags = {"ok": words == ["ok"], "writes": self.gives["writes"] == b"yes"}
-        return {**drivers, "effect": effect, **outcome, **flags, "work": self.word("work")}
+        return {**row, **drivers, "effect": effect, **outcome, **flags}
+
+    def platform_values(self) -> Iterator[tuple[str, Value]]:
+        """The same of a call of a platform's driver."""
+        if "driver" in self.gives:
+            yield "platform_driver", platform_driver_of(self.gives["driver"] or b"")
+        if "committed" in self.gives:
+            yield "platform_transaction", self.platform_transaction()
+
+    def platform_transaction(self) -> Value:
+        did = self.word("effects").replace("-", "_").split()
+        drivers = {name: platform_driver_of(self.gives[name] or b"") for name in ("committed", "unsure", "failed")}
+        return {
+            **some_record_of("record", self.gives["record"] or b""),
+            "number": api.cases.digest(self.gives["number"])[:16],
+            **drivers,
+            "cleans_up": next((name for name in did if f"clean_up {name.upper()}" in NUMBERS), "none"),
+            "writes": self.gives["writes"],
+            **dict.fromkeys(did, True),
+        }
 
     def then(self) -> Iterator[str]:
         """What is so after the call."""
@@ -306,8 +379,6 @@ class CaseText:
             yield from same(f"out.{name}", kind, value)
         if self.case.call == "originating_identity":
             yield f"out.platform == {len(self.gives['platform'] or b'')}"
-        if "number" in self.gives:
-            yield from same("out.number", "uint8_t", api.cases.digest(self.gives["number"])[:16], 16)
         if "digest" in self.gives:
             yield from same("out.digest", "uint8_t", bytes.fromhex(self.word("digest")), 32)
         if "error" in self.gives and self.case.call not in LENGTHS:
@@ -326,13 +397,10 @@ class CaseText:
         taken = ", ".join(self.arguments())
         call = f"{self.call.name}({taken})"
         calls = [
-            f"out.{CHANGED[of.type]} = {self.constant(of.type, literal(of.type, self.value(of.name, of.type)))};"
+            f"{self.argument(of)[1:]} = {self.constant(of.type, literal(of.type, self.value(of.name, of.type)))};"
             for of in self.call.parameters
-            if of.type in CHANGED and not of.const and of.name in self.given
+            if of.type in CHANGED and not of.const and CHANGED[of.type] in self.given
         ]
-        for number in (of for of in self.call.parameters if of.name == "number" and not of.const):
-            own = self.constant("uint8_t", literal("uint8_t", self.digest(number), number.length), "[16]")
-            calls.append(f"memcpy(out.number, {own}, {number.length});")
         calls += [f"CALL({self.returned()}, {f'({call}, 0)' if self.call.given == 'void' else call});"]
         calls += [f"THEN({value});" for value in (self.then() if self.case.status == "DONE" else ())]
         length = len(self.plans()) if "plans" in self.gives else len(self.joined() or b"")

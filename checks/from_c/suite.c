@@ -73,9 +73,10 @@ static struct out {
     struct osb_request request;
     struct osb_answer answer;
     struct osb_begun begun;
-    uint8_t number[16];
     struct osb_driver driver;
     struct osb_transaction transaction;
+    struct osb_platform_driver platform_driver;
+    struct osb_platform_transaction platform_transaction;
     struct osb_asked asked;
     struct osb_details details;
     struct osb_received received;

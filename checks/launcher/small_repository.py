@@ -20,6 +20,7 @@ osb_c: osb_world
 osb_c_instance: osb_world
 osb_c_binding: osb_c_instance
 osb_c_driver: osb_c_binding
+osb_c_platform_driver: osb_c_instance
 osb_c_wire: osb_world
 osb_c_binding_wire: osb_c_wire
 library_cases: osb_world

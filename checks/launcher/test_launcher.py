@@ -187,7 +187,9 @@ def test_library_is_built_if_its_sources_differ(repository: Repository) -> None:
     (repository.top / "crates" / "osb_c_wire" / "src" / "lib.rt").write_text("fn stop\n")
     run = repository.run("./libosb", "build", "there")
     assert (run.returncode, run.stdout) == (0, "") and "was built from other sources" in run.stderr
-    libraries = ["osb_c", "osb_c_binding", "osb_c_binding_wire", "osb_c_driver", "osb_c_instance", "osb_c_wire"]
+    libraries = """
+        osb_c osb_c_binding osb_c_binding_wire osb_c_driver osb_c_instance osb_c_platform_driver osb_c_wire
+    """.split()
     assert sorted(repository.builds()) == [*libraries, "osb_world"]
     assert (repository.folder / "there" / "libosb.so.0").read_text() == "built\n"
     assert replay(repository) == (9, PREBUILT, "")  # which doesn't stand on osb_c_wire

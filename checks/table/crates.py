@@ -11,12 +11,20 @@ CRATES = (
     "osb_c_instance",
     "osb_c_binding",
     "osb_c_driver",
+    "osb_c_platform_driver",
     "osb_c_wire",
     "osb_c_binding_wire",
 )
 
 # How the names of an enum's numbers begin in C, if not with the name of the enum.
-FRONTS = {"Status": "", "LastState": "BODY_", "ErrorCode": "BODY_", "HoldingPhase": "PHASE_", "WorkOutcome": "OUTCOME_"}
+FRONTS = {
+    "Status": "",
+    "LastState": "BODY_",
+    "ErrorCode": "BODY_",
+    "HoldingPhase": "PHASE_",
+    "WorkOutcome": "OUTCOME_",
+    "Resource": "THERE_",
+}
 NAMES = {
     "ErrorCode::Other": "BODY_OTHER_ERROR",
     "Rejection::BadRequest": "OUTCOME_REFUSED_400",
@@ -24,8 +32,17 @@ NAMES = {
 }
 """Where a name isn't made of the source's by upper case alone. Those of refusals are the names of their statuses."""
 
+# Numbers that have no name in C. No call gives a driver at TryLock, since a driver begins with the report of its lock.
+# A worker's stage has the number of its call.
+UNNAMED = {"STAGE_TRY_LOCK", "WORKER_STAGE_TRY", "WORKER_STAGE_UNKNOWN"}
+
 # The numbers for none: the function that gives or takes one, or the constant.
-NONE_IN = {"KIND_NONE": "out_out", "MODE_NONE": "mode_from"}
+NONE_IN = {
+    "KIND_NONE": "out_out",
+    "MODE_NONE": "mode_from",
+    "CALL_NONE": "call_out",
+    "CLEAN_UP_NONE": "clean_up_out",
+}
 NONE_AS = {"STATE_NONE": "NO_STATE", "WORK_NONE": "NO_WORK", "TARGET_NONE": "NO_TARGET"}
 
 PATH = r"\w+::\w+(?:\(\w+::\w+\))?"
@@ -111,20 +128,24 @@ def _name(path: str) -> str:
 
 
 def numbers() -> dict[str, int]:
-    """Each number, wherever the sources give it: VARIANT => NUMBER, or NUMBER => Some(VARIANT); and the version."""
+    """Each number, wherever the sources give it: VARIANT => NUMBER, or NUMBER => Some(VARIANT); and the version. A
+    number of an enum is a byte: greater ones are statuses of HTTP.
+    """
     found: dict[str, int] = {}
     given = [
         (_name(path), number)
         for path, number in re.findall(rf"(?:Some\()?({PATH})(?: \{{ \.\. \}}|\(_\))?\)? => (\d+),", TEXT)
     ]
     taken = [(_name(path), number) for number, path in re.findall(rf"\b(\d+) => (?:Some\()+({PATH})\)+,", TEXT)]
+    variants = [(name, number) for name, number in given + taken if int(number) < 256 and name not in UNNAMED]
+    none: list[tuple[str, str]] = []
     for name, function in NONE_IN.items():
-        taken += [
+        none += [
             (name, pair[0] or pair[1]) for pair in re.findall(r"None => (\d+),|(\d+) => Some\(None\),", _body(function))
         ]
     for name, constant in NONE_AS.items():
-        taken += [(name, number) for number in re.findall(rf"\b{constant}: u8 = (\d+);", TEXT)]
-    taken += [("VERSION", number) for number in re.findall(r"^    (\d+)$", _body("osb_version"), re.MULTILINE)]
-    for name, number in given + taken:
+        none += [(name, number) for number in re.findall(rf"\b{constant}: u8 = (\d+);", TEXT)]
+    none += [("VERSION", number) for number in re.findall(r"^    (\d+)$", _body("osb_version"), re.MULTILINE)]
+    for name, number in variants + none:
         assert found.setdefault(f"OSB_{name}", int(number)) == int(number), f"OSB_{name} has two numbers in the crates"
     return found

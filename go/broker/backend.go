@@ -4,29 +4,19 @@ import (
 	"context"
 	"encoding/json"
 	"errors"
+
+	"pippinterm/osb"
 )
 
 // There is what exists of an instance or of a binding.
-type There int
+type There = osb.There
 
+// What may exist.
 const (
-	None  There = iota // nothing
-	Part               // something that can't be used: a creation or a deletion was broken off
-	Whole              // all of it, ready for use
+	None  = osb.ThereAbsent // nothing
+	Part  = osb.TherePart   // something that can't be used: a creation or a deletion was broken off
+	Whole = osb.ThereWhole  // all of it, ready for use
 )
-
-// String is the word for it: none, part or whole.
-func (t There) String() string {
-	switch t {
-	case None:
-		return "none"
-	case Part:
-		return "part"
-	case Whole:
-		return "whole"
-	}
-	return "unknown"
-}
 
 // A Backend creates and deletes what is sold. At most one call of a key runs at a time. Calls of different keys run side
 // by side, each in a goroutine of its own. Each call may be repeated after a crash, so it begins with what exists. What

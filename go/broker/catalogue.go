@@ -127,21 +127,6 @@ func (c *Catalogue) mode(isBinding bool, of planIDs) osb.Mode {
 	return osb.ModeNone
 }
 
-// fits reports whether a holding is possible under this key with these plans.
-func (c *Catalogue) fits(key Key, holding osb.Holding) bool {
-	work, isPending := holding.Work()
-	if isPending && work.ID != key.ID() {
-		return false
-	}
-	mode := osb.ModeNone
-	if row, isHeld := holding.Row(); isHeld {
-		mode = c.mode(key.IsBinding, planIDs{row.Service, row.Plan})
-	} else if isPending {
-		mode = c.mode(key.IsBinding, planIDs{work.Service, work.Plan})
-	}
-	return holding.Fits(mode)
-}
-
 // ErrCatalogueMember reports a member of a catalogue that has another form than the standard's, or that promises what
 // this broker doesn't serve. The message names the service and the plan.
 var ErrCatalogueMember = errors.New("the catalogue can't be served")

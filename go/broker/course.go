@@ -9,8 +9,8 @@ type course struct {
 
 	isLocked bool          // whether the lock of the key was had
 	entry    Entry         // as the latest transaction has left it
-	work     osb.Work      // to do, by the latest transaction
 	request  *Request      // what entry.Request is the text of, or nil if it has to be read
+	calls    *calls        // of the work that goes on, or nil
 	done     result        // of the work that has ended
 	response Response      // to the visit
 	went     backendResult // of a take-up
@@ -33,7 +33,8 @@ func (c *course) requestOfWork() (Request, error) {
 // had begun is its own, the transaction before was committed, too.
 func (c *course) report(driver osb.Driver, transaction osb.Transaction) {
 	reports := c.after
-	if driver.Stage() == osb.StageUnsure && transaction.Committed().Stage() == osb.StageWork {
+	after := transaction.Committed().Stage()
+	if driver.Stage() == osb.StageUnsure && (after == osb.StageWork || after == osb.StageEnd) {
 		reports = c.doubtful
 	}
 	c.doubt, c.doubtful = nil, nil

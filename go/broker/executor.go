@@ -16,27 +16,25 @@ const mostDoubts = 3
 var errAnother = errors.New("the request names another id with the same number")
 
 // drive carries out what a driver says, one action after the other, until it is over: the order in which is locked,
-// written, worked and answered is the library's (docs/agreement.md).
+// written, worked and answered, and in which the backend is called, is the library's (docs/agreement.md).
 //
 // Errors: those of the store, the locks and the backend; ErrLostWork; errAnother. What was committed until then stays,
 // and a Sweeper goes on with it.
-func (s *Service) drive(ctx context.Context, driver osb.Driver, c *course) error {
-	var lock Lock
+func (s *Service) drive(ctx context.Context, c *course) error {
+	lock, away := s.tryLock(ctx, c.key)
+	if away != nil && !errors.Is(away, ErrAway) {
+		return away
+	}
 	defer func() {
 		if lock != nil {
 			lock.Unlock()
 		}
 	}()
-	var away error // why the lock can't be had
+	c.isLocked = lock != nil
+	driver := newDriver(c.visit != nil, c.isLocked)
 	for {
 		var err error
 		switch driver.Stage() {
-		case osb.StageTryLock:
-			if lock, away = s.tryLock(ctx, c.key); away != nil && !errors.Is(away, ErrAway) {
-				return away
-			}
-			c.isLocked = lock != nil
-			driver, err = driver.Locked(c.isLocked)
 		case osb.StageAwaitLock:
 			if away == nil {
 				lock, away = s.lock(ctx, c.key)
@@ -71,6 +69,7 @@ func (s *Service) transact(ctx context.Context, driver osb.Driver, c *course) (o
 	var transaction osb.Transaction
 	var point string
 	isRead := false
+	ctx = context.WithValue(ctx, transactionKey{}, &transaction)
 	err := s.change(ctx, c.key, func(snapshot Snapshot) (next *Entry, err error) {
 		point, c.after = "", nil
 		transaction, next, err = s.step(driver, snapshot, c)
@@ -98,18 +97,6 @@ func (s *Service) transact(ctx context.Context, driver osb.Driver, c *course) (o
 	return transaction.Committed(), nil
 }
 
-// peek has a driver read what is committed. If nothing is to be written, and there is nothing more to do than to answer,
-// that is all, and it needs no transaction.
-func (s *Service) peek(ctx context.Context, driver osb.Driver, c *course) (after osb.Driver, isOver bool, err error) {
-	snapshot, err := s.read(ctx, c.key)
-	if err != nil {
-		return driver, false, err
-	}
-	transaction, next, err := s.step(driver, snapshot, c)
-	after = transaction.Committed()
-	return after, next == nil && (after.Stage() == osb.StageAnswer || after.Stage() == osb.StageDone), err
-}
-
 // pointOf is the name of the crash points of a transaction that writes.
 func pointOf(transaction osb.Transaction) (point string) {
 	switch effect, _, _ := transaction.Effect(); {
@@ -121,25 +108,42 @@ func pointOf(transaction osb.Transaction) (point string) {
 		point = "wait"
 	case effect == osb.EffectNothing:
 		point = "take-over"
-	case transaction.Committed().Stage() == osb.StageWork:
-		point = "begin"
-	default:
+	case transaction.Committed().Stage() == osb.StageAnswer:
 		point = "mark"
+	default:
+		point = "begin"
 	}
 	return point
 }
 
-// work does the work of a driver.
+// work makes the call of the backend that a driver names.
 func (s *Service) work(ctx context.Context, driver osb.Driver, c *course) (osb.Driver, error) {
-	request, err := c.requestOfWork()
+	calls, err := s.callsOf(driver, c)
 	if err != nil {
 		return driver, err
 	}
-	_, isPending := driver.Task()
-	done, err := s.worker.do(ctx, isPending, c.work, request)
-	if err != nil {
-		return driver, err
+	switch driver.Call() {
+	case osb.CallLook:
+		var there There
+		if there, err = calls.look(ctx); err == nil {
+			driver, err = driver.Looked(there)
+		}
+	case osb.CallSync:
+		if err = calls.settle(ctx); err == nil {
+			driver, err = driver.Synced()
+		}
+	case osb.CallCreate:
+		driver, err = driver.Called(calls.create(ctx))
+	case osb.CallDelete:
+		driver, err = driver.Called(calls.delete(ctx))
+	default:
+		err = errPart
 	}
-	c.done = done
-	return driver.Worked(done.outcome)
+	if err != nil {
+		return driver, calls.unknownOutcome(err)
+	}
+	if driver.Stage() != osb.StageWork {
+		c.done, c.calls = calls.conclude(driver.IsDone()), nil
+	}
+	return driver, nil
 }

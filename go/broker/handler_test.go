@@ -582,15 +582,6 @@ func TestConfigsThatAreRejected(t *testing.T) {
 	}
 }
 
-func TestWordsForWhatExists(t *testing.T) {
-	got := fmt.Sprint(broker.None, broker.Part, broker.Whole, broker.There(9))
-	diff.Equal(t, got, "none part whole unknown", "")
-	diff.Equal(t, (&broker.Rejection{Status: 400, Description: "too many"}).Error(), "rejected: too many", "")
-	if broker.Away(nil) != nil {
-		t.Error("got an error, want nil")
-	}
-}
-
 // Documents that aren't a catalogue are rejected.
 func TestCataloguesThatAreRejected(t *testing.T) {
 	for _, target := range []string{
@@ -734,5 +725,12 @@ func TestALargeBody(t *testing.T) {
 	body := bodyOf(now, `,"parameters":{"a":"`+strings.Repeat("a", 40<<10)+`"}`)
 	for _, want := range []int{201, 200} {
 		s.expect(t, want, "PUT", instances+"i", body)
+	}
+}
+
+func TestErrorsOfBackends(t *testing.T) {
+	diff.Equal(t, (&broker.Rejection{Status: 400, Description: "too many"}).Error(), "rejected: too many", "")
+	if broker.Away(nil) != nil {
+		t.Error("got an error, want nil")
 	}
 }

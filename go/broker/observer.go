@@ -4,6 +4,8 @@ import (
 	"context"
 	"net/http"
 	"time"
+
+	"pippinterm/osb"
 )
 
 // An Observer gets events, for a log and for metrics. Its methods return at once, and are called by any number of
@@ -95,6 +97,16 @@ type Journal interface {
 	// OnAnswer is called with that context before the first byte of the answer leaves. header is that of the answer, to
 	// which it may add.
 	OnAnswer(ctx context.Context, header http.Header, response Response)
+}
+
+// transactionKey is where the context of a Change has the transaction of the driver that makes it.
+type transactionKey struct{}
+
+// TransactionOf returns what the latest step of a Change has come to, by the context of that Change. So a Store of a
+// journal knows which event the driver says that the change is. It returns nil if no driver makes the change.
+func TransactionOf(ctx context.Context) *osb.Transaction {
+	transaction, _ := ctx.Value(transactionKey{}).(*osb.Transaction)
+	return transaction
 }
 
 type noJournal struct{}

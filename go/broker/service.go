@@ -58,22 +58,13 @@ func NewService(
 		catalogue: catalogue, store: store, locks: locks, observer: observer, options: options, stay: longestStay,
 		gate:   newGate(locks, options.LocksAtOnce),
 		worker: worker{backend: backend, observer: observer},
-		poller: newPoller(),
+		poller: newDriver(true, false),
 	}
 }
 
-// newPoller returns the driver of a request that hasn't the lock.
-func newPoller() osb.Driver {
-	driver, err := newDriver(true).Locked(false)
-	if err != nil {
-		panic(err) // it isn't at its beginning
-	}
-	return driver
-}
-
-// newDriver returns the driver of a request or of a take-up, with a number of its own.
-func newDriver(isRequest bool) osb.Driver {
-	driver, err := osb.NewDriver(newNumber(), isRequest)
+// newDriver returns the driver of a request or of a take-up, with a number of its own, that has the lock or hasn't.
+func newDriver(isRequest, hasLock bool) osb.Driver {
+	driver, err := osb.NewDriver(newNumber(), isRequest, hasLock)
 	if err != nil {
 		panic(err) // the number is zero
 	}
@@ -99,6 +90,7 @@ type Response struct {
 	Binding     json.RawMessage // the object of a binding, which is the whole body then, or nil
 	Description string          // for a person, or empty
 	Rejected    *Rejection      // the backend's, or nil
+	Effect      osb.Effect      // of an answer without work: EffectArrive or EffectPutOff
 
 	IsUnfinished bool // whether somebody has to go on with the key (Entry.IsUnfinished); not of a Fetch
 	IsBound      bool // whether a deletion was put off because the instance has bindings
@@ -130,7 +122,19 @@ func (s *Service) answer(ctx context.Context, c *course) error {
 			return err
 		}
 	}
-	return s.drive(ctx, newDriver(true), c)
+	return s.drive(ctx, c)
+}
+
+// peek has a driver read what is committed. If nothing is to be written, and there is nothing more to do than to answer,
+// that is all, and it needs no transaction.
+func (s *Service) peek(ctx context.Context, driver osb.Driver, c *course) (after osb.Driver, isOver bool, err error) {
+	snapshot, err := s.read(ctx, c.key)
+	if err != nil {
+		return driver, false, err
+	}
+	transaction, next, err := s.step(driver, snapshot, c)
+	after = transaction.Committed()
+	return after, next == nil && (after.Stage() == osb.StageAnswer || after.Stage() == osb.StageDone), err
 }
 
 // tryLock takes the lock of a key if it is free. The observer gets the failure.
@@ -164,6 +168,9 @@ func (s *Service) lock(ctx context.Context, key Key) (Lock, error) {
 // fetch answers the Fetch of a binding with what is stored.
 func (s *Service) fetch(ctx context.Context, visit Visit) (Response, error) {
 	snapshot, err := s.read(ctx, visit.Key)
+	if err == nil && !snapshot.Holding.Fits(s.modeOf(visit.Key, rowOf(snapshot.Holding))) {
+		err = osb.ErrMisfit
+	}
 	if err != nil {
 		return Response{}, err
 	}
@@ -222,24 +229,14 @@ func (e *Entry) noteEnd(key Key, done result) {
 	}
 }
 
-// change is one transaction over what is held, if it fits.
+// change is one transaction over what is held.
 func (s *Service) change(ctx context.Context, key Key, step Step) error {
-	return s.store.Change(ctx, key, func(snapshot Snapshot) (*Entry, error) {
-		snapshot = snapshot.inLife(key)
-		if !s.catalogue.fits(key, snapshot.Holding) {
-			return nil, ErrMisfit
-		}
-		return step(snapshot)
-	})
+	return s.store.Change(ctx, key, func(snapshot Snapshot) (*Entry, error) { return step(snapshot.inLife(key)) })
 }
 
 func (s *Service) read(ctx context.Context, key Key) (Snapshot, error) {
 	snapshot, err := s.store.Read(ctx, key)
-	snapshot = snapshot.inLife(key)
-	if err == nil && !s.catalogue.fits(key, snapshot.Holding) {
-		err = ErrMisfit
-	}
-	return snapshot, err
+	return snapshot.inLife(key), err
 }
 
 // now is the time that is stored, in milliseconds.
@@ -250,10 +247,8 @@ func (s *Service) step(driver osb.Driver, snapshot Snapshot, c *course) (osb.Tra
 	if c.visit != nil && driver.Stage() == osb.StageBegin {
 		return s.begin(driver, snapshot, c)
 	}
-	row := osb.Reading{
-		Holding: snapshot.Holding, Number: snapshot.Worker, Mode: s.modeOf(c.key, rowOf(snapshot.Holding)),
-		MayGiveUp: time.Since(snapshot.Since) >= s.options.WaitForPoll,
-	}
+	row := s.reading(c.key, snapshot)
+	row.MayGiveUp = time.Since(snapshot.Since) >= s.options.WaitForPoll
 	transaction, err := read(driver, row, c.key, snapshot.Instance.Holding)
 	if err != nil {
 		return transaction, nil, err
@@ -273,7 +268,7 @@ func (s *Service) step(driver osb.Driver, snapshot Snapshot, c *course) (osb.Tra
 		entry.noteEnd(c.key, result{description: noPoll})
 		s.tellLate(snapshot.Entry, c)
 	}
-	c.entry, c.request, c.work = entry, nil, transaction.Work()
+	c.entry, c.request = entry, nil
 	if err != nil || !transaction.Writes() {
 		return transaction, nil, err
 	}
@@ -286,6 +281,13 @@ func read(driver osb.Driver, row osb.Reading, key Key, instance osb.Holding) (os
 		return driver.ReadBinding(row, instance)
 	}
 	return driver.Read(row)
+}
+
+// reading is what a driver reads of a row.
+func (s *Service) reading(key Key, snapshot Snapshot) osb.Reading {
+	return osb.Reading{
+		Holding: snapshot.Holding, Number: snapshot.Worker, ID: key.ID(), RowMode: s.modeOf(key, rowOf(snapshot.Holding)),
+	}
 }
 
 // modeOf is the mode of a row's plan.
@@ -302,16 +304,12 @@ func (s *Service) begin(driver osb.Driver, snapshot Snapshot, c *course) (
 		return transaction, nil, errLate
 	}
 	snapshot, returned := s.options.enter(snapshot, visit)
-	isAnother, err := visit.namesAnother(snapshot.Entry)
-	if err == nil && isAnother {
-		err = errAnother
-	}
-	if err != nil {
-		return transaction, nil, err
-	}
 	transaction, isBound, err := s.beginHolding(driver, snapshot, visit)
 	if err != nil {
 		return transaction, nil, err
+	}
+	if isAnother, err := visit.namesAnother(snapshot.Entry); err != nil || isAnother {
+		return transaction, nil, either(err, errAnother)
 	}
 	entry := snapshot.Entry
 	entry.Holding, entry.Worker = transaction.Row()
@@ -319,6 +317,7 @@ func (s *Service) begin(driver osb.Driver, snapshot Snapshot, c *course) (
 		if c.response, err = s.respond(snapshot, visit, after.Answer()); err != nil {
 			return transaction, nil, err
 		}
+		c.response.Effect, _, _ = transaction.Effect()
 		if isBound && visit.Asked.Kind == osb.KindDeprovision {
 			c.response.Description, c.response.IsBound = "The instance has bindings. Delete them first.", true
 		}
@@ -331,7 +330,7 @@ func (s *Service) begin(driver osb.Driver, snapshot Snapshot, c *course) (
 		c.after = append(c.after, func() { s.tellReturn(*returned) })
 	}
 	c.request, err = entry.noteBeginning(visit)
-	c.entry, c.work = entry, transaction.Work()
+	c.entry = entry
 	return transaction, &entry, err
 }
 
@@ -344,11 +343,9 @@ func (s *Service) beginHolding(driver osb.Driver, snapshot Snapshot, visit Visit
 	if err != nil {
 		return transaction, false, err
 	}
-	row := osb.Reading{
-		Holding: snapshot.Holding, Number: snapshot.Worker, Request: request, MayBegin: true,
-		Mode:  s.modeOf(visit.Key, osb.BrokerRow{Service: request.Service, Plan: request.Plan}),
-		Rules: osb.Rules{FirstPoll: s.options.FirstPoll, Attributes: visit.Attributes},
-	}
+	row := s.reading(visit.Key, snapshot)
+	row.Request, row.Mode = request, s.modeOf(visit.Key, osb.BrokerRow{Service: request.Service, Plan: request.Plan})
+	row.FirstPoll, row.Attributes, row.MayBegin = s.options.FirstPoll, visit.Attributes, true
 	if visit.Key.IsBinding {
 		instance, err := visit.instance(snapshot)
 		if err == nil {
@@ -376,7 +373,7 @@ func (s *Service) tellEnd(entry Entry, transaction osb.Transaction, c *course) (
 		c.after = append(c.after, func() { c.went = done.went(isUnfinished) })
 		if !isUnfinished {
 			c.isEnded = true
-			c.after = append(c.after, func() { s.observer.OnEnd(c.key, done.isDone()) })
+			c.after = append(c.after, func() { s.observer.OnEnd(c.key, done.isDone) })
 		}
 	}
 	c.response = Response{Answer: answer, Description: done.description, Rejected: done.rejected}

@@ -417,13 +417,13 @@ func TestWorkOfAnotherKey(t *testing.T) {
 	b := newBench(t, backend, newMemoryLocks())
 	entry := b.entry(t, b.leave(t, backend, "i"))
 	check(t, b.store.Change(ctx, keyOf("j"), func(broker.Snapshot) (*broker.Entry, error) { return &entry, nil }))
-	if err := b.TakeUp(ctx, keyOf("j")); !errors.Is(err, broker.ErrMisfit) || len(backend.things) > 0 {
-		t.Errorf("got %v and %v, want %v and nothing", err, backend.things, broker.ErrMisfit)
+	if err := b.TakeUp(ctx, keyOf("j")); !errors.Is(err, osb.ErrMisfit) || len(backend.things) > 0 {
+		t.Errorf("got %v and %v, want %v and nothing", err, backend.things, osb.ErrMisfit)
 	}
 	poll := visitOf(osb.Asked{Kind: osb.KindPoll}, now)
 	poll.Key, poll.Asked.ID = keyOf("j"), keyOf("j").Instance
 	given, err := b.Handle(ctx, poll)
-	diff.ErrorIs(t, err, broker.ErrMisfit, "the Poll: got %+v", given)
+	diff.ErrorIs(t, err, osb.ErrMisfit, "the Poll: got %+v", given)
 }
 
 // A lock that somebody else has is reported once the work began long ago, and only while there is work.

@@ -124,8 +124,6 @@ type Lock interface {
 }
 
 var (
-	// ErrMisfit reports that what is held isn't possible at its plan. Nothing was changed, and an operator has to look.
-	ErrMisfit = errors.New("what is held can't come about at its plan")
 	// ErrLostWork reports that another worker has the key now, since the lock was lost. Nothing was written.
 	ErrLostWork = errors.New("the lock was lost, and another worker has taken the work over")
 	// ErrNobodyKnows reports that nobody knows how the work went. It stays pending, and is tried again.

@@ -34,7 +34,7 @@ const (
 // again.
 func (s *Service) takeUp(ctx context.Context, key Key) (backendResult, error) {
 	c := &course{key: key}
-	switch err := s.drive(ctx, newDriver(false), c); {
+	switch err := s.drive(ctx, c); {
 	case errors.Is(err, ErrNobodyKnows):
 		return backendFailed, err
 	case err != nil:
@@ -50,7 +50,7 @@ func (r result) went(isUnfinished bool) backendResult {
 	switch {
 	case isUnfinished:
 		return backendUnused
-	case r.isDone() || r.rejected != nil:
+	case r.isDone || r.rejected != nil:
 		return backendSucceeded
 	}
 	return backendFailed

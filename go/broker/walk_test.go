@@ -37,14 +37,14 @@ type visit struct {
 	at      int  // the number of that answer
 }
 
-// walksTo is where the walks of a test are written: the file that WALKS names, or nowhere.
+// walksTo is where the walks of a test are written: to the end of the file that WALKS names, or nowhere.
 func walksTo(t *testing.T) *bufio.Writer {
 	t.Helper()
 	path := os.Getenv("WALKS")
 	if path == "" {
 		return nil
 	}
-	file := diff.Value(os.Create(path))(t)
+	file := diff.Value(os.OpenFile(path, os.O_APPEND|os.O_CREATE|os.O_WRONLY, 0o600))(t)
 	to := bufio.NewWriter(file)
 	t.Cleanup(func() {
 		diff.NoError(t, to.Flush(), "")
@@ -74,19 +74,20 @@ func (w *walk) begin(plan osb.Plan, firstPoll bool) {
 	if firstPoll {
 		rule = "first-poll"
 	}
-	orders := []string{w.modeOf(plan, false) + " accepts " + rule}
-	for range w.world.bindings {
-		orders = append(orders, w.modeOf(plan, true)+" accepts "+rule)
+	var orders []string
+	for _, life := range w.world.all() {
+		orders = append(orders, fmt.Sprintf("%v accepts %s", modeOf(plan, life.key.IsBinding), rule))
 	}
 	w.line("service platform broker: "+strings.Join(orders, "; "), "new")
 }
 
-func (w *walk) modeOf(plan osb.Plan, isBinding bool) string {
+// modeOf is the mode of instances or bindings of a plan.
+func modeOf(plan osb.Plan, isBinding bool) osb.Mode {
 	later := map[bool]string{false: "c2 c4", true: "c2 c3"}[isBinding]
 	if text := plan.Plan.String(); strings.Contains(later, text[len(text)-2:]) {
-		return "async"
+		return osb.ModeAsync
 	}
-	return "sync"
+	return osb.ModeSync
 }
 
 // event writes an event of a life.
@@ -106,27 +107,34 @@ func (w *walk) line(event, what string) {
 // life is what is recorded, held and there.
 func (w *walk) life(it *life) string {
 	found := w.world.look(it.key)
+	return lifeWords(it, found.Holding, found.there, w.world.shelf.credentials(it.key))
+}
+
+// lifeWords are what is recorded, held and there of a life. The credentials are those of a binding that exists.
+func lifeWords(it *life, held osb.Holding, there broker.There, made string) string {
 	record := "-"
 	if it.isThere {
 		record = fmt.Sprintf("%v %s %d", it.record.State(), kindWord(it.record.InFlight()), it.record.Attempt())
 	}
-	phase, work, tombstone := "-", "-", "-"
-	if row, isHeld := found.Holding.Row(); isHeld {
-		phase = row.Phase.String()
-	}
-	if pending, isPending := found.Holding.Work(); isPending {
-		work = kindWord(pending.Kind)
-	}
-	if found.Holding.HasTombstone() {
-		tombstone = "tombstone"
-	}
-	there := map[broker.There]string{broker.None: "absent", broker.Part: "part", broker.Whole: "whole"}[found.there]
-	text := fmt.Sprintf("%s; %s %s %s; %s", record, phase, work, tombstone, there)
+	text := fmt.Sprintf("%s; %s; %s", record, heldWords(held), there.String())
 	if it.key.IsBinding {
-		recorded, made := credentialsOf(it.object), w.world.shelf.credentials(it.key)
-		text += "; credentials " + numberOf(recorded) + " " + numberOf(made)
+		text += "; credentials " + numberOf(credentialsOf(it.object)) + " " + numberOf(made)
 	}
 	return text
+}
+
+func heldWords(held osb.Holding) string {
+	phase, work, tombstone := "-", "-", "-"
+	if row, isHeld := held.Row(); isHeld {
+		phase = row.Phase.String()
+	}
+	if pending, isPending := held.Work(); isPending {
+		work = kindWord(pending.Kind)
+	}
+	if held.HasTombstone() {
+		tombstone = "tombstone"
+	}
+	return phase + " " + work + " " + tombstone
 }
 
 func kindWord(kind osb.Kind) string {
@@ -240,7 +248,7 @@ func (w *walk) noteEnd(visit *visit, course *course) {
 
 // outcome is the one with which the library ends the work so.
 func (w *walk) outcome(key broker.Key, before, after osb.Holding) string {
-	mode := map[string]osb.Mode{"async": osb.ModeAsync, "sync": osb.ModeSync}[w.modeOf(w.world.plan, key.IsBinding)]
+	mode := modeOf(w.world.plan, key.IsBinding)
 	for _, test := range []struct {
 		outcome osb.Outcome
 		word    string
@@ -255,7 +263,7 @@ func (w *walk) outcome(key broker.Key, before, after osb.Holding) string {
 
 // noteWork is called after the backend has changed a resource.
 func (w *walk) noteWork(key broker.Key, there broker.There, credentials string) {
-	word := map[broker.There]string{broker.None: "absent", broker.Part: "part", broker.Whole: "whole"}[there]
+	word := there.String()
 	if key.IsBinding && there == broker.Whole {
 		word += " " + numberOf(credentials)
 	}

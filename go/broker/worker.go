@@ -5,6 +5,7 @@ import (
 	"encoding/json"
 	"errors"
 	"fmt"
+	"net/http"
 	"runtime/debug"
 	"syscall"
 
@@ -12,8 +13,8 @@ import (
 	"pippinterm/osb"
 )
 
-// A worker does the work of one key, under its lock. It reports how the work went by what exists in the end, and by
-// nothing else.
+// A worker makes the calls of the backend for one key, under its lock. A driver of the library says which call comes next,
+// and how the work went: by what exists in the end, and by nothing else.
 type worker struct {
 	backend  Backend
 	observer Observer
@@ -21,126 +22,69 @@ type worker struct {
 
 // A result is how work went.
 type result struct {
-	outcome     osb.Outcome
+	isDone      bool            // whether what was asked for is the case
 	binding     json.RawMessage // of a binding that exists: its object with its credentials
 	description string          // why it failed, for the platform
 	rejected    *Rejection      // why a creation was refused
 }
 
-// isDone reports whether what was asked for is the case.
-func (r result) isDone() bool { return r.outcome == osb.OutcomeDone }
+// errPart reports that work can't go on.
+var errPart = errors.New("a part exists, and can't be deleted")
 
-// do does pending work, or the operation that runs. An operation of an asynchronous plan only has to be sure to go on: it
-// is done once its start is committed.
-func (w worker) do(ctx context.Context, isPending bool, work osb.Work, request Request) (done result, err error) {
+// callsOf returns the calls of the work that a driver does.
+func (s *Service) callsOf(driver osb.Driver, c *course) (*calls, error) {
+	if c.calls != nil {
+		return c.calls, nil
+	}
+	request, err := c.requestOfWork()
+	if err != nil {
+		return nil, err
+	}
 	point := "operation"
-	if isPending {
+	if _, isPending := driver.Task(); isPending {
 		point = "work"
 	}
 	crash.At(point + "-next")
-	switch work {
-	case osb.WorkStartMaking, osb.WorkStartDeleting:
-		return result{outcome: osb.OutcomeDone}, nil
-	case osb.WorkMake:
-		done, err = w.create(ctx, request)
-	case osb.WorkDelete:
-		done, err = w.delete(ctx, request)
-	default:
-		return done, ErrMisfit
-	}
-	crash.At(point + "-done")
-	return done, err
+	c.calls = &calls{worker: s.worker, request: request, isCreation: driver.Creates(), point: point}
+	return c.calls, nil
 }
 
-// create reports Done if all of it exists in the end, and Before or a refusal if nothing does: a part is deleted.
-func (w worker) create(ctx context.Context, request Request) (result, error) {
-	calls := &calls{worker: w, request: request, isCreation: true}
-	there, err := calls.look(ctx)
-	if err != nil {
-		return result{}, unknownOutcome(err, nil)
+// conclude returns the result of work after which it is known what exists: isDone is whether that is what was asked for.
+func (c *calls) conclude(isDone bool) result {
+	what, exists, failed := "delete", "it still exists", c.failed
+	if c.isCreation {
+		what, exists = "create", "not all of it exists"
 	}
-	if there == Whole {
-		if there, err = calls.settle(ctx); err != nil {
-			return result{}, unknownOutcome(err, nil)
-		}
-	}
-	var failed error
-	if there != Whole {
-		if there, failed, err = calls.try(ctx, calls.create); err != nil {
-			return result{}, unknownOutcome(err, either(failed, calls.useless))
-		}
-	}
-	if there == Part {
-		var second error
-		there, second, err = calls.try(ctx, calls.delete)
-		if failed = either(failed, second); err != nil || there == Part {
-			return result{}, unknownOutcome(err, either(failed, calls.useless))
-		}
-	}
-	return w.conclude(request, "create", there == Whole, failed, calls)
-}
-
-// delete reports Done if nothing exists in the end, and Before if all of it does.
-func (w worker) delete(ctx context.Context, request Request) (result, error) {
-	calls := &calls{worker: w, request: request}
-	there, err := calls.look(ctx)
-	if err != nil {
-		return result{}, unknownOutcome(err, nil)
-	}
-	var failed error
-	if there == None {
-		there, err = calls.settle(ctx)
-	}
-	if err == nil && there != None {
-		there, failed, err = calls.try(ctx, calls.delete)
-	}
-	if err != nil || there == Part {
-		return result{}, unknownOutcome(err, failed)
-	}
-	return w.conclude(request, "delete", there == None, failed, calls)
-}
-
-// conclude returns the result of work after which it is known what exists.
-func (w worker) conclude(request Request, what string, isDone bool, failed error, calls *calls) (result, error) {
 	if !isDone && failed == nil {
-		failed = fmt.Errorf("the backend returned no error, but Look reports that %s", map[string]string{
-			"create": "not all of it exists", "delete": "it still exists",
-		}[what])
+		failed = fmt.Errorf("the backend returned no error, but Look reports that %s", exists)
 	}
-	var rejected *Rejection
-	isRejection := what == "create" && !isDone && errors.As(failed, &rejected)
+	isRejection := !isDone && c.rejected != nil
 	event := "backend_failed_to_" + what
 	if isRejection {
 		event = "backend_rejected"
 	}
-	report := func(it Failure) {
-		if it.Err != nil {
-			it.RequestID, it.Key, it.IsNamed = calls.requestID(), request.Key, true
-			w.observer.OnFailure(it)
-		}
+	c.report(Failure{Event: "credentials_useless", Err: c.useless})
+	c.report(Failure{Event: event, Err: failed, IsRejection: isRejection})
+	done := result{isDone: true, binding: c.binding}
+	if !isDone {
+		done = result{description: Description(failed), rejected: c.rejected}
 	}
-	report(Failure{Event: "credentials_useless", Err: calls.useless})
-	report(Failure{Event: event, Err: failed, IsRejection: isRejection})
-	if isDone {
-		return result{outcome: osb.OutcomeDone, binding: calls.binding}, nil
-	}
-	given := result{outcome: osb.OutcomeBefore, description: Description(failed), rejected: rejected}
-	if isRejection {
-		given.outcome = osb.OutcomeRefused400
-		if given.rejected.Status == 422 {
-			given.outcome = osb.OutcomeRefused422
-		}
-	}
-	return given, nil
+	point := c.point
+	crash.At(point + "-done")
+	return done
 }
 
-// unknownOutcome is the error of work of which nobody knows how it went: err says why it can't be known, and failed
-// what the backend said.
-func unknownOutcome(err, failed error) error {
-	if err == nil {
-		err = errors.New("a part exists, and can't be deleted")
+// report has a failure of the work reported, if there is one.
+func (c *calls) report(it Failure) {
+	if it.Err != nil {
+		it.RequestID, it.Key, it.IsNamed = c.requestID(), c.request.Key, true
+		c.observer.OnFailure(it)
 	}
-	if failed != nil {
+}
+
+// unknownOutcome is the error of work of which nobody knows how it went: err says why it can't be known.
+func (c *calls) unknownOutcome(err error) error {
+	if failed := either(c.failed, c.useless); failed != nil {
 		return fmt.Errorf("%w: %v: %v", ErrNobodyKnows, err, failed)
 	}
 	return fmt.Errorf("%w: %v", ErrNobodyKnows, err)
@@ -177,6 +121,9 @@ type calls struct {
 	worker
 	request    Request
 	isCreation bool            // whether the credentials of a binding count
+	point      string          // how the names of the crash points begin
+	failed     error           // how a call has failed first that creates or deletes, or nil
+	rejected   *Rejection      // with which the backend has refused the creation, or nil
 	binding    json.RawMessage // the object of the binding, once its credentials are known
 	isUnusable bool            // whether the last look found all of the binding, whose credentials nobody knows
 	useless    error           // why the credentials of a binding that existed couldn't be read or sent, or nil
@@ -301,29 +248,39 @@ func BindingObject(credentials json.RawMessage) (json.RawMessage, error) {
 	return object, nil
 }
 
-// settle writes what exists to disk, and returns what exists then.
-func (c *calls) settle(ctx context.Context) (There, error) {
-	if err := c.call("sync", func() error { return c.sync(ctx, c.request) }); err != nil {
-		return None, err
-	}
-	return c.look(ctx)
+// settle writes what exists to disk.
+func (c *calls) settle(ctx context.Context) error {
+	return c.call("sync", func() error { return c.sync(ctx, c.request) })
 }
 
-// try calls, and returns what exists then, and how the call failed. What a call that failed has done may not be on
-// disk.
-func (c *calls) try(ctx context.Context, call func(context.Context) error) (there There, failed, err error) {
+// try makes a call that creates or deletes.
+func (c *calls) try(ctx context.Context, call func(context.Context) error) error {
 	crash.Soon("work-running")
-	if failed = call(ctx); failed == nil {
-		there, err = c.look(ctx)
-		return there, nil, err
-	}
-	there, err = c.settle(ctx)
-	return there, failed, err
+	err := call(ctx)
+	c.failed = either(c.failed, err)
+	return err
 }
 
-// create creates it, by what the last look found. A binding that exists and whose credentials nobody knows is deleted
-// first. Nobody else works on the key, so the backend isn't asked again whether that binding exists.
-func (c *calls) create(ctx context.Context) error {
+// create creates what the request asks for, and returns with which status the backend has rejected that, or 0.
+func (c *calls) create(ctx context.Context) (ok bool, rejection uint16) {
+	err := c.try(ctx, c.createWhole)
+	if errors.As(err, &c.rejected) {
+		rejection = http.StatusBadRequest
+		if c.rejected.Status == http.StatusUnprocessableEntity {
+			rejection = http.StatusUnprocessableEntity
+		}
+	}
+	return err == nil, rejection
+}
+
+// delete deletes what exists. A deletion can't be rejected.
+func (c *calls) delete(ctx context.Context) (ok bool, rejection uint16) {
+	return c.try(ctx, c.deleteAny) == nil, 0
+}
+
+// createWhole creates it, by what the last look found. A binding that exists and whose credentials nobody knows is
+// deleted first. Nobody else works on the key, so the backend isn't asked again whether that binding exists.
+func (c *calls) createWhole(ctx context.Context) error {
 	if !c.request.Key.IsBinding {
 		return c.call("create", func() error { return c.backend.Create(ctx, c.request) })
 	}
@@ -345,7 +302,7 @@ func (c *calls) create(ctx context.Context) error {
 	})
 }
 
-func (c *calls) delete(ctx context.Context) error {
+func (c *calls) deleteAny(ctx context.Context) error {
 	c.binding = nil
 	if !c.request.Key.IsBinding {
 		return c.call("delete", func() error { return c.backend.Delete(ctx, c.request) })

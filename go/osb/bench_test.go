@@ -10,7 +10,7 @@ import (
 func Benchmark(b *testing.B) {
 	s := newSteps(b)
 	steps := append(append(s.ofRecords(), s.ofHoldings()...), append(s.ofTheWire(), s.ofBindings()...)...)
-	for _, step := range steps {
+	for _, step := range append(steps, ofPlatformDrivers(b)...) {
 		b.Run(step.name, func(b *testing.B) { repeat(b, step.call) })
 	}
 }
@@ -30,15 +30,17 @@ type steps struct {
 	none, begun, running      osb.Holding
 	record, holding           []byte
 	asked                     osb.Asked
-	new, begin, work          osb.Driver
+	begin, await, look        osb.Driver
+	try, sync                 osb.Driver
 	reading                   osb.Reading
 }
 
 func newSteps(b *testing.B) steps {
 	s := steps{failed: osb.Answer{Status: 500, Body: osb.BodyOtherError}}
 	accepted := osb.Answer{Status: 202, Body: osb.BodyEmpty}
-	var errs [11]error
+	var errs [14]error
 	var transaction osb.Transaction
+	var unlocked osb.Driver
 	var received osb.Received
 	s.wanted, s.sent = osb.Create(instance, service, plan, true)
 	s.cleaning, errs[0] = s.wanted.Answer(1, s.failed)
@@ -50,11 +52,15 @@ func newSteps(b *testing.B) steps {
 	received, errs[6] = osb.ReceiveRequest("", 1000, "PUT", target, []byte(provisionBody))
 	s.asked = received.Asked
 	s.ready, errs[7] = s.wanted.Answer(1, osb.Answer{Status: 201, Body: osb.BodyEmpty})
-	s.reading = osb.Reading{Holding: s.none, Mode: osb.ModeAsync, Request: s.sent.Request, MayBegin: true}
-	s.new, errs[8] = osb.NewDriver(osb.ID{1}, true)
-	s.begin, errs[9] = s.new.Locked(true)
-	transaction, errs[10] = s.begin.Read(s.reading)
-	s.work = transaction.Committed()
+	s.reading = osb.Reading{Holding: s.none, ID: instance, Request: s.sent.Request, MayBegin: true}
+	s.begin, errs[8] = osb.NewDriver(osb.ID{1}, true, true)
+	transaction, errs[9] = s.begin.Read(s.reading)
+	s.look = transaction.Committed()
+	unlocked, errs[10] = osb.NewDriver(osb.ID{1}, true, false)
+	transaction, errs[11] = unlocked.Read(s.reading)
+	s.await = transaction.Committed()
+	s.try, errs[12] = s.look.Looked(osb.ThereAbsent)
+	s.sync, errs[13] = s.look.Looked(osb.ThereWhole)
 	for _, err := range errs {
 		check(b, err)
 	}
@@ -102,14 +108,30 @@ func (s steps) ofHoldings() []step {
 		{"Holding.IsThere", func() error { s.begun.IsThere(service, plan); return nil }},
 		{"Holding.End", func() error { _, _, err := s.begun.End(osb.ModeAsync, osb.OutcomeDone); return err }},
 		{"Holding.Finish", func() error { return second(s.running.Finish(true)) }},
-		{"NewDriver", func() error { return second(osb.NewDriver(osb.ID{1}, true)) }},
-		{"Driver.Locked", func() error { return second(s.new.Locked(true)) }},
-		{"Driver.Worked", func() error { return second(s.work.Worked(osb.OutcomeDone)) }},
+		{"NewDriver", func() error { return second(osb.NewDriver(osb.ID{1}, true, true)) }},
+		{"Driver.Locked", func() error { return second(s.await.Locked(true)) }},
+		{"Driver.Looked", func() error { return second(s.look.Looked(osb.ThereAbsent)) }},
+		{"Driver.Synced", func() error { return second(s.sync.Synced()) }},
+		{"Driver.Called", func() error { return second(s.try.Called(true, 0)) }},
 		{"Driver.Read", func() error { return second(s.begin.Read(s.reading)) }},
 		{"Driver.ReadBinding", func() error { return second(s.begin.ReadBinding(s.reading, s.none)) }},
 		{"WorkOf", func() error { osb.WorkOf(osb.KindProvision, osb.ModeSync); return nil }},
 		{"Holding.MarshalJSON", func() error { return second(s.begun.MarshalJSON()) }},
 		{"Holding.UnmarshalJSON", func() error { var read osb.Holding; return read.UnmarshalJSON(s.holding) }},
+	}
+}
+
+func ofPlatformDrivers(b *testing.B) []step {
+	reading := osb.PlatformReading{ID: instance, Service: service, Plan: plan, AcceptsIncomplete: true, Create: true}
+	claim, err := osb.NewPlatformDriver(osb.ID{1}, false)
+	check(b, err)
+	created, err := claim.Read(reading)
+	check(b, err)
+	accepted := osb.Answer{Status: 202, Body: osb.BodyEmpty}
+	return []step{
+		{"NewPlatformDriver", func() error { return second(osb.NewPlatformDriver(osb.ID{1}, false)) }},
+		{"PlatformDriver.Read", func() error { return second(claim.Read(reading)) }},
+		{"PlatformDriver.Answered", func() error { return second(created.Committed().Answered(accepted, false)) }},
 	}
 }
 

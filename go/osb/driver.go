@@ -4,16 +4,20 @@ package osb
 import "C"
 
 // A Driver is the way of one request through a broker, or of one take-up, which goes on with what a dead worker has
-// left. It says the one action that the program carries out next (Stage), and the program reports what came of it, by
-// Locked, by Worked, or by one of the drivers of a Transaction. So the program decides nothing. A Driver is a value and
-// owns nothing. Each call returns the next driver, or with an error the driver as it was; step no driver twice.
+// left. It says the one action that the program carries out next (Stage), and the program reports what came of it: by
+// Locked, by Looked, Synced or Called, or by one of the drivers of a Transaction. So the program decides nothing. A Driver
+// is a value and owns nothing. Each call returns the next driver, or with an error the driver as it was; step no driver
+// twice.
 type Driver struct {
-	number                                        ID
-	task                                          Request
-	answer                                        Answer
-	stage                                         Stage
-	outcome                                       Outcome
-	isRequest, isLocked, isPending, hasAnswer, ok bool
+	number                                                 ID
+	task                                                   Request
+	answer                                                 Answer
+	rejection                                              uint16
+	stage                                                  Stage
+	outcome                                                Outcome
+	call                                                   Call
+	look                                                   Look
+	isRequest, isLocked, isPending, creates, hasAnswer, ok bool
 }
 
 // A Reading is what a transaction of a driver is given.
@@ -22,14 +26,17 @@ type Reading struct {
 	// that last began work on it, or the zero ID.
 	Holding Holding
 	Number  ID
-	// Mode is that of the plan: of the row's, or if there is no row of the request's.
-	Mode Mode
-	// Request and Rules are those of Begin. They count only at the first transaction of a request, and are zero for a
-	// take-up.
-	Request Request
-	Rules   Rules
-	// MayBegin is as in BeginIf. A binding has its instance in its place.
-	MayBegin bool
+	// ID is that of the row: the instance's, or the binding's.
+	ID ID
+	// RowMode is the mode of the row's plan, or, if there is no row, of the pending work's.
+	RowMode Mode
+	// Request, Mode, FirstPoll and Attributes are those of Begin, and MayBegin is that of BeginIf. They count only at the
+	// first transaction of a request, and are zero for a take-up. A binding has its instance in the place of MayBegin.
+	Request    Request
+	Mode       Mode
+	FirstPoll  bool
+	Attributes Digest
+	MayBegin   bool
 	// MayGiveUp is whether the row has waited too long for its first Poll.
 	MayGiveUp bool
 }
@@ -42,17 +49,17 @@ type Transaction struct {
 	effect            Effect
 	outcome           Outcome
 	ok, writes        bool
-	work              Work
 }
 
-// NewDriver is a driver at its beginning: of a request, or of a take-up. The number is its own: no other driver ever has
-// it, so draw 128 random bits.
+// NewDriver is a driver at its beginning: of a request, or of a take-up. The program has taken the lock of its key, if
+// that was free: hasLock is whether it was. A lock of which nobody knows isn't had. The number is the driver's own: no
+// other driver ever has it, so draw 128 random bits.
 //
 // Errors: ErrBadDriver if the number is zero.
-func NewDriver(number ID, isRequest bool) (Driver, error) {
+func NewDriver(number ID, isRequest, hasLock bool) (Driver, error) {
 	own := bytesOf(number)
 	var driver C.struct_osb_driver
-	if err := errorOf(C.osb_driver_new(&own[0], C.bool(isRequest), &driver)); err != nil {
+	if err := errorOf(C.osb_driver_new(&own[0], C.bool(isRequest), C.bool(hasLock), &driver)); err != nil {
 		return Driver{}, err
 	}
 	return driverOf(driver), nil
@@ -67,11 +74,21 @@ func (d Driver) Number() ID { return d.number }
 // Task is at StageWork the request whose work is pending. It is none if the work is the operation that runs.
 func (d Driver) Task() (Request, bool) { return d.task, d.isPending }
 
+// Call is at StageWork the call of the backend to make next. It is CallNone if nobody knows how the work ended: then step
+// the driver no more.
+func (d Driver) Call() Call { return d.call }
+
+// Creates reports at StageWork whether the work is a creation. Otherwise, it is a deletion.
+func (d Driver) Creates() bool { return d.creates }
+
+// IsDone reports at StageEnd and at StageFinish whether the work has ended as it was asked for.
+func (d Driver) IsDone() bool { return d.ok || d.stage == StageEnd && d.outcome == OutcomeDone }
+
 // Answer is at StageAnswer what is sent.
 func (d Driver) Answer() Answer { return d.answer }
 
-// Locked reports whether the driver has the lock of its key: at StageTryLock whether it was free, at StageAwaitLock
-// whether the driver had it after it has waited. A lock of which nobody knows isn't had.
+// Locked reports at StageAwaitLock whether the driver has the lock of its key after it has waited. A lock of which nobody
+// knows isn't had.
 //
 // Errors: ErrBadDriver, ErrWrongStage.
 func (d Driver) Locked(hasLock bool) (Driver, error) {
@@ -79,13 +96,30 @@ func (d Driver) Locked(hasLock bool) (Driver, error) {
 	return d.next(&driver, C.osb_driver_locked(&driver, C.bool(hasLock)))
 }
 
-// Worked reports how the work of StageWork has ended, as a last look at the resource has shown. An operation has
-// succeeded exactly if the outcome is OutcomeDone. If nobody knows the end, step the driver no more.
+// Looked reports what the look of CallLook has found. A look that shows how the work has ended moves the driver on, to
+// StageEnd or StageFinish. If a look has failed, nobody knows how the work ended: step the driver no more.
 //
-// Errors: ErrBadDriver, ErrBadOutcome, ErrWrongStage.
-func (d Driver) Worked(outcome Outcome) (Driver, error) {
+// Errors: ErrBadDriver, ErrBadThere, ErrWrongStage.
+func (d Driver) Looked(there There) (Driver, error) {
 	driver := d.c()
-	return d.next(&driver, C.osb_driver_worked(&driver, C.uint8_t(outcome)))
+	return d.next(&driver, C.osb_driver_looked(&driver, C.uint8_t(there)))
+}
+
+// Synced reports that what exists is on disk (CallSync). If that has failed, step the driver no more.
+//
+// Errors: ErrBadDriver, ErrWrongStage.
+func (d Driver) Synced() (Driver, error) {
+	driver := d.c()
+	return d.next(&driver, C.osb_driver_synced(&driver))
+}
+
+// Called reports that CallCreate or CallDelete has returned, and whether without an error. The rejection is 400 or 422 if
+// the backend has rejected the creation with that status, and else 0.
+//
+// Errors: ErrBadDriver, ErrNotRefused, ErrWrongStage.
+func (d Driver) Called(ok bool, rejection uint16) (Driver, error) {
+	driver := d.c()
+	return d.next(&driver, C.osb_driver_called(&driver, C.bool(ok), C.uint16_t(rejection)))
 }
 
 // next is what a report gave, or with an error the driver before.
@@ -97,45 +131,32 @@ func (d Driver) next(driver *C.struct_osb_driver, status C.uint32_t) (Driver, er
 }
 
 // Read is the transaction of an instance's driver at StageBegin, StageEnd, StageFinish and StageUnsure. If the
-// transaction that it returns Writes, write its row, and commit.
+// transaction that it returns Writes, write its row, and commit. Work that only starts an operation needs no call of the
+// backend: the driver that is committed is at StageEnd then.
 //
-// Errors: ErrBadDriver, ErrBadHolding, ErrBadMode, ErrBadKind, ErrWrongStage.
+// Errors: ErrBadDriver, ErrBadHolding, ErrBadMode, ErrBadKind, ErrWrongStage; ErrMisfit if the row doesn't fit its plan,
+// or its pending work is of another id. Such a row is left alone.
 func (d Driver) Read(row Reading) (Transaction, error) {
-	driver, holding, number := d.c(), row.Holding.c(), bytesOf(row.Number)
-	request, attributes := row.Request.c(), row.Rules.Attributes.c()
+	driver, reading := d.c(), row.c()
 	var transaction C.struct_osb_transaction
-	return transactionFrom(&holding, &number, &transaction, C.osb_driver_read(
-		&driver, &holding, &number[0], C.uint8_t(row.Mode), C.bool(row.Rules.FirstPoll), C.bool(row.MayBegin),
-		C.bool(row.MayGiveUp), &request, &attributes[0], &transaction))
+	if err := errorOf(C.osb_driver_read(&driver, &reading, &transaction)); err != nil {
+		return Transaction{}, err
+	}
+	return transactionOf(transaction), nil
 }
 
 // ReadBinding is the transaction of a binding's driver, as Read is that of an instance's. The instance is the holding of
 // the binding's instance, read and locked in this transaction: what may begin is what BeginBinding lets begin. If the
-// instance has a tombstone, and nothing is kept of the binding, nothing is written.
+// instance has a tombstone, and nothing is kept of the binding, nothing is written. The modes are those of binding.
 //
-// Errors: ErrBadDriver, ErrBadHolding (of the binding or of the instance), ErrBadMode, ErrBadKind, ErrWrongStage.
+// Errors: those of Read, of which ErrBadHolding also stands for the instance's.
 func (d Driver) ReadBinding(row Reading, instance Holding) (Transaction, error) {
-	driver, holding, number, beside := d.c(), row.Holding.c(), bytesOf(row.Number), instance.c()
-	request, attributes := row.Request.c(), row.Rules.Attributes.c()
+	driver, reading, beside := d.c(), row.c(), instance.c()
 	var transaction C.struct_osb_transaction
-	return transactionFrom(&holding, &number, &transaction, C.osb_binding_driver_read(
-		&driver, &holding, &number[0], &beside, C.uint8_t(row.Mode), C.bool(row.Rules.FirstPoll),
-		C.bool(row.MayGiveUp), &request, &attributes[0], &transaction))
-}
-
-// transactionFrom is the transaction that a call has written, or its error.
-func transactionFrom(
-	holding *C.struct_osb_holding, number *[16]C.uint8_t, transaction *C.struct_osb_transaction, status C.uint32_t,
-) (Transaction, error) {
-	if err := errorOf(status); err != nil {
+	if err := errorOf(C.osb_binding_driver_read(&driver, &reading, &beside, &transaction)); err != nil {
 		return Transaction{}, err
 	}
-	of := transactionOf(*transaction)
-	of.holding = holdingOf(*holding)
-	for at, one := range number {
-		of.number[at] = byte(one)
-	}
-	return of, nil
+	return transactionOf(transaction), nil
 }
 
 // Row is what the row has to have.
@@ -149,9 +170,6 @@ func (t Transaction) Committed() Driver { return t.committed }
 
 // Unsure is the driver if nobody knows whether the transaction was committed.
 func (t Transaction) Unsure() Driver { return t.unsure }
-
-// Work is the work to do if Committed is at StageWork.
-func (t Transaction) Work() Work { return t.work }
 
 // Effect is the event that the transaction is, once it is committed: of EffectEnd with the outcome, and of EffectFinish
 // with whether the operation succeeded.

@@ -160,6 +160,10 @@ const (
 	ErrBadDriver Status = C.OSB_BAD_DRIVER
 	// The driver is at a stage that asks for no such report.
 	ErrWrongStage Status = C.OSB_WRONG_STAGE
+	// The number stands for nothing that a look finds.
+	ErrBadThere Status = C.OSB_BAD_THERE
+	// The row doesn't fit its plan, or its pending work is of another id.
+	ErrMisfit Status = C.OSB_MISFIT
 )
 
 var meanings = map[Status]string{
@@ -239,6 +243,8 @@ var meanings = map[Status]string{
 	ErrNotRetrievable:           "a plan binds asynchronously, and its service isn't bindings_retrievable",
 	ErrBadDriver:                "no call gives such a driver",
 	ErrWrongStage:               "the driver is at a stage that asks for no such report",
+	ErrBadThere:                 "the number stands for nothing that a look finds",
+	ErrMisfit:                   "the row doesn't fit its plan, or its pending work is of another id",
 }
 
 // A Kind is what a request asks for.
@@ -382,32 +388,73 @@ func (it Phase) String() string { return name("Phase", uint8(it), phaseNames[:])
 type Stage uint8
 
 const (
-	// Take the lock of the key, if it is free, and report it by osb_driver_locked.
-	StageTryLock Stage = C.OSB_STAGE_TRY_LOCK
-	// Run the first transaction.
-	StageBegin Stage = C.OSB_STAGE_BEGIN
-	// Wait for the lock of the key, and report it by osb_driver_locked.
-	StageAwaitLock Stage = C.OSB_STAGE_AWAIT_LOCK
-	// Do the work under the lock, and report it by osb_driver_worked.
-	StageWork Stage = C.OSB_STAGE_WORK
-	// Run the last transaction of pending work.
-	StageEnd Stage = C.OSB_STAGE_END
-	// Run the last transaction of an operation.
-	StageFinish Stage = C.OSB_STAGE_FINISH
-	// Read the row in a transaction, since nobody knows what was committed.
-	StageUnsure Stage = C.OSB_STAGE_UNSURE
-	// Free the lock, and send the answer.
-	StageAnswer Stage = C.OSB_STAGE_ANSWER
-	// Free the lock; if a request isn't answered yet, answer 500 or 503.
-	StageDone Stage = C.OSB_STAGE_DONE
+	StageBegin     Stage = C.OSB_STAGE_BEGIN      // run the first transaction
+	StageAwaitLock Stage = C.OSB_STAGE_AWAIT_LOCK // wait for the lock of the key, and report it by osb_driver_locked
+	StageWork      Stage = C.OSB_STAGE_WORK       // make the call of the backend, under the lock, and report it
+	StageEnd       Stage = C.OSB_STAGE_END        // run the last transaction of pending work
+	StageFinish    Stage = C.OSB_STAGE_FINISH     // run the last transaction of an operation
+	StageUnsure    Stage = C.OSB_STAGE_UNSURE     // read the row in a transaction, since nobody knows what was committed
+	StageAnswer    Stage = C.OSB_STAGE_ANSWER     // free the lock, and send the answer
+	StageDone      Stage = C.OSB_STAGE_DONE       // free the lock; if a request isn't answered yet, answer 500 or 503
 )
 
 var stageNames = [...]string{
-	"try-lock", "begin", "await-lock", "work", "end", "finish", "unsure", "answer", "done",
+	1: "begin", "await-lock", "work", "end", "finish", "unsure", "answer", "done",
 }
 
 // String is the name of the number, in lower case.
 func (it Stage) String() string { return name("Stage", uint8(it), stageNames[:]) }
+
+// A Call is the call of the backend that the program makes next for a driver at WORK.
+type Call uint8
+
+const (
+	CallNone   Call = C.OSB_CALL_NONE   // nobody knows how the work ended: step the driver no more
+	CallLook   Call = C.OSB_CALL_LOOK   // return what exists, and report it by osb_driver_looked
+	CallSync   Call = C.OSB_CALL_SYNC   // write to disk what exists, and report that by osb_driver_synced
+	CallCreate Call = C.OSB_CALL_CREATE // create the resource, and report that by osb_driver_called
+	CallDelete Call = C.OSB_CALL_DELETE // delete the resource, and report that by osb_driver_called
+)
+
+var callNames = [...]string{
+	"none", "look", "sync", "create", "delete",
+}
+
+// String is the name of the number, in lower case.
+func (it Call) String() string { return name("Call", uint8(it), callNames[:]) }
+
+// A Look is a look of a worker.
+type Look uint8
+
+const (
+	LookFirst  Look = C.OSB_LOOK_FIRST  // before anything is done
+	LookAgain  Look = C.OSB_LOOK_AGAIN  // all was there at first, or nothing, and that is on disk now
+	LookTried  Look = C.OSB_LOOK_TRIED  // after the creation or the deletion
+	LookUndone Look = C.OSB_LOOK_UNDONE // after a part that was created is deleted
+)
+
+var lookNames = [...]string{
+	"first", "again", "tried", "undone",
+}
+
+// String is the name of the number, in lower case.
+func (it Look) String() string { return name("Look", uint8(it), lookNames[:]) }
+
+// A There is what a look finds.
+type There uint8
+
+const (
+	ThereAbsent There = C.OSB_THERE_ABSENT // nothing
+	TherePart   There = C.OSB_THERE_PART   // something that can't be used
+	ThereWhole  There = C.OSB_THERE_WHOLE  // all of it
+)
+
+var thereNames = [...]string{
+	"absent", "part", "whole",
+}
+
+// String is the name of the number, in lower case.
+func (it There) String() string { return name("There", uint8(it), thereNames[:]) }
 
 // An Effect is the event that a transaction is, once it is committed.
 type Effect uint8
@@ -427,6 +474,54 @@ var effectNames = [...]string{
 
 // String is the name of the number, in lower case.
 func (it Effect) String() string { return name("Effect", uint8(it), effectNames[:]) }
+
+// A PlatformStage is the action that the program carries out next for a platform's driver.
+type PlatformStage uint8
+
+const (
+	// Run the first transaction.
+	PlatformStageClaim PlatformStage = C.OSB_PLATFORM_STAGE_CLAIM
+	// Send the request, and report it by osb_platform_driver_answered.
+	PlatformStageSend PlatformStage = C.OSB_PLATFORM_STAGE_SEND
+	// Send a Fetch of the binding, and report it by osb_platform_driver_fetched.
+	PlatformStageFetch PlatformStage = C.OSB_PLATFORM_STAGE_FETCH
+	// Run the last transaction.
+	PlatformStageTake PlatformStage = C.OSB_PLATFORM_STAGE_TAKE
+	// Run the last transaction, since nobody knows whether the first was committed.
+	PlatformStageUnsure PlatformStage = C.OSB_PLATFORM_STAGE_UNSURE
+	// Nothing is left to do.
+	PlatformStageDone PlatformStage = C.OSB_PLATFORM_STAGE_DONE
+)
+
+var platformStageNames = [...]string{
+	"claim", "send", "fetch", "take", "unsure", "done",
+}
+
+// String is the name of the number, in lower case.
+func (it PlatformStage) String() string {
+	return name("PlatformStage", uint8(it), platformStageNames[:])
+}
+
+// A CleanUp is a way to clean an instance or a binding up.
+type CleanUp uint8
+
+const (
+	// It isn't cleaned up.
+	CleanUpNone CleanUp = C.OSB_CLEAN_UP_NONE
+	// Polling has taken too long: osb_record_expire.
+	CleanUpExpire CleanUp = C.OSB_CLEAN_UP_EXPIRE
+	// A deletion has been polled for too long: osb_record_retry.
+	CleanUpRetry CleanUp = C.OSB_CLEAN_UP_RETRY
+	// An operator asks for it: osb_record_remove, of an instance osb_record_remove_if.
+	CleanUpRemove CleanUp = C.OSB_CLEAN_UP_REMOVE
+)
+
+var cleanUpNames = [...]string{
+	"none", "expire", "retry", "remove",
+}
+
+// String is the name of the number, in lower case.
+func (it CleanUp) String() string { return name("CleanUp", uint8(it), cleanUpNames[:]) }
 
 // A Target is what the target of a request names.
 type Target uint8
@@ -504,13 +599,70 @@ func (it Driver) c() (to C.struct_osb_driver) {
 	}
 	to.task = it.task.c()
 	to.answer = it.answer.c()
+	to.rejection = C.uint16_t(it.rejection)
 	to.stage = C.uint8_t(it.stage)
 	to.outcome = C.uint8_t(it.outcome)
+	to.call = C.uint8_t(it.call)
+	to.look = C.uint8_t(it.look)
 	to.is_request = C.bool(it.isRequest)
 	to.is_locked = C.bool(it.isLocked)
 	to.is_pending = C.bool(it.isPending)
+	to.creates = C.bool(it.creates)
 	to.has_answer = C.bool(it.hasAnswer)
 	to.ok = C.bool(it.ok)
+	return to
+}
+
+func (it Reading) c() (to C.struct_osb_reading) {
+	to.holding = it.Holding.c()
+	to.request = it.Request.c()
+	to.id = it.ID.c()
+	for at, one := range it.Number {
+		to.number[at] = C.uint8_t(one)
+	}
+	for at, one := range it.Attributes {
+		to.attributes[at] = C.uint8_t(one)
+	}
+	to.row_mode = C.uint8_t(it.RowMode)
+	to.mode = C.uint8_t(it.Mode)
+	to.first_poll = C.bool(it.FirstPoll)
+	to.may_begin = C.bool(it.MayBegin)
+	to.may_give_up = C.bool(it.MayGiveUp)
+	return to
+}
+
+func (it PlatformDriver) c() (to C.struct_osb_platform_driver) {
+	for at, one := range it.number {
+		to.number[at] = C.uint8_t(one)
+	}
+	to.attempt = C.uint64_t(it.attempt)
+	to.request = it.request.c()
+	to.answer = it.answer.c()
+	to.stage = C.uint8_t(it.stage)
+	to.is_binding = C.bool(it.isBinding)
+	to.has_answer = C.bool(it.hasAnswer)
+	to.has_credentials = C.bool(it.hasCredentials)
+	to.fetches = C.bool(it.fetches)
+	return to
+}
+
+func (it PlatformReading) c() (to C.struct_osb_platform_reading) {
+	to.record = it.Record.c()
+	to.instance = it.Instance.c()
+	to.id = it.ID.c()
+	to.service = it.Service.c()
+	to.plan = it.Plan.c()
+	for at, one := range it.Number {
+		to.number[at] = C.uint8_t(one)
+	}
+	to.clean_up = C.uint8_t(it.CleanUp)
+	to.has_record = C.bool(it.HasRecord)
+	to.has_instance = C.bool(it.HasInstance)
+	to.all_gone = C.bool(it.AllGone)
+	to.create = C.bool(it.Create)
+	to.send = C.bool(it.Send)
+	to.accepts_incomplete = C.bool(it.AcceptsIncomplete)
+	to.retrievable = C.bool(it.IsRetrievable)
 	return to
 }
 
@@ -595,24 +747,63 @@ func driverOf(from C.struct_osb_driver) (it Driver) {
 	}
 	it.task = requestOf(from.task)
 	it.answer = answerOf(from.answer)
+	it.rejection = uint16(from.rejection)
 	it.stage = Stage(from.stage)
 	it.outcome = Outcome(from.outcome)
+	it.call = Call(from.call)
+	it.look = Look(from.look)
 	it.isRequest = bool(from.is_request)
 	it.isLocked = bool(from.is_locked)
 	it.isPending = bool(from.is_pending)
+	it.creates = bool(from.creates)
 	it.hasAnswer = bool(from.has_answer)
 	it.ok = bool(from.ok)
 	return it
 }
 
 func transactionOf(from C.struct_osb_transaction) (it Transaction) {
+	it.holding = holdingOf(from.holding)
+	for at, one := range from.number {
+		it.number[at] = uint8(one)
+	}
 	it.committed = driverOf(from.committed)
 	it.unsure = driverOf(from.unsure)
 	it.effect = Effect(from.effect)
 	it.outcome = Outcome(from.outcome)
 	it.ok = bool(from.ok)
 	it.writes = bool(from.writes)
-	it.work = Work(from.work)
+	return it
+}
+
+func platformDriverOf(from C.struct_osb_platform_driver) (it PlatformDriver) {
+	for at, one := range from.number {
+		it.number[at] = uint8(one)
+	}
+	it.attempt = uint64(from.attempt)
+	it.request = requestOf(from.request)
+	it.answer = answerOf(from.answer)
+	it.stage = PlatformStage(from.stage)
+	it.isBinding = bool(from.is_binding)
+	it.hasAnswer = bool(from.has_answer)
+	it.hasCredentials = bool(from.has_credentials)
+	it.fetches = bool(from.fetches)
+	return it
+}
+
+func platformTransactionOf(from C.struct_osb_platform_transaction) (it PlatformTransaction) {
+	it.record = recordOf(from.record)
+	for at, one := range from.number {
+		it.number[at] = uint8(one)
+	}
+	it.committed = platformDriverOf(from.committed)
+	it.unsure = platformDriverOf(from.unsure)
+	it.failed = platformDriverOf(from.failed)
+	it.cleansUp = CleanUp(from.cleans_up)
+	it.hasRecord = bool(from.has_record)
+	it.writes = bool(from.writes)
+	it.timesOut = bool(from.times_out)
+	it.sends = bool(from.sends)
+	it.takes = bool(from.takes)
 	return it
 }
 

@@ -33,6 +33,9 @@ func numberOf(t *testing.T, word string, names map[string]uint8) uint8 {
 
 func recordOf(t *testing.T, cell string) osb.Record {
 	t.Helper()
+	if cell == "none" {
+		return osb.Record{}
+	}
 	words := append(strings.Fields(cell), "none")
 	attempt := need(strconv.ParseUint(words[1], 10, 64))(t)
 	state, inFlight := numberOf(t, words[0], stateNames), numberOf(t, words[2], kindNames)

@@ -63,24 +63,49 @@ func HoldingByHand(row *BrokerRow, work *Request, hasTombstone bool, attributes 
 
 // DriverParts are the parts of a driver. A Task makes its work pending, and at StageEnd an Answer is an earlier try's.
 type DriverParts struct {
-	Number                  ID
-	Stage                   Stage
-	IsRequest, IsLocked, OK bool
-	Task                    *Request
-	Outcome                 Outcome
-	Answer                  *Answer
+	Number                           ID
+	Stage                            Stage
+	IsRequest, IsLocked, Creates, OK bool
+	Task                             *Request
+	Call                             Call
+	Look                             Look
+	Rejection                        uint16
+	Outcome                          Outcome
+	Answer                           *Answer
 }
 
 // DriverByHand returns a driver of these parts, which may be one that no call gives.
 func DriverByHand(of DriverParts) Driver {
 	driver := Driver{
 		number: of.Number, stage: of.Stage, outcome: of.Outcome, isRequest: of.IsRequest, isLocked: of.IsLocked, ok: of.OK,
+		call: of.Call, look: of.Look, rejection: of.Rejection, creates: of.Creates,
 	}
 	if of.Task != nil {
 		driver.task, driver.isPending = *of.Task, true
 	}
 	if of.Answer != nil {
 		driver.answer, driver.hasAnswer = *of.Answer, of.Stage == StageEnd
+	}
+	return driver
+}
+
+// PlatformDriverParts are the parts of a platform's driver. An Answer is none if it is nil.
+type PlatformDriverParts struct {
+	Number                             ID
+	Stage                              PlatformStage
+	IsBinding, Fetches, HasCredentials bool
+	Sent                               Sent
+	Answer                             *Answer
+}
+
+// PlatformDriverByHand returns a driver of these parts, which may be one that no call gives.
+func PlatformDriverByHand(of PlatformDriverParts) PlatformDriver {
+	driver := PlatformDriver{
+		number: of.Number, attempt: of.Sent.Attempt, request: of.Sent.Request, stage: of.Stage,
+		isBinding: of.IsBinding, fetches: of.Fetches, hasCredentials: of.HasCredentials,
+	}
+	if of.Answer != nil {
+		driver.answer, driver.hasAnswer = *of.Answer, of.Stage == PlatformStageTake
 	}
 	return driver
 }

@@ -7,7 +7,22 @@ from typing import Any, Callable
 
 import osb
 import pytest
-from osb import Answer, Driver, Holding, Id, Kind, OsbError, Record, Refusal, Request, State, Status, binding_wire, wire
+from osb import (
+    Answer,
+    Driver,
+    Holding,
+    Id,
+    Kind,
+    OsbError,
+    PlatformDriver,
+    Record,
+    Refusal,
+    Request,
+    State,
+    Status,
+    binding_wire,
+    wire,
+)
 from osb._lib import lib
 from osb._texts import written
 from osb.tables import decide_deprovision, decide_poll
@@ -71,12 +86,18 @@ class Given:
     def holding(self, name: str = "holding") -> Holding:
         return holding_of(self.bytes(name))
 
-    def driver(self) -> Driver:
+    def driver(self) -> Any:
         return driver_of(self.bytes("driver"))
 
-    def row(self) -> tuple[Holding, Any]:
-        """A holding and a number."""
-        return self.holding(), number_of(self.bytes("number"))
+    def record_if(self, name: str) -> Record | None:
+        return record_if(self.bytes(name))
+
+    def reading(self) -> osb.Reading:
+        mode, request = self.asked()
+        row = self.id("id"), named(osb.Mode, self.text("row_mode")), number_of(self.bytes("number"))
+        may_begin, may_give_up = self.cells.get("may_begin") == b"yes", self.flag("may_give_up")
+        rules = self.flag("first_poll"), digest(self.cells["attributes"])
+        return osb.Reading(self.holding(), *row, request, mode, *rules, may_begin, may_give_up)
 
     def asked(self) -> tuple[Any, Request]:
         """The mode and the request that begins."""
@@ -120,17 +141,41 @@ def number_of(cell: bytes) -> bytes:
     return digest(cell)[:16]
 
 
-def driver_of(cell: bytes) -> Driver:
-    driver = api.cases.driver(cell)
-    return Driver(
+def record_if(cell: bytes) -> Record | None:
+    return None if cell == b"none" else record_of(cell)
+
+
+def platform_driver_of(cell: bytes) -> PlatformDriver:
+    driver = api.cases.platform_driver(cell)
+    return PlatformDriver(
         driver.number,
-        named(osb.Stage, driver.stage),
-        driver.is_request,
-        driver.is_locked,
-        request_of(driver.task) if driver.task else None,
-        named(osb.Outcome, driver.outcome) if driver.outcome else None,
+        named(osb.PlatformStage, driver.stage),
+        driver.is_binding,
+        driver.attempt,
+        request_of(driver.request) if driver.request else None,
+        driver.fetches,
         answer_of(driver.answer) if driver.answer else None,
-        driver.ok,
+        driver.has_credentials,
+    )
+
+
+def driver_of(cell: bytes) -> Driver | PlatformDriver:
+    if api.cases.is_of_platform(cell):
+        return platform_driver_of(cell)
+    of = api.cases.driver(cell)
+    return Driver(
+        number=of.number,
+        stage=named(osb.Stage, of.stage),
+        is_request=of.is_request,
+        is_locked=of.is_locked,
+        task=request_of(of.task) if of.task else None,
+        call=named(osb.Call, of.call or "none"),
+        creates=of.creates,
+        look=named(osb.Look, of.look or "none"),
+        rejection=of.rejection,
+        outcome=named(osb.Outcome, of.outcome) if of.outcome else None,
+        answer=answer_of(of.answer) if of.answer else None,
+        ok=of.ok,
     )
 
 
@@ -141,7 +186,7 @@ def effect_of(cell: bytes) -> tuple[Any, Any, bool]:
 
 # What the words of a column mean.
 VALUES: dict[str, Callable[[bytes], Any]] = {
-    "record": record_of,
+    "record": lambda cell: record_if(cell) or cell,
     "request": lambda cell: request_of(api.cases.request(cell)),
     "holding": holding_of,
     "answer": answer_of,
@@ -149,6 +194,7 @@ VALUES: dict[str, Callable[[bytes], Any]] = {
     "driver": driver_of,
     "committed": driver_of,
     "unsure": driver_of,
+    "failed": driver_of,
     "number": number_of,
     "effect": effect_of,
 }
@@ -277,19 +323,50 @@ def record_from_row(of: Given) -> Record:
 
 
 def transaction(of: osb.Transaction) -> list[Any]:
-    effect = of.effect, of.outcome, of.ok
-    return [of.holding, of.number, of.writes, of.committed, of.unsure, effect, str(of.work or "none")]
+    return [of.holding, of.number, of.writes, of.committed, of.unsure, (of.effect, of.outcome, of.ok)]
 
 
-def driver_read(of: Given) -> list[Any]:
-    may_begin, may_give_up = of.flag("may_begin"), of.flag("may_give_up")
-    read = of.driver().read(*of.row(), *of.asked(), may_begin=may_begin, may_give_up=may_give_up, **of.rules())
-    return transaction(read)
+def driver_new(of: Given) -> Driver:
+    return Driver.new(number_of(of.bytes("number")), is_request=of.flag("is_request"), has_lock=of.flag("has_lock"))
 
 
 def binding_driver_read(of: Given) -> list[Any]:
-    row, may_give_up = (*of.row(), of.holding("instance")), of.flag("may_give_up")
-    return transaction(of.driver().read_binding(*row, *of.asked(), may_give_up=may_give_up, **of.rules()))
+    return transaction(of.driver().read_binding(of.reading(), of.holding("instance")))
+
+
+def platform_driver_answered(of: Given) -> PlatformDriver:
+    answer = None if of.cells["answer"] is None else answer_of(of.bytes("answer"))
+    driver: PlatformDriver = of.driver()
+    return driver.answered(answer, has_credentials=of.flag("has_credentials"))
+
+
+def platform_driver_read(of: Given) -> list[Any]:
+    """The plan of an instance is the records'. A binding's is its instance's, whatever the reading has."""
+    driver, wishes = of.driver(), api.cases.wishes(of.bytes("wishes"))
+    reading = osb.PlatformReading(
+        id_of(api.cases.BINDING if driver.is_binding else api.cases.INSTANCE),
+        record=of.record_if("record"),
+        number=number_of(of.bytes("number")),
+        instance=of.record_if("instance"),
+        all_gone=of.flag("all_gone"),
+        service=SERVICE,
+        plan=id_of(api.cases.PLANS["async"]) if driver.is_binding else SYNC,
+        accepts_incomplete=of.flag("accepts"),
+        retrievable=of.flag("retrievable"),
+        create=wishes.create,
+        clean_up=named(osb.CleanUp, wishes.clean_up),
+        send=wishes.send,
+    )
+    found = driver.read(reading)
+    did = {
+        "times-out": found.times_out,
+        str(found.cleans_up): found.cleans_up,
+        "sends": found.sends,
+        "takes": found.takes,
+    }
+    effects = " ".join(name for name, is_so in did.items() if is_so) or "none"
+    drivers = found.committed, found.unsure, found.failed
+    return [found.record or b"none", found.number, found.writes, *drivers, effects]
 
 
 CALLS: dict[str, Callable[[Given], Any]] = {
@@ -367,14 +444,22 @@ CALLS: dict[str, Callable[[Given], Any]] = {
     "binding_fetch": lambda of: of.holding().fetch(),
     "binding_holding_to_text": lambda of: of.holding().to_binding_text(),
     "binding_holding_from_text": lambda of: Holding.from_binding_text(of.text("text")),
-    "driver_new": lambda of: Driver.new(number_of(of.bytes("number")), is_request=of.flag("is_request")),
+    "driver_new": driver_new,
     "driver_locked": lambda of: of.driver().locked(of.flag("has_lock")),
-    "driver_worked": lambda of: of.driver().worked(named(osb.Outcome, of.text("outcome"))),
-    "driver_read": driver_read,
+    "driver_looked": lambda of: of.driver().looked(named(osb.There, of.text("there"))),
+    "driver_synced": lambda of: of.driver().synced(),
+    "driver_called": lambda of: of.driver().called(of.flag("ok"), of.number("rejection")),
+    "driver_read": lambda of: transaction(of.driver().read(of.reading())),
     "binding_driver_read": binding_driver_read,
+    "platform_driver_new": lambda of: PlatformDriver.new(
+        number_of(of.bytes("number")), is_binding=of.flag("is_binding")
+    ),
+    "platform_driver_answered": platform_driver_answered,
+    "platform_driver_fetched": lambda of: of.driver().fetched(of.flag("has_credentials")),
+    "platform_driver_read": platform_driver_read,
 }
 # The columns that may have a number instead of a name.
-NUMBERED = ("kind", "state", "mode", "outcome", "record", "request", "driver")
+NUMBERED = ("kind", "state", "mode", "row_mode", "outcome", "there", "record", "request", "wishes", "driver")
 NUMBER = re.compile(rb"\d"), re.compile(rb"\d|.* \d+(:| |$)")
 """A number at the front of a cell, and one among the words of a driver."""
 # The status for which a call of this package returns None or False.
@@ -390,9 +475,13 @@ NOTHING = {
 }
 
 
+COMPARED = (bytes, tuple, Record, Holding, Request, Answer, Driver, PlatformDriver, osb.Work)
+"""The types of results that a column has as they are."""
+
+
 def said(value: Any) -> Any:
     """A result as a cell has it, or the value of which a cell has the words."""
-    if value is None or isinstance(value, (bytes, tuple, Record, Holding, Request, Answer, Driver, osb.Work)):
+    if value is None or isinstance(value, COMPARED):
         return value
     return ("yes" if value else "no").encode() if isinstance(value, bool) else str(value).encode()
 

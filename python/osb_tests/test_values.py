@@ -64,7 +64,7 @@ def test_each_member_of_a_struct_crosses() -> None:
         _crossing.platform_row_to(PlatformRow(SERVICE, SYNC, State.POLLING, POLL)),
         _crossing.broker_row_to(held),
         _crossing.endpoints_to(Endpoints(True, True, True, True)),
-        osb.record._to(record(State.POLLING, POLL)),
+        osb.record.record_to(record(State.POLLING, POLL)),
         osb.holding.holding_to(Holding(held, asked, True, b"\1" * 32)),
     ):
         for name, _ in made._fields_:

@@ -10,23 +10,25 @@ use Rattle.osb_instance.specs.declared.digest.Digest.{Digest}
 use Rattle.osb_instance.specs.declared.outcome.WorkOutcome.{WorkOutcome}
 use Rattle.osb_instance.specs.declared.work.Begun.{Begun}
 use Rattle.osb_instance.specs.declared.work.Begun.TheVariants.{Answered}
-use Rattle.osb_driver.specs.Driver.{at_stage, end, end_of, finish, finish_by, finished, first, first_by, locked, missed}
-use Rattle.osb_driver.specs.Driver.{nothing, resume, take_up, take_up_by, transaction, unsure, worked_by}
+use Rattle.osb_driver.specs.Driver.{end, end_of, finish, finish_by, finished, first, first_by, locked, missed}
+use Rattle.osb_driver.specs.Driver.{resume, take_up_by, transaction, unsure, worked_by}
 use Rattle.osb_driver.specs.declared.driver.Driver.{Driver}
 use Rattle.osb_driver.specs.declared.driver.Permit.{Permit}
 use Rattle.osb_driver.specs.declared.driver.Stage.{Stage}
 use Rattle.osb_driver.specs.declared.driver.Task.{Task}
 use Rattle.osb_driver.specs.declared.driver.Transaction.{Transaction}
 use Rattle.osb_binding.specs.declared.request.BindingRequest.{BindingRequest}
-use Rattle.osb_binding_driver.specs.Driver.{binding_transaction, permit}
+use Rattle.osb_binding_driver.specs.Driver.{binding_transaction}
 use Rattle.osb_binding.specs.Requests.{life_request}
-use Rattle.osb_c_driver.specs.Drivers.{after_lock, after_work, can_answer, can_be, can_take_up, is_done, is_transaction}
+use Rattle.osb_driver.specs.Worker.{is_done}
+use Rattle.osb_driver.specs.declared.worker.WorkerStage.{WorkerStage}
+use Rattle.osb_c_driver.specs.Drivers.{after_lock, attempt_of, begun, can_be, is_transaction}
+use Rattle.osb_c_driver.specs.Workers.{stage_after}
 
 -- ---- what is reported
 
 locked_kept : (a : Option ℕ) (stage : Stage) → can_be a stage ≡ true → can_be a (locked stage) ≡ true
-locked_kept (Some n) Stage.TryLock h = refl
-locked_kept None Stage.TryLock h = refl
+locked_kept a Stage.TryLock h = cc
 locked_kept (Some n) Stage.AwaitLock h = refl
 locked_kept None Stage.AwaitLock h = refl
 locked_kept a (Stage.Begin l) h = h
@@ -38,8 +40,7 @@ locked_kept a (Stage.Answer x) h = h
 locked_kept a Stage.Done h = h
 
 missed_kept : (a : Option ℕ) (stage : Stage) → can_be a stage ≡ true → can_be a (missed a stage) ≡ true
-missed_kept (Some n) Stage.TryLock h = refl
-missed_kept None Stage.TryLock h = refl
+missed_kept a Stage.TryLock h = cc
 missed_kept (Some n) Stage.AwaitLock h = refl
 missed_kept None Stage.AwaitLock h = refl
 missed_kept a (Stage.Begin l) h = h
@@ -59,6 +60,16 @@ pub lock_attempt : (has : Bool) (d : Driver) → (after_lock has d).attempt ≡ 
 lock_attempt true d = refl
 lock_attempt false d = refl
 
+pub begun_can : (is_request has : Bool) → can_be (begun is_request has).attempt (begun is_request has).stage ≡ true
+begun_can true true = refl
+begun_can true false = refl
+begun_can false true = refl
+begun_can false false = refl
+
+pub begun_attempt : (is_request has : Bool) → attempt_of is_request ≡ (begun is_request has).attempt
+begun_attempt is_request true = refl
+begun_attempt is_request false = refl
+
 worked_kept : (o : WorkOutcome) (ok : Bool) (a : Option ℕ) (stage : Stage) → can_be a stage ≡ true
     → can_be a (finished ok (worked_by o stage)) ≡ true
 worked_kept o ok (Some n) (Stage.Work (Task.Pending q)) h = refl
@@ -74,25 +85,30 @@ worked_kept o ok a Stage.Unsure h = h
 worked_kept o ok a (Stage.Answer x) h = h
 worked_kept o ok a Stage.Done h = h
 
-pub work_kept : (o : WorkOutcome) (d : Driver) → can_be d.attempt d.stage ≡ true
-    → can_be (after_work o d).attempt (after_work o d).stage ≡ true
-work_kept o d h = worked_kept o (is_done o) d.attempt d.stage h
+pub work_kept : (at : WorkerStage) (a : Option ℕ) (stage : Stage) → can_be a stage ≡ true
+    → can_be a (stage_after at stage) ≡ true
+work_kept (WorkerStage.Ended o) a stage h = worked_kept o (is_done o) a stage h
+work_kept (WorkerStage.Look l) a stage h = h
+work_kept (WorkerStage.Sync l) a stage h = h
+work_kept WorkerStage.Try a stage h = h
+work_kept WorkerStage.Undo a stage h = h
+work_kept WorkerStage.Unknown a stage h = h
 
 -- ---- what is read
 
-first_by_kept : (l put_off : Bool) (row : Held) (q : Request) (after : Held) (begun : Begun)
-    → can_answer (first_by l put_off row q after begun).stage ≡ true
-first_by_kept l put_off row q after (Answered x) = refl
-first_by_kept true put_off row q after (Begun.Work w) = refl
-first_by_kept false put_off row q after (Begun.Work w) = refl
+first_by_kept : (n : ℕ) (l put_off : Bool) (row : Held) (q : Request) (after : Held) (begun : Begun)
+    → can_be (Some n) (first_by l put_off row q after begun).stage ≡ true
+first_by_kept n l put_off row q after (Answered x) = refl
+first_by_kept n true put_off row q after (Begun.Work w) = refl
+first_by_kept n false put_off row q after (Begun.Work w) = refl
 
-first_kept : (l own put_off : Bool) (row : Held) (q : Request) (begun : Held × Begun)
-    → can_answer (first l own put_off row q begun).stage ≡ true
-first_kept l true put_off row q begun = refl
-first_kept l false put_off row q begun = first_by_kept l put_off row q begun.0 begun.1
+first_kept : (n : ℕ) (l own put_off : Bool) (row : Held) (q : Request) (begun : Held × Begun)
+    → can_be (Some n) (first l own put_off row q begun).stage ≡ true
+first_kept n l true put_off row q begun = refl
+first_kept n l false put_off row q begun = first_by_kept n l put_off row q begun.0 begun.1
 
 take_up_kept : (work : Option Request) (operating waiting : Bool) (row : Held)
-    → can_take_up (take_up_by work operating waiting row).stage ≡ true
+    → can_be None (take_up_by work operating waiting row).stage ≡ true
 take_up_kept (Some q) operating waiting row = refl
 take_up_kept None true waiting row = refl
 take_up_kept None false true row = refl
@@ -143,7 +159,7 @@ finish_kept a true row ok = finish_by_kept a (is_operating row) row ok
 pub transaction_kept : (a : Option ℕ) (stage : Stage) (own : Bool) (p : Permit) (mode : Option Mode)
     (first_poll : Bool) (row : Held) (q : Request) (attributes : Digest) → can_be a stage ≡ true
     → IfSome (transaction a stage own p mode first_poll row q attributes) (λ tx. can_be a tx.stage ≡ true)
-transaction_kept (Some n) (Stage.Begin l) own p mode first_poll row q attributes h = first_kept l own _ row q _
+transaction_kept (Some n) (Stage.Begin l) own p mode first_poll row q attributes h = first_kept n l own _ row q _
 transaction_kept None (Stage.Begin l) own p mode first_poll row q attributes h =
     take_up_kept row.work (is_operating row) (row.waiting && p.give_up) row
 transaction_kept a Stage.Unsure own p mode first_poll row q attributes h = resume_kept a own row row.work
@@ -177,7 +193,7 @@ pub binding_kept : (a : Option ℕ) (stage : Stage) (own give_up : Bool) (mode :
     → IfSome (binding_transaction a stage own give_up mode first_poll row instance r attributes)
     (λ tx. can_be a tx.stage ≡ true)
 binding_kept (Some n) (Stage.Begin l) own give_up mode first_poll row instance r attributes h =
-    first_kept l own _ row (life_request r) _
+    first_kept n l own _ row (life_request r) _
 binding_kept None (Stage.Begin l) own give_up mode first_poll row instance r attributes h =
     take_up_kept row.work (is_operating row) (row.waiting && give_up) row
 binding_kept a Stage.Unsure own give_up mode first_poll row instance r attributes h = resume_kept a own row row.work
@@ -206,8 +222,8 @@ binding_there a Stage.Done own give_up mode first_poll row instance r attributes
 
 -- ---- a commit of which nobody knows
 
-unsure_if : (b : Bool) (n : ℕ) (s t : Stage) → can_answer s ≡ true → can_answer t ≡ true
-    → can_answer (if b then s else t) ≡ true
+unsure_if : (b : Bool) (n : ℕ) (s t : Stage) → can_be (Some n) s ≡ true → can_be (Some n) t ≡ true
+    → can_be (Some n) (if b then s else t) ≡ true
 unsure_if true n s t h k = h
 unsure_if false n s t h k = k
 

@@ -1,17 +1,19 @@
 -- A driver as it crosses.
-use Rattle.std.specs.Prelude.{◌≡◌, ◌≢◌, ℕ, Bool, true, false, not, ◌==◌, if◌then◌else◌, List, replicate}
+use Rattle.std.specs.Prelude.{◌≡◌, ◌≢◌, ℕ, Bool, true, false, not, ◌==◌, ◌&&◌, if◌then◌else◌, List, replicate}
+use Rattle.std.specs.Prelude.{IsSomeAnd}
 use Rattle.std.specs.Prelude.{Option, Some, None, is_none, option_map, option_and_then}
 use Rattle.std.specs.Str.{bytes_eq}
 use Rattle.osb_message.specs.declared.messages.Answer.{Answer}
-use Rattle.osb_instance.specs.declared.outcome.WorkOutcome.{WorkOutcome}
-use Rattle.osb_driver.specs.Driver.{at_stage, finished, locked, missed, worked_by}
+use Rattle.osb_driver.specs.Driver.{at_stage, locked, missed}
 use Rattle.osb_driver.specs.declared.driver.Driver.{Driver}
 use Rattle.osb_driver.specs.declared.driver.Stage.{Stage}
 use Rattle.osb_driver.specs.declared.driver.Task.{Task}
+use Rattle.osb_driver.specs.declared.worker.Worker.{Worker}
 use Rattle.osb_c_types.specs.Answers.{IsNumbered, answer_of}
 use Rattle.osb_c_types.specs.Requests.{request_of}
 use Rattle.osb_c_instance.specs.Holdings.{zero_answer, zero_request}
 use Rattle.osb_c_instance.specs.Outcomes.{outcome_of}
+use Rattle.osb_c_driver.specs.Workers.{after_work, call_code, call_in, has_worker, worker_of, working}
 use Rattle.osb_c_driver.specs.declared.drivers.OsbDriver.{OsbDriver}
 
 -- ---- its number
@@ -79,9 +81,17 @@ can_take_up Stage.Unsure = false
 can_take_up (Stage.Answer answer) = false
 can_take_up stage = true
 
+-- none is at `TryLock`: a driver begins with the report of its lock
+abbrev pub is_begun : Stage → Bool
+is_begun Stage.TryLock = false
+is_begun stage = true
+
+abbrev pub can_be_by : Option ℕ → Stage → Bool
+can_be_by (Some attempt) stage = can_answer stage
+can_be_by None stage = can_take_up stage
+
 abbrev pub can_be : Option ℕ → Stage → Bool
-can_be (Some attempt) stage = can_answer stage
-can_be None stage = can_take_up stage
+can_be attempt stage = is_begun stage && can_be_by attempt stage
 
 -- a broker doesn't know the attempt of the request that a driver answers: 0 stands for it
 abbrev pub attempt_of : Bool → Option ℕ
@@ -95,7 +105,8 @@ possible attempt stage = if can_be attempt stage then Some (at_stage attempt sta
 -- together they can come about
 abbrev pub driver_of : OsbDriver → Option Driver
 driver_of d =
-    if is_number d.number then option_and_then (possible (attempt_of d.is_request)) (stage_of d) else None
+    if is_number d.number && has_worker d then option_and_then (possible (attempt_of d.is_request)) (stage_of d)
+    else None
 
 -- what doesn't count is zeroes: so equal drivers are equal structs
 pub record IsPlainDriver (d : OsbDriver) : Type 0 where
@@ -107,19 +118,18 @@ pub record IsPlainDriver (d : OsbDriver) : Type 0 where
   pub pending : d.stage ≢ 3 → d.is_pending ≡ false
   pub answered : d.stage ≢ 4 → d.has_answer ≡ false
   pub ok : d.stage ≢ 5 → d.ok ≡ false
+  -- the call is that of the worker
+  pub call : d.call ≡ call_code (call_in d)
+  pub look : d.call ≢ 1 → d.call ≢ 2 → d.look ≡ 0
+  pub rejection : d.stage ≢ 3 → d.rejection ≡ 0
+  pub creates : d.stage ≢ 3 → d.creates ≡ false
 
 -- ---- what is reported to it
 
 -- whether the stage asks for the lock
 abbrev pub asks_for_lock : Stage → Bool
-asks_for_lock Stage.TryLock = true
 asks_for_lock Stage.AwaitLock = true
 asks_for_lock stage = false
-
--- whether the stage is work
-abbrev pub is_work : Stage → Bool
-is_work (Stage.Work task) = true
-is_work stage = false
 
 -- whether the stage is a transaction
 abbrev pub is_transaction : Stage → Bool
@@ -134,10 +144,15 @@ abbrev pub after_lock : Bool → Driver → Driver
 after_lock true d = at_stage d.attempt (locked d.stage)
 after_lock false d = at_stage d.attempt (missed d.attempt d.stage)
 
-abbrev pub is_done : WorkOutcome → Bool
-is_done WorkOutcome.Done = true
-is_done outcome = false
+-- the driver that begins with the lock, or without
+abbrev pub begun : Bool → Bool → Driver
+begun is_request has_lock = after_lock has_lock (at_stage (attempt_of is_request) Stage.TryLock)
 
--- the driver whose pending work has ended so, or its operation, which has succeeded if it is done
-abbrev pub after_work : WorkOutcome → Driver → Driver
-after_work outcome d = at_stage d.attempt (finished (is_done outcome) (worked_by outcome d.stage))
+-- the driver and the worker that crossed, of which this holds
+abbrev pub IsWorker : OsbDriver → (Driver → Worker → Type 0) → Type 0
+IsWorker d P = IsSomeAnd (driver_of d) (λ driver. IsSomeAnd (worker_of d) (λ worker. P driver worker))
+
+-- what follows for a driver once its worker stands so
+pub record IsWorked (d : Driver) (w : Worker) (after : OsbDriver) : Type 0 where
+  pub driver : driver_of after ≡ Some (after_work w d)
+  pub worker : worker_of after ≡ working d.stage w

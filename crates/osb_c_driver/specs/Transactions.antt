@@ -17,9 +17,8 @@ use Rattle.osb_driver.specs.declared.driver.Task.{Task}
 use Rattle.osb_driver.specs.declared.driver.Transaction.{Transaction}
 use Rattle.osb_c_instance.specs.Holdings.{IsPlain, held_of}
 use Rattle.osb_c_instance.specs.Outcomes.{outcome_of}
-use Rattle.osb_c_instance.specs.Works.{code_or_none}
-use Rattle.osb_c_instance.specs.declared.holdings.OsbHolding.{OsbHolding}
-use Rattle.osb_c_driver.specs.Drivers.{IsPlainDriver, driver_of}
+use Rattle.osb_c_driver.specs.Drivers.{IsPlainDriver, IsWorked, driver_of}
+use Rattle.osb_c_driver.specs.Workers.{worker_for}
 use Rattle.osb_c_driver.specs.declared.drivers.OsbDriver.{OsbDriver}
 use Rattle.osb_c_driver.specs.declared.transactions.OsbTransaction.{OsbTransaction}
 
@@ -77,15 +76,16 @@ number_after true own number = own
 number_after false own number = number
 
 -- what the driver that crossed as `own` writes to the row and its number, and what follows
-pub record IsWritten (own : OsbDriver) (d : Driver) (mode : Option Mode) (held : Held) (before : List ℕ) (tx : Transaction) (holding : OsbHolding) (after : List ℕ) (t : OsbTransaction) : Type 0 where
-  pub row : held_of holding ≡ Some tx.row
-  pub number : after ≡ number_after tx.takes_over own.number before
-  -- the driver once the commit has returned, and if nobody knows whether it was committed
-  pub committed : driver_of t.committed ≡ Some (at_stage d.attempt tx.stage)
+pub record IsWritten (own : OsbDriver) (d : Driver) (mode : Option Mode) (held : Held) (before : List ℕ) (tx : Transaction) (t : OsbTransaction) : Type 0 where
+  pub row : held_of t.holding ≡ Some tx.row
+  pub number : t.number ≡ number_after tx.takes_over own.number before
+  -- the driver once the commit has returned. Work that only starts an operation is done: so its driver is that of
+  -- `Driver::worked`, with the outcome `Done`
+  pub committed : IsWorked (at_stage d.attempt tx.stage) (worker_for (work_at mode tx.row tx.stage)) t.committed
+  -- the driver if nobody knows whether it was committed
   pub unsure : driver_of t.unsure ≡ Some (at_stage d.attempt (unsure d.attempt d.stage tx))
   pub numbers : (t.committed.number ≡ own.number) × (t.unsure.number ≡ own.number)
   pub effect : effect_of t ≡ Some tx.effect
   -- something is written exactly if the row changes, or the driver takes it over
   pub writes : (t.writes ≡ true) ↔ ((tx.takes_over ≡ true) ⊎ (tx.row ≢ held))
-  pub work : t.work ≡ code_or_none (work_at mode tx.row tx.stage)
-  pub plain : IsPlain holding × IsPlainDriver t.committed × IsPlainDriver t.unsure × IsPlainEffect t
+  pub plain : IsPlain t.holding × IsPlainDriver t.committed × IsPlainDriver t.unsure × IsPlainEffect t

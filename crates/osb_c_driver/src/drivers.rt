@@ -1,13 +1,14 @@
 //! A driver as it crosses.
 ghost use Rattle.std.specs.Prelude.{◌≡◌, Some, IfSome, IfNone, true, is_some};
-ghost use Rattle.osb_driver.specs.Driver.{at_stage};
 ghost use Rattle.osb_c_types.specs.Answers.{IsNumbered, answer_of};
 ghost use Rattle.osb_c_instance.specs.Holdings.{zero_answer};
 ghost use Rattle.osb_c_instance.specs.Outcomes.{outcome_of};
 ghost use Rattle.osb_c_driver.specs.Drivers.{IsPlainDriver, attempt_of, before_of, can_be, driver_of, is_number};
 ghost use Rattle.osb_c_driver.specs.Drivers.{possible, stage_code, stage_of, task_of};
+ghost use Rattle.osb_c_driver.specs.Workers.{has_worker, unknown, worker_of, working};
 ghost use Rattle.osb_c_driver.specs.Reads.{is_owner};
 
+use crate::workers::worker_from;
 use osb_c_instance::outcome_from;
 use osb_c_types::{
     OsbAnswer, OsbId, OsbRequest, answer_from, answer_out, request_from, request_out,
@@ -27,16 +28,24 @@ pub struct OsbDriver {
     pub task: OsbRequest,
     /// At `Answer` the answer to send; at `End`, if `has_answer` is true, the answer of an earlier try.
     pub answer: OsbAnswer,
+    /// At `Work`: the status with which the backend has rejected the creation, or 0.
+    pub rejection: u16,
     /// The number of the stage.
     pub stage: u8,
     /// At `End`: the number of the outcome.
     pub outcome: u8,
+    /// At `Work`: the number of the call of the backend to make next. It is 0 if nobody knows how the work ended.
+    pub call: u8,
+    /// At `Work`, if the call is a look or a sync: the number of the look that is made, or that follows.
+    pub look: u8,
     /// Whether the driver answers a request; if not, it is of a take-up.
     pub is_request: bool,
     /// At `Begin`: whether the driver has the lock.
     pub is_locked: bool,
     /// At `Work`: whether the work is pending; if not, it is the operation that runs.
     pub is_pending: bool,
+    /// At `Work`: whether the work is a creation; if not, it is a deletion.
+    pub creates: bool,
     /// At `End`: whether nobody knows if an earlier try was committed.
     pub has_answer: bool,
     /// At `Finish`: whether the operation succeeded.
@@ -144,6 +153,7 @@ fn can_be(attempt: Option<u64>, stage: Stage) -> bool
     ensures can { result ≡ can_be attempt stage }
 {
     match (attempt, stage) {
+        (_, Stage::TryLock) => false,
         (Some(_), Stage::Finish { .. }) => false,
         (Some(_), Stage::Work { task }) => task != Task::Operation,
         (Some(_), _) => true,
@@ -155,7 +165,7 @@ fn can_be(attempt: Option<u64>, stage: Stage) -> bool
 }
 
 // The attempt of the driver of a request, which a broker doesn't know, or none of a take-up.
-fn attempt_from(is_request: bool) -> Option<u64>
+pub(crate) fn attempt_from(is_request: bool) -> Option<u64>
     ensures attempt { result ≡ attempt_of is_request }
 {
     if is_request { Some(0) } else { None }
@@ -173,12 +183,19 @@ fn possible(driver: Driver) -> Option<Driver>
     }
 }
 
+// Whether the driver has a worker if it is at `Work`.
+fn has_worker(driver: &OsbDriver) -> bool
+    ensures has { result ≡ has_worker driver.now }
+{
+    driver.stage != 3 || worker_from(driver).is_some()
+}
+
 /// The driver that crossed, if a call gives such a one. It takes no memory.
 pub fn driver_from(driver: &OsbDriver) -> Option<Driver>
     ensures driver { result ≡ driver_of driver.now }
     ensures can { IfSome result (λ d. can_be d.attempt d.stage ≡ true) }
 {
-    if driver.number == NOBODY {
+    if driver.number == NOBODY || !has_worker(driver) {
         return None;
     }
     let stage = stage_from(driver)?;
@@ -212,22 +229,30 @@ fn some_answer_out(answer: Option<Answer>) -> OsbAnswer
     }
 }
 
-// A driver with the members of a stage, each of which is zeroes before. Its number is the stage's.
+// A driver with the members of a stage, each of which is zeroes before. Its number is the stage's. At `Work` nobody knows
+// how the work ended: the worker is `unknown`.
 fn with_stage(number: [u8; 16], is_request: bool, code: u8, stage: Stage) -> OsbDriver
     ensures stage { code ≡ stage_code stage → stage_of result ≡ Some stage }
     ensures number { result.number ≡ number }
     ensures request { result.is_request ≡ is_request }
+    ensures code { result.stage ≡ code }
+    ensures worker { code ≡ stage_code stage → worker_of result ≡ working stage unknown }
+    ensures has_worker { code ≡ stage_code stage → has_worker result ≡ true }
     ensures plain { code ≡ stage_code stage → IsPlainDriver result }
 {
     let plain = OsbDriver {
         number,
         task: ZERO_REQUEST,
         answer: ZERO_ANSWER,
+        rejection: 0,
         stage: code,
         outcome: 0,
+        call: 0,
+        look: 0,
         is_request,
         is_locked: false,
         is_pending: false,
+        creates: false,
         has_answer: false,
         ok: false,
     };
@@ -263,17 +288,25 @@ pub(crate) fn stage_of_driver(number: [u8; 16], is_request: bool, stage: Stage) 
     ensures stage { stage_of result ≡ Some stage }
     ensures number { result.number ≡ number }
     ensures request { result.is_request ≡ is_request }
+    ensures code { result.stage ≡ stage_code stage }
+    ensures worker { worker_of result ≡ working stage unknown }
+    ensures has_worker { has_worker result ≡ true }
     ensures plain { IsPlainDriver result }
 {
     let code = stage_out(&stage);
     with_stage(number, is_request, code, stage)
 }
 
-/// The driver at its next stage, as it crosses: of the one that crossed, with its number. It takes no memory.
-pub fn moved(driver: &OsbDriver, after: Driver) -> OsbDriver
+// The driver at its next stage, as it crosses: of the one that crossed, with its number. At `Work` nobody knows how the
+// work ended.
+pub(crate) fn moved(driver: &OsbDriver, after: Driver) -> OsbDriver
     ensures moved { (before : Driver) → driver_of driver.now ≡ Some before → after.attempt ≡ before.attempt
         → can_be after.attempt after.stage ≡ true → driver_of result ≡ Some after }
     ensures number { result.number ≡ driver.now.number }
+    ensures request { result.is_request ≡ driver.now.is_request }
+    ensures stage { stage_of result ≡ Some after.stage }
+    ensures code { result.stage ≡ stage_code after.stage }
+    ensures worker { worker_of result ≡ working after.stage unknown }
     ensures plain { IsPlainDriver result }
 {
     stage_of_driver(driver.number, driver.is_request, after.stage)

@@ -2,7 +2,7 @@
 //! left.
 //!
 //! Each export is one call of `osb_driver` or of `osb_binding_driver`, and its contract says again what that call's
-//! says, of what crossed. A driver crosses as a struct that owns nothing, and so does what a transaction comes to. A
+//! says, of what crossed. A driver at `Work` has a worker, which says which call of the backend is made next. A driver crosses as a struct that owns nothing, and so does what a transaction comes to. A
 //! struct may say anything: a driver that no call gives is refused. No call takes memory.
 //!
 //! `include/osb.h` declares all of it. All of it is this project's choice.
@@ -11,5 +11,8 @@
 mod binding_reads;
 mod driver_calls;
 mod drivers;
+mod readings;
 mod reads;
 mod transactions;
+mod worker_calls;
+mod workers;

@@ -1,19 +1,19 @@
 //! The transactions of an instance's driver.
-ghost use Rattle.std.specs.Prelude.{◌≡◌, ◌≢◌, ◌↔◌, [], ◌∷◌, Some, true, false};
+ghost use Rattle.std.specs.Prelude.{◌≡◌, ◌≢◌, ◌↔◌, ◌⊎◌, [], ◌∷◌, Some, true, false};
 ghost use Rattle.std.specs.Prelude.{IsTrue, IsSome, IsNone, IfSome, IsSomeAnd};
-ghost use Rattle.osb_driver.specs.declared.driver.Permit.{Permit};
 ghost use Rattle.osb_c_types.specs.Kinds.{kind_of};
 ghost use Rattle.osb_c_types.specs.Modes.{mode_of};
 ghost use Rattle.osb_c_types.specs.Status.{code, is_one_of};
-ghost use Rattle.osb_c_instance.specs.Holdings.{digest_of, held_of};
+ghost use Rattle.osb_c_instance.specs.Holdings.{held_of};
 ghost use Rattle.osb_c_driver.specs.Drivers.{can_be, driver_of, is_transaction, nobody};
-ghost use Rattle.osb_c_driver.specs.Reads.{IsGiven, is_owner, transaction_of};
+ghost use Rattle.osb_c_driver.specs.Reads.{IsGiven, is_fit, is_owner, mode_for, permit_of, transaction_of};
 ghost use Rattle.osb_c_driver.specs.Transactions.{IsWritten};
 
 use crate::drivers::{OsbDriver, driver_from, is_owner};
+use crate::readings::{OsbReading, is_fit, mode_for, permit_from};
 use crate::transactions::{OsbTransaction, write};
-use osb_c_instance::{OsbHolding, held_from};
-use osb_c_types::{OsbRequest, Status, mode_from, request_from};
+use osb_c_instance::held_from;
+use osb_c_types::{Status, mode_from, request_from};
 use osb_driver::{Driver, Permit, Transaction};
 use osb_instance::{Digest, Holding};
 use osb_message::{Mode, Request};
@@ -25,101 +25,104 @@ fn transaction_within(
     is_owner: bool,
     permit: Permit,
     mode: Option<Mode>,
-    first_poll: bool,
+    reading: &OsbReading,
     held: Holding,
     asked: &Request,
-    attributes: Digest,
 ) -> Option<Transaction>
-    ensures tx { result ≡ transaction_of driver.now is_owner permit mode first_poll held asked.now attributes.bytes }
+    ensures tx { result ≡ transaction_of driver.now is_owner permit mode reading.now held asked.now }
     ensures can { can_be driver.now.attempt driver.now.stage ≡ true
         → IfSome result (λ tx. can_be driver.now.attempt tx.stage ≡ true) }
     ensures there { IsSome result ↔ (is_transaction driver.now.stage ≡ true) }
 {
-    driver.transaction(is_owner, permit, mode, first_poll, held, asked, attributes)
+    let attributes = Digest {
+        bytes: reading.attributes,
+    };
+    driver.transaction(
+        is_owner,
+        permit,
+        mode,
+        reading.first_poll,
+        held,
+        asked,
+        attributes,
+    )
 }
 
-/// The transaction of an instance's driver, at `Begin`, `End`, `Finish` or `Unsure`. `holding` and `number` are those
-/// of the row, read and locked in this transaction; the number of a row that has none is zeroes, which no driver has.
-/// The call writes to both what the row has to have. If `writes` of what follows is true, write both. Once the commit
-/// has returned, go on with `committed`. If nobody knows whether it was committed, go on with `unsure`.
+/// The transaction of an instance's driver, at `Begin`, `End`, `Finish` or `Unsure`. The holding and the number of
+/// `reading` are those of the row, read and locked in this transaction; the number of a row that has none is zeroes,
+/// which no driver has. If `writes` of what follows is true, write the holding and the number that it has. Once the
+/// commit has returned, go on with `committed`. If nobody knows whether it was committed, go on with `unsure`.
 ///
-/// The mode is that of the plan: of the request's at its first transaction, else of the row's or of the pending work's.
-/// `may_begin` is as in `osb_holding_begin_if`, and `may_give_up` is whether the row has waited too long for its first
-/// Poll. `first_poll`, the request and its attributes are those of `osb_holding_begin`; they count only at the first
-/// transaction of a request, and for a take-up they may be zeroes.
-/// [`Driver::transaction`](osb_driver::Driver::transaction) has the rules. It takes no memory.
+/// A row that doesn't fit its plan is left alone, and so is one whose pending work is of another id. `may_begin` is as in
+/// `osb_holding_begin_if`. `first_poll`, the request and its attributes are those of `osb_holding_begin`. They count only
+/// at the first transaction of a request, and so does the mode of the request's plan; for a take-up they may be zeroes.
+/// [`Driver::transaction`](osb_driver::Driver::transaction) has the rules.
+///
+/// If the committed driver is at `Work`, it has a worker that has done nothing yet. Work that only starts an operation is
+/// done once its row is committed: the driver is that of [`Driver::worked`](osb_driver::Driver::worked) then. If the work
+/// isn't known, neither is how it ended. It takes no memory.
 ///
 /// It returns `Done`, or the first of these that fits: `BadDriver` if the driver is none that a call gives,
-/// `BadHolding` if the holding is none, `BadMode` if the number stands for no mode, `BadKind` if that of the request's
-/// kind stands for none, `WrongStage` if the driver's stage is no transaction. If it isn't `Done`, all is as before.
+/// `BadHolding` if the holding is none, `BadMode` if one of the numbers stands for no mode, `BadKind` if that of the
+/// request's kind stands for none, `WrongStage` if the driver's stage is no transaction, `Misfit` if the row doesn't fit.
+/// If it isn't `Done`, all is as before.
 #[tactic(auto, using(crate::proofs::Crossing::nobody_owns))]
 #[unsafe(no_mangle)]
 pub extern "C" fn osb_driver_read(
     driver: &OsbDriver,
-    holding: &mut OsbHolding,
-    number: &mut [u8; 16],
-    mode: u8,
-    first_poll: bool,
-    may_begin: bool,
-    may_give_up: bool,
-    request: &OsbRequest,
-    attributes: &[u8; 32],
+    reading: &OsbReading,
     transaction: &mut OsbTransaction,
 ) -> u32
-    ensures read { result ≡ code Status.Done → IsGiven driver.now holding.old mode request.now (λ d held m asked.
-        IsSomeAnd (transaction_of d (is_owner driver.now number.old)
-        (record { begin = may_begin; give_up = may_give_up }) m first_poll held asked attributes.now) (λ tx.
-        IsWritten driver.now d m held number.old tx holding.new number.new transaction.new)) }
-    ensures nobody { IsSome (driver_of driver.now) → number.old ≡ nobody
-        → is_owner driver.now number.old ≡ false }
+    ensures read { result ≡ code Status.Done → IsGiven driver.now reading.now (λ d held row_mode mode asked.
+        IsSomeAnd (transaction_of d (is_owner driver.now reading.now.number) (permit_of reading.now)
+        (mode_for d row_mode mode) reading.now held asked) (λ tx.
+        IsWritten driver.now d (mode_for d row_mode mode) held reading.now.number tx transaction.new)) }
+    ensures nobody { IsSome (driver_of driver.now) → reading.now.number ≡ nobody
+        → is_owner driver.now reading.now.number ≡ false }
 
     ensures bad_driver { (result ≡ code Status.BadDriver) ↔ IsNone (driver_of driver.now) }
     ensures bad_holding { (result ≡ code Status.BadHolding)
-        ↔ (IsSome (driver_of driver.now) × IsNone (held_of holding.old)) }
-    ensures bad_mode { (result ≡ code Status.BadMode)
-        ↔ (IsSome (driver_of driver.now) × IsSome (held_of holding.old) × IsNone (mode_of mode)) }
+        ↔ (IsSome (driver_of driver.now) × IsNone (held_of reading.now.holding)) }
+    ensures bad_mode { (result ≡ code Status.BadMode) ↔ (IsSome (driver_of driver.now)
+        × IsSome (held_of reading.now.holding)
+        × (IsNone (mode_of reading.now.row_mode) ⊎ IsNone (mode_of reading.now.mode))) }
     ensures bad_kind { (result ≡ code Status.BadKind) ↔ (IsSome (driver_of driver.now)
-        × IsSome (held_of holding.old) × IsSome (mode_of mode) × IsNone (kind_of request.now.kind)) }
-    ensures wrong_stage { (result ≡ code Status.WrongStage) ↔ IsGiven driver.now holding.old mode request.now
-        (λ d held m asked. is_transaction d.stage ≡ false) }
+        × IsSome (held_of reading.now.holding) × IsSome (mode_of reading.now.row_mode)
+        × IsSome (mode_of reading.now.mode) × IsNone (kind_of reading.now.request.kind)) }
+    ensures wrong_stage { (result ≡ code Status.WrongStage) ↔ IsGiven driver.now reading.now
+        (λ d held row_mode mode asked. is_transaction d.stage ≡ false) }
+    ensures misfit { (result ≡ code Status.Misfit) ↔ IsGiven driver.now reading.now
+        (λ d held row_mode mode asked. (is_transaction d.stage ≡ true)
+        × (is_fit reading.now row_mode held ≡ false)) }
     ensures statuses { IsTrue (is_one_of (Status.Done ∷ Status.BadDriver ∷ Status.BadHolding ∷ Status.BadMode
-        ∷ Status.BadKind ∷ Status.WrongStage ∷ []) result) }
-    ensures unwritten { result ≢ code Status.Done
-        → (holding.new ≡ holding.old) × (number.new ≡ number.old) × (transaction.new ≡ transaction.old) }
+        ∷ Status.BadKind ∷ Status.WrongStage ∷ Status.Misfit ∷ []) result) }
+    ensures unwritten { result ≢ code Status.Done → transaction.new ≡ transaction.old }
 {
     let Some(read) = driver_from(driver) else {
         return Status::BadDriver.code();
     };
-    let Some(held) = held_from(holding) else {
+    let Some(held) = held_from(&reading.holding) else {
         return Status::BadHolding.code();
     };
-    let Some(mode) = mode_from(mode) else {
+    let Some(row_mode) = mode_from(reading.row_mode) else {
         return Status::BadMode.code();
     };
-    let Some(asked) = request_from(request) else {
+    let Some(mode) = mode_from(reading.mode) else {
+        return Status::BadMode.code();
+    };
+    let Some(asked) = request_from(&reading.request) else {
         return Status::BadKind.code();
     };
-    let digest = Digest { bytes: *attributes };
-    let permit = Permit {
-        begin: may_begin,
-        give_up: may_give_up,
-    };
-    let is_owner = is_owner(driver, number);
-    let found = transaction_within(
-        &read, is_owner, permit, mode, first_poll, held, &asked, digest,
-    );
+    let mode = mode_for(&read, row_mode, mode);
+    let is_owner = is_owner(driver, &reading.number);
+    let permit = permit_from(reading);
+    let found = transaction_within(&read, is_owner, permit, mode, reading, held, &asked);
     let Some(written) = found else {
         return Status::WrongStage.code();
     };
-    write(
-        driver,
-        read,
-        mode,
-        held,
-        &written,
-        holding,
-        number,
-        transaction,
-    );
+    if !is_fit(reading, row_mode, held) {
+        return Status::Misfit.code();
+    }
+    *transaction = write(driver, read, mode, held, reading.number, &written);
     Status::Done.code()
 }

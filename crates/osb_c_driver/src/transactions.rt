@@ -6,15 +6,20 @@ ghost use Rattle.osb_c_driver.specs.Transactions.{IsPlainEffect, IsWritten, effe
 ghost use Rattle.osb_c_driver.specs.Transactions.{operation_of, work_at};
 
 use crate::drivers::{OsbDriver, moved, outcome_out};
-use osb_c_instance::{OsbHolding, held_out, some_work_out};
+use crate::workers::{worked, worker_for};
+use osb_c_instance::{OsbHolding, held_out};
 use osb_driver::{Driver, Effect, Stage, Task, Transaction};
 use osb_instance::{Holding, HoldingPhase, HoldingRow, Work};
 use osb_message::Mode;
 
-/// What a transaction of a driver comes to, besides the row and the number that it writes.
+/// What a transaction of a driver comes to.
 #[repr(C)]
 #[derive(Clone, Copy)]
 pub struct OsbTransaction {
+    /// The holding that the row has to have.
+    pub holding: OsbHolding,
+    /// The number that the row has to have.
+    pub number: [u8; 16],
     /// The driver once the commit has returned.
     pub committed: OsbDriver,
     /// The driver if nobody knows whether the transaction was committed.
@@ -27,8 +32,6 @@ pub struct OsbTransaction {
     pub ok: bool,
     /// Whether the row or its number has to be written: one of them changed.
     pub writes: bool,
-    /// The number of the work to do, if `committed` is at `Work`; else 0.
-    pub work: u8,
 }
 
 // The number of an event.
@@ -85,49 +88,50 @@ fn number_after(takes_over: bool, own: [u8; 16], number: [u8; 16]) -> [u8; 16]
     if takes_over { own } else { number }
 }
 
-// The event, with two drivers beside it.
+// The event, with what else a transaction comes to beside it.
 fn with_effect(
     effect: Effect,
+    holding: OsbHolding,
+    number: [u8; 16],
     committed: OsbDriver,
     unsure: OsbDriver,
     writes: bool,
-    work: u8,
 ) -> OsbTransaction
     ensures effect { effect_of result ≡ Some effect }
     ensures plain { IsPlainEffect result }
+    ensures holding { result.holding ≡ holding }
+    ensures number { result.number ≡ number }
     ensures committed { result.committed ≡ committed }
     ensures unsure { result.unsure ≡ unsure }
     ensures writes { result.writes ≡ writes }
-    ensures work { result.work ≡ work }
 {
     let outcome = match effect {
         Effect::End(outcome) => outcome_out(outcome),
         _ => 0,
     };
     OsbTransaction {
+        holding,
+        number,
         committed,
         unsure,
         effect: effect_out(effect),
         outcome,
         ok: matches!(effect, Effect::Finish(true)),
         writes,
-        work,
     }
 }
 
-// Writes what a transaction comes to: of the driver that crossed, `read`, and of the row that it read, `held`.
+// What a transaction comes to: of the driver that crossed, `read`, and of the row that it read, `held`, with its number.
 pub(crate) fn write(
     driver: &OsbDriver,
     read: Driver,
     mode: Option<Mode>,
     held: Holding,
+    number: [u8; 16],
     written: &Transaction,
-    holding: &mut OsbHolding,
-    number: &mut [u8; 16],
-    transaction: &mut OsbTransaction,
-)
+) -> OsbTransaction
     ensures written { driver_of driver.now ≡ Some read → can_be read.attempt written.now.stage ≡ true
-        → IsWritten driver.now read mode held number.old written.now holding.new number.new transaction.new }
+        → IsWritten driver.now read mode held number written.now result }
 {
     let committed = Driver {
         attempt: read.attempt,
@@ -137,14 +141,13 @@ pub(crate) fn write(
         attempt: read.attempt,
         stage: read.unsure(written),
     };
-    let work = some_work_out(work_at(mode, written.row, written.stage));
-    *holding = held_out(written.row);
-    *number = number_after(written.takes_over, driver.number, *number);
-    *transaction = with_effect(
+    let worker = worker_for(work_at(mode, written.row, written.stage));
+    with_effect(
         written.effect,
-        moved(driver, committed),
+        held_out(written.row),
+        number_after(written.takes_over, driver.number, number),
+        worked(driver, committed, worker),
         moved(driver, unsure),
         writes(held, written),
-        work,
-    );
+    )
 }

@@ -21,7 +21,7 @@ use Rattle.osb_c_types.specs.declared.status.Status.TheVariants.{NoDescription, 
 use Rattle.osb_c_types.specs.declared.status.Status.TheVariants.{BindableUnserved, UpdateUnserved, InstancesUnserved}
 use Rattle.osb_c_types.specs.declared.status.Status.TheVariants.{BindingsUnserved, SameNumber, NotReady, Bound}
 use Rattle.osb_c_types.specs.declared.status.Status.TheVariants.{RefusedBinding, RefusedApp, NotBindingText, NoBinding}
-use Rattle.osb_c_types.specs.declared.status.Status.TheVariants.{NotRetrievable, BadDriver, WrongStage}
+use Rattle.osb_c_types.specs.declared.status.Status.TheVariants.{NotRetrievable, BadDriver, WrongStage, BadThere, Misfit}
 
 abbrev pub code : Status → ℕ
 code Done = 0
@@ -101,6 +101,8 @@ code NoBinding = 81
 code NotRetrievable = 82
 code BadDriver = 83
 code WrongStage = 84
+code BadThere = 85
+code Misfit = 86
 
 -- whether a number is one of those of the statuses
 abbrev pub is_one_of : List Status → ℕ → Bool

@@ -161,6 +161,10 @@ pub enum Status {
     BadDriver,
     /// The driver is at a stage that asks for no such report.
     WrongStage,
+    /// The number stands for nothing that a look finds.
+    BadThere,
+    /// The holding of the row doesn't fit its plan, or its pending work is of another id.
+    Misfit,
 }
 
 impl Status {
@@ -246,6 +250,8 @@ impl Status {
             Status::NotRetrievable => 82,
             Status::BadDriver => 83,
             Status::WrongStage => 84,
+            Status::BadThere => 85,
+            Status::Misfit => 86,
         }
     }
 }

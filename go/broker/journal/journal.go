@@ -161,6 +161,7 @@ type answerLine struct {
 	Credentials string  `json:"credentials,omitempty"` // the digest of the binding's object, if the answer has it
 	Saw         *string `json:"saw,omitempty"`         // what was held, if the request has changed nothing
 	SawInstance *string `json:"saw_instance,omitempty"`
+	Effect      string  `json:"effect,omitempty"` // which event the request is then
 }
 
 // OnAnswer writes down an answer that is about to leave, and adds the time to its headers.
@@ -171,6 +172,9 @@ func (j *Journal) OnAnswer(ctx context.Context, header http.Header, given broker
 		Credentials: journalfile.Digest(given.Binding),
 	}
 	if it.saw != nil && !it.isChange {
+		if given.Effect != osb.EffectNothing {
+			line.Effect = given.Effect.String()
+		}
 		if err := j.see(&line, *it.saw, it.key.IsBinding); err != nil {
 			j.to.Lose(err)
 		}

@@ -17,6 +17,7 @@ import (
 	"pippinterm/broker/brokertest"
 	"pippinterm/internal/diff"
 	"pippinterm/internal/journalfile"
+	"pippinterm/internal/waits"
 	"pippinterm/osb"
 )
 
@@ -49,6 +50,70 @@ func TestAtOnce(t *testing.T) {
 	from = len(s.lines())
 	s.ask("DELETE", one+"/"+bind, atOnce)
 	want(t, "unbind again", s.events(from), "arrived; answered Gone other-error")
+}
+
+// Each change, and each request that changes nothing, has the event that its driver says it is.
+func TestEffects(t *testing.T) {
+	refused := func(status int) error { return &broker.Rejection{Status: status, Description: "full"} }
+	for _, test := range []struct {
+		name  string
+		fails error // of each creation
+		asks  string
+		want  string
+	}{
+		{"a creation", nil, "PUT at-once", "arrive; end done; -"},
+		{"a creation that fails", errFull, "PUT at-once", "arrive; end before; -"},
+		{"a creation that is rejected", refused(400), "PUT at-once", "arrive; end refused-400; -"},
+		{"a creation that doesn't fit", refused(422), "PUT at-once", "arrive; end refused-422; -"},
+		{"a deletion of nothing", nil, "DELETE at-once", "arrive; -"},
+		{"an operation", nil, "PUT later, POLL later, sweep", "arrive; -; arrive; -; finish ok"},
+		{"an operation that fails", errFull, "PUT later, POLL later, sweep", "arrive; -; arrive; -; finish fail"},
+		{"a deletion that goes on", nil, "PUT later, POLL later, sweep, DELETE later",
+			"arrive; -; arrive; -; finish ok; arrive; end done; -"},
+		{"no first Poll", nil, "PUT later, expire", "arrive; -; give-up-waiting"},
+		{"a creation again", nil, "PUT at-once, PUT at-once", "arrive; end done; -; arrive"},
+		{"a Poll", nil, "PUT at-once, POLL at-once", "arrive; end done; -; arrive"},
+		{"a Bind without its instance", nil, "BIND at-once", "put-off"},
+		{"a deletion beside a binding", nil, "PUT at-once, BIND at-once, DELETE at-once",
+			"arrive; end done; -; arrive; end done; -; put-off"},
+		{"a Fetch", nil, "PUT at-once, BIND at-once, FETCH at-once", "arrive; end done; -; arrive; end done; -; -"},
+	} {
+		t.Run(test.name, func(t *testing.T) {
+			s := newTestBroker(t)
+			s.seller.fails = test.fails
+			for _, ask := range strings.Split(test.asks, ", ") {
+				method, plan, _ := strings.Cut(ask, " ")
+				id := map[string]string{"at-once": atOnce, "later": later}[plan]
+				switch method {
+				case "sweep", "expire":
+					key := diff.Value(osb.KeyOfTexts(one, ""))(t)
+					finish := brokertest.Sweep(t, s.service, s.store, key)
+					waits.Until(t, "the end of the waiting", func() bool {
+						row, _ := diff.Value(s.store.Read(context.Background(), key))(t).Holding.Row()
+						return method == "sweep" || row.Phase == osb.PhaseFailed
+					})
+					finish()
+				case "BIND":
+					s.ask("PUT", one+"/"+bind, id)
+				case "FETCH":
+					s.ask("GET", one+"/"+bind, id)
+				default:
+					s.ask(method, one, id)
+				}
+			}
+			want(t, test.asks, s.effects(), test.want)
+		})
+	}
+}
+
+// A request that fails after it has read a row says nothing of an event, and neither does what no driver has changed.
+func TestNoEffect(t *testing.T) {
+	s := newTestBroker(t)
+	s.store.fails = errFull
+	s.ask("PUT", one, atOnce)
+	check(t, New(s.writer, nil).Store(s.store).Change(context.Background(), broker.Key{},
+		func(broker.Snapshot) (*broker.Entry, error) { return &broker.Entry{Life: 1}, nil }))
+	want(t, "the effects", s.effects(), "arrive; -; -")
 }
 
 // The members of lines, and the chain of the texts.

@@ -80,6 +80,25 @@ type changeLine struct {
 	Before      string `json:"before"`
 	After       string `json:"after"`
 	Credentials string `json:"credentials,omitempty"` // the digest of the binding's object
+	Effect      string `json:"effect,omitempty"`      // which event its driver says that it is
+}
+
+// effectOf is the event of the network that a transaction is (docs/network-schedule.md), or empty if no driver has made
+// it.
+func effectOf(transaction *osb.Transaction) string {
+	if transaction == nil {
+		return ""
+	}
+	effect, outcome, ok := transaction.Effect()
+	switch {
+	case effect == osb.EffectEnd:
+		return "end " + outcome.String()
+	case effect == osb.EffectFinish && ok:
+		return "finish ok"
+	case effect == osb.EffectFinish:
+		return "finish fail"
+	}
+	return effect.String()
 }
 
 // writeChange writes down a change, and returns its number.
@@ -88,7 +107,7 @@ func (j *Journal) writeChange(ctx context.Context, key broker.Key, before, after
 	visit.isChange = visit.isChange || key == visit.key
 	line := changeLine{
 		Change: j.changes.begin(), Visit: visit.number, subject: subjectOf(key), Life: after.Life,
-		Credentials: journalfile.Digest(after.Binding),
+		Credentials: journalfile.Digest(after.Binding), Effect: effectOf(broker.TransactionOf(ctx)),
 	}
 	var err error
 	if line.Before, err = j.texts.text(before.Holding, key.IsBinding); err == nil {
@@ -256,9 +275,6 @@ func digestOf(credentials json.RawMessage) string {
 	return journalfile.Digest(object)
 }
 
-// words are what a look finds.
-var words = map[broker.There]string{broker.None: "absent", broker.Part: "part", broker.Whole: "whole"}
-
 // A backend writes down the calls of an instance.
 type backend struct {
 	of      broker.Backend
@@ -268,7 +284,7 @@ type backend struct {
 func (b backend) Look(ctx context.Context, request broker.Request) (there broker.There, err error) {
 	b.journal.do(ctx, request, "look", func() (string, json.RawMessage, error) {
 		there, err = b.of.Look(ctx, request)
-		return words[there], nil, err
+		return there.String(), nil, err
 	})
 	return there, err
 }
@@ -298,7 +314,7 @@ type bindings struct {
 func (b bindings) LookBinding(ctx context.Context, request broker.Request) (there broker.There, err error) {
 	b.journal.do(ctx, request, "look", func() (string, json.RawMessage, error) {
 		there, err = b.of.LookBinding(ctx, request)
-		return words[there], nil, err
+		return there.String(), nil, err
 	})
 	return there, err
 }

@@ -164,7 +164,7 @@ type line struct {
 	Accepts, Doubtful            bool
 	Attributes                   string
 	Committed                    int64
-	Before, After                string
+	Before, After, Effect        string
 	Call, Stage, Found, Result   string
 	Status                       int
 	Body, Credentials, Saw       string
@@ -279,6 +279,22 @@ func (s *testBroker) events(from int) string {
 		texts = append(texts, text)
 	}
 	return strings.Join(texts, "; ")
+}
+
+// effects are the events that the drivers name of all changes and answers.
+func (s *testBroker) effects() string {
+	s.t.Helper()
+	var names []string
+	for _, line := range s.lines() {
+		switch {
+		case line.Event != "changed" && line.Event != "answered":
+		case line.Effect == "":
+			names = append(names, "-")
+		default:
+			names = append(names, line.Effect)
+		}
+	}
+	return strings.Join(names, "; ")
 }
 
 func (s *testBroker) last() line {

@@ -10,6 +10,7 @@ import (
 	"time"
 
 	"pippinterm/broker"
+	"pippinterm/broker/texts"
 	"pippinterm/internal/pg"
 	"pippinterm/osb"
 )
@@ -31,11 +32,11 @@ func (r *row) into(more ...any) []any {
 }
 
 // entry is what the row has, or the zero Entry if there is no row.
-func (r *row) entry(key broker.Key) (entry broker.Entry, err error) {
+func (r *row) entry(known *texts.Memory, key broker.Key) (entry broker.Entry, err error) {
 	if !r.holding.Valid {
 		return entry, nil
 	}
-	if entry.Holding, err = holdingOf(key.IsBinding, r.holding.String); err != nil {
+	if entry.Holding, err = known.Holding(key.IsBinding, r.holding.String); err != nil {
 		return broker.Entry{}, fmt.Errorf("what is held of %v: %w", key, err)
 	}
 	entry.Request, entry.Binding = raw(r.request), raw(r.object)
@@ -51,15 +52,15 @@ func (r *row) entry(key broker.Key) (entry broker.Entry, err error) {
 }
 
 // snapshot is what the row has, and how long ago its tombstone was written.
-func (r *row) snapshot(key broker.Key) (snapshot broker.Snapshot, err error) {
-	if snapshot.Entry, err = r.entry(key); err == nil && r.endedAgo.Float64 > 0 {
+func (r *row) snapshot(known *texts.Memory, key broker.Key) (snapshot broker.Snapshot, err error) {
+	if snapshot.Entry, err = r.entry(known, key); err == nil && r.endedAgo.Float64 > 0 {
 		snapshot.EndedAgo = time.Duration(r.endedAgo.Float64 * float64(time.Second))
 	}
 	return snapshot, err
 }
 
 // scanRow returns what the only row of a query has, and whether there is one.
-func scanRow(key broker.Key, from *sql.Row) (broker.Snapshot, bool, error) {
+func scanRow(known *texts.Memory, key broker.Key, from *sql.Row) (broker.Snapshot, bool, error) {
 	var it row
 	err := from.Scan(it.into()...)
 	if errors.Is(err, sql.ErrNoRows) {
@@ -68,26 +69,8 @@ func scanRow(key broker.Key, from *sql.Row) (broker.Snapshot, bool, error) {
 	if err != nil {
 		return broker.Snapshot{}, false, err
 	}
-	snapshot, err := it.snapshot(key)
+	snapshot, err := it.snapshot(known, key)
 	return snapshot, true, err
-}
-
-func holdingOf(isBinding bool, text string) (osb.Holding, error) {
-	if isBinding {
-		return osb.BindingHoldingFromText([]byte(text))
-	}
-	var holding osb.Holding
-	err := holding.UnmarshalJSON([]byte(text))
-	return holding, err
-}
-
-func textOf(isBinding bool, holding osb.Holding) (string, error) {
-	write := holding.MarshalJSON
-	if isBinding {
-		write = holding.BindingText
-	}
-	text, err := write()
-	return string(text), err
 }
 
 func raw(text sql.NullString) json.RawMessage {
@@ -118,10 +101,10 @@ func storable(text string) string {
 func (s *Store) Read(outer context.Context, key broker.Key) (snapshot broker.Snapshot, err error) {
 	err = s.callReading(outer, func(ctx context.Context, statements statementSet) error {
 		if key.IsBinding {
-			snapshot, err = readHeldBinding(ctx, statements[readBinding], key)
+			snapshot, err = s.readHeldBinding(ctx, statements[readBinding], key)
 			return err
 		}
-		snapshot, _, err = scanRow(key, statements[findInstance].QueryRowContext(ctx, key.Instance))
+		snapshot, _, err = scanRow(&s.texts, key, statements[findInstance].QueryRowContext(ctx, key.Instance))
 		snapshot.AnyBinding = func() (is bool, err error) {
 			err = s.callReading(outer, func(ctx context.Context, statements statementSet) error {
 				return statements[anyBinding].QueryRowContext(ctx, key.Instance).Scan(&is)
@@ -147,16 +130,18 @@ func (s *Store) callReading(ctx context.Context, call func(context.Context, stat
 	})
 }
 
-func readHeldBinding(ctx context.Context, reading *sql.Stmt, key broker.Key) (snapshot broker.Snapshot, err error) {
+func (s *Store) readHeldBinding(
+	ctx context.Context, reading *sql.Stmt, key broker.Key,
+) (snapshot broker.Snapshot, err error) {
 	var it, instance row
 	found := reading.QueryRowContext(ctx, key.Instance, key.Binding)
 	if err := found.Scan(it.into(instance.into()...)...); err != nil {
 		return snapshot, err
 	}
-	if snapshot, err = it.snapshot(key); err != nil {
+	if snapshot, err = it.snapshot(&s.texts, key); err != nil {
 		return snapshot, err
 	}
-	snapshot.Instance, err = instance.entry(osb.InstanceKey(key.Instance))
+	snapshot.Instance, err = instance.entry(&s.texts, osb.InstanceKey(key.Instance))
 	return snapshot, err
 }
 
@@ -301,7 +286,7 @@ func (s *Store) Change(ctx context.Context, key broker.Key, step broker.Step) er
 		return away(err)
 	}
 	return s.transaction(ctx, &key, func(tx *sql.Tx) (bool, error) {
-		it := change{ctx: ctx, tx: tx, statements: statements, key: key}
+		it := change{ctx: ctx, tx: tx, statements: statements, texts: &s.texts, key: key}
 		snapshot, err := it.lock()
 		if err != nil {
 			return false, err
@@ -319,6 +304,7 @@ type change struct {
 	ctx        context.Context
 	tx         *sql.Tx
 	statements statementSet
+	texts      *texts.Memory
 	key        broker.Key
 }
 
@@ -362,13 +348,13 @@ func (c change) lockRow(key broker.Key, how string) (broker.Snapshot, error) {
 }
 
 func (c change) find(key broker.Key, how string) (broker.Snapshot, bool, error) {
-	return scanRow(key, c.statement(findStatement(key)+how).QueryRowContext(c.ctx, keyParameters(key)...))
+	return scanRow(c.texts, key, c.statement(findStatement(key)+how).QueryRowContext(c.ctx, keyParameters(key)...))
 }
 
 // insert inserts the row of the zero Holding, unless another transaction does it first, which it waits for. It returns
 // whether the row is new. A new row is locked.
 func (c change) insert(key broker.Key) (bool, error) {
-	text, err := textOf(key.IsBinding, osb.Holding{})
+	text, err := c.texts.Text(key.IsBinding, osb.Holding{})
 	if err != nil {
 		return false, err
 	}
@@ -382,7 +368,7 @@ func (c change) insert(key broker.Key) (bool, error) {
 }
 
 func (c change) write(entry broker.Entry) error {
-	text, err := textOf(c.key.IsBinding, entry.Holding)
+	text, err := c.texts.Text(c.key.IsBinding, entry.Holding)
 	if err != nil {
 		return err
 	}

@@ -17,6 +17,7 @@ import (
 	"time"
 
 	"pippinterm/broker"
+	"pippinterm/broker/texts"
 	"pippinterm/internal/pg"
 )
 
@@ -35,6 +36,7 @@ type Store struct {
 	most        int
 	preparation preparation
 	id          atomic.Value // what ID has returned: a string
+	texts       texts.Memory // of the holdings
 
 	turn     sync.Mutex
 	isClosed bool
@@ -217,7 +219,7 @@ LEFT JOIN osb_holdings AS i ON i.id = k.instance
 `
 )
 
-var texts = []string{
+var prepared = []string{
 	findInstance, findInstance + forUpdate, findInstance + forShare, findBinding + forUpdate,
 	insertInstance, insertBinding, writeInstance, writeBinding,
 	anyBinding, readBinding,
@@ -241,8 +243,8 @@ func (s *Store) statements(ctx context.Context) (statementSet, error) {
 	if p.all != nil {
 		return p.all, nil
 	}
-	all := make(statementSet, len(texts))
-	for _, text := range texts {
+	all := make(statementSet, len(prepared))
+	for _, text := range prepared {
 		it, err := s.db.PrepareContext(ctx, text)
 		if err != nil {
 			for _, other := range all {

@@ -9,6 +9,7 @@ import (
 	"time"
 
 	"pippinterm/broker"
+	"pippinterm/broker/texts"
 	"pippinterm/internal/sqlitefile"
 	"pippinterm/osb"
 )
@@ -19,38 +20,7 @@ type connection struct {
 	readInstance, putInstance *sqlitefile.Statement
 	readBinding, putBinding   *sqlitefile.Statement
 	anyBinding                *sqlitefile.Statement
-	instances, bindings       texts
-}
-
-// texts are the texts of holdings that were read or written lately, with what they mean. Those of instances at rest
-// name none, so few are there. The others are read again soon, or never.
-type texts struct {
-	meanings map[string]osb.Holding
-	written  map[osb.Holding]string
-}
-
-const fewTexts = 1024
-
-func (t *texts) keep(text string, holding osb.Holding) {
-	if t.meanings == nil || len(t.meanings) >= fewTexts {
-		t.meanings, t.written = make(map[string]osb.Holding, fewTexts), map[osb.Holding]string{}
-	}
-	t.meanings[text] = holding
-	if _, isPending := holding.Work(); !isPending {
-		t.written[holding] = text
-	}
-}
-
-// text is the text of a holding, which write writes unless it is known.
-func (t *texts) text(holding osb.Holding, write func() ([]byte, error)) (string, error) {
-	if text, isKnown := t.written[holding]; isKnown {
-		return text, nil
-	}
-	text, err := write()
-	if err == nil {
-		t.keep(string(text), holding)
-	}
-	return string(text), err
+	texts                     texts.Memory // of the holdings
 }
 
 // prepare prepares the statements for a connection.
@@ -97,7 +67,7 @@ func (c *connection) snapshot(key broker.Key) (snapshot broker.Snapshot, err err
 	if err != nil || row == nil {
 		return snapshot, err
 	}
-	if snapshot.Entry, err = entryOf(row, &c.bindings, osb.BindingHoldingFromText); err != nil {
+	if snapshot.Entry, err = c.entry(row, true); err != nil {
 		return snapshot, unreadable{fmt.Errorf("sqlite: what is held of %v: %w", key, err)}
 	}
 	snapshot.EndedAgo = ago(row[5])
@@ -118,11 +88,7 @@ func (c *connection) instance(id osb.ID) (entry broker.Entry, endedAgo time.Dura
 	if err != nil || row == nil {
 		return entry, 0, err
 	}
-	read := func(text []byte) (holding osb.Holding, err error) {
-		err = holding.UnmarshalJSON(text)
-		return holding, err
-	}
-	if entry, err = entryOf(row, &c.instances, read); err != nil {
+	if entry, err = c.entry(row, false); err != nil {
 		return entry, 0, unreadable{fmt.Errorf("sqlite: what is held of %v: %w", id, err)}
 	}
 	return entry, ago(row[5]), nil
@@ -141,17 +107,14 @@ func ago(column driver.Value) time.Duration {
 	return 0
 }
 
-// entryOf reads the columns holding, request, description, since, life and worker.
-func entryOf(row []driver.Value, known *texts, read func([]byte) (osb.Holding, error)) (entry broker.Entry, err error) {
+// entry reads the columns holding, request, description, since, life and worker.
+func (c *connection) entry(row []driver.Value, isBinding bool) (entry broker.Entry, err error) {
 	text, ok := row[0].(string) // nil if the driver has lost an error
 	if !ok {
 		return entry, errors.New("the column holding has no text")
 	}
-	if entry.Holding, ok = known.meanings[text]; !ok {
-		if entry.Holding, err = read([]byte(text)); err != nil {
-			return entry, err
-		}
-		known.keep(text, entry.Holding)
+	if entry.Holding, err = c.texts.Holding(isBinding, text); err != nil {
+		return entry, err
 	}
 	if entry.Request, err = optional(row[1]); err != nil {
 		return entry, err
@@ -185,11 +148,7 @@ func (c *connection) put(key broker.Key, entry broker.Entry) error {
 	if !c.InTransaction() {
 		return fmt.Errorf("sqlite: %w", sqlitefile.ErrBroken)
 	}
-	write, known := entry.Holding.MarshalJSON, &c.instances
-	if key.IsBinding {
-		write, known = entry.Holding.BindingText, &c.bindings
-	}
-	text, err := known.text(entry.Holding, write)
+	text, err := c.texts.Text(key.IsBinding, entry.Holding)
 	if err != nil {
 		return err
 	}

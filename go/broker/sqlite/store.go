@@ -43,13 +43,12 @@ func Open(ctx context.Context, path string, observer broker.Observer) (*Store, e
 // openBy returns a store over a file whose connections a driver opens, SQLite's own if it is nil.
 func openBy(ctx context.Context, path string, observer broker.Observer, by driver.Driver) (*Store, error) {
 	file, err := sqlitefile.Open(ctx, path, sqlitefile.Options[*connection]{
-		Readers:      readers,
-		Together:     together,
-		OneStatement: true, // each change ends with the only statement that writes
-		Driver:       by,
-		Migrate:      makeTables,
-		Prepare:      prepare,
-		Committed:    observer.OnCommit,
+		Readers:   readers,
+		Together:  together,
+		Driver:    by,
+		Migrate:   makeTables,
+		Prepare:   prepare,
+		Committed: observer.OnCommit,
 	})
 	if err != nil {
 		return nil, err

@@ -260,10 +260,18 @@ func (t *trial) look(ctx context.Context, r *resource, wanted broker.There) bool
 	return t.try(ctx, r.callName("look"), func() (string, error) {
 		found, err := t.calls.look(ctx, r)
 		if err == nil && found != wanted {
-			err = fmt.Errorf("%v, and not %v", found, wanted)
+			err = fmt.Errorf("%v, and not %v", wordOf(found), wordOf(wanted))
 		}
-		return found.String(), err
+		return wordOf(found), err
 	})
+}
+
+// wordOf is the word with which a backend says what exists.
+func wordOf(there broker.There) string {
+	if there == broker.None {
+		return "none"
+	}
+	return there.String()
 }
 
 // isUntouched looks whether all of a resource still exists, if it was created and not deleted.

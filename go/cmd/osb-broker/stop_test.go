@@ -315,5 +315,5 @@ func TestServesWithoutTheServiceManager(t *testing.T) {
 	reason, _ := s.Event("stopping")["notify_error"].(string)
 	diff.Contains(t, reason, "STOPPING=1", "the log")
 	diff.Contains(t, reason, name, "the log")
-	s.stop()
+	s.ends(true)
 }

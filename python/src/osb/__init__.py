@@ -3,7 +3,7 @@ whose resources are created in Python is a command backend of osb-broker (docs/b
 osb-platform, with an API over HTTP (docs/platform-guide.md).
 
 - `Record` and `Holding`: one instance as a value, as a platform and as a broker keep it in a database, with its text.
-- `Driver`: what a broker does next.
+- `Driver`: what a broker does next. `PlatformDriver`: what a platform does next.
 - `osb.wire`: requests and answers as HTTP and JSON have them. `osb.binding_wire`: those of bindings.
 - `osb.tables`: two of the platform's tables.
 
@@ -15,12 +15,29 @@ from __future__ import annotations
 
 from osb._header import VERSION
 from osb._lib import version
-from osb.driver import NO_NUMBER, Driver, Transaction
-from osb.enums import Body, Effect, Kind, Mode, Outcome, Phase, Stage, State, Status, Work
+from osb.driver import NO_NUMBER, Driver, Reading, Transaction
+from osb.enums import (
+    Body,
+    Call,
+    CleanUp,
+    Effect,
+    Kind,
+    Look,
+    Mode,
+    Outcome,
+    Phase,
+    PlatformStage,
+    Stage,
+    State,
+    Status,
+    There,
+    Work,
+)
 from osb.errors import OsbError, Refusal
 from osb.holding import NO_ATTRIBUTES, Holding, work_of
 from osb.ids import Id
 from osb.messages import Answer, BrokerRow, Endpoints, Plan, PlatformRow, Request
+from osb.platform_driver import PlatformDriver, PlatformReading, PlatformTransaction
 from osb.record import Record
 
 __version__ = f"{VERSION // 10000}.{VERSION // 100 % 100}.{VERSION % 100}"
@@ -30,12 +47,15 @@ __all__ = [
     "Answer",
     "Body",
     "BrokerRow",
+    "Call",
+    "CleanUp",
     "Driver",
     "Effect",
     "Endpoints",
     "Holding",
     "Id",
     "Kind",
+    "Look",
     "Mode",
     "NO_ATTRIBUTES",
     "NO_NUMBER",
@@ -43,13 +63,19 @@ __all__ = [
     "Outcome",
     "Phase",
     "Plan",
+    "PlatformDriver",
+    "PlatformReading",
     "PlatformRow",
+    "PlatformStage",
+    "PlatformTransaction",
+    "Reading",
     "Record",
     "Refusal",
     "Request",
     "Stage",
     "State",
     "Status",
+    "There",
     "Transaction",
     "Work",
     "__version__",

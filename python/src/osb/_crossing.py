@@ -17,6 +17,13 @@ def id_from(id: CId) -> Id:
     return Id(id.high, id.low)
 
 
+def number_to(number: bytes) -> bytes:
+    """The number of a driver."""
+    if len(number) != 16:
+        raise ValueError("the number of a driver has 16 bytes")
+    return bytes(number)
+
+
 def kind_to(kind: Kind | None) -> int:
     return KIND_NONE if kind is None else Kind(kind).value
 

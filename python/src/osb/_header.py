@@ -16,6 +16,8 @@ KIND_NONE = 255
 STATE_NONE = 255
 MODE_NONE = 255
 WORK_NONE = 0
+CALL_NONE = 0
+CLEAN_UP_NONE = 0
 TARGET_NONE = 0
 
 
@@ -67,25 +69,94 @@ class CDriver(c.Structure):
         ("number", c.c_uint8 * 16),
         ("task", CRequest),
         ("answer", CAnswer),
+        ("rejection", c.c_uint16),
         ("stage", c.c_uint8),
         ("outcome", c.c_uint8),
+        ("call", c.c_uint8),
+        ("look", c.c_uint8),
         ("is_request", c.c_bool),
         ("is_locked", c.c_bool),
         ("is_pending", c.c_bool),
+        ("creates", c.c_bool),
         ("has_answer", c.c_bool),
         ("ok", c.c_bool),
     ]
 
 
+class CReading(c.Structure):
+    _fields_ = [
+        ("holding", CHolding),
+        ("request", CRequest),
+        ("id", CId),
+        ("number", c.c_uint8 * 16),
+        ("attributes", c.c_uint8 * 32),
+        ("row_mode", c.c_uint8),
+        ("mode", c.c_uint8),
+        ("first_poll", c.c_bool),
+        ("may_begin", c.c_bool),
+        ("may_give_up", c.c_bool),
+    ]
+
+
 class CTransaction(c.Structure):
     _fields_ = [
+        ("holding", CHolding),
+        ("number", c.c_uint8 * 16),
         ("committed", CDriver),
         ("unsure", CDriver),
         ("effect", c.c_uint8),
         ("outcome", c.c_uint8),
         ("ok", c.c_bool),
         ("writes", c.c_bool),
-        ("work", c.c_uint8),
+    ]
+
+
+class CPlatformDriver(c.Structure):
+    _fields_ = [
+        ("number", c.c_uint8 * 16),
+        ("attempt", c.c_uint64),
+        ("request", CRequest),
+        ("answer", CAnswer),
+        ("stage", c.c_uint8),
+        ("is_binding", c.c_bool),
+        ("has_answer", c.c_bool),
+        ("has_credentials", c.c_bool),
+        ("fetches", c.c_bool),
+    ]
+
+
+class CPlatformReading(c.Structure):
+    _fields_ = [
+        ("record", CRecord),
+        ("instance", CRecord),
+        ("id", CId),
+        ("service", CId),
+        ("plan", CId),
+        ("number", c.c_uint8 * 16),
+        ("clean_up", c.c_uint8),
+        ("has_record", c.c_bool),
+        ("has_instance", c.c_bool),
+        ("all_gone", c.c_bool),
+        ("create", c.c_bool),
+        ("send", c.c_bool),
+        ("accepts_incomplete", c.c_bool),
+        ("retrievable", c.c_bool),
+    ]
+
+
+class CPlatformTransaction(c.Structure):
+    _fields_ = [
+        ("record", CRecord),
+        ("number", c.c_uint8 * 16),
+        ("committed", CPlatformDriver),
+        ("unsure", CPlatformDriver),
+        ("failed", CPlatformDriver),
+        ("cleans_up", c.c_uint8),
+        ("has_record", c.c_bool),
+        ("writes", c.c_bool),
+        ("times_out", c.c_bool),
+        ("sends", c.c_bool),
+        ("takes", c.c_bool),
     ]
 
 
@@ -217,41 +288,17 @@ EXPORTS: list[tuple[str, Any, list[Any]]] = [
         [_AT(CHolding), _AT(CHolding), c.c_uint8, c.c_bool, _AT(CRequest), c.c_char_p, _AT(CBegun)],
     ),
     ("osb_binding_fetch", c.c_uint32, [_AT(CHolding), _AT(CAnswer)]),
-    ("osb_driver_new", c.c_uint32, [c.c_char_p, c.c_bool, _AT(CDriver)]),
+    ("osb_driver_new", c.c_uint32, [c.c_char_p, c.c_bool, c.c_bool, _AT(CDriver)]),
     ("osb_driver_locked", c.c_uint32, [_AT(CDriver), c.c_bool]),
-    ("osb_driver_worked", c.c_uint32, [_AT(CDriver), c.c_uint8]),
-    (
-        "osb_driver_read",
-        c.c_uint32,
-        [
-            _AT(CDriver),
-            _AT(CHolding),
-            c.c_char_p,
-            c.c_uint8,
-            c.c_bool,
-            c.c_bool,
-            c.c_bool,
-            _AT(CRequest),
-            c.c_char_p,
-            _AT(CTransaction),
-        ],
-    ),
-    (
-        "osb_binding_driver_read",
-        c.c_uint32,
-        [
-            _AT(CDriver),
-            _AT(CHolding),
-            c.c_char_p,
-            _AT(CHolding),
-            c.c_uint8,
-            c.c_bool,
-            c.c_bool,
-            _AT(CRequest),
-            c.c_char_p,
-            _AT(CTransaction),
-        ],
-    ),
+    ("osb_driver_looked", c.c_uint32, [_AT(CDriver), c.c_uint8]),
+    ("osb_driver_synced", c.c_uint32, [_AT(CDriver)]),
+    ("osb_driver_called", c.c_uint32, [_AT(CDriver), c.c_bool, c.c_uint16]),
+    ("osb_driver_read", c.c_uint32, [_AT(CDriver), _AT(CReading), _AT(CTransaction)]),
+    ("osb_binding_driver_read", c.c_uint32, [_AT(CDriver), _AT(CReading), _AT(CHolding), _AT(CTransaction)]),
+    ("osb_platform_driver_new", c.c_uint32, [c.c_char_p, c.c_bool, _AT(CPlatformDriver)]),
+    ("osb_platform_driver_read", c.c_uint32, [_AT(CPlatformDriver), _AT(CPlatformReading), _AT(CPlatformTransaction)]),
+    ("osb_platform_driver_answered", c.c_uint32, [_AT(CPlatformDriver), c.c_bool, CAnswer, c.c_bool]),
+    ("osb_platform_driver_fetched", c.c_uint32, [_AT(CPlatformDriver), c.c_bool]),
     ("osb_read_answer", c.c_uint32, [c.c_uint8, c.c_uint16, *_READ, _AT(CAnswer)]),
     ("osb_read_details", c.c_uint32, [*_READ, _AT(CDetails), *_WRITTEN]),
     ("osb_write_method", c.c_uint32, [c.c_uint8, *_WRITTEN]),

@@ -3,14 +3,14 @@ from __future__ import annotations
 
 import ctypes
 from dataclasses import dataclass
-from typing import Any
 
-from osb._crossing import answer_from, answer_to, mode_to, request_from, request_to
-from osb._header import WORK_NONE, CDriver, CHolding, CRequest, CTransaction
+from osb._crossing import answer_from, answer_to, id_to, mode_to, number_to, request_from, request_to
+from osb._header import CALL_NONE, CDriver, CReading, CTransaction
 from osb._lib import lib
-from osb.enums import Effect, Mode, Outcome, Stage, Work
+from osb.enums import Call, Effect, Look, Mode, Outcome, Stage, There
 from osb.errors import check
 from osb.holding import NO_ATTRIBUTES, Holding, digest_to, holding_from, holding_to
+from osb.ids import Id
 from osb.messages import Answer, Request
 
 NO_NUMBER = bytes(16)
@@ -21,20 +21,31 @@ NO_NUMBER = bytes(16)
 class Driver:
     """The way of one request through a broker, or of one take-up, which goes on with what a dead worker has left.
 
-    It says the one action that the program carries out next (`stage`), and the program reports what came of it, by
-    `locked`, by `worked`, or by one of the drivers of a `Transaction`. So the program decides nothing. Each call gives
-    the next driver, and changes none: step no driver twice. A driver that no call gives is refused with BAD_DRIVER.
+    It says the one action that the program carries out next (`stage`), and the program reports what came of it: by
+    `locked`, by `looked`, `synced` or `called`, or by one of the drivers of a `Transaction`. So the program decides
+    nothing. Each call gives the next driver, and changes none: step no driver twice. A driver that no call gives is
+    refused with BAD_DRIVER.
     """
 
     number: bytes
     """The driver's own, 16 bytes: no other driver ever has it."""
-    stage: Stage = Stage.TRY_LOCK
+    stage: Stage
     is_request: bool = True
     """Whether it answers a request. If not, it is of a take-up."""
     is_locked: bool = False
     """At BEGIN: whether it has the lock."""
     task: Request | None = None
     """At WORK: the request whose work is pending, or None if the work is the operation that runs."""
+    call: Call | None = None
+    """At WORK: the call of the backend to make next. If it is None, nobody knows how the work ended: step the driver no
+    more.
+    """
+    creates: bool = False
+    """At WORK: whether the work is a creation. If not, it is a deletion."""
+    look: Look | None = None
+    """At WORK, if the call is a look or a sync: the look that is made, or that follows."""
+    rejection: int = 0
+    """At WORK: the status with which the backend has rejected the creation, or 0."""
     outcome: Outcome | None = None
     """At END: how the work went."""
     answer: Answer | None = None
@@ -43,76 +54,91 @@ class Driver:
     """At FINISH: whether the operation succeeded."""
 
     @classmethod
-    def new(cls, number: bytes, *, is_request: bool) -> Driver:
-        """A driver at its beginning: of a request, or of a take-up. Draw 16 random bytes for its number. Raises
-        BAD_DRIVER if they are zeroes.
+    def new(cls, number: bytes, *, is_request: bool, has_lock: bool) -> Driver:
+        """A driver at its beginning: of a request, or of a take-up. The program has taken the lock of its key, if that
+        was free: `has_lock` is whether it was. A lock of which nobody knows isn't had. Draw 16 random bytes for the
+        number. Raises BAD_DRIVER if they are zeroes.
         """
         driver = CDriver()
-        check(lib.osb_driver_new(bytes(_number(number)), is_request, driver))
+        check(lib.osb_driver_new(bytes(_number(number)), is_request, has_lock, driver))
         return _from(driver)
 
     def locked(self, has_lock: bool) -> Driver:
-        """Reports whether the driver has the lock of its key: at TRY_LOCK whether it was free, at AWAIT_LOCK whether
-        the driver had it after it has waited. A lock of which nobody knows isn't had. Raises WRONG_STAGE.
+        """Reports at AWAIT_LOCK whether the driver has the lock of its key after it has waited. A lock of which nobody
+        knows isn't had. Raises WRONG_STAGE.
         """
         driver = _to(self)
         check(lib.osb_driver_locked(driver, has_lock))
         return _from(driver)
 
-    def worked(self, outcome: Outcome) -> Driver:
-        """Reports how the work of WORK has ended, as a last look at the resource has shown. An operation has succeeded
-        exactly if the outcome is DONE. Raises WRONG_STAGE.
+    def looked(self, there: There) -> Driver:
+        """Reports what the look of LOOK has found. A look that shows how the work has ended moves the driver on, to END
+        or FINISH. If a look has failed, nobody knows how the work ended: step the driver no more. Raises WRONG_STAGE.
         """
         driver = _to(self)
-        check(lib.osb_driver_worked(driver, Outcome(outcome).value))
+        check(lib.osb_driver_looked(driver, There(there).value))
         return _from(driver)
 
-    def read(
-        self,
-        holding: Holding,
-        number: bytes,
-        mode: Mode | None,
-        request: Request | None = None,
-        *,
-        may_begin: bool = True,
-        may_give_up: bool = False,
-        first_poll: bool = False,
-        attributes: bytes = NO_ATTRIBUTES,
-    ) -> Transaction:
+    def synced(self) -> Driver:
+        """Reports that what exists is on disk (SYNC). If that failed, step the driver no more. Raises WRONG_STAGE."""
+        driver = _to(self)
+        check(lib.osb_driver_synced(driver))
+        return _from(driver)
+
+    def called(self, ok: bool, rejection: int = 0) -> Driver:
+        """Reports that CREATE or DELETE has returned, and whether without an error. `rejection` is 400 or 422 if the
+        backend has rejected the creation with that status, and else 0. Raises NOT_REFUSED, WRONG_STAGE.
+        """
+        driver = _to(self)
+        check(lib.osb_driver_called(driver, ok, rejection))
+        return _from(driver)
+
+    def read(self, row: Reading) -> Transaction:
         """The transaction of an instance's driver, at BEGIN, END, FINISH and UNSURE.
 
-        Read the holding and the number of the row, locked, in this transaction. A row without a number has `NO_NUMBER`.
-        If the transaction that comes back `writes`, write its holding and its number, and commit. The mode, the
-        request, `first_poll`, `attributes` and `may_begin` are those of `Holding.begin_if`. The request counts only at
-        the first transaction of a request, and is None for a take-up. `may_give_up` is whether the row has waited too
-        long for its first Poll. Raises BAD_HOLDING, WRONG_STAGE.
+        If the transaction that comes back `writes`, write its holding and its number, and commit. Work that only starts
+        an operation needs no call of the backend: the driver that is committed is at END then. Raises BAD_HOLDING,
+        WRONG_STAGE, and MISFIT if the row doesn't fit its plan, or its pending work is of another id. Such a row is
+        left alone.
         """
-        row, own, transaction = holding_to(holding), _number(number), CTransaction()
-        may, asked, digest = (first_poll, may_begin, may_give_up), _request_to(request), bytes(digest_to(attributes))
-        check(lib.osb_driver_read(_to(self), row, own, mode_to(mode), *may, asked, digest, transaction))
-        return _transaction_from(row, own, transaction)
+        transaction = CTransaction()
+        check(lib.osb_driver_read(_to(self), _reading_to(row), transaction))
+        return _transaction_from(transaction)
 
-    def read_binding(
-        self,
-        holding: Holding,
-        number: bytes,
-        instance: Holding,
-        mode: Mode | None,
-        request: Request | None = None,
-        *,
-        may_give_up: bool = False,
-        first_poll: bool = False,
-        attributes: bytes = NO_ATTRIBUTES,
-    ) -> Transaction:
+    def read_binding(self, row: Reading, instance: Holding) -> Transaction:
         """The transaction of a binding's driver, as `read` is that of an instance's. `instance` is the holding of the
         binding's instance, read and locked in this transaction: what may begin is what `Holding.begin_binding` lets
-        begin. If the instance has a tombstone, and nothing is kept of the binding, nothing is written.
+        begin. If the instance has a tombstone, and nothing is kept of the binding, nothing is written. The modes are
+        those of binding.
         """
-        row, own, transaction = holding_to(holding), _number(number), CTransaction()
-        given = (_to(self), row, own, holding_to(instance), mode_to(mode), first_poll, may_give_up)
-        asked, digest = _request_to(request), bytes(digest_to(attributes))
-        check(lib.osb_binding_driver_read(*given, asked, digest, transaction))
-        return _transaction_from(row, own, transaction)
+        transaction = CTransaction()
+        check(lib.osb_binding_driver_read(_to(self), _reading_to(row), holding_to(instance), transaction))
+        return _transaction_from(transaction)
+
+
+@dataclass(frozen=True)
+class Reading:
+    """What a transaction of a driver is given."""
+
+    holding: Holding
+    """That of the row, read and locked in this transaction."""
+    id: Id
+    """That of the row: the instance's, or the binding's."""
+    row_mode: Mode | None
+    """The mode of the row's plan, or, if there is no row, of the pending work's."""
+    number: bytes = NO_NUMBER
+    """That of the row, read and locked in this transaction."""
+    request: Request | None = None
+    """With `mode`, `first_poll`, `attributes` and `may_begin` what `Holding.begin_if` is given. These five count only
+    at the first transaction of a request. The request is None for a take-up. A binding has its instance in the place of
+    `may_begin`.
+    """
+    mode: Mode | None = None
+    first_poll: bool = False
+    attributes: bytes = NO_ATTRIBUTES
+    may_begin: bool = True
+    may_give_up: bool = False
+    """Whether the row has waited too long for its first Poll."""
 
 
 @dataclass(frozen=True)
@@ -134,33 +160,47 @@ class Transaction:
     """Of the effect END: how the work went."""
     ok: bool
     """Of the effect FINISH: whether the operation succeeded."""
-    work: Work | None
-    """The work to do, if `committed` is at WORK."""
 
 
 def _number(number: bytes) -> ctypes.Array[ctypes.c_char]:
-    if len(number) != 16:
-        raise ValueError("the number of a driver has 16 bytes")
-    return ctypes.create_string_buffer(number, 16)
+    return ctypes.create_string_buffer(number_to(number), 16)
 
 
-def _request_to(request: Request | None) -> CRequest:
-    return CRequest() if request is None else request_to(request)
+def _reading_to(row: Reading) -> CReading:
+    made = CReading(
+        holding=holding_to(row.holding),
+        id=id_to(row.id),
+        number=(ctypes.c_uint8 * 16)(*bytes(_number(row.number))),
+        attributes=digest_to(row.attributes),
+        row_mode=mode_to(row.row_mode),
+        mode=mode_to(row.mode),
+        first_poll=bool(row.first_poll),
+        may_begin=bool(row.may_begin),
+        may_give_up=bool(row.may_give_up),
+    )
+    if row.request is not None:
+        made.request = request_to(row.request)
+    return made
 
 
 def _to(driver: Driver) -> CDriver:
     stage = Stage(driver.stage)
     made = CDriver(
         number=(ctypes.c_uint8 * 16)(*bytes(_number(driver.number))),
+        rejection=driver.rejection,
         stage=stage.value,
+        call=CALL_NONE if driver.call is None else Call(driver.call).value,
         is_request=bool(driver.is_request),
         is_locked=bool(driver.is_locked),
         is_pending=driver.task is not None,
+        creates=bool(driver.creates),
         has_answer=stage is Stage.END and driver.answer is not None,
         ok=bool(driver.ok),
     )
     if driver.task is not None:
         made.task = request_to(driver.task)
+    if driver.look is not None:
+        made.look = Look(driver.look).value
     if driver.answer is not None:
         made.answer = answer_to(driver.answer)
     if driver.outcome is not None:
@@ -170,29 +210,33 @@ def _to(driver: Driver) -> CDriver:
 
 def _from(driver: CDriver) -> Driver:
     stage = Stage(driver.stage)
+    call = None if driver.call == CALL_NONE else Call(driver.call)
     has_answer = stage is Stage.ANSWER or driver.has_answer
     return Driver(
-        bytes(driver.number),
-        stage,
-        bool(driver.is_request),
-        bool(driver.is_locked),
-        request_from(driver.task) if driver.is_pending else None,
-        Outcome(driver.outcome) if stage is Stage.END else None,
-        answer_from(driver.answer) if has_answer else None,
-        bool(driver.ok),
+        number=bytes(driver.number),
+        stage=stage,
+        is_request=bool(driver.is_request),
+        is_locked=bool(driver.is_locked),
+        task=request_from(driver.task) if driver.is_pending else None,
+        call=call,
+        creates=bool(driver.creates),
+        look=Look(driver.look) if call in (Call.LOOK, Call.SYNC) else None,
+        rejection=driver.rejection,
+        outcome=Outcome(driver.outcome) if stage is Stage.END else None,
+        answer=answer_from(driver.answer) if has_answer else None,
+        ok=bool(driver.ok),
     )
 
 
-def _transaction_from(row: CHolding, number: Any, transaction: CTransaction) -> Transaction:
+def _transaction_from(transaction: CTransaction) -> Transaction:
     effect = Effect(transaction.effect)
     return Transaction(
-        holding_from(row),
-        bytes(number),
+        holding_from(transaction.holding),
+        bytes(transaction.number),
         bool(transaction.writes),
         _from(transaction.committed),
         _from(transaction.unsure),
         effect,
         Outcome(transaction.outcome) if effect is Effect.END else None,
         bool(transaction.ok),
-        None if transaction.work == WORK_NONE else Work(transaction.work),
     )

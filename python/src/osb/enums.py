@@ -90,6 +90,8 @@ class Status(Named):
     NOT_RETRIEVABLE = 82, "a plan binds asynchronously, and its service isn't bindings_retrievable"
     BAD_DRIVER = 83, "no call gives such a driver"
     WRONG_STAGE = 84, "the driver is at a stage that asks for no such report"
+    BAD_THERE = 85, "the number stands for nothing that a look finds"
+    MISFIT = 86, "the row doesn't fit its plan, or its pending work is of another id"
 
 
 class Kind(Named):
@@ -165,15 +167,40 @@ class Phase(Named):
 class Stage(Named):
     """The action that the program carries out next for a driver."""
 
-    TRY_LOCK = 0, "take the lock of the key, if it is free, and report it by osb_driver_locked"
     BEGIN = 1, "run the first transaction"
     AWAIT_LOCK = 2, "wait for the lock of the key, and report it by osb_driver_locked"
-    WORK = 3, "do the work under the lock, and report it by osb_driver_worked"
+    WORK = 3, "make the call of the backend, under the lock, and report it"
     END = 4, "run the last transaction of pending work"
     FINISH = 5, "run the last transaction of an operation"
     UNSURE = 6, "read the row in a transaction, since nobody knows what was committed"
     ANSWER = 7, "free the lock, and send the answer"
     DONE = 8, "free the lock; if a request isn't answered yet, answer 500 or 503"
+
+
+class Call(Named):
+    """The call of the backend that the program makes next for a driver at WORK."""
+
+    LOOK = 1, "return what exists, and report it by osb_driver_looked"
+    SYNC = 2, "write to disk what exists, and report that by osb_driver_synced"
+    CREATE = 3, "create the resource, and report that by osb_driver_called"
+    DELETE = 4, "delete the resource, and report that by osb_driver_called"
+
+
+class Look(Named):
+    """A look of a worker."""
+
+    FIRST = 0, "before anything is done"
+    AGAIN = 1, "all was there at first, or nothing, and that is on disk now"
+    TRIED = 2, "after the creation or the deletion"
+    UNDONE = 3, "after a part that was created is deleted"
+
+
+class There(Named):
+    """What a look finds."""
+
+    ABSENT = 0, "nothing"
+    PART = 1, "something that can't be used"
+    WHOLE = 2, "all of it"
 
 
 class Effect(Named):
@@ -185,6 +212,25 @@ class Effect(Named):
     END = 3, "the pending work ends, with the outcome of the struct"
     FINISH = 4, "the operation ends: it succeeded if ok is true"
     GIVE_UP_WAITING = 5, "the instance has waited too long for its first Poll"
+
+
+class PlatformStage(Named):
+    """The action that the program carries out next for a platform's driver."""
+
+    CLAIM = 0, "run the first transaction"
+    SEND = 1, "send the request, and report it by osb_platform_driver_answered"
+    FETCH = 2, "send a Fetch of the binding, and report it by osb_platform_driver_fetched"
+    TAKE = 3, "run the last transaction"
+    UNSURE = 4, "run the last transaction, since nobody knows whether the first was committed"
+    DONE = 5, "nothing is left to do"
+
+
+class CleanUp(Named):
+    """A way to clean an instance or a binding up."""
+
+    EXPIRE = 1, "polling has taken too long: osb_record_expire"
+    RETRY = 2, "a deletion has been polled for too long: osb_record_retry"
+    REMOVE = 3, "an operator asks for it: osb_record_remove, of an instance osb_record_remove_if"
 
 
 class Target(Named):

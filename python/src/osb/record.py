@@ -29,7 +29,7 @@ class Record:
     """The kind of the request in flight, or None."""
 
     def __post_init__(self) -> None:
-        _in_range(self.attempt)
+        in_range(self.attempt)
 
     @classmethod
     def create(cls, id: Id, service: Id, plan: Id, accepts_incomplete: bool) -> tuple[Record, Request]:
@@ -40,7 +40,7 @@ class Record:
         """
         record, request = CRecord(), CRequest()
         lib.osb_record_create(id_to(id), id_to(service), id_to(plan), accepts_incomplete, record, request)
-        return _from(record), request_from(request)
+        return record_from(record), request_from(request)
 
     @classmethod
     def from_platform_row(cls, row: PlatformRow) -> Record:
@@ -49,66 +49,66 @@ class Record:
         """
         record = CRecord()
         check(lib.osb_record_from_row(platform_row_to(row), record))
-        return _from(record)
+        return record_from(record)
 
     def send(self, id: Id) -> tuple[Record, Request]:
         """The request that is due, which is then in flight with the next number. `id` is the key of the record's row.
         Raises BUSY, NOTHING_DUE, ATTEMPTS_USED_UP.
         """
-        record, request = _to(self), CRequest()
+        record, request = record_to(self), CRequest()
         check(lib.osb_record_send(record, id_to(id), request))
-        return _from(record), request_from(request)
+        return record_from(record), request_from(request)
 
     def answer(self, attempt: int, answer: Answer) -> Record:
         """Takes the answer to the request of this number. Raises NOT_IN_FLIGHT."""
-        record = _to(self)
-        check(lib.osb_record_answer(record, _in_range(attempt), answer_to(answer)))
-        return _from(record)
+        record = record_to(self)
+        check(lib.osb_record_answer(record, in_range(attempt), answer_to(answer)))
+        return record_from(record)
 
     def timeout(self, attempt: int) -> Record:
         """Gives up the request of this number: wanted becomes cleaning, every other state stays. So is done with what
         was in flight when a platform crashed. Raises NOT_IN_FLIGHT.
         """
-        record = _to(self)
-        check(lib.osb_record_timeout(record, _in_range(attempt)))
-        return _from(record)
+        record = record_to(self)
+        check(lib.osb_record_timeout(record, in_range(attempt)))
+        return record_from(record)
 
     def expire(self) -> Record:
         """Gives up polling, as the maximum polling duration has passed. Raises BUSY, NOT_POLLING."""
-        record = _to(self)
+        record = record_to(self)
         check(lib.osb_record_expire(record))
-        return _from(record)
+        return record_from(record)
 
     def retry(self) -> Record:
         """Sends a deletion again, for one whose maximum polling duration has passed. Raises BUSY, NOT_POLLING."""
-        record = _to(self)
+        record = record_to(self)
         check(lib.osb_record_retry(record))
-        return _from(record)
+        return record_from(record)
 
     def remove(self) -> Record:
         """Has the instance deleted, as an operator asks. Raises BUSY, NOT_REMOVABLE."""
-        record = _to(self)
+        record = record_to(self)
         check(lib.osb_record_remove(record))
-        return _from(record)
+        return record_from(record)
 
     def remove_if(self, all_gone: bool) -> Record:
         """Has an instance deleted that may have bindings, as `remove` does. `all_gone` is whether each binding of the
         instance that is recorded `is_gone`. Read it in the transaction that writes the record, with the record locked.
         This call waits for no binding and removes none: do that first. Raises BUSY, NOT_REMOVABLE, BOUND.
         """
-        record = _to(self)
+        record = record_to(self)
         check(lib.osb_record_remove_if(record, all_gone))
-        return _from(record)
+        return record_from(record)
 
     @property
     def is_ready(self) -> bool:
         """Whether `ready` is recorded. A binding of an instance is created only then."""
-        return bool(lib.osb_record_is_ready(_to(self)))
+        return bool(lib.osb_record_is_ready(record_to(self)))
 
     @property
     def is_gone(self) -> bool:
         """Whether `gone` is recorded. An instance is removed only once each of its bindings is gone."""
-        return bool(lib.osb_record_is_gone(_to(self)))
+        return bool(lib.osb_record_is_gone(record_to(self)))
 
     def create_binding(self, binding: Id, accepts_incomplete: bool) -> tuple[Record, Request]:
         """A new binding of the instance that this is the record of: wanted, with the instance's service and plan, and
@@ -119,8 +119,8 @@ class Record:
         ids of the instance and of the binding, a pair that is used once and never again. Raises NOT_READY.
         """
         record, request = CRecord(), CRequest()
-        check(lib.osb_binding_create(_to(self), id_to(binding), accepts_incomplete, record, request))
-        return _from(record), request_from(request)
+        check(lib.osb_binding_create(record_to(self), id_to(binding), accepts_incomplete, record, request))
+        return record_from(record), request_from(request)
 
     def answer_binding(self, attempt: int, answer: Answer, *, retrievable: bool) -> Record:
         """Takes the answer to the request of this number, as `answer` does. But if the binding can't be fetched
@@ -129,13 +129,13 @@ class Record:
         If a Poll says `succeeded` in `polling`, send a Fetch first. Call this once the Fetch was answered 200 with an
         object, and otherwise `timeout` for the Poll. Raises NOT_IN_FLIGHT.
         """
-        record = _to(self)
-        check(lib.osb_binding_answer(record, _in_range(attempt), answer_to(answer), retrievable))
-        return _from(record)
+        record = record_to(self)
+        check(lib.osb_binding_answer(record, in_range(attempt), answer_to(answer), retrievable))
+        return record_from(record)
 
     def to_text(self) -> str:
         """The text of the record, for a column of a database."""
-        return text_of(lib.osb_record_to_text, _to(self)).decode()
+        return text_of(lib.osb_record_to_text, record_to(self)).decode()
 
     @classmethod
     def from_text(cls, text: str) -> Record:
@@ -144,33 +144,33 @@ class Record:
         """
         record, given = CRecord(), utf8(text)
         check(lib.osb_record_from_text(given, len(given), record))
-        return _from(record)
+        return record_from(record)
 
     def to_binding_text(self) -> str:
         """The text of a binding's record, for a column of a database: that of `to_text`, with a version of its own."""
-        return text_of(lib.osb_binding_record_to_text, _to(self)).decode()
+        return text_of(lib.osb_binding_record_to_text, record_to(self)).decode()
 
     @classmethod
     def from_binding_text(cls, text: str) -> Record:
         """Reads the text of a binding's record. Raises what `from_text` raises."""
         record, given = CRecord(), utf8(text)
         check(lib.osb_binding_record_from_text(given, len(given), record))
-        return _from(record)
+        return record_from(record)
 
 
-def _in_range(attempt: int) -> int:
+def in_range(attempt: int) -> int:
     if attempt not in range(2**64):
         raise ValueError("an attempt is a number from 0 to 2^64 - 1")
     return attempt
 
 
-def _to(record: Record) -> CRecord:
+def record_to(record: Record) -> CRecord:
     return CRecord(
         id_to(record.service), id_to(record.plan), record.attempt, State(record.state).value, kind_to(record.out)
     )
 
 
-def _from(record: CRecord) -> Record:
+def record_from(record: CRecord) -> Record:
     return Record(
         id_from(record.service), id_from(record.plan), record.attempt, State(record.state), kind_from(record.out)
     )

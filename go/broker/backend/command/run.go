@@ -226,12 +226,11 @@ func (l lookResult) check() error {
 
 // there returns what exists.
 func (l lookResult) there() (broker.There, error) {
-	for _, there := range []broker.There{broker.None, broker.Part, broker.Whole} {
-		if l.Exists == there.String() {
-			return there, nil
-		}
+	there, isWord := map[string]broker.There{"none": broker.None, "part": broker.Part, "whole": broker.Whole}[l.Exists]
+	if !isWord {
+		return broker.None, fmt.Errorf(`"exists" is %q, and not none, part or whole`, l.Exists)
 	}
-	return broker.None, fmt.Errorf(`"exists" is %q, and not none, part or whole`, l.Exists)
+	return there, nil
 }
 
 // credentialsResult is the result of create-binding and credentials.

@@ -1,0 +1,3 @@
+pub mod Drivers
+pub mod Readings
+pub mod Transactions
