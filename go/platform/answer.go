@@ -2,7 +2,6 @@ package platform
 
 import (
 	"encoding/json"
-	"errors"
 	"net/http"
 	"strings"
 	"time"
@@ -30,53 +29,46 @@ type exchangeResult struct {
 }
 
 // takeAnswer is what is written once a request was answered, or wasn't. It is nil if nothing is to be written, because
-// another worker has given the request up, an operator has abandoned the row, or the request wasn't recorded.
-func takeAnswer(now time.Time, snapshot Snapshot, s sending, result exchangeResult) (*Change, error) {
+// that was done before, another worker has given the request up, an operator has abandoned the row, or the request
+// wasn't recorded.
+func (s *sending) takeAnswer(now time.Time, snapshot Snapshot) (*Change, error) {
 	e, t := snapshot.Entry, s.terms
-	if s.isLast() {
-		return takeLastAnswer(now, e, s, result), nil
-	}
-	if !e.IsSent || e.State == Abandoned || s.unsure != nil && !s.hasLeased(e) {
-		return nil, nil
-	}
-	record, err := e.recordAfter(s, result)
-	if errors.Is(err, osb.ErrNotInFlight) {
-		return nil, nil
-	}
+	transaction, err := s.driver.Read(e.reading(t))
 	if err != nil {
 		return nil, err
 	}
-	read := e.State
+	s.transaction, s.driver = transaction, transaction.Unsure() // until the commit has returned
+	if !transaction.Writes() || e.State == Abandoned {
+		return nil, nil
+	}
+	read, result := e.State, s.result
+	record, _ := transaction.Row()
 	e.enter(now, record)
 	e.Lease = Lease{}
-	e.keep(result, s)
+	e.keep(result, *s)
 	e.Last = reasonOf(now, result)
 	if isFailedCreation(read, e.State) {
 		e.Failure, e.Passing, e.After = e.Last, result.isPassing(), atMostAnHour(result.RetryAfter)
 	}
-	e.schedule(now, s, result.RetryAfter)
-	e.putOff(s, result.Incoming)
-	change := &Change{Entry: e, WakeInstance: e.Key.IsBinding && e.State == Gone}
+	e.schedule(now, *s, result.RetryAfter)
+	e.putOff(*s, result.Incoming)
+	change := &Change{Entry: e, Transaction: &transaction, WakeInstance: e.Key.IsBinding && e.State == Gone}
 	if e.State == Gone {
 		change.Next, err = nextTry(now, e, snapshot.Instance, t)
 	}
 	return change, err
 }
 
-// recordAfter is the record after the answer to a request, or after a timeout. A binding is ready only with its
-// credentials.
-func (e *Entry) recordAfter(s sending, result exchangeResult) (osb.Record, error) {
-	if result.Lost != nil {
-		return e.Record.Timeout(s.attempt)
+// note notes what a transaction does with the row. If an answer is to be written again, and the row has the number of
+// its request, and nothing of it is left to be written, that was done before.
+func (s *sending) note(now time.Time, snapshot Snapshot, change *Change) {
+	s.read = now
+	switch {
+	case change != nil:
+		s.entry = &change.Entry
+	case s.transaction.Writes() || snapshot.Number != s.number:
+		s.entry = nil
 	}
-	if !e.Key.IsBinding {
-		return e.Record.Answer(s.attempt, result.Answer)
-	}
-	record, err := e.Record.AnswerBinding(s.attempt, result.Answer, s.terms.isRetrievable)
-	if err == nil && record.IsReady() && result.sealed == nil {
-		return e.Record.Timeout(s.attempt)
-	}
-	return record, err
 }
 
 // keep keeps what an answer says besides.
@@ -242,19 +234,20 @@ func judgeLast(in Incoming) (shown aftermath, isOver bool) {
 }
 
 // takeLastAnswer is what is written after a last deletion, or nil if another worker has leased the row since.
-func takeLastAnswer(now time.Time, e Entry, s sending, result exchangeResult) *Change {
-	if e.State != Gone || !s.hasLeased(e) {
-		return nil
+func (s *sending) takeLastAnswer(now time.Time, snapshot Snapshot) (*Change, error) {
+	e, in := snapshot.Entry, s.result.Incoming
+	if e.State != Gone || e.Number != s.number || e.Lease.Worker == "" {
+		return nil, nil
 	}
-	e.Lease, e.Last = Lease{}, reasonOf(now, result)
-	if _, isOver := judgeLast(result.Incoming); isOver {
+	e.Lease, e.Last = Lease{}, reasonOf(now, s.result)
+	if _, isOver := judgeLast(in); isOver {
 		e.HasLast, e.Due, e.DueSince, e.Unchanged = false, time.Time{}, time.Time{}, 0
-		return &Change{Entry: e}
+		return &Change{Entry: e}, nil
 	}
 	e.Unchanged++
-	e.Due = now.Add(s.terms.pace.wait(e.Unchanged, result.RetryAfter))
-	e.putOff(s, result.Incoming)
-	return &Change{Entry: e}
+	e.Due = now.Add(s.terms.pace.wait(e.Unchanged, in.RetryAfter))
+	e.putOff(*s, in)
+	return &Change{Entry: e}, nil
 }
 
 // ---- reasons

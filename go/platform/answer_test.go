@@ -1,6 +1,7 @@
 package platform
 
 import (
+	"context"
 	"encoding/json"
 	"errors"
 	"fmt"
@@ -28,6 +29,7 @@ func newTrial(t *testing.T, row Entry, terms terms) trial {
 	if got.send == nil {
 		t.Fatalf("%s: got nothing sent (%v), want a request", row.State, got.err)
 	}
+	got.send.driver = got.send.transaction.Committed()
 	return trial{row: got.entry, sent: *got.send, terms: terms}
 }
 
@@ -48,7 +50,33 @@ func (it trial) take(t *testing.T, result exchangeResult) *Change {
 		instance := rowIn(anInstance, Ready)
 		snapshot.Instance = &instance
 	}
-	return diff.Value(takeAnswer(at(11), snapshot, it.sent, result))(t)
+	return it.takeAt(t, 11, snapshot, result)
+}
+
+// takeAt is what is written of a result by what is read then.
+func (it trial) takeAt(t *testing.T, now int, snapshot Snapshot, result exchangeResult) *Change {
+	t.Helper()
+	return diff.Value(it.sent.taken(at(now), snapshot, result))(t)
+}
+
+// taken is what is written of a result.
+func (s sending) taken(now time.Time, snapshot Snapshot, result exchangeResult) (change *Change, err error) {
+	switch s.result = result; {
+	case s.isLast():
+		return s.takeLastAnswer(now, snapshot)
+	case s.driver.Stage() != osb.PlatformStageSend:
+	case result.Lost != nil:
+		s.driver, err = s.driver.Lost()
+	default:
+		s.driver, err = s.driver.Answered(result.Answer, result.sealed != nil)
+		if s.driver.Stage() == osb.PlatformStageFetch {
+			s.driver, err = s.driver.Fetched(result.sealed != nil)
+		}
+	}
+	if err != nil {
+		return nil, err
+	}
+	return s.takeAnswer(now, snapshot)
 }
 
 // rest stands for a row that rests.
@@ -176,7 +204,7 @@ func TestTakenByAnother(t *testing.T) {
 		"given up": later, "abandoned": abandoned, "unsent": rowIn(anInstance, Ordered),
 	} {
 		t.Run(name, func(t *testing.T) {
-			diff.Equal(t, diff.Value(takeAnswer(at(102), Snapshot{Entry: row}, try.sent, result))(t), nil, "the change")
+			diff.Equal(t, try.takeAt(t, 102, Snapshot{Entry: row}, result), nil, "the change")
 		})
 	}
 }
@@ -185,19 +213,15 @@ func TestTakenByAnother(t *testing.T) {
 // number, and nothing is written.
 func TestTakenInDoubt(t *testing.T) {
 	try := newTrial(t, rowIn(anInstance, Ordered), plain())
-	try.sent.unsure = errors.New("the connection broke")
+	try.sent.driver = try.sent.transaction.Unsure()
 	lost := exchangeResult{kind: "provision", Incoming: Incoming{Lost: errUnsure}}
 	e := try.take(t, lost).Entry
 	diff.Equal(t, e.State, Cleaning, "the state")
 	diff.Equal(t, e.Lease, Lease{}, "the lease")
-	for _, lease := range []Lease{
-		{}, {Worker: "other", Until: try.row.Lease.Until},
-		{Worker: "one", Until: try.row.Lease.Until.Add(time.Millisecond)},
-	} {
-		t.Run(fmt.Sprintf("leased by %v", lease), func(t *testing.T) {
-			lease.Claim = try.row.Lease.Claim
-			row := with(try.row, func(e *Entry) { e.Lease = lease })
-			diff.Equal(t, diff.Value(takeAnswer(at(12), Snapshot{Entry: row}, try.sent, lost))(t), nil, "leased by %v", lease)
+	for _, number := range []osb.ID{{}, id("99")} {
+		t.Run(fmt.Sprintf("with the number %v", number), func(t *testing.T) {
+			row := with(try.row, func(e *Entry) { e.Number = number })
+			diff.Equal(t, try.takeAt(t, 12, Snapshot{Entry: row}, lost), nil, "the change")
 		})
 	}
 }
@@ -415,7 +439,7 @@ func TestTakenLast(t *testing.T) {
 	if e := try.take(t, lost).Entry; !e.HasLast || !e.Due.Equal(at(11+4)) {
 		t.Errorf("no answer: got last %v, due %v, want one more soon", e.HasLast, e.Due)
 	}
-	try.row.Lease.Until = try.row.Lease.Until.Add(time.Second)
+	try.row.Number = id("99")
 	diff.Equal(t, try.take(t, try.answer(410, `{}`)), nil, "another worker's lease")
 }
 
@@ -491,7 +515,7 @@ func TestNextTryOfBinding(t *testing.T) {
 			t.Run(fmt.Sprint(state, " ", removal), func(t *testing.T) {
 				try := newTrial(t, failedTry(aBinding), plain())
 				instance := with(rowIn(anInstance, state), func(e *Entry) { e.Removal = removal })
-				change, err := takeAnswer(at(11), Snapshot{Entry: try.row, Instance: &instance}, try.sent, try.answer(200, `{}`))
+				change, err := try.sent.taken(at(11), Snapshot{Entry: try.row, Instance: &instance}, try.answer(200, `{}`))
 				check(t, err)
 				diff.Equal(t, change.Next != nil, state == Ready && removal == NotRemoved,
 					"a next try with the instance in %s, removal %d", state, removal)
@@ -503,7 +527,7 @@ func TestNextTryOfBinding(t *testing.T) {
 	}
 	diff.Equal(t, count, 3*len(everyState), "tried")
 	try := newTrial(t, failedTry(aBinding), plain())
-	change := diff.Value(takeAnswer(at(11), Snapshot{Entry: try.row}, try.sent, try.answer(200, `{}`)))(t)
+	change := try.takeAt(t, 11, Snapshot{Entry: try.row}, try.answer(200, `{}`))
 	diff.Equal(t, change.Next, nil, "a next try without a row of the instance")
 }
 
@@ -513,7 +537,10 @@ func TestUnsealedIsNotPassing(t *testing.T) {
 		t.Run(name, func(t *testing.T) {
 			try := newTrial(t, rowIn(aBinding, Ordered), plain())
 			engine := NewEngine(newMemory(time.Now), nil, vault, Options{}, Silent{})
-			e := try.take(t, engine.seal(try.sent, try.answer(201, credentials))).Entry
+			try.sent.result = try.answer(201, credentials)
+			try.sent.result.sealed = nil
+			engine.seal(&try.sent)
+			e := try.take(t, try.sent.result).Entry
 			if e.State != Cleaning || e.Passing || e.Failure == (Reason{}) {
 				t.Errorf("got %s, passing %v, %+v, want it in cleaning with a failure that lasts", e.State, e.Passing,
 					e.Failure)
@@ -542,10 +569,10 @@ func TestTakenInDoubtOfTheSameMillisecond(t *testing.T) {
 			row.SentUntil = at(-1000)
 		}
 		first, second := newTrial(t, row, terms), newTrial(t, row, terms)
-		first.sent.unsure = errors.New("the disk is full")
-		change := diff.Value(takeAnswer(at(12), Snapshot{Entry: second.row}, first.sent, lost))(t)
+		first.sent.driver = first.sent.transaction.Unsure()
+		change := first.takeAt(t, 12, Snapshot{Entry: second.row}, lost)
 		diff.Equal(t, change, nil, "%s: a change of the next claim", row.State)
-		change = diff.Value(takeAnswer(at(12), Snapshot{Entry: first.row}, first.sent, lost))(t)
+		change = first.takeAt(t, 12, Snapshot{Entry: first.row}, lost)
 		diff.Equal(t, change != nil, true, "%s: its own claim is given up", row.State)
 	}
 }
@@ -577,8 +604,9 @@ func TestAnswerInDoubt(t *testing.T) {
 				defer p.store.mu.Unlock()
 				p.store.rows[anInstance] = with(p.store.rows[anInstance], func(e *Entry) { e.State, e.Lease = Abandoned, Lease{} })
 			}
-			entry, _, err := p.engine.take(background, try.sent, try.answer(201, `{}`))
-			check(t, err)
+			p.exchange = func(context.Context, Outgoing) Incoming { return try.answer(201, `{}`).Incoming }
+			check(t, p.engine.drive(background, &try.sent, func() {}))
+			entry := try.sent.entry
 			if got := entry != nil; got != test.isWritten || got && entry.State != test.want || tries.Load() != 2 {
 				t.Errorf("got %+v after %d tries, want %s after 2", entry, tries.Load(), test.want)
 			}

@@ -1,6 +1,7 @@
 package platform
 
 import (
+	"bytes"
 	"encoding"
 	"encoding/json"
 	"fmt"
@@ -85,6 +86,34 @@ func (c Column[T]) Value(of *T) (any, error) {
 		panic(fmt.Sprintf("platform: the column %s can't have a %T", c.Name, member))
 	}
 	return nil, nil
+}
+
+// Differs reports whether the column may have different values of two entries or brokers.
+func (c Column[T]) Differs(one, other *T) bool {
+	switch member := c.Member(one).(type) {
+	case *string:
+		return *member != *c.Member(other).(*string)
+	case *int:
+		return *member != *c.Member(other).(*int)
+	case *bool:
+		return *member != *c.Member(other).(*bool)
+	case *time.Time:
+		return !member.Equal(*c.Member(other).(*time.Time))
+	case *time.Duration:
+		return *member != *c.Member(other).(*time.Duration)
+	case *recordText:
+		than := c.Member(other).(*recordText)
+		return member.IsSent != than.IsSent || member.Record != than.Record
+	case *operationText:
+		than := c.Member(other).(*operationText)
+		return (member.Operation == nil) != (than.Operation == nil) ||
+			member.Operation != nil && *member.Operation != *than.Operation
+	case *reasonText:
+		return *member != *c.Member(other).(*reasonText)
+	case *jsonText:
+		return !bytes.Equal(*member, *c.Member(other).(*jsonText))
+	}
+	return true
 }
 
 // Columns are columns of a table.
@@ -183,23 +212,26 @@ func (r *reasonText) UnmarshalText(text []byte) error {
 	return err
 }
 
-// A lastText is Entry.Last, Entry.Lease.Claim and Entry.DueSince.
+// A lastText is Entry.Last, Entry.Number and Entry.DueSince.
 type lastText Entry
 
 // A keptLast is a lastText in JSON.
 type keptLast struct {
 	Reason
-	Claim    string `json:"claim,omitempty"`
+	Claim    string `json:"claim,omitempty"`     // Entry.Number
 	DueSince int64  `json:"due_since,omitempty"` // in milliseconds since 1970
 }
 
 // MarshalText writes DueSince as the number of the member due_since, in milliseconds since 1970, which comes last.
 func (l *lastText) MarshalText() ([]byte, error) {
-	if l.Last == (Reason{}) && l.DueSince.IsZero() && l.Lease.Claim == "" {
+	if l.Last == (Reason{}) && l.DueSince.IsZero() && l.Number == (osb.ID{}) {
 		return nil, nil
 	}
-	kept := keptLast{Reason: l.Last, Claim: l.Lease.Claim}
+	kept := keptLast{Reason: l.Last}
 	kept.At = kept.At.UTC()
+	if l.Number != (osb.ID{}) {
+		kept.Claim = l.Number.String()
+	}
 	if !l.DueSince.IsZero() {
 		kept.DueSince = l.DueSince.UnixMilli()
 	}
@@ -207,7 +239,6 @@ func (l *lastText) MarshalText() ([]byte, error) {
 }
 
 // UnmarshalText reads what MarshalText has written, also in version 0.2, which wrote no Claim and no DueSince.
-// Lease.Worker is read before: a lease that Free has ended leaves its Claim in the text.
 func (l *lastText) UnmarshalText(text []byte) error {
 	var kept keptLast
 	if err := json.Unmarshal(text, &kept); err != nil {
@@ -215,8 +246,10 @@ func (l *lastText) UnmarshalText(text []byte) error {
 	}
 	l.Last = kept.Reason
 	l.Last.At = l.Last.At.UTC()
-	if l.Lease.Worker != "" {
-		l.Lease.Claim = kept.Claim
+	if kept.Claim != "" {
+		if err := l.Number.UnmarshalText([]byte(kept.Claim)); err != nil {
+			return err
+		}
 	}
 	if kept.DueSince != 0 {
 		l.DueSince = time.UnixMilli(kept.DueSince).UTC()

@@ -20,7 +20,7 @@ func TestColumns(t *testing.T) {
 		entry.Names = Names{Instance: "i", Binding: "b", Service: "s", Plan: "p"}
 		entry.Body, entry.Metadata = json.RawMessage("{}"), json.RawMessage(`{"labels": {}}`)
 		entry.Operation = &operation
-		entry.Lease = Lease{Worker: "one", Until: at(5), Claim: "a claim"}
+		entry.Lease, entry.Number = Lease{Worker: "one", Until: at(5)}, id("77")
 		entry.Last, entry.Failure = Reason{Kind: "poll"}, Reason{At: at(6), Kind: "bind", Status: 400}
 		wantKept(t, columns, entry, Entry{Order: Order{Key: entry.Key, Names: entry.Names, First: entry.First}})
 	}
@@ -92,19 +92,18 @@ func TestValuesThatCannotBeWritten(t *testing.T) {
 // too.
 func TestLastText(t *testing.T) {
 	reason := Reason{At: at(1), Kind: "poll", Status: 503, Description: `"due_since":1`}
-	lease := Lease{Worker: "one", Claim: "a claim"}
 	for _, want := range []Entry{
-		{}, {Last: reason}, {DueSince: at(3)}, {Last: reason, DueSince: at(3)}, {Lease: lease},
-		{Last: reason, DueSince: at(3), Lease: lease},
+		{}, {Last: reason}, {DueSince: at(3)}, {Last: reason, DueSince: at(3)}, {Number: id("77")},
+		{Last: reason, DueSince: at(3), Number: id("77")},
 	} {
-		t.Run(fmt.Sprintf("%d %v %s", want.Last.Status, want.DueSince, want.Lease.Claim), func(t *testing.T) {
+		t.Run(fmt.Sprintf("%d %v %v", want.Last.Status, want.DueSince, want.Number), func(t *testing.T) {
 			text := diff.Value((*lastText)(&want).MarshalText())(t)
-			got := Entry{Lease: Lease{Worker: want.Lease.Worker}}
+			var got Entry
 			if text != nil {
 				check(t, (*lastText)(&got).UnmarshalText(text))
 			}
-			isNone := want.Last == Reason{} && want.DueSince.IsZero() && want.Lease == Lease{}
-			if (text == nil) != isNone || got.Lease != want.Lease || got.Last.Kind != want.Last.Kind ||
+			isNone := want.Last == Reason{} && want.DueSince.IsZero() && want.Number == osb.ID{}
+			if (text == nil) != isNone || got.Number != want.Number || got.Last.Kind != want.Last.Kind ||
 				!got.Last.At.Equal(want.Last.At) || got.Last.Description != want.Last.Description ||
 				!got.DueSince.Equal(want.DueSince) {
 				t.Errorf("%s: got %+v, %v, want what was written", text, got.Last, got.DueSince)
@@ -113,8 +112,48 @@ func TestLastText(t *testing.T) {
 	}
 	var got Entry
 	check(t, (*lastText)(&got).UnmarshalText([]byte(`{"at": "2026-01-02T03:04:05Z", "kind": "poll"}`)))
-	if got.Last.Kind != "poll" || !got.DueSince.IsZero() {
-		t.Errorf("got %+v, due since %v, want poll, and no time", got.Last, got.DueSince)
+	if got.Last.Kind != "poll" || !got.DueSince.IsZero() || got.Number != (osb.ID{}) {
+		t.Errorf("got %+v, due since %v, number %v, want poll, and neither", got.Last, got.DueSince, got.Number)
 	}
-	diff.Error(t, (*lastText)(&got).UnmarshalText([]byte(`{"due_since": "x"}`)), "a text that isn't one")
+	for _, text := range []string{`{"due_since": "x"}`, `{"claim": "x"}`} {
+		diff.Error(t, (*lastText)(&got).UnmarshalText([]byte(text)), "%s", text)
+	}
+}
+
+// Each column differs between entries that differ in its member, and no other one does, except a text that is always
+// written.
+func TestDiffers(t *testing.T) {
+	operation := "task"
+	for name, change := range map[string]func(*Entry){
+		"state":        func(e *Entry) { e.State = Gone },
+		"since":        func(e *Entry) { e.Since = at(9) },
+		"record":       func(e *Entry) { e.IsSent = !e.IsSent },
+		"operation":    func(e *Entry) { e.Operation = &operation },
+		"sent_until":   func(e *Entry) { e.SentUntil = at(9) },
+		"polled_since": func(e *Entry) { e.PolledSince = at(9) },
+		"removal":      func(e *Entry) { e.Removal = RemovedWhole },
+		"has_last":     func(e *Entry) { e.HasLast = !e.HasLast },
+		"due":          func(e *Entry) { e.Due = at(9) },
+		"tries":        func(e *Entry) { e.Unchanged = 9 },
+		"worker":       func(e *Entry) { e.Lease.Worker = "another" },
+		"leased_until": func(e *Entry) { e.Lease.Until = at(9) },
+		"last":         func(e *Entry) { e.Last.Kind = "fetch" },
+		"failure":      func(e *Entry) { e.Failure.Kind = "fetch" },
+		"passing":      func(e *Entry) { e.Passing = !e.Passing },
+		"after":        func(e *Entry) { e.After = time.Hour },
+		"dashboard":    func(e *Entry) { e.Dashboard = "https://another" },
+		"metadata":     func(e *Entry) { e.Metadata = json.RawMessage("{}") },
+		"credentials":  func(e *Entry) { e.Credentials = []byte("x") },
+		"because":      func(e *Entry) { e.Because = "another" },
+	} {
+		one := rowIn(aBinding, Ready)
+		other := one
+		change(&other)
+		for _, column := range StateColumns {
+			isWritten := column.Name == "last" || column.Name == "credentials"
+			if got, want := column.Differs(&one, &other), column.Name == name || isWritten; got != want {
+				t.Errorf("%s is changed: got %v of %s, want %v", name, got, column.Name, want)
+			}
+		}
+	}
 }

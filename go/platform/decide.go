@@ -22,16 +22,24 @@ type terms struct {
 	newID            func() (osb.ID, error)
 }
 
-// A sending is a request that is recorded as in flight, or the last deletion of a row that is gone.
+// A sending is a request that is recorded as in flight, or the last deletion of a row that is gone, and what has come of
+// it until now.
 type sending struct {
 	out     Outgoing
-	attempt uint64    // the number of the request, or 0 of the last deletion
-	before  State     // the state in which the row was read
-	since   time.Time // since when the row is due
+	number  osb.ID             // that the row has got for it
+	driver  osb.PlatformDriver // not of a last deletion, which is in no record
+	attempt uint64             // the number of the request, or 0 of the last deletion
+	before  State              // the state in which the row was read
+	since   time.Time          // since when the row is due
 	terms   terms
-	unsure  error // why nobody knows whether the row was written, or nil: then nothing is sent
 	// isBeside says that the request takes a slot beside the usual ones.
 	isBeside bool
+
+	unsure      error                   // why nobody knows whether the row was written, or nil
+	result      exchangeResult          // of what was sent
+	transaction osb.PlatformTransaction // the latest
+	entry       *Entry                  // as the latest transaction has left the row, or nil if that wasn't the request's
+	read        time.Time               // the time of the latest transaction
 }
 
 // isLast reports whether the request is the last deletion, of which nothing is in the record.
@@ -43,6 +51,8 @@ type decision struct {
 	before State
 	// send is what is sent once the row is written, or nil.
 	send *sending
+	// transaction is that of the driver that makes the decision, or nil.
+	transaction *osb.PlatformTransaction
 	// err is why nothing could be decided. The row is looked at again.
 	err error
 }
@@ -50,7 +60,10 @@ type decision struct {
 // change is what the transaction writes.
 func (d decision) change() *Change {
 	isNew := d.entry.State != d.before
-	return &Change{Entry: d.entry, WakeInstance: d.entry.Key.IsBinding && isNew && d.entry.State == Withdrawn}
+	return &Change{
+		Entry: d.entry, Transaction: d.transaction,
+		WakeInstance: d.entry.Key.IsBinding && isNew && d.entry.State == Withdrawn,
+	}
 }
 
 // needsAllGone reports whether the decision hangs on the bindings of an instance.
@@ -60,30 +73,19 @@ func needsAllGone(e Entry, t terms) bool { return !e.Key.IsBinding && e.IsSent &
 // of one reading of the row. So a worker that was paused before writes nothing that isn't right.
 func decide(now time.Time, snapshot Snapshot, allGone bool, t terms) decision {
 	snapshot.Lease = Lease{}
-	made := decideOf(now, snapshot, allGone, t)
-	if made.send == nil {
-		return made
-	}
-	claim, err := newID()
-	if err != nil {
-		return restStuck(now, snapshot.Entry, err, t)
-	}
-	made.entry.Lease.Claim, made.send.out.Entry.Lease.Claim = claim.String(), claim.String()
-	return made
-}
-
-// decideOf is decide without the id of the claim.
-func decideOf(now time.Time, snapshot Snapshot, allGone bool, t terms) decision {
 	e := snapshot.Entry
 	switch {
 	case e.State == Withdrawn || e.State == Abandoned:
 		return restUntilAsked(e, e.State)
-	case !e.IsSent:
-		return decideOrder(now, e, snapshot.Instance, t)
 	case e.State == Gone:
 		return decideGone(now, e, t)
+	case !e.IsSent && (e.Removal != NotRemoved || e.Key.IsBinding && !mayBeReady(snapshot.Instance)):
+		e.State, e.Since = Withdrawn, now
+		return restUntilAsked(e, Ordered)
+	case !e.IsSent && e.Key.IsBinding && snapshot.Instance.State != Ready:
+		return waitForOther(now, e, Ordered, t)
 	}
-	return decideRecord(now, e, allGone, t)
+	return decideRecord(now, snapshot, allGone, t)
 }
 
 func restUntilAsked(e Entry, before State) decision {
@@ -110,31 +112,18 @@ func waitForOther(now time.Time, e Entry, before State, t terms) decision {
 	return decision{entry: e, before: before}
 }
 
-// decideOrder creates what was ordered, or withdraws it.
-func decideOrder(now time.Time, e Entry, instance *Entry, t terms) decision {
-	if e.Removal != NotRemoved || e.Key.IsBinding && !mayBeReady(instance) {
-		e.State, e.Since = Withdrawn, now
-		return restUntilAsked(e, Ordered)
+// leaseFor is the decision to send a request, for which a row has got a number. Whole milliseconds outlive every
+// database.
+func leaseFor(now time.Time, e Entry, before State, request osb.Request, t terms) decision {
+	until, since := now.Add(t.exchange+t.margin).Truncate(time.Millisecond), e.DueSince
+	if since.IsZero() {
+		since = e.Due
 	}
-	if e.Key.IsBinding && instance.State != Ready {
-		return waitForOther(now, e, Ordered, t)
-	}
-	record, sent, err := createRecord(e, instance, t)
-	if err != nil {
-		return restStuck(now, e, err, t)
-	}
-	e.IsSent, e.SentUntil, e.Unchanged = true, now.Add(t.exchange), 0
-	e.enter(now, record)
-	return leaseFor(now, e, Ordered, sent, t)
-}
-
-// createRecord is the first record of an order, and its request.
-func createRecord(e Entry, instance *Entry, t terms) (osb.Record, osb.Sent, error) {
-	if e.Key.IsBinding {
-		return instance.Record.CreateBinding(e.Key.Binding, t.isRetrievable)
-	}
-	record, sent := osb.Create(e.Key.Instance, e.Service, e.Plan, true)
-	return record, sent, nil
+	e.Lease, e.Due = Lease{Worker: t.worker, Until: until}, until
+	return decision{entry: e, before: before, send: &sending{
+		out: Outgoing{Entry: e, Request: request}, number: e.Number, before: before, since: since, terms: t,
+		result: exchangeResult{kind: kindOf(request.Kind, e.Key)},
+	}}
 }
 
 // mayBeReady reports whether the instance of a binding is recorded ready, or may be so later.
@@ -158,63 +147,132 @@ func decideGone(now time.Time, e Entry, t terms) decision {
 	if until := e.lastDue(t); now.Before(until) {
 		return holdUntil(until, e, Gone)
 	}
-	return leaseFor(now, e, Gone, osb.Sent{Request: osb.Request{
+	number, err := newID()
+	if err != nil {
+		return restStuck(now, e, err, t)
+	}
+	e.Number = number
+	return leaseFor(now, e, Gone, osb.Request{
 		Kind: osb.KindDeprovision, AcceptsIncomplete: true,
 		ID: e.Key.ID(), Service: e.Record.Service(), Plan: e.Record.Plan(),
-	}}, t)
+	}, t)
 }
 
-// decideRecord goes on with a record.
-func decideRecord(now time.Time, e Entry, allGone bool, t terms) decision {
-	read := e
-	isBound, err := e.bringUp(now, allGone, t)
+var errNothingSent = errors.New("the record allows nothing that could be sent")
+
+// decideRecord has a driver go on with a row: what a crash has left is given up, a removal or the end of a long polling
+// begins, and what is due is sent, unless it is a deletion that is held.
+func decideRecord(now time.Time, snapshot Snapshot, allGone bool, t terms) decision {
+	read := snapshot.Entry
+	transaction, err := t.claim(now, snapshot, allGone)
 	if err != nil {
 		return restStuck(now, read, err, t)
 	}
+	e, sent := read, sentBy(transaction)
+	e.follow(now, transaction, t)
 	if hasProgressed(read.State, e.State) {
 		e.Unchanged = 0
 	}
-	if e.State == Ready || e.State == Unsettled {
-		if isBound {
-			return waitForOther(now, e, read.State, t)
+	until := e.heldUntil(t)
+	var made decision
+	switch {
+	case transaction.Sends():
+		if !read.IsSent {
+			e.SentUntil, e.Unchanged = now.Add(t.exchange), 0
 		}
-		return restUntilAsked(e, read.State)
+		made = leaseFor(now, e, read.State, sent.Request, t)
+		made.send.attempt, made.send.transaction = sent.Attempt, transaction
+	case (e.State == Ready || e.State == Unsettled) && e.isToBeRemoved(t): // a binding of it may exist
+		made = waitForOther(now, e, read.State, t)
+	case e.State == Ready || e.State == Unsettled:
+		made = restUntilAsked(e, read.State)
+	case now.Before(until):
+		made = holdUntil(until, e, read.State)
+	default:
+		return restStuck(now, read, errNothingSent, t)
 	}
-	if until := e.heldUntil(t); now.Before(until) {
-		return holdUntil(until, e, read.State)
-	}
-	record, sent, err := e.Record.Send(e.Key.ID())
-	if err != nil {
-		return restStuck(now, read, err, t)
-	}
-	e.Record = record
-	return leaseFor(now, e, read.State, sent, t)
+	made.transaction = &transaction
+	return made
 }
 
-// bringUp changes the record by what a crash has left, what an operator asks for, and the time that has passed. isBound
-// says that a removal waits for bindings.
-func (e *Entry) bringUp(now time.Time, allGone bool, t terms) (isBound bool, err error) {
-	if e.Record.InFlight() != osb.KindNone {
-		if err := e.giveUp(now); err != nil {
-			return false, err
+// claim is the first transaction of a driver of a row: what is wished for is by the terms.
+func (t terms) claim(now time.Time, snapshot Snapshot, allGone bool) (osb.PlatformTransaction, error) {
+	e := snapshot.Entry
+	driver, err := newDriver(e.Key)
+	if err != nil {
+		return osb.PlatformTransaction{}, err
+	}
+	reading := e.reading(t)
+	reading.Create, reading.CleanUp, reading.Send, reading.AllGone = true, e.cleanUp(now, allGone, t), true, allGone
+	if snapshot.Instance != nil {
+		reading.Instance, reading.HasInstance = snapshot.Instance.Record, snapshot.Instance.IsSent
+	}
+	transaction, err := driver.Read(reading)
+	if err == nil && sentBy(transaction).Request.Kind == osb.KindDeprovision && now.Before(e.holdEnd(t)) {
+		reading.Send = false
+		transaction, err = driver.Read(reading)
+	}
+	return transaction, err
+}
+
+// sentBy is the request that is in flight by a transaction.
+func sentBy(transaction osb.PlatformTransaction) osb.Sent { return transaction.Committed().Sent() }
+
+// newDriver is a driver of a row, with a number of its own.
+func newDriver(key Key) (osb.PlatformDriver, error) {
+	number, err := newID()
+	if err != nil {
+		return osb.PlatformDriver{}, err
+	}
+	return osb.NewPlatformDriver(number, key.IsBinding)
+}
+
+// reading is what a driver reads of a row.
+func (e Entry) reading(t terms) osb.PlatformReading {
+	return osb.PlatformReading{
+		Record: e.Record, HasRecord: e.IsSent, Number: e.Number,
+		ID: e.Key.ID(), Service: e.Service, Plan: e.Plan,
+		AcceptsIncomplete: !e.Key.IsBinding || t.isRetrievable, IsRetrievable: t.isRetrievable,
+	}
+}
+
+// cleanUp is how a row is to be cleaned up, if its record allows it.
+func (e Entry) cleanUp(now time.Time, allGone bool, t terms) osb.CleanUp {
+	isLate := isPolled(e.State) && !now.Before(e.PolledSince.Add(t.longestPoll))
+	switch {
+	case e.isToBeRemoved(t) && (e.Key.IsBinding || allGone):
+		return osb.CleanUpRemove
+	case isLate && e.State == Polling:
+		return osb.CleanUpExpire
+	case isLate:
+		return osb.CleanUpRetry
+	}
+	return osb.CleanUpNone
+}
+
+// follow notes what a transaction makes of the record, and why.
+func (e *Entry) follow(now time.Time, transaction osb.PlatformTransaction, t terms) {
+	before := *e
+	if transaction.TimesOut() {
+		e.Last = Reason{
+			At: now, Kind: kindOf(e.Record.InFlight(), e.Key),
+			Lost: "the worker that sent it ended, or was paused for too long",
 		}
 	}
-	if e.isToBeRemoved(t) {
-		record, err := e.Record.Remove()
-		if !e.Key.IsBinding {
-			record, err = e.Record.RemoveIf(allGone)
-		}
-		switch isBound = errors.Is(err, osb.ErrBound); {
-		case err == nil:
-			e.enter(now, record)
-		case !isBound:
-			return false, err
-		}
+	if !transaction.HasRecord() {
+		return
 	}
-	if isPolled(e.State) && !now.Before(e.PolledSince.Add(t.longestPoll)) {
-		return isBound, e.expire(now, t)
+	record, number := transaction.Row()
+	e.IsSent, e.Number = true, number
+	e.enter(now, record)
+	switch {
+	case before.State == Wanted && transaction.TimesOut():
+		e.Failure, e.Passing, e.After = e.Last, true, 0
+	case transaction.CleansUp() == osb.CleanUpExpire:
+		e.Failure, e.Passing, e.After = Reason{
+			At: now, Kind: "poll", Lost: fmt.Sprintf("the operation was polled for longer than %v", t.longestPoll),
+		}, false, 0
 	}
-	return isBound, nil
 }
 
 // isToBeRemoved reports whether a removal is to begin.
@@ -226,40 +284,6 @@ func (e *Entry) isToBeRemoved(t terms) bool {
 		return e.Removal != NotRemoved || t.removesUnsettled && e.IsOwnID
 	}
 	return false
-}
-
-// giveUp gives up what was in flight when its worker crashed, or was paused for longer than its lease.
-func (e *Entry) giveUp(now time.Time) error {
-	record, err := e.Record.Timeout(e.Record.Attempt())
-	if err != nil {
-		return err
-	}
-	e.Last = Reason{
-		At: now, Kind: kindOf(e.Record.InFlight(), e.Key),
-		Lost: "the worker that sent it ended, or was paused for too long",
-	}
-	if e.State == Wanted {
-		e.Failure, e.Passing, e.After = e.Last, true, 0
-	}
-	e.enter(now, record)
-	return nil
-}
-
-// expire ends polling that took too long. A creation has failed then, and a deletion is sent again.
-func (e *Entry) expire(now time.Time, t terms) error {
-	record, err := e.Record.Retry()
-	if e.State == Polling {
-		record, err = e.Record.Expire()
-		e.Failure = Reason{
-			At: now, Kind: "poll", Lost: fmt.Sprintf("the operation was polled for longer than %v", t.longestPoll),
-		}
-		e.Passing, e.After = false, 0
-	}
-	if err != nil {
-		return err
-	}
-	e.enter(now, record)
-	return nil
 }
 
 // enter has the row enter the state of a record. What belongs to the state before is forgotten.
@@ -282,7 +306,15 @@ func (e *Entry) enter(now time.Time, record osb.Record) {
 
 // heldUntil is the time before which no deletion is sent, because the broker may work for the creation.
 func (e *Entry) heldUntil(t terms) time.Time {
-	if e.State != Cleaning || t.hold == 0 || e.SentUntil.IsZero() {
+	if e.State != Cleaning {
+		return time.Time{}
+	}
+	return e.holdEnd(t)
+}
+
+// holdEnd is when a deletion may be sent.
+func (e *Entry) holdEnd(t terms) time.Time {
+	if t.hold == 0 || e.SentUntil.IsZero() {
 		return time.Time{}
 	}
 	return e.SentUntil.Add(t.hold)

@@ -231,9 +231,8 @@ func checkExpected(t *testing.T, got decision, want expectation, now time.Time) 
 	if got.send != nil {
 		kind = kindOf(got.send.out.Request.Kind, got.entry.Key)
 		want.due = now.Add(90 * time.Second)
-		if lease := (Lease{"one", want.due, got.entry.Lease.Claim}); got.entry.Lease != lease || lease.Claim == "" {
-			t.Errorf("the lease: got %v, want %v", got.entry.Lease, lease)
-		}
+		diff.Equal(t, got.entry.Lease, Lease{"one", want.due}, "the lease")
+		diff.Equal(t, got.entry.Number != osb.ID{} && got.entry.Number == got.send.number, true, "the row has its number")
 	} else if got.entry.Lease != (Lease{}) {
 		t.Errorf("got the lease %v, want none, as nothing is sent", got.entry.Lease)
 	}

@@ -26,7 +26,7 @@ const (
 // Options are how an Engine works. Of each that is zero, the default counts.
 type Options struct {
 	Worker   string        // the name of this worker; no other process over the Store has it
-	AtOnce   int           // how many requests are in flight at once, without those beside (MostInFlight); 16
+	AtOnce   int           // how many requests are in flight at once, without those beside (MostInFlight); 32
 	Exchange time.Duration // how long an exchange may last; 60 s
 	Margin   time.Duration // how much longer a step may take before another worker takes it over; 30 s
 	Look     time.Duration // how often it looks for what others have written; 1 s
@@ -58,7 +58,7 @@ func (o Options) withDefaults() Options {
 		}
 	}
 	if o.AtOnce <= 0 {
-		o.AtOnce = 16
+		o.AtOnce = 32
 	}
 	if o.Unsettled == "" {
 		o.Unsettled = RemoveUnsettled
@@ -125,6 +125,7 @@ type run struct {
 	busy              map[string]int  // only brokers that have requests in flight
 	beside            map[string]int  // of each broker, the requests in flight that take no usual slot
 	silent            map[string]bool // whether the last request to a broker wasn't answered
+	sendings          chan *sending   // to a goroutine that has no exchange; it is closed once none begins any more
 	answered          chan release    // of each request that is answered, or that won't be; it never blocks
 	ended             chan nextDue    // of each exchange whose answer is written; it never blocks
 	known             time.Time       // when something is due, as far as is known; zero if nothing is
@@ -145,13 +146,17 @@ func newRun(ctx context.Context, e *Engine) *run {
 		Engine: e, ctx: ctx, busy: map[string]int{}, beside: map[string]int{}, silent: map[string]bool{},
 		rest: backOff{first: e.retry},
 	}
+	r.sendings = make(chan *sending)
 	r.answered, r.ended = make(chan release, 2*e.AtOnce), make(chan nextDue, 2*e.AtOnce)
 	r.registry = newRegistry(ctx, e, &r.group)
 	return r
 }
 
-// wait waits for all goroutines.
-func (r *run) wait() { r.group.Wait() }
+// wait waits for all goroutines. No exchange is begun any more.
+func (r *run) wait() {
+	close(r.sendings)
+	r.group.Wait()
+}
 
 // settle waits until what is in flight is answered and written. Once its leases are over, giveUp is called. It returns
 // the error of ctx if that is done before.
@@ -300,19 +305,30 @@ func (r *run) begin(names []string, most int) {
 // shortRest is for how long nothing is asked if what is due is locked.
 const shortRest = 10 * time.Millisecond
 
-// start begins an exchange for each request.
+// start begins an exchange for each request, in a goroutine that has ended another one, or in a new one: there are no
+// more than exchanges have run at once.
 func (r *run) start(sendings []*sending) {
 	for _, sending := range sendings {
-		sending := sending
 		r.running++
 		r.takeSlot(sending)
-		r.group.Add(1)
-		go func() {
-			defer r.group.Done()
-			r.ended <- r.exchange(r.ctx, r.registry, sending, func(isAnswered bool) {
-				r.answered <- release{sending.out.Broker.Name, sending.isBeside, isAnswered}
-			})
-		}()
+		select {
+		case r.sendings <- sending:
+		default:
+			r.group.Add(1)
+			go r.exchangeAll(sending)
+		}
+	}
+}
+
+// exchangeAll makes an exchange, and then those that are handed to it, until none begins any more.
+func (r *run) exchangeAll(first *sending) {
+	defer r.group.Done()
+	for next, isOpen := first, true; isOpen; next, isOpen = <-r.sendings {
+		of := release{broker: next.out.Broker.Name, isBeside: next.isBeside}
+		r.ended <- r.exchange(r.ctx, r.registry, next, func(isAnswered bool) {
+			of.isAnswered = isAnswered
+			r.answered <- of
+		})
 	}
 }
 

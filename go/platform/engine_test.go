@@ -214,7 +214,7 @@ func (p *plant) checkIdentities() {
 // The options that are zero have their defaults.
 func TestOptions(t *testing.T) {
 	got := Options{}.withDefaults()
-	if got.AtOnce != 16 || got.Exchange != time.Minute || got.Margin != 30*time.Second || got.Look != time.Second ||
+	if got.AtOnce != 32 || got.Exchange != time.Minute || got.Margin != 30*time.Second || got.Look != time.Second ||
 		got.FirstPace != 2*time.Second || got.LongestPace != 2*time.Minute || got.LongestPoll != 168*time.Hour ||
 		got.Hold != 300*time.Second || got.Unsettled != RemoveUnsettled || got.Share == nil {
 		t.Errorf("got %+v, want the documented defaults", got)

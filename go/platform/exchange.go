@@ -19,36 +19,56 @@ var (
 
 // exchange sends one request, and takes its result. In between it calls answered, with whether there is an answer.
 func (e *Engine) exchange(ctx context.Context, registry *registry, s *sending, answered func(isAnswered bool)) nextDue {
-	result := e.carryOut(ctx, s)
-	answered(result.Lost == nil)
-	switch {
-	case isRefusal(result.Status):
-		registry.lose(s.out.Broker, "broker_refuses", fmt.Errorf("status %d", result.Status))
-	case errors.Is(result.Lost, ErrOtherStore) && result.Status < http.StatusInternalServerError:
-		registry.lose(s.out.Broker, "other_store", brief(result.Lost))
-	case errors.Is(result.Lost, ErrUnreachable):
-		registry.lose(s.out.Broker, "broker_unreached", brief(result.Lost))
+	carryOut := e.drive
+	if s.isLast() {
+		carryOut = e.sendLast
 	}
-	entry, now, err := e.take(ctx, *s, result)
+	isOver := false
+	release := func() {
+		if !isOver {
+			answered(s.result.Lost == nil)
+			registry.judge(s.out.Broker, s.result.Incoming)
+		}
+		isOver = true
+	}
+	err := carryOut(ctx, s, release)
+	release() // also if nothing could be written
 	switch {
 	case err != nil:
 		e.fail("answer_not_written", *s, err)
 		return nextDue{}
-	case entry == nil && s.unsure != nil: // it wasn't recorded
+	case s.entry == nil && s.unsure != nil: // it wasn't recorded
 		return nextDue{isDue: true}
-	case entry == nil:
+	case s.entry == nil:
 		e.fail("lease_lost", *s, osb.ErrNotInFlight)
 		return nextDue{}
 	}
-	if entry.State != s.before {
-		e.observer.OnChange(entry.Key, s.before, entry.State)
-	}
+	e.changed(*s.entry, s.before)
 	if s.isLast() {
-		if shown, _ := judgeLast(result.Incoming); shown != nothingLeft {
-			e.observer.OnOrphan(entry.Key, result.Status, shown == orphanFound)
+		if shown, _ := judgeLast(s.result.Incoming); shown != nothingLeft {
+			e.observer.OnOrphan(s.entry.Key, s.result.Status, shown == orphanFound)
 		}
 	}
-	return nextDue{in: entry.Due.Sub(now), isDue: !entry.Due.IsZero()}
+	return nextDue{in: s.entry.Due.Sub(s.read), isDue: !s.entry.Due.IsZero()}
+}
+
+// changed reports that a row has changed to another state.
+func (e *Engine) changed(after Entry, before State) {
+	if after.State != before {
+		e.observer.OnChange(after.Key, before, after.State)
+	}
+}
+
+// judge notes what the answer to a request shows of its broker.
+func (r *registry) judge(of Broker, in Incoming) {
+	switch {
+	case isRefusal(in.Status):
+		r.lose(of, "broker_refuses", fmt.Errorf("status %d", in.Status))
+	case errors.Is(in.Lost, ErrOtherStore) && in.Status < http.StatusInternalServerError:
+		r.lose(of, "other_store", brief(in.Lost))
+	case errors.Is(in.Lost, ErrUnreachable):
+		r.lose(of, "broker_unreached", brief(in.Lost))
+	}
 }
 
 // isRefusal reports whether a broker refuses the user or the password.
@@ -63,56 +83,74 @@ func (e *Engine) fail(event string, s sending, err error) {
 	})
 }
 
-// carryOut sends a request and, if it is a Poll after which credentials can be fetched, the Fetch.
-func (e *Engine) carryOut(ctx context.Context, s *sending) exchangeResult {
-	key := s.out.Entry.Key
-	result := exchangeResult{kind: kindOf(s.out.Request.Kind, key)}
-	result.Incoming = e.send(ctx, s, result.kind)
-	if !key.IsBinding || result.Lost != nil {
-		return result
+// stepFailed reports a row of which nothing could be decided. It isn't due at once any more, so it keeps no other
+// waiting.
+func (e *Engine) stepFailed(key Key, err error) {
+	if err != nil {
+		e.observer.OnFailure(Failure{Event: "step_failed", Key: key, IsNamed: true, Err: brief(err)})
 	}
-	if s.out.Request.Kind == osb.KindPoll {
-		if osb.DecidePoll(s.out.Entry.Record.State(), result.Answer) != osb.StateReady {
-			return result
-		}
-		crash.At("fetch-next")
-		fetch := *s
-		fetch.out.IsFetch, fetch.attempt = true, 0
-		fetched := e.send(ctx, &fetch, "fetch")
-		if fetched.Lost == nil && fetched.Binding == nil {
-			fetched.Lost = fmt.Errorf("status %d: %w", fetched.Status, osb.ErrNoBinding)
-		}
-		if fetched.Lost != nil {
-			return exchangeResult{kind: "fetch", Incoming: fetched}
-		}
-		result.Binding, result.Metadata = fetched.Binding, fetched.Metadata
+}
+
+func either(one, other error) error {
+	if one != nil {
+		return one
 	}
-	return e.seal(*s, result)
+	return other
+}
+
+// ask sends the request of a driver.
+func (e *Engine) ask(ctx context.Context, s *sending) (osb.PlatformDriver, error) {
+	s.result.Incoming = e.send(ctx, *s, s.result.kind)
+	e.seal(s)
+	if s.result.Lost != nil {
+		return s.driver.Lost()
+	}
+	return s.driver.Answered(s.result.Answer, s.result.sealed != nil)
+}
+
+// fetch sends the Fetch that has to follow the answer to a Poll.
+func (e *Engine) fetch(ctx context.Context, s *sending) (osb.PlatformDriver, error) {
+	crash.At("fetch-next")
+	fetch := *s
+	fetch.out.IsFetch, fetch.attempt = true, 0
+	fetched := e.send(ctx, fetch, "fetch")
+	if fetched.Lost == nil && fetched.Binding == nil {
+		fetched.Lost = fmt.Errorf("status %d: %w", fetched.Status, osb.ErrNoBinding)
+	}
+	if fetched.Lost != nil {
+		s.result = exchangeResult{kind: "fetch", Incoming: fetched}
+	}
+	s.result.Binding, s.result.Metadata = fetched.Binding, fetched.Metadata
+	e.seal(s)
+	return s.driver.Fetched(s.result.sealed != nil)
+}
+
+// sendLast sends the last deletion of a row that is gone, of which nothing is in the record.
+func (e *Engine) sendLast(ctx context.Context, s *sending, answered func()) error {
+	if s.unsure == nil {
+		s.result.Incoming = e.send(ctx, *s, s.result.kind)
+	}
+	answered()
+	return e.write(ctx, s, s.takeLastAnswer)
 }
 
 // seal seals the object of a binding. If that fails, the answer counts as lost, since nobody could use the binding.
-func (e *Engine) seal(s sending, result exchangeResult) exchangeResult {
-	if result.Binding == nil {
-		return result
+func (e *Engine) seal(s *sending) {
+	if s.result.Binding == nil || s.result.Lost != nil || !s.out.Entry.Key.IsBinding {
+		return
 	}
-	sealed, err := []byte(nil), errNoVault
+	err := errNoVault
 	if e.vault != nil {
-		sealed, err = e.vault.Seal(result.Binding, s.out.Entry.Key.String())
+		s.result.sealed, err = e.vault.Seal(s.result.Binding, s.out.Entry.Key.String())
 	}
 	if err != nil {
-		result.Lost, result.isUnsealed = fmt.Errorf("the credentials can't be sealed: %w", err), true
-		e.fail("credentials_lost", s, err)
-		return result
+		s.result.Lost, s.result.isUnsealed = fmt.Errorf("the credentials can't be sealed: %w", err), true
+		e.fail("credentials_lost", *s, err)
 	}
-	result.sealed = sealed
-	return result
 }
 
 // send is one exchange.
-func (e *Engine) send(ctx context.Context, s *sending, kind string) Incoming {
-	if s.unsure != nil {
-		return Incoming{Lost: fmt.Errorf("%w: %v", errUnsure, s.unsure)}
-	}
+func (e *Engine) send(ctx context.Context, s sending, kind string) Incoming {
 	id, err := newID()
 	if err != nil {
 		return Incoming{Lost: err}
@@ -137,57 +175,9 @@ func (e *Engine) send(ctx context.Context, s *sending, kind string) Incoming {
 // longestRetry is the longest time until an answer is written again.
 const longestRetry = time.Second
 
-// take is the second transaction of a step. If it fails, it is tried again until the lease is over, or ctx is done.
-// entry is what was written, or nil if another worker has given the request up, or the request wasn't recorded.
-func (e *Engine) take(ctx context.Context, s sending, result exchangeResult) (entry *Entry, at time.Time, err error) {
-	var read Entry
-	step := func(now time.Time, snapshot Snapshot) (*Change, error) {
-		entry, at, read = nil, now, snapshot.Entry
-		change, err := takeAnswer(now, snapshot, s, result)
-		if err != nil || change == nil {
-			return nil, err
-		}
-		entry = &change.Entry
-		crash.At("take-next")
-		return change, nil
-	}
-	until := e.client.Clock().Add(e.Exchange + e.Margin)
-	if s.unsure == nil {
-		until = s.out.Until.Add(e.Margin)
-	}
-	var maybe *Entry // what may be written though its transaction failed
-	rewrite := e.health.newRewrite()
-	defer rewrite.end()
-	for rest := (backOff{first: e.retry}); ; {
-		err = e.store.Change(ctx, s.out.Entry.Key, step)
-		if err == nil && entry == nil && maybe != nil && read.hasTaken(*maybe) {
-			entry = maybe
-		}
-		if !e.health.wrote(entry != nil, err) {
-			crash.At("take-written")
-			return entry, at, nil
-		}
-		if entry != nil {
-			maybe = entry
-		}
-		rewrite.begin()
-		if !e.waits(ctx, rest.next(), until) {
-			return nil, at, err
-		}
-	}
-}
-
 // waits waits, and returns false at once if ctx is done, or if it were longer than until a time.
 func (e *Engine) waits(ctx context.Context, rest time.Duration, until time.Time) bool {
 	return e.client.Clock().Add(rest).Before(until) && sleep(ctx, rest)
-}
-
-// hasTaken reports whether a row shows that an answer was written. Whatever else has changed in the row since, the last
-// reason stays until the next answer. Times count to the millisecond, as databases keep them.
-func (e Entry) hasTaken(written Entry) bool {
-	got, want := e.Last, written.Last
-	return got.Kind == want.Kind && got.Status == want.Status &&
-		got.At.Truncate(time.Millisecond).Equal(want.At.Truncate(time.Millisecond))
 }
 
 // sleep waits, and returns false at once if ctx is done.

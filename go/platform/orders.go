@@ -1,5 +1,5 @@
-// Package platform has the one order of writes of a platform. It orders instances and bindings of any number of
-// brokers, and goes on with each until it is ready or gone.
+// Package platform orders instances and bindings of any number of brokers, and goes on with each until it is ready or
+// gone. The order of its writes is that of a driver (osb.PlatformDriver), which executor.go carries out.
 //
 // A Store keeps a row for each. Engine.Run steps the rows that are due. A step has two transactions:
 //
@@ -523,30 +523,36 @@ func (o *Orders) Retry(ctx context.Context, key Key) (Entry, error) {
 			return nil, reject(Conflict, "%s is %s: nothing is to be done for it", describe(e), e.State)
 		case e.IsSent && e.Record.InFlight() != osb.KindNone && now.Before(e.Lease.Until):
 			return nil, reject(Conflict, "a request of %s is in flight: try again later", describe(e))
-		case e.IsSent && e.Record.InFlight() != osb.KindNone: // its worker has ended
-			if err := e.giveUp(now); err != nil {
-				return nil, notRetried(e, err)
-			}
 		}
-		if e.State == CleaningPolling {
-			record, err := e.Record.Retry()
-			if err != nil {
-				return nil, notRetried(e, err)
-			}
-			e.enter(now, record)
+		transaction, err := e.retry(now)
+		if err != nil {
+			return nil, err
 		}
 		e.Due, e.Unchanged = now, 0
-		return &Change{Entry: e}, nil
+		return &Change{Entry: e, Transaction: &transaction}, nil
 	})
 }
 
-// notRetried is a Rejection if the record of a row doesn't allow a retry. A record that can't be read isn't the fault
-// of whoever asks.
-func notRetried(e Entry, err error) error {
-	if errors.Is(err, osb.ErrBadRecord) {
-		return fmt.Errorf("%s: %w", describe(e), err)
+// retry has a driver give up what a dead worker has left in flight, and a deletion that is polled begin again. Nothing is
+// sent. It returns the driver's transaction.
+//
+// Errors: a Rejection if the record doesn't allow that; osb.ErrBadRecord, which isn't the fault of whoever asks.
+func (e *Entry) retry(now time.Time) (transaction osb.PlatformTransaction, err error) {
+	driver, err := newDriver(e.Key)
+	if err != nil {
+		return transaction, err
 	}
-	return reject(Conflict, "%s can't be retried: its record is %s (%v)", describe(e), StateOf(e.Record), err)
+	reading := e.reading(terms{})
+	reading.CleanUp = osb.CleanUpRetry
+	transaction, err = driver.Read(reading)
+	switch {
+	case err != nil:
+		return transaction, fmt.Errorf("%s: %w", describe(*e), err)
+	case e.State == CleaningPolling && transaction.CleansUp() != osb.CleanUpRetry:
+		return transaction, reject(Conflict, "%s can't be retried: its record is %s", describe(*e), StateOf(e.Record))
+	}
+	e.follow(now, transaction, terms{})
+	return transaction, nil
 }
 
 // Abandon ends the record as abandoned, for a reason that an operator gives. Nothing is sent any more. Nobody knows

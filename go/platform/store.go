@@ -32,6 +32,8 @@ type Change struct {
 	RemoveBindings bool
 	// WakeInstance has the instance of a binding due at once, if its removal is asked for.
 	WakeInstance bool
+	// Transaction is that of the driver that makes the change, or nil. The journal has its events.
+	Transaction *osb.PlatformTransaction
 }
 
 // A Step is what a transaction does with what it has read. It returns the Change to write, or nil to write nothing. If
@@ -291,6 +293,12 @@ const (
 	RemovedWhole         // the instance is to be deleted, and all of its bindings first
 )
 
+// A Lease is the right of a worker to step a row until a time. The zero Lease is nobody's.
+type Lease struct {
+	Worker string
+	Until  time.Time
+}
+
 // A Reason is what the broker, or the way to it, said last. The zero Reason says nothing.
 type Reason struct {
 	At          time.Time `json:"at"`
@@ -325,6 +333,9 @@ type Entry struct {
 	DueSince  time.Time
 	Unchanged int // how many requests in turn have changed nothing
 	Lease     Lease
+	// Number is that of the driver whose request was the latest (osb.PlatformDriver), or that of the latest last
+	// deletion. It is zero before, and if version 0.2 has written the row last.
+	Number osb.ID
 
 	Last    Reason // what was said last
 	Failure Reason // why the creation has failed, from the request that made it so

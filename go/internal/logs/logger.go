@@ -109,8 +109,11 @@ const (
 	mostLines = 10000
 )
 
+// pause is how long lines are gathered after others were written.
+const pause = 10 * time.Millisecond
+
 // A Queue is an io.Writer that never waits. It queues lines, at most 1 MiB and 10,000 of them, and one goroutine writes
-// them to another writer. The Queue drops lines that don't fit, and lines that can't be written, and counts them. Once
+// them to another writer: a line after a pause at once, and what follows within 10 ms together. The Queue drops lines that don't fit, and lines that can't be written, and counts them. Once
 // it can write again, it writes a line of JSON with the event log_lines_dropped and the number of dropped lines. Any
 // number of goroutines may use a Queue. (The limits and the event are this project's choice.)
 type Queue struct {
@@ -125,8 +128,9 @@ type Queue struct {
 	dropped  uint64 // all dropped lines
 	isClosed bool
 
-	wake chan struct{} // has a value if the goroutine has something to do
-	done chan struct{} // is closed once the goroutine has ended
+	wake   chan struct{} // has a value if the goroutine has something to do
+	closed chan struct{} // is closed by Close
+	done   chan struct{} // is closed once the goroutine has ended
 }
 
 // A batch is lines that are written together.
@@ -139,7 +143,9 @@ type batch struct {
 // NewQueue returns a Queue that writes to another writer, and starts its goroutine. Close ends the goroutine. Nobody
 // else may write to that writer until then.
 func NewQueue(to io.Writer) *Queue {
-	q := &Queue{to: to, now: time.Now, wake: make(chan struct{}, 1), done: make(chan struct{})}
+	q := &Queue{
+		to: to, now: time.Now, wake: make(chan struct{}, 1), closed: make(chan struct{}), done: make(chan struct{}),
+	}
 	go q.run()
 	return q
 }
@@ -173,7 +179,10 @@ func (q *Queue) DroppedLines() uint64 {
 // call returns and the queued lines are written.
 func (q *Queue) Close(ctx context.Context) error {
 	q.mutex.Lock()
-	q.isClosed = true
+	if !q.isClosed {
+		q.isClosed = true
+		close(q.closed)
+	}
 	q.wakeUp()
 	q.mutex.Unlock()
 	select {
@@ -205,6 +214,7 @@ func (q *Queue) run() {
 			next, isClosed := q.take()
 			q.write(to, next)
 			if len(next.bytes) > 0 {
+				q.rest()
 				continue
 			}
 			if isClosed {
@@ -212,6 +222,22 @@ func (q *Queue) run() {
 			}
 			break
 		}
+	}
+}
+
+// rest waits for a pause, unless the Queue is closed, or lines are missing: their report comes before all later lines.
+func (q *Queue) rest() {
+	q.mutex.Lock()
+	isMissing := q.missing > 0
+	q.mutex.Unlock()
+	if isMissing {
+		return
+	}
+	timer := time.NewTimer(pause)
+	defer timer.Stop()
+	select {
+	case <-timer.C:
+	case <-q.closed:
 	}
 }
 

@@ -42,6 +42,7 @@ type Conn struct {
 	begin, end                   *Statement
 	savepoint, rollback, release *Statement
 	prepared                     []*Statement
+	writes                       int // how many statements were executed that return no rows, and haven't failed
 }
 
 // A sqliteConn is what is used of a *sqlite3.SQLiteConn.
@@ -136,13 +137,14 @@ func (c *Conn) Prepare(ctx context.Context, text string) (*Statement, error) {
 	if err != nil {
 		return nil, fmt.Errorf("%s: %w", text, err)
 	}
-	statement := &Statement{driver: made.(sqliteStmt)}
+	statement := &Statement{conn: c, driver: made.(sqliteStmt)}
 	c.prepared = append(c.prepared, statement)
 	return statement, nil
 }
 
 // Exec executes statements that return no rows.
 func (c *Conn) Exec(statements string, values ...driver.Value) error {
+	c.writes++ // the first of them may be executed, and another one fail
 	_, err := c.sqlite.Exec(statements, values)
 	return err
 }
@@ -238,6 +240,7 @@ func Safely(do func() error) (err error) {
 
 // A Statement is prepared for one connection.
 type Statement struct {
+	conn    *Conn
 	driver  sqliteStmt
 	columns int // of its rows, once it was executed
 }
@@ -252,8 +255,9 @@ func (s *Statement) Run(values ...driver.Value) (rows int64, err error) {
 	// with a context that can be cancelled, the driver would start a goroutine for each step
 	done, err := s.driver.Exec(values)
 	if err != nil {
-		return 0, err
+		return 0, err // SQLite has undone the statement
 	}
+	s.conn.writes++
 	return done.RowsAffected()
 }
 

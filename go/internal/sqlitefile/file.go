@@ -30,11 +30,6 @@ type Options[C any] struct {
 	// of 2,000 counts.
 	Cache int
 
-	// OneStatement leaves out the savepoint of each job, which undoes a job that fails. It may be set only if each job
-	// writes with at most one statement, and does nothing after it that can fail: a job that fails has then written
-	// nothing. If a job failed after it has written, what it has written would be committed.
-	OneStatement bool
-
 	// Driver opens the connections. Nil is SQLite's own. Another one wraps its connections and statements, and has the
 	// methods of theirs.
 	Driver driver.Driver
@@ -43,6 +38,10 @@ type Options[C any] struct {
 	Migrate func(ctx context.Context, conn *Conn, path string) error
 	// Prepare returns what is used with a connection. It is called once for each, after Migrate.
 	Prepare func(ctx context.Context, conn *Conn) (C, error)
+	// Begun is called in each transaction before its jobs. If it fails, so does the transaction. It may be nil.
+	Begun func(C) error
+	// Undone is called once a transaction was rolled back, or may be rolled back. It may be nil.
+	Undone func(C)
 	// Committed gets how many jobs each transaction had, before their callers get their results. It may be nil.
 	Committed func(jobs int)
 }
@@ -82,8 +81,10 @@ const (
 	givenUp
 )
 
-// begin reports whether the job is to be done: its caller may have gone.
-func (j *job[C]) begin() bool { return j.state.CompareAndSwap(waiting, begun) }
+// begin reports whether the job is to be done: its caller may have gone. A job that has begun may begin again.
+func (j *job[C]) begin() bool {
+	return j.state.CompareAndSwap(waiting, begun) || j.state.Load() == begun
+}
 
 // giveUp reports whether the job won't be done: it hasn't begun.
 func (j *job[C]) giveUp() bool { return j.state.CompareAndSwap(waiting, givenUp) }
@@ -261,7 +262,8 @@ func (f *File[C]) Read(ctx context.Context, call func(C) error) error {
 }
 
 // Write has a job done in a transaction, together with others that wait, and returns once it is on disk. A job that
-// fails or panics is undone, and the others are written. A job must not call Write.
+// fails or panics is undone, and the others are written. A job may be done more than once; the last time counts. It must
+// not call Write.
 //
 // Errors: those of do; that of ctx, if it is done before the job has begun; ErrBusy; ErrClosed; ErrUnknownCommit (by
 // errors.Is), which is SQLite's error of the commit. After any other error nothing is written.
@@ -327,32 +329,13 @@ func (f *File[C]) gather(batch []*job[C]) []*job[C] {
 
 // commit writes jobs in one transaction, and passes the result to their callers. If the transaction itself fails, none
 // is written.
+//
+// A savepoint for each job would cost as much as the job. So if a job fails after it has written, the transaction is
+// rolled back, and the other jobs are done again without it.
 func (f *File[C]) commit(batch []*job[C]) {
-	conn := f.writer.conn
-	err := Patiently(f.open, conn.begin.run)
-	if errors.Is(err, context.Canceled) {
-		err = ErrClosed
-	}
-	jobs := batch[:0]
-	for _, job := range batch {
-		if !job.begin() {
-			continue // nobody waits for it
-		}
-		jobs = append(jobs, job)
-		if job.err = job.ctx.Err(); job.err == nil && err == nil {
-			job.err = f.try(job)
-		}
-		if errors.Is(job.err, ErrBroken) {
-			err = job.err
-		}
-	}
-	if err == nil {
-		if err = conn.end.run(); err != nil {
-			err = unknownCommit{err}
-		}
-	}
-	if err != nil && conn.InTransaction() {
-		_ = conn.Exec("ROLLBACK")
+	jobs, failed, err := f.transaction(batch)
+	for failed != nil {
+		jobs, failed, err = f.transaction(jobs)
 	}
 	if f.options.Committed != nil && err == nil {
 		f.options.Committed(len(jobs))
@@ -365,17 +348,70 @@ func (f *File[C]) commit(batch []*job[C]) {
 	}
 }
 
-// try has a job done. If it fails, nothing of it is written.
-func (f *File[C]) try(it *job[C]) error {
-	do := func() error { return it.do(f.writer.with) }
-	if !f.options.OneStatement {
-		return f.writer.conn.WithSavepoint(do)
+// transaction has jobs done in one transaction, and returns those whose callers wait. If one of them fails after it has
+// written, nothing is committed: failed is that job, whose caller gets its error, and the others are left to be done.
+func (f *File[C]) transaction(batch []*job[C]) (jobs []*job[C], failed *job[C], err error) {
+	conn := f.writer.conn
+	err = Patiently(f.open, conn.begin.run)
+	if errors.Is(err, context.Canceled) {
+		err = ErrClosed
 	}
-	err := Safely(do)
-	if !f.writer.conn.InTransaction() {
-		return brokenOff(err)
+	if err == nil && f.options.Begun != nil {
+		err = f.options.Begun(f.writer.with)
 	}
-	return err
+	jobs = batch[:0]
+	for _, job := range batch {
+		if !job.begin() {
+			continue // nobody waits for it
+		}
+		isHalf := false
+		if job.err = job.ctx.Err(); job.err == nil && err == nil && failed == nil {
+			job.err, isHalf = f.try(job)
+		}
+		switch {
+		case isHalf:
+			failed = job
+			continue
+		case errors.Is(job.err, ErrBroken):
+			err = job.err
+		}
+		jobs = append(jobs, job)
+	}
+	f.end(&err, failed == nil)
+	if failed != nil {
+		close(failed.done)
+	}
+	return jobs, failed, err
+}
+
+// end commits the transaction unless it is to be rolled back, or there is an error.
+func (f *File[C]) end(err *error, isToCommit bool) {
+	conn := f.writer.conn
+	if *err == nil && isToCommit {
+		if *err = conn.end.run(); *err != nil {
+			*err = unknownCommit{*err}
+		}
+	}
+	if *err == nil && isToCommit {
+		return
+	}
+	if conn.InTransaction() {
+		_ = conn.Exec("ROLLBACK")
+	}
+	if f.options.Undone != nil {
+		f.options.Undone(f.writer.with)
+	}
+}
+
+// try has a job done. isHalf reports that the job has failed after it had written.
+func (f *File[C]) try(it *job[C]) (err error, isHalf bool) {
+	conn := f.writer.conn
+	before := conn.writes
+	err = Safely(func() error { return it.do(f.writer.with) })
+	if !conn.InTransaction() {
+		return brokenOff(err), false
+	}
+	return err, err != nil && conn.writes != before
 }
 
 const again = 500 * time.Microsecond // SQLite's own waiting sleeps longer and longer, up to 100 ms

@@ -130,8 +130,8 @@ func TestOneJobFails(t *testing.T) {
 		"":       note("d1", "d2"),
 	})
 	wantNotes(t, file, "d1", "d2")
-	diff.Equal(t, commits.Load(), 2, "")
-	diff.Equal(t, jobs.Load(), 5, "")
+	diff.Equal(t, commits.Load(), 2, "transactions")
+	diff.Equal(t, jobs.Load(), 2, "jobs that are written")
 }
 
 // writeTogether writes jobs in one transaction. Each is named by a part of its error, and "" must succeed.
@@ -185,27 +185,14 @@ func TestWithSavepoint(t *testing.T) {
 	wantNotes(t, file, "a", "d")
 }
 
-// If the transaction itself is broken off, or a job can't be undone, no job of it is reported as written. The next one
-// is written.
+// If the transaction itself is broken off, as SQLite does if the disk is full, no job of it is reported as written. The
+// next one is written.
 func TestTransactionFails(t *testing.T) {
-	for name, test := range map[string]struct {
-		breaking     string
-		oneStatement bool
-	}{
-		"ROLLBACK":                {"ROLLBACK", false}, // as SQLite does by itself if the disk is full
-		"ROLLBACK, one statement": {"ROLLBACK", true},
-		"RELEASE":                 {"RELEASE job", false}, // so that the job can't be undone
-	} {
-		t.Run(name, func(t *testing.T) {
-			with := options()
-			with.OneStatement = test.oneStatement
-			file := open(t, filepath.Join(t.TempDir(), "file"), with)
-			breakOff(t, file, test.breaking)
-			wantNotes(t, file)
-			diff.NoError(t, file.Write(background, note("next")), "")
-			wantNotes(t, file, "next")
-		})
-	}
+	file := open(t, filepath.Join(t.TempDir(), "file"), options())
+	breakOff(t, file, "ROLLBACK")
+	wantNotes(t, file)
+	diff.NoError(t, file.Write(background, note("next")), "the next write")
+	wantNotes(t, file, "next")
 }
 
 // A call whose transaction was rolled back returns ErrBroken, and not that the commit is unknown, also if it has no error
@@ -218,20 +205,16 @@ func TestRolledBack(t *testing.T) {
 	}
 	transaction := func(n *notes) error { return n.Transaction(background, func() error { return ends(n) }) }
 	for _, test := range []struct {
-		name         string
-		oneStatement bool
-		call         func(*File[*notes]) error
+		name string
+		call func(*File[*notes]) error
 	}{
-		{"Write", false, func(file *File[*notes]) error { return file.Write(background, ends) }},
-		{"Write of one statement", true, func(file *File[*notes]) error { return file.Write(background, ends) }},
-		{"WithSavepoint in a Write", false, func(file *File[*notes]) error { return file.Write(background, undoing) }},
-		{"WithSavepoint after the end", false, func(file *File[*notes]) error { return file.Write(background, goesOn) }},
-		{"Transaction", false, func(file *File[*notes]) error { return file.Read(background, transaction) }},
+		{"Write", func(file *File[*notes]) error { return file.Write(background, ends) }},
+		{"WithSavepoint in a Write", func(file *File[*notes]) error { return file.Write(background, undoing) }},
+		{"WithSavepoint after the end", func(file *File[*notes]) error { return file.Write(background, goesOn) }},
+		{"Transaction", func(file *File[*notes]) error { return file.Read(background, transaction) }},
 	} {
 		t.Run(test.name, func(t *testing.T) {
-			with := options()
-			with.OneStatement = test.oneStatement
-			file := open(t, filepath.Join(t.TempDir(), "file"), with)
+			file := open(t, filepath.Join(t.TempDir(), "file"), options())
 			if err := test.call(file); !errors.Is(err, ErrBroken) || errors.Is(err, ErrUnknownCommit) {
 				t.Errorf("got %v, want %v alone", err, ErrBroken)
 			}
@@ -263,21 +246,61 @@ func TestTransactionThatFails(t *testing.T) {
 	diff.NoError(t, file.Write(background, note("next")), "the next write")
 }
 
-// Of jobs of one statement, one that fails, panics or breaks a constraint writes nothing. The others are written. None
-// has a savepoint.
-func TestOneStatement(t *testing.T) {
+// Jobs that fail, panic or break a constraint before they have written anything undo nothing: each job is done once,
+// without a savepoint.
+func TestJobsThatFailUnwritten(t *testing.T) {
+	var begun, undone, done atomic.Int64
 	with := options()
-	with.OneStatement = true
+	with.Begun = func(*notes) error { begun.Add(1); return nil }
+	with.Undone = func(*notes) { undone.Add(1) }
 	file := open(t, filepath.Join(t.TempDir(), "file"), with)
 	check(t, file.Write(background, note("a")))
 	writeTogether(t, file, map[string]func(*notes) error{
-		"wrong":             func(*notes) error { return errWrong },
-		"a bug":             func(*notes) error { panic("a bug") },
-		"UNIQUE":            note("a"),
-		"no such savepoint": func(n *notes) error { return n.Exec("RELEASE job") },
-		"":                  note("b"),
+		"wrong":  func(*notes) error { return errWrong },
+		"a bug":  func(*notes) error { panic("a bug") },
+		"UNIQUE": note("a"),
+		"":       func(n *notes) error { done.Add(1); return note("b")(n) },
 	})
 	wantNotes(t, file, "a", "b")
+	diff.Equal(t, done.Load(), 1, "the job that is written")
+	diff.Equal(t, begun.Load(), 3, "transactions")
+	diff.Equal(t, undone.Load(), 0, "transactions that are undone")
+}
+
+// A job that has failed after it has written is undone with its whole transaction, and the others are done again. Begun
+// is called for both transactions.
+func TestJobsThatAreDoneAgain(t *testing.T) {
+	var begun, undone, done atomic.Int64
+	with := options()
+	with.Begun = func(*notes) error { begun.Add(1); return nil }
+	with.Undone = func(*notes) { undone.Add(1) }
+	file := open(t, filepath.Join(t.TempDir(), "file"), with)
+	writeTogether(t, file, map[string]func(*notes) error{
+		"wrong": func(n *notes) error { return first(note("a")(n), errWrong) },
+		"":      func(n *notes) error { done.Add(1); return note("b")(n) },
+	})
+	wantNotes(t, file, "b")
+	diff.AtMost(t, done.Load(), 2, "the job that is written") // 1 if it comes last
+	diff.Equal(t, begun.Load(), 3, "transactions")
+	diff.Equal(t, undone.Load(), 1, "transactions that are undone")
+}
+
+// If Begun fails, nothing is done, and the next transaction is written.
+func TestBegunFails(t *testing.T) {
+	fails, with := true, options()
+	with.Begun = func(*notes) error {
+		if fails {
+			return errWrong
+		}
+		return nil
+	}
+	file := open(t, filepath.Join(t.TempDir(), "file"), with)
+	if err := file.Write(background, note("lost")); !errors.Is(err, errWrong) {
+		t.Errorf("got %v, want %v", err, errWrong)
+	}
+	fails = false
+	diff.NoError(t, file.Write(background, note("next")), "the next write")
+	wantNotes(t, file, "next")
 }
 
 // breakOff writes three jobs in a transaction, of which the second one breaks it off by a statement.
@@ -672,50 +695,52 @@ func ignore([]driver.Value) error { return nil }
 func TestStatementsThatFail(t *testing.T) {
 	for _, call := range faultyCalls {
 		t.Run(call.name, func(t *testing.T) {
-			for _, isOne := range []bool{false, true} {
-				by, with := &storefaults.Driver{}, options()
-				with.Driver, with.OneStatement = by, isOne
-				file := open(t, filepath.Join(t.TempDir(), "file"), with)
-				for n := 1; ; n++ {
-					by.Fail(n, storefaults.Refused)
-					err := call.call(file)
-					failed := by.FailedStatement()
-					if failed == "" {
-						if err != nil || n == 1 {
-							t.Errorf("got %d statements, and %v, want nil", n-1, err)
-						}
-						break
+			by, with := &storefaults.Driver{}, options()
+			with.Driver = by
+			file := open(t, filepath.Join(t.TempDir(), "file"), with)
+			for n := 1; ; n++ {
+				by.Fail(n, storefaults.Refused)
+				err := call.call(file)
+				failed := by.FailedStatement()
+				if failed == "" {
+					if err != nil || n == 1 {
+						t.Errorf("got %d statements, and %v, want nil", n-1, err)
 					}
-					by.Fail(0, storefaults.Refused)
-					if !errors.Is(err, storefaults.ErrFault) && !errors.Is(err, ErrBroken) {
-						t.Errorf("%s, %q has failed: got %v, want %v", call.name, failed, err, storefaults.ErrFault)
-					}
-					wantNotes(t, file)
+					break
 				}
 				by.Fail(0, storefaults.Refused)
-				if call.writes {
-					wantNotes(t, file, "a")
+				if !errors.Is(err, storefaults.ErrFault) && !errors.Is(err, ErrBroken) {
+					t.Errorf("%s, %q has failed: got %v, want %v", call.name, failed, err, storefaults.ErrFault)
 				}
+				wantNotes(t, file)
+			}
+			by.Fail(0, storefaults.Refused)
+			if call.writes {
+				wantNotes(t, file, "a")
 			}
 		})
 	}
 }
 
-// If a job fails, and what would undo it fails too, nothing of the transaction is written.
+// If a job or a part of it fails, and what would undo it fails too, nothing of the transaction is written.
 func TestJobsThatAreNotUndone(t *testing.T) {
-	by, with := &storefaults.Driver{}, options()
-	with.Driver = by
-	file := open(t, filepath.Join(t.TempDir(), "file"), with)
-	for n := 1; ; n++ {
-		by.Fail(n, storefaults.Refused)
-		err := file.Write(background, func(n *notes) error { return first(note("a")(n), errWrong) })
-		failed := by.FailedStatement()
-		by.Fail(0, storefaults.Refused)
-		diff.Error(t, err, "%q has failed", failed)
-		wantNotes(t, file)
-		if failed == "" {
-			return
-		}
+	wrong := func(n *notes) error { return first(note("a")(n), errWrong) }
+	for name, job := range map[string]func(*notes) error{
+		"job": wrong, "part": func(n *notes) error { return n.WithSavepoint(func() error { return wrong(n) }) },
+	} {
+		t.Run(name, func(t *testing.T) {
+			by, with := &storefaults.Driver{}, options()
+			with.Driver = by
+			file := open(t, filepath.Join(t.TempDir(), "file"), with)
+			for n, failed := 1, "none yet"; failed != ""; n++ {
+				by.Fail(n, storefaults.Refused)
+				err := file.Write(background, job)
+				failed = by.FailedStatement()
+				by.Fail(0, storefaults.Refused)
+				diff.Error(t, err, "%q has failed", failed)
+				wantNotes(t, file)
+			}
+		})
 	}
 }
 

@@ -26,6 +26,7 @@ import (
 	"net"
 	"net/http"
 	"net/url"
+	"os"
 	"sync"
 	"time"
 	"unicode/utf8"
@@ -307,37 +308,61 @@ func (c *Client) ask(ctx context.Context, to *broker, of platform.Broker, sent s
 	if err != nil {
 		return wholeAnswer{}, notSent{err}
 	}
-	left := sent.until.Sub(c.now())
-	if left <= 0 {
-		return wholeAnswer{}, notSent{ErrTimeOver}
-	}
-	within, cancel := context.WithTimeout(ctx, left)
-	defer cancel()
-	if err := to.enter(within); err != nil {
-		return wholeAnswer{}, notSent{because(ctx, within, err)}
+	conn, err := c.enter(ctx, to, sent)
+	if err != nil {
+		return wholeAnswer{}, notSent{err}
 	}
 	defer to.leave()
-	conn, err := c.connection(within, to, sent)
-	if err != nil {
-		reason := because(ctx, within, err)
-		if ctx.Err() == nil {
-			reason = unreachable{reason}
-		}
-		return wholeAnswer{}, notSent{reason}
-	}
-	got, err := c.on(within, conn, request, sent)
+	got, err := c.on(ctx, conn, request, sent)
 	if err == nil && !sent.isOfAny {
 		err = of.CheckStore(got.header.Values(platform.StoreHeader))
 	}
 	switch {
 	case err == nil, errors.Is(err, platform.ErrOtherStore):
 	case !conn.top.isWritten:
-		err = notSent{because(ctx, within, err)}
+		err = notSent{c.because(ctx, sent.until, err)}
 	default:
-		err = because(ctx, within, err)
+		err = c.because(ctx, sent.until, err)
 	}
-	c.giveBack(within, to, conn, sent, got, err)
+	c.giveBack(ctx, to, conn, sent, got, err)
 	return got, err
+}
+
+// enter returns a connection for a request, once one is free. It is one that was kept, or a new one. Unless enter fails,
+// the caller calls leave.
+func (c *Client) enter(ctx context.Context, to *broker, sent sending) (*connection, error) {
+	left := sent.until.Sub(c.now())
+	if left <= 0 {
+		return nil, ErrTimeOver
+	}
+	if ctx.Err() == nil && to.tryEnter() { // as usual, without the costs of another context
+		if kept := c.kept(to, sent); kept != nil {
+			return kept, nil
+		}
+		to.leave()
+	}
+	within, cancel := context.WithTimeout(ctx, left)
+	defer cancel()
+	reason := func(err error) error {
+		if within.Err() != nil {
+			err = ErrTimeOver
+		}
+		return c.because(ctx, sent.until, err)
+	}
+	if err := to.enter(within); err != nil {
+		return nil, reason(err)
+	}
+	if kept := c.kept(to, sent); kept != nil {
+		return kept, nil
+	}
+	conn, err := c.connect(within, to, sent.until)
+	if err != nil {
+		to.leave()
+		if err = reason(err); ctx.Err() == nil {
+			err = unreachable{err}
+		}
+	}
+	return conn, err
 }
 
 // request makes the request that is written.
@@ -359,17 +384,17 @@ func (c *Client) request(to *broker, of platform.Broker, sent sending) (*http.Re
 	if sent.isOfAny {
 		store = ""
 	}
-	for name, value := range map[string]string{
-		osb.RequestIdentityHeader: sent.id, osb.OriginatingIdentityHeader: sent.identity,
-		journalfile.Header: sent.journalTime, platform.StoreHeader: store,
+	for _, header := range [...]struct{ name, value string }{
+		{osb.RequestIdentityHeader, sent.id}, {osb.OriginatingIdentityHeader, sent.identity},
+		{journalfile.Header, sent.journalTime}, {platform.StoreHeader, store},
 	} {
-		if value == "" {
+		if header.value == "" {
 			continue
 		}
-		if err := osb.RequestIdentity(value); err != nil {
-			return nil, fmt.Errorf("the header %s: %w", name, err)
+		if err := osb.RequestIdentity(header.value); err != nil {
+			return nil, fmt.Errorf("the header %s: %w", header.name, err)
 		}
-		request.Header.Set(name, value)
+		request.Header.Set(header.name, header.value)
 	}
 	return request, c.authorize(request, of)
 }
@@ -405,14 +430,12 @@ func checkLogin(user, password string) error {
 	return nil
 }
 
-// connection returns one that was kept, or a new one.
-func (c *Client) connection(ctx context.Context, to *broker, sent sending) (*connection, error) {
-	if !sent.isAlone && sent.id != "" && to.returns.Load() {
-		if kept := to.take(c.now()); kept != nil {
-			return kept, nil
-		}
+// kept returns a connection that was kept, or nil if there is none, or the request has to have a new one.
+func (c *Client) kept(to *broker, sent sending) *connection {
+	if sent.isAlone || sent.id == "" || !to.returns.Load() {
+		return nil
 	}
-	return c.connect(ctx, to, sent.until)
+	return to.take(c.now())
 }
 
 // on makes the exchange on a connection, and judges whether the answer is the one to the request.
@@ -420,10 +443,10 @@ func (c *Client) on(
 	ctx context.Context, conn *connection, request *http.Request, sent sending,
 ) (got wholeAnswer, err error) {
 	conn.begin(sent.until, sent.longest+around)
-	err = watch(ctx, conn.bottom.Conn, func() error {
-		got, err = conn.exchange(request, sent.longest)
-		return err
-	})
+	if err := conn.heed(ctx, sent.until.Sub(c.now())); err != nil {
+		return wholeAnswer{}, err
+	}
+	got, err = conn.exchange(request, sent.longest)
 	switch {
 	case err != nil:
 		return got, err
@@ -578,12 +601,12 @@ func readError(err error) error {
 	return ErrGarbled
 }
 
-// because is why an exchange has failed, within a context that ends with the time of the exchange.
-func because(ctx, within context.Context, err error) error {
+// because is why an exchange has failed that may last until a time.
+func (c *Client) because(ctx context.Context, until time.Time, err error) error {
 	switch {
 	case ctx.Err() != nil:
 		return ctx.Err()
-	case within.Err() != nil:
+	case errors.Is(err, os.ErrDeadlineExceeded), !c.now().Before(until):
 		return ErrTimeOver
 	}
 	return err

@@ -100,7 +100,13 @@ type connection struct {
 	bottom *timedConn
 	top    *meter
 	reader *bufio.Reader
+	writer *bufio.Writer
 	isKept bool // whether it has carried a request before
+
+	// heeded is closed once what waits on the connection has to end, or nil. endHeed ends the goroutine that waits for
+	// that.
+	heeded  <-chan struct{}
+	endHeed func()
 
 	idleSince time.Time
 	expiry    *time.Timer // while it waits for a request
@@ -109,7 +115,10 @@ type connection struct {
 // newConnection is a connection to a broker, over one at the bottom that TLS may have been added to.
 func newConnection(bottom *timedConn, top net.Conn) *connection {
 	metered := &meter{Conn: top}
-	return &connection{bottom: bottom, top: metered, reader: bufio.NewReader(metered)}
+	return &connection{
+		bottom: bottom, top: metered, reader: bufio.NewReader(metered), writer: bufio.NewWriterSize(metered, piece),
+		endHeed: func() {},
+	}
 }
 
 // begin begins an exchange, which may last until a time, and read so many bytes.
@@ -117,21 +126,48 @@ func (c *connection) begin(until time.Time, most int) {
 	c.bottom.until, c.top.left, c.top.isWritten, c.top.failed = until, most, false, nil
 }
 
-// watch calls use, and ends all that it waits for on the connection once the context is done.
-func watch(ctx context.Context, conn net.Conn, use func() error) error {
-	done, ended := make(chan struct{}), make(chan struct{})
+// past is a deadline that ends all that waits on a connection.
+var past = time.Unix(1, 0)
+
+// heed has all that waits on the connection end after a time, and once the context is done. A goroutine waits for the
+// context until another one is heeded, or the connection is closed: usually all exchanges have the same context.
+//
+// Errors: that of the context; those of the connection.
+func (c *connection) heed(ctx context.Context, left time.Duration) error {
+	if done := ctx.Done(); done != c.heeded {
+		c.endHeed()
+		c.heeded, c.endHeed = done, endOnce(c.bottom.Conn, done)
+	}
+	if err := c.bottom.Conn.SetDeadline(time.Now().Add(left)); err != nil {
+		return err
+	}
+	return ctx.Err() // if it was done before, the deadline may be that of the goroutine no more
+}
+
+// endOnce has a goroutine end all that waits on a connection once a channel is closed, until end is called.
+func endOnce(conn net.Conn, done <-chan struct{}) (end func()) {
+	if done == nil {
+		return func() {}
+	}
+	stop, ended := make(chan struct{}), make(chan struct{})
 	go func() {
 		defer close(ended)
 		select {
-		case <-ctx.Done():
-			_ = conn.SetDeadline(time.Unix(1, 0)) // it fails only if the connection is closed
 		case <-done:
+			_ = conn.SetDeadline(past) // it fails only if the connection is closed
+		case <-stop:
 		}
 	}()
-	err := use()
-	close(done)
-	<-ended
-	return err
+	return func() {
+		close(stop)
+		<-ended
+	}
+}
+
+// watch calls use, and ends all that it waits for on the connection once the context is done.
+func watch(ctx context.Context, conn net.Conn, use func() error) error {
+	defer endOnce(conn, ctx.Done())()
+	return use()
 }
 
 // exchange writes a request, and reads its answer whole. The body has no more bytes than most.
@@ -158,10 +194,9 @@ func (c *connection) exchange(request *http.Request, most int) (got wholeAnswer,
 }
 
 func (c *connection) write(request *http.Request) error {
-	writer := bufio.NewWriterSize(c.top, piece)
-	err := request.Write(writer)
+	err := request.Write(c.writer)
 	if err == nil {
-		err = writer.Flush()
+		err = c.writer.Flush()
 	}
 	if c.top.failed != nil {
 		return c.top.failed
@@ -197,16 +232,19 @@ func (c *connection) isQuiet() bool {
 		return false
 	}
 	isQuiet := false
-	err = raw.Read(func(descriptor uintptr) bool {
+	err = raw.Control(func(descriptor uintptr) { // whatever deadline the last exchange had
 		var one [1]byte
 		_, _, err := syscall.Recvfrom(int(descriptor), one[:], syscall.MSG_PEEK|syscall.MSG_DONTWAIT)
 		isQuiet = err == syscall.EAGAIN
-		return true
 	})
 	return err == nil && isQuiet
 }
 
-func (c *connection) close() { _ = c.top.Close() } // what it has read is whole, or lost already
+func (c *connection) close() {
+	c.endHeed()
+	c.heeded, c.endHeed = nil, func() {}
+	_ = c.top.Close() // what it has read is whole, or lost already
+}
 
 // connect opens a connection to a broker. What is written on the way is written before the time is over.
 func (c *Client) connect(ctx context.Context, b *broker, until time.Time) (*connection, error) {
@@ -322,6 +360,16 @@ type broker struct {
 
 func newBroker(at address, connections int, longest time.Duration) *broker {
 	return &broker{address: at, used: make(chan struct{}, connections), longest: longest}
+}
+
+// tryEnter is enter that doesn't wait. It reports whether a connection is free.
+func (b *broker) tryEnter() bool {
+	select {
+	case b.used <- struct{}{}:
+		return true
+	default:
+		return false
+	}
 }
 
 // enter waits for a connection that is free.

@@ -82,8 +82,8 @@ func TestPausedInWriting(t *testing.T) {
 	server, clock := swallow(t), &fakeClock{}
 	c := newClient(t, Options{})
 	reads := 0
-	c.now = func() time.Time { // the clock is read at the start, and then before each piece
-		if reads++; reads == 4 {
+	c.now = func() time.Time { // the clock is read at the start and once it is connected, and then before each piece
+		if reads++; reads == 5 {
 			clock.pass(patience)
 		}
 		return clock.now()

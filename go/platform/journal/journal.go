@@ -8,6 +8,7 @@ package journal
 import (
 	"context"
 	"strconv"
+	"strings"
 	"sync/atomic"
 	"time"
 
@@ -187,7 +188,7 @@ func (s store) Insert(ctx context.Context, entry platform.Entry, check func(plat
 				return err
 			}
 		}
-		lines.change(byOrder, entry.Key, platform.Entry{Order: entry.Order}, entry)
+		lines.change(byOrder, entry.Key, platform.Entry{Order: entry.Order}, entry, nil)
 		return nil
 	})
 	lines.end(err)
@@ -234,41 +235,70 @@ func (t *transaction) stepping(cause string, step platform.Step) platform.Step {
 		t.undo(snapshot.Key, false) // a step is called again once its transaction was rolled back
 		change, err := step(now, snapshot)
 		if err == nil && change != nil {
-			t.change(cause, snapshot.Key, snapshot.Entry, change.Entry)
+			t.change(cause, snapshot.Key, snapshot.Entry, change.Entry, change.Transaction)
 			if next := change.Next; next != nil {
-				t.change(byOrder, snapshot.Key, platform.Entry{Order: next.Order}, *next)
+				t.change(byOrder, snapshot.Key, platform.Entry{Order: next.Order}, *next, nil)
 			}
 		}
 		return change, err
 	}
 }
 
-// change writes down the change of a row, unless its record and its state stay.
-func (t *transaction) change(cause string, of platform.Key, before, after platform.Entry) {
+// change writes down the change of a row, unless its record and its state stay. made is the driver's transaction, or nil.
+func (t *transaction) change(
+	cause string, of platform.Key, before, after platform.Entry, made *osb.PlatformTransaction,
+) {
 	if before.IsSent == after.IsSent && before.Record == after.Record && before.State == after.State {
 		return
 	}
 	it := pending{of: of, number: t.journal.changes.Add(1), subject: subjectOf(after.Key, after.Names)}
 	t.lines = append(t.lines, it)
-	made := changeLine{
-		Change: it.number, subject: it.subject, Broker: after.Broker, Cause: cause,
+	line := changeLine{
+		Change: it.number, subject: it.subject, Broker: after.Broker, Cause: cause, Effect: effectOf(before, made),
 		State: string(after.State), Service: after.Service.String(), Plan: after.Plan.String(),
 	}
 	var err error
-	if made.Before, err = textOf(before); err == nil {
-		made.After, err = textOf(after)
+	if line.Before, err = textOf(before); err == nil {
+		line.After, err = textOf(after)
 	}
 	if err != nil {
 		t.journal.to.Lose(err)
 		return
 	}
 	if cause == byTake {
-		made.Attempt = before.Record.Attempt()
+		line.Attempt = before.Record.Attempt()
 	}
 	if before.Credentials == nil {
-		made.Credentials = t.journal.digestOf(after)
+		line.Credentials = t.journal.digestOf(after)
 	}
-	t.journal.to.Write("changed", made)
+	t.journal.to.Write("changed", line)
+}
+
+// effectOf are the events of the network that the transaction of a driver is (docs/network-schedule.md), in their order,
+// or empty if no driver has made the change.
+func effectOf(before platform.Entry, made *osb.PlatformTransaction) string {
+	if made == nil {
+		return ""
+	}
+	var events []string
+	if made.TimesOut() {
+		events = append(events, "timeout")
+	}
+	if made.Takes() {
+		events = append(events, "take")
+	}
+	if made.CleansUp() != osb.CleanUpNone {
+		events = append(events, made.CleansUp().String())
+	}
+	switch {
+	case made.Sends() && before.IsSent:
+		events = append(events, "send")
+	case made.Sends():
+		events = append(events, "create")
+	case len(events) == 0:
+		return "nothing"
+	}
+	return strings.Join(events, " ")
 }
 
 // undo writes down that the change of a row isn't committed.
@@ -317,6 +347,7 @@ type changeLine struct {
 	Service     string `json:"service"`
 	Plan        string `json:"plan"`
 	Credentials string `json:"credentials,omitempty"` // the digest of the object that is recorded with it
+	Effect      string `json:"effect,omitempty"`      // which events its driver says that it is
 }
 
 // undoneLine is the line of a change that wasn't committed.

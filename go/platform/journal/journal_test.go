@@ -356,6 +356,58 @@ func TestRetry(t *testing.T) {
 	}
 }
 
+// Each change that a driver makes has the events that the driver says it is. What no driver changes has none.
+func TestEffects(t *testing.T) {
+	const asynchronous, failed = 202, 500
+	for _, test := range []struct {
+		name    string
+		answers []int // the statuses of requests in turn, 0 if no answer arrives; then all is done at once
+		asks    string
+		want    string
+	}{
+		{"a creation", nil, "create, run", "-; create; take"},
+		{"an answer that is lost", []int{0}, "create, run, run", "-; create; timeout; send; take"},
+		{"an error that is answered", []int{failed}, "create, run", "-; create; take"},
+		{"a Poll", []int{asynchronous}, "create, run, run", "-; create; take; send; take"},
+		{"a removal", nil, "create, run, remove, run", "-; create; take; remove send; take"},
+		{"a polling that takes too long", []int{asynchronous}, "create, run, age, run",
+			"-; create; take; expire send; take"},
+		{"a deletion that takes too long", []int{200, asynchronous}, "create, run, remove, run, age, run",
+			"-; create; take; remove send; take; retry send; take"},
+		{"a retry", []int{200, asynchronous}, "create, run, remove, run, retry",
+			"-; create; take; remove send; take; retry"},
+		{"a dead worker", []int{asynchronous}, "create, run, die, run", "-; create; take; timeout send; take"},
+		{"a dead worker, and a polling that takes too long", []int{asynchronous}, "create, run, die, age, run",
+			"-; create; take; timeout expire send; take"},
+		{"a dead worker, and a removal", []int{asynchronous}, "create, run, die, remove, run",
+			"-; create; take; timeout remove send; take"},
+		{"a dead worker, and a retry", []int{asynchronous}, "create, run, die, retry", "-; create; take; timeout"},
+		{"a claim of which nobody knows", nil, "create, doubt", "-; create; timeout"},
+		{"a withdrawal", nil, "create, remove", "-; -"},
+		{"an end by an operator", nil, "create, run, abandon", "-; create; take; -"},
+	} {
+		t.Run(test.name, func(t *testing.T) {
+			s := newTestPlatform(t)
+			s.pace(time.Hour)
+			s.seller.answers = func(out platform.Outgoing) platform.Incoming {
+				if len(test.answers) == 0 {
+					return sells(out)
+				}
+				status := test.answers[0]
+				test.answers = test.answers[1:]
+				if status == 0 {
+					return platform.Incoming{Lost: errFull}
+				}
+				return platform.Incoming{Status: status, Answer: osb.Answer{Status: uint16(status), Body: osb.BodyEmpty}}
+			}
+			for _, ask := range strings.Split(test.asks, ", ") {
+				s.ask(ask)
+			}
+			want(t, test.asks, s.effects(), test.want)
+		})
+	}
+}
+
 // An answer that has the time of another journal is followed by later lines.
 func TestTimes(t *testing.T) {
 	s := newTestPlatform(t)
@@ -427,6 +479,8 @@ type faulty struct {
 	stepped func(change *platform.Change) // is called after a step, before the commit
 	fails   error                         // of the next commit, though its step was called
 	tries   int                           // how often the next step is called, if it is more than once
+	// isUnsure has the next claim of a row be committed, and report that nobody knows.
+	isUnsure bool
 }
 
 func (f *faulty) commit() error {
@@ -475,7 +529,11 @@ func (f *faulty) Change(ctx context.Context, key platform.Key, step platform.Ste
 func (f *faulty) Claim(
 	ctx context.Context, brokers []string, most int, step platform.Step,
 ) ([]platform.ClaimedRow, error) {
-	return f.Store.Claim(ctx, brokers, most, f.over(step))
+	claimed, err := f.Store.Claim(ctx, brokers, most, f.over(step))
+	if f.isUnsure && err == nil && len(claimed) > 0 {
+		f.isUnsure, err = false, errDoubt
+	}
+	return claimed, err
 }
 
 // A vault seals with no key.
@@ -529,7 +587,7 @@ type line struct {
 	Change                              int64
 	Broker, Cause, Before, After, State string
 	Attempt                             uint64
-	Service, Plan, Credentials          string
+	Service, Plan, Credentials, Effect  string
 	Doubtful, Accepts                   bool
 	Request, Kind, Body, Lost           string
 	Status, Count                       int
@@ -561,14 +619,19 @@ func newTestPlatform(t *testing.T) *testPlatform {
 	to := New(writer, plainVault{}, func(err error) bool { return errors.Is(err, errDoubt) })
 	s.to = to
 	s.orders = platform.NewOrders(to.OrdersStore(s.store), plainVault{})
-	s.engine = platform.NewEngine(to.EngineStore(s.store), to.Client(s.seller), plainVault{}, platform.Options{
-		Worker: "one", FirstPace: time.Millisecond, LongestPace: time.Millisecond,
-	}, platform.Silent{})
+	s.pace(time.Millisecond)
 	check(t, s.orders.AddBroker(background, platform.Broker{
 		Name: "shop", URL: "http://127.0.0.1:1", User: "platform",
 	}, []byte(password)))
 	check(t, s.engine.RunOnce(background))
 	return s
+}
+
+// pace has a row rest for so long after each request.
+func (s *testPlatform) pace(pace time.Duration) {
+	s.engine = platform.NewEngine(s.to.EngineStore(s.store), s.to.Client(s.seller), plainVault{}, platform.Options{
+		Worker: "one", FirstPace: pace, LongestPace: pace,
+	}, platform.Silent{})
 }
 
 // create orders an instance.
@@ -599,6 +662,55 @@ func (s *testPlatform) lines() (lines []line) {
 		lines = append(lines, read)
 	}
 	return lines
+}
+
+// ask has somebody do something with the instance one, or its row be as it may be later.
+func (s *testPlatform) ask(what string) {
+	s.t.Helper()
+	key, err := keyOf("one"), error(nil)
+	change := func(as func(now time.Time, e *platform.Entry)) error {
+		return s.store.Store.Change(background, key, func(now time.Time, found platform.Snapshot) (*platform.Change, error) {
+			as(now, &found.Entry)
+			return &platform.Change{Entry: found.Entry}, nil
+		})
+	}
+	switch what {
+	case "create":
+		s.create("one")
+	case "run":
+		err = change(func(now time.Time, e *platform.Entry) { e.Due = now })
+		s.run()
+	case "remove":
+		_, err = s.orders.Remove(background, key, false)
+	case "retry":
+		_, err = s.orders.Retry(background, key)
+	case "abandon":
+		_, err = s.orders.Abandon(background, key, "the test wants it")
+	case "age":
+		err = change(func(now time.Time, e *platform.Entry) { e.PolledSince = now.AddDate(-1, 0, 0) })
+	case "die":
+		err = change(func(now time.Time, e *platform.Entry) { e.Record, _, _ = e.Record.Send(key.ID()) })
+	case "doubt":
+		s.store.isUnsure = true
+		diff.ErrorIs(s.t, s.engine.RunOnce(background), errDoubt, "a claim")
+	}
+	check(s.t, err)
+}
+
+// effects are the events that the drivers name of all changes.
+func (s *testPlatform) effects() string {
+	s.t.Helper()
+	var names []string
+	for _, line := range s.lines() {
+		switch {
+		case line.Event != "changed":
+		case line.Effect == "":
+			names = append(names, "-")
+		default:
+			names = append(names, line.Effect)
+		}
+	}
+	return strings.Join(names, "; ")
 }
 
 func (s *testPlatform) last() line {

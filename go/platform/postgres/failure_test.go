@@ -148,13 +148,17 @@ func TestSessionsThatTheServerEnds(t *testing.T) {
 	}
 }
 
-// openAll has so many transactions run at once, so that the store has so many sessions.
+// openAll has so many transactions run at once, so that the store has so many sessions. They are of bindings, each of
+// which has a transaction of its own.
 func openAll(t *testing.T, store platform.Store, most int) {
 	t.Helper()
 	gate, done := storetest.NewGate(), make(chan error, most)
 	defer gate.Open()
+	if _, err := store.Read(background, instance(100)); errors.Is(err, platform.ErrUnknown) {
+		insert(t, store, instance(100))
+	}
 	for n := 0; n < most; n++ {
-		key := instance(100 + n)
+		key := binding(n, 100)
 		if _, err := store.Read(background, key); errors.Is(err, platform.ErrUnknown) {
 			insert(t, store, key)
 		}

@@ -15,7 +15,8 @@
 // The exceptions change nothing that a step decides by: waking an instance, and Free.
 //
 // A transaction has four round trips: BEGIN; a statement that locks the rows and reads them, and then the time; a
-// statement that writes all of them; COMMIT. So a step has four for its Change, and its share of the four of a Claim.
+// statement that writes all of them; COMMIT. Changes of instances that wait are done by one transaction, which passes
+// over rows that others have locked. So a step has its share of the four of a Claim, and of the four of its Change.
 package postgres
 
 import (
@@ -52,6 +53,7 @@ type Store struct {
 
 	preparing sync.Mutex
 	prepared  map[string]*sql.Stmt
+	changes   together
 
 	turn     sync.Mutex
 	isClosed bool

@@ -159,19 +159,28 @@ WITH t AS MATERIALIZED (SELECT * FROM osb_instances WHERE id = $1 FOR KEY SHARE)
 SELECT ` + lineOf("t", false, false) + ` FROM t
 `
 
-// Change is one transaction, as platform.Store says. A panic of step is an error.
+// Change is one transaction, as platform.Store says, or of an instance a part of one whose other parts are other
+// changes. A panic of step is an error.
 func (s *Store) Change(ctx context.Context, key platform.Key, step platform.Step) error {
+	return s.run(ctx, func(this *call) error {
+		if key.IsBinding {
+			return s.changeOne(ctx, this, key, step)
+		}
+		return s.changeInstance(ctx, this, key, step)
+	})
+}
+
+// changeOne is Change in a transaction of its own.
+func (s *Store) changeOne(ctx context.Context, this *call, key platform.Key, step platform.Step) error {
 	lock, parameters := lockInstance, []any{key.Instance}
 	if key.IsBinding {
 		lock, parameters = lockBinding, []any{key.Instance, key.Binding}
 	}
-	return s.run(ctx, func(this *call) error {
-		return s.batch(ctx, this, lock, func(of *batch) error {
-			if err := of.lockOne(key, parameters); err != nil {
-				return err
-			}
-			return of.step(key, step)
-		})
+	return s.batch(ctx, this, lock, func(of *batch) error {
+		if err := of.lockOne(key, parameters); err != nil {
+			return err
+		}
+		return of.step(key, step)
 	})
 }
 

@@ -16,6 +16,7 @@ import (
 type connection struct {
 	*sqlitefile.Conn
 	instances, bindings          table
+	known                        knownRows
 	stay, anyBinding             *sqlitefile.Statement
 	removeBindings, wakeInstance *sqlitefile.Statement
 	freeInstances, freeBindings  *sqlitefile.Statement
@@ -34,16 +35,56 @@ type connection struct {
 // A table has the columns of one of the two tables of rows, without its key, and the statements. state are the columns
 // that change.
 type table struct {
-	row, state                                                 entryColumns
-	read, readBriefly, insert, update, updateInState, postpone *sqlitefile.Statement
+	name, key                           string // key is the condition for the row of a key
+	row, state                          entryColumns
+	read, readBriefly, insert, postpone *sqlitefile.Statement
+	updates                             map[uint64]*sqlitefile.Statement // by the set of columns, by their indexes in state
+}
+
+// The tables of rows, and the condition for the row of a key.
+const (
+	instancesTable, instanceKey = "osb_instances", "id = ?"
+	bindingsTable, bindingKey   = "osb_bindings", "instance = ? AND id = ?"
+)
+
+func newTable(name, key string, isBinding bool) table {
+	return table{
+		name: name, key: key, row: rowColumns.Of(isBinding), state: stateColumns.Of(isBinding),
+		updates: map[uint64]*sqlitefile.Statement{},
+	}
+}
+
+// mostUpdates is how many sets of columns have a statement of their own. The others share that of all columns.
+const mostUpdates = 64
+
+// update returns the columns that differ between two entries, at least one, and the statement that sets them. With fewer
+// columns, fewer indexes are written.
+func (t *table) update(conn *sqlitefile.Conn, before, after *platform.Entry) (
+	columns entryColumns, statement *sqlitefile.Statement, err error,
+) {
+	columns, set := make(entryColumns, 0, len(t.state)), uint64(0)
+	for at, column := range t.state {
+		if column.Differs(before, after) {
+			columns, set = append(columns, column), set|1<<at
+		}
+	}
+	if t.updates[set] == nil && len(t.updates) >= mostUpdates {
+		columns, set = t.state, 1<<len(t.state)-1
+	}
+	if statement = t.updates[set]; statement == nil {
+		statement, err = conn.Prepare(context.Background(), updating(t.name, t.key, columns.Names()))
+		if err == nil {
+			t.updates[set] = statement
+		}
+	}
+	return columns, statement, err
 }
 
 // prepare prepares the statements for a connection.
 func prepare(ctx context.Context, conn *sqlitefile.Conn) (*connection, error) {
 	c := &connection{
 		Conn: conn, due: map[int]*sqlitefile.Statement{}, lists: map[string]*sqlitefile.Statement{},
-		instances: table{row: rowColumns.Of(false), state: stateColumns.Of(false)},
-		bindings:  table{row: rowColumns.Of(true), state: stateColumns.Of(true)},
+		instances: newTable(instancesTable, instanceKey, false), bindings: newTable(bindingsTable, bindingKey, true),
 	}
 	for _, texts := range []map[**sqlitefile.Statement]string{c.ofRows(), c.ofOthers(), c.ofReading(), c.ofBrokers()} {
 		for to, text := range texts {
@@ -58,8 +99,7 @@ func prepare(ctx context.Context, conn *sqlitefile.Conn) (*connection, error) {
 
 // ofRows are the statements of one row.
 func (c *connection) ofRows() map[**sqlitefile.Statement]string {
-	const ofInstance, ofOne = " FROM osb_instances WHERE id = ?", " FROM osb_bindings WHERE instance = ? AND id = ?"
-	instance, binding := c.instances.state.Names(), c.bindings.state.Names()
+	const ofInstance, ofOne = " FROM " + instancesTable + " WHERE " + instanceKey, " FROM " + bindingsTable + " WHERE " + bindingKey
 	return map[**sqlitefile.Statement]string{
 		&c.instances.read: "SELECT " + lineOf(false, false) + ofInstance,
 		&c.bindings.read:  "SELECT " + lineOf(true, false) + ofOne,
@@ -67,16 +107,11 @@ func (c *connection) ofRows() map[**sqlitefile.Statement]string {
 		&c.instances.readBriefly: "SELECT " + lineOf(false, true) + ofInstance,
 		&c.bindings.readBriefly:  "SELECT " + lineOf(true, true) + ofOne,
 
-		&c.instances.insert: inserting("osb_instances", append(c.instances.row.Names(), "id")...),
-		&c.bindings.insert:  inserting("osb_bindings", append(c.bindings.row.Names(), "instance", "id")...),
-		&c.instances.update: updating("osb_instances", "id = ?", instance),
-		&c.bindings.update:  updating("osb_bindings", "instance = ? AND id = ?", binding),
+		&c.instances.insert: inserting(instancesTable, append(c.instances.row.Names(), "id")...),
+		&c.bindings.insert:  inserting(bindingsTable, append(c.bindings.row.Names(), "instance", "id")...),
 
-		&c.instances.updateInState: updating("osb_instances", "id = ?", instance[lasting:]),
-		&c.bindings.updateInState:  updating("osb_bindings", "instance = ? AND id = ?", binding[lasting:]),
-
-		&c.instances.postpone: updating("osb_instances", "id = ?", []string{"due"}),
-		&c.bindings.postpone:  updating("osb_bindings", "instance = ? AND id = ?", []string{"due"}),
+		&c.instances.postpone: updating(instancesTable, instanceKey, []string{"due"}),
+		&c.bindings.postpone:  updating(bindingsTable, bindingKey, []string{"due"}),
 	}
 }
 
@@ -100,6 +135,7 @@ func (c *connection) ofOthers() map[**sqlitefile.Statement]string {
 		&c.putFingerprint: "INSERT INTO osb_store VALUES (1, ?) ON CONFLICT (one) DO UPDATE " +
 			"SET fingerprint = excluded.fingerprint WHERE fingerprint IS NULL",
 		&c.replaceFingerprint: "UPDATE osb_store SET fingerprint = ? WHERE fingerprint = ?",
+		&c.known.read:         "PRAGMA data_version",
 		&c.ready:              "INSERT INTO osb_readiness VALUES (1, ?) ON CONFLICT (one) DO UPDATE SET asked = excluded.asked",
 	}
 }
@@ -148,8 +184,11 @@ func (c *connection) of(key platform.Key) *table {
 	return &c.instances
 }
 
-// entry reads a row. Errors: platform.ErrUnknown; that the row can't be read.
+// entry reads a row, unless it is known. Errors: platform.ErrUnknown; that the row can't be read.
 func (c *connection) entry(key platform.Key) (platform.Entry, error) {
+	if known, isKnown := c.known.rows[key]; isKnown {
+		return *known, nil
+	}
 	return readBy(c.of(key).read, entryOf, key)
 }
 
@@ -216,12 +255,12 @@ func (c *connection) insert(entry platform.Entry) error {
 }
 
 // isOne reports whether a change is one statement, which needs nothing else to be undone.
-func isOne(before platform.Entry, change *platform.Change) bool {
+func isOne(before *platform.Entry, change *platform.Change) bool {
 	return change.Next == nil && before.State == change.Entry.State && !change.RemoveBindings && !change.WakeInstance
 }
 
 // write writes a change of a row. If it fails, a part of it may be written, which the caller undoes.
-func (c *connection) write(now time.Time, before platform.Entry, change *platform.Change) error {
+func (c *connection) write(now time.Time, before *platform.Entry, change *platform.Change) error {
 	if change.Next != nil {
 		if err := c.insert(*change.Next); err != nil {
 			return fmt.Errorf("the next order, %v: %w", change.Next.Key, err)
@@ -234,29 +273,31 @@ func (c *connection) write(now time.Time, before platform.Entry, change *platfor
 			return err
 		}
 	}
-	table := c.of(key)
-	values, err := valuesOf(&after, table.state)
+	columns, update, err := c.of(key).update(c.Conn, before, &after)
 	if err != nil {
 		return err
 	}
-	update := table.update
-	if before.State == after.State && seconds(before.Since) == seconds(after.Since) {
-		update, values = table.updateInState, values[lasting:]
+	values, err := valuesOf(&after, columns)
+	if err != nil {
+		return err
 	}
 	if _, err := update.Run(append(values, keyValues(key)...)...); err != nil {
 		return err
 	}
+	c.known.keep(&after)
 	return c.writeBeside(now, key, change)
 }
 
 // writeBeside writes what a change of a row has for other rows.
 func (c *connection) writeBeside(now time.Time, key platform.Key, change *platform.Change) error {
 	if change.RemoveBindings {
+		c.known.forgetAll()
 		if _, err := c.removeBindings.Run(seconds(now), key.Instance.String()); err != nil {
 			return err
 		}
 	}
 	if change.WakeInstance {
+		delete(c.known.rows, osb.InstanceKey(key.Instance))
 		if _, err := c.wakeInstance.Run(seconds(now), key.Instance.String()); err != nil {
 			return err
 		}

@@ -174,14 +174,13 @@ type meter struct {
 func openMetered(t *testing.T) (*Store, *meter) {
 	t.Helper()
 	m := &meter{}
-	file := diff.Value(sqlitefile.Open(background, filepath.Join(t.TempDir(), "store"), sqlitefile.Options[*connection]{
-		Readers: readers, Together: together, Migrate: migrate,
-		Prepare: func(ctx context.Context, conn *sqlitefile.Conn) (*connection, error) {
-			m.conns = append(m.conns, conn)
-			return prepare(ctx, conn)
-		},
-		Committed: func(int) { m.transactions.Add(1) },
-	}))(t)
+	with := options(nil, migrate)
+	with.Prepare = func(ctx context.Context, conn *sqlitefile.Conn) (*connection, error) {
+		m.conns = append(m.conns, conn)
+		return prepare(ctx, conn)
+	}
+	with.Committed = func(int) { m.transactions.Add(1) }
+	file := diff.Value(sqlitefile.Open(background, filepath.Join(t.TempDir(), "store"), with))(t)
 	s := &Store{file: file}
 	t.Cleanup(func() {
 		diff.NoError(t, s.Close(), "")

@@ -19,8 +19,7 @@ type (
 	entryColumns = platform.Columns[platform.Entry]
 )
 
-// The columns of an order, which are written once, and of what has become of it. The first two of these are in more
-// indexes than the others, and change less often.
+// The columns of an order, which are written once, and of what has become of it.
 var (
 	orderColumns = append(columnsOf(platform.OrderColumns),
 		entryColumn{Name: "instance_name", Member: func(e *platform.Entry) any {
@@ -45,9 +44,6 @@ var (
 
 	brokerColumns = columnsOf(platform.BrokerColumns)
 )
-
-// lasting is how many of stateColumns stay as they are if the state stays.
-const lasting = 2
 
 // columnsOf are columns as a file has them. Some have another name there, and an identity isn't NULL.
 func columnsOf[T any](columns platform.Columns[T]) platform.Columns[T] {

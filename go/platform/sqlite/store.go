@@ -66,13 +66,21 @@ func openAt(
 	ctx context.Context, path string, by driver.Driver,
 	bring func(ctx context.Context, conn *sqlitefile.Conn, path string) error,
 ) (*Store, error) {
-	file, err := sqlitefile.Open(ctx, path, sqlitefile.Options[*connection]{
-		Readers: readers, Together: together, Cache: cache, Driver: by, Migrate: bring, Prepare: prepare,
-	})
+	file, err := sqlitefile.Open(ctx, path, options(by, bring))
 	if err != nil {
 		return nil, err
 	}
 	return &Store{file: file}, nil
+}
+
+func options(
+	by driver.Driver, bring func(ctx context.Context, conn *sqlitefile.Conn, path string) error,
+) sqlitefile.Options[*connection] {
+	return sqlitefile.Options[*connection]{
+		Readers: readers, Together: together, Cache: cache, Driver: by, Migrate: bring, Prepare: prepare,
+		Begun:  func(c *connection) error { return c.known.begin() },
+		Undone: func(c *connection) { c.known.forgetAll() },
+	}
 }
 
 // Close closes the file, once all transactions that have begun have ended.
@@ -134,7 +142,7 @@ func (s *Store) Change(ctx context.Context, key platform.Key, step platform.Step
 		if err != nil || change == nil {
 			return err
 		}
-		return c.write(now, before, change)
+		return c.write(now, &before, change)
 	})
 }
 
@@ -147,6 +155,7 @@ func (s *Store) Claim(
 	}
 	err = s.write(ctx, func(c *connection) error {
 		now := now()
+		claimed = nil // the job may be done twice
 		keys, err := c.keysDue(brokers, seconds(now), seconds(now), most)
 		if err != nil {
 			return err
@@ -183,10 +192,14 @@ func (c *connection) claim(now time.Time, key platform.Key, step platform.Step) 
 	switch {
 	case err != nil || change == nil:
 		return err
-	case isOne(before, change):
-		return c.write(now, before, change)
+	case isOne(&before, change):
+		return c.write(now, &before, change)
 	}
-	return c.WithSavepoint(func() error { return c.write(now, before, change) })
+	err = c.WithSavepoint(func() error { return c.write(now, &before, change) })
+	if err != nil {
+		c.known.forgetAll()
+	}
+	return err
 }
 
 // postpone has a row whose step has failed due later. Nothing else of it is read or written.
@@ -194,6 +207,7 @@ func (c *connection) postpone(now time.Time, key platform.Key) error {
 	if !c.InTransaction() {
 		return sqlitefile.ErrBroken
 	}
+	delete(c.known.rows, key)
 	due := seconds(now.Add(platform.FailedRest))
 	_, err := c.of(key).postpone.Run(append([]driver.Value{due}, keyValues(key)...)...)
 	return err
@@ -247,6 +261,7 @@ const never = 1e300
 // Free ends all leases of a worker.
 func (s *Store) Free(ctx context.Context, worker string) error {
 	return s.write(ctx, func(c *connection) error {
+		c.known.forgetAll()
 		at := seconds(now())
 		if _, err := c.freeInstances.Run(at, worker); err != nil {
 			return err

@@ -168,7 +168,7 @@ func full(t *testing.T, key platform.Key) platform.Entry {
 	entry.Operation, entry.Since, entry.SentUntil, entry.PolledSince = &operation, past(1), past(2), past(3)
 	entry.Removal, entry.HasLast, entry.Due, entry.Unchanged = platform.RemovedWhole, true, past(4), 6
 	entry.DueSince = past(3)
-	entry.Lease = platform.Lease{Worker: "worker.1", Until: past(5), Claim: id(78).String()}
+	entry.Lease, entry.Number = platform.Lease{Worker: "worker.1", Until: past(5)}, id(78)
 	entry.Last, entry.Failure = reason, platform.Reason{At: past(8), Kind: "poll"}
 	entry.Passing, entry.After = true, 90*time.Second
 	entry.Dashboard, entry.Because = "https://example.com/?a=b&c='", "nobody needs it"
@@ -289,7 +289,7 @@ func due(entry platform.Entry, at time.Time) platform.Entry {
 
 // withLease is a row with a lease.
 func withLease(entry platform.Entry, worker string, until time.Time) platform.Entry {
-	entry.Lease = platform.Lease{Worker: worker, Until: until, Claim: "the claim of " + worker}
+	entry.Lease = platform.Lease{Worker: worker, Until: until}
 	return entry
 }
 

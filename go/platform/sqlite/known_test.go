@@ -1,0 +1,218 @@
+package sqlite
+
+import (
+	"errors"
+	"path/filepath"
+	"reflect"
+	"testing"
+	"time"
+
+	"pippinterm/internal/diff"
+	"pippinterm/osb"
+	"pippinterm/platform"
+)
+
+// fullEntry is an entry of which each member has a value that its column changes, if there is one.
+func fullEntry(t *testing.T, key platform.Key) platform.Entry {
+	t.Helper()
+	operation, at := "op", time.Now().Add(123456*time.Nanosecond)
+	e := order(0)
+	e.Key, e.First = key, key.ID()
+	e.Names = platform.Names{Instance: key.Instance.String(), Service: service.String(), Plan: plan.String()}
+	e.Record, _ = osb.Create(key.ID(), service, plan, true)
+	e.IsSent, e.State, e.Since, e.Operation, e.SentUntil, e.PolledSince = true, platform.Wanted, at, &operation, at, at
+	e.Removal, e.HasLast, e.Due, e.DueSince, e.Unchanged = platform.Removed, true, at, at, 7
+	e.Lease, e.Number = platform.Lease{Worker: "w", Until: at}, osb.MustParseID("00000000-0000-0000-0000-000000000077")
+	e.Last = platform.Reason{At: at, Kind: "poll", Status: 200, Error: "E<", Description: "d\u2028", Lost: "l"}
+	e.Failure = platform.Reason{At: at, Kind: "provision", Lost: "it's late"}
+	e.Passing, e.After, e.Dashboard, e.Because = true, 1234567*time.Nanosecond, "https://d", "b\x00"
+	e.Metadata = []byte(`{"labels": {}}`)
+	return e
+}
+
+// An entry that was written is known exactly as it is read.
+func TestKnownRowsAreThoseThatAreRead(t *testing.T) {
+	s := withBroker(t, open(t, filepath.Join(t.TempDir(), "store")))
+	full := fullEntry(t, keyOf(0))
+	unsent, unleased, unsaid := full, full, full
+	unsent.IsSent = false
+	unleased.Lease.Worker = ""
+	unsaid.Last, unsaid.DueSince, unsaid.Lease = platform.Reason{}, time.Time{}, platform.Lease{}
+	empty := order(0)
+	empty.Due = full.Due
+	for n, test := range []struct {
+		name  string
+		entry platform.Entry
+	}{{"full", full}, {"not sent", unsent}, {"no lease", unleased}, {"nothing said", unsaid}, {"an order", empty}} {
+		n, test := n, test
+		t.Run(test.name, func(t *testing.T) {
+			key, ordered := keyOf(n), order(n)
+			check(t, s.Insert(background, ordered, nil))
+			test.entry.Order = ordered.Order
+			write(t, s, key, test.entry)
+			var known, read platform.Entry
+			check(t, s.write(background, func(c *connection) (err error) {
+				if it := c.known.rows[key]; it != nil {
+					known = *it
+				}
+				read, err = readBy(c.of(key).read, entryOf, key)
+				return err
+			}))
+			if !reflect.DeepEqual(known, read) {
+				t.Errorf("got the row %+v, want %+v", known, read)
+			}
+		})
+	}
+}
+
+// write writes an entry.
+func write(t *testing.T, s *Store, key platform.Key, entry platform.Entry) {
+	t.Helper()
+	check(t, s.Change(background, key, func(time.Time, platform.Snapshot) (*platform.Change, error) {
+		return &platform.Change{Entry: entry}, nil
+	}))
+}
+
+// A row that JSON doesn't have as it is, one that is long, and one that rests are read again.
+func TestRowsThatAreNotKnown(t *testing.T) {
+	s := withBroker(t, open(t, filepath.Join(t.TempDir(), "store")))
+	for n, change := range []func(*platform.Entry){
+		func(e *platform.Entry) { e.Last.Description = "\xff" },
+		func(e *platform.Entry) { e.Failure.Lost = "\xff" },
+		func(e *platform.Entry) { e.Metadata = make([]byte, longestKnown) },
+		func(e *platform.Entry) { e.Due = time.Time{} },
+	} {
+		check(t, s.Insert(background, order(n), nil))
+		entry := fullEntry(t, keyOf(n))
+		write(t, s, keyOf(n), entry)
+		diff.Equal(t, knows(t, s, keyOf(n)), true, "row %d, before", n)
+		change(&entry)
+		write(t, s, keyOf(n), entry)
+		diff.Equal(t, knows(t, s, keyOf(n)), false, "row %d", n)
+	}
+}
+
+func knows(t *testing.T, s *Store, key platform.Key) (isKnown bool) {
+	t.Helper()
+	check(t, s.write(background, func(c *connection) error {
+		_, isKnown = c.known.rows[key]
+		return nil
+	}))
+	return isKnown
+}
+
+var errWrong = errors.New("wrong")
+
+// What another connection has written is read, and so is what a transaction has undone, or has changed beside its row.
+func TestKnownRowsAreForgotten(t *testing.T) {
+	path := filepath.Join(t.TempDir(), "store")
+	s := withBroker(t, open(t, path))
+	binding := osb.BindingKey(keyOf(0).Instance, osb.ID{1})
+	bound := order(0)
+	bound.Key, bound.First, bound.Names.Binding = binding, binding.ID(), binding.Binding.String()
+	check(t, s.Insert(background, order(0), nil))
+	check(t, s.Insert(background, bound, nil))
+	entries := map[platform.Key]platform.Entry{keyOf(0): fullEntry(t, keyOf(0)), binding: fullEntry(t, binding)}
+	for name, test := range map[string]struct {
+		key  platform.Key
+		call func()
+	}{
+		"another connection": {keyOf(0), func() { executeIn(t, path, "UPDATE osb_instances SET because = 'x'") }},
+		"Free":               {keyOf(0), func() { check(t, s.Free(background, "w")) }},
+		"a job that fails": {keyOf(0), func() {
+			err := s.write(background, func(c *connection) error {
+				before := entries[keyOf(0)]
+				changed := before
+				changed.Because = "lost"
+				return either(c.write(now(), &before, &platform.Change{Entry: changed}), errWrong)
+			})
+			diff.ErrorIs(t, err, errWrong, "")
+		}},
+		"its bindings are removed": {binding, func() {
+			check(t, s.Change(background, keyOf(0), func(time.Time, platform.Snapshot) (*platform.Change, error) {
+				return &platform.Change{Entry: entries[keyOf(0)], RemoveBindings: true}, nil
+			}))
+		}},
+		"it is woken": {keyOf(0), func() {
+			check(t, s.Change(background, binding, func(time.Time, platform.Snapshot) (*platform.Change, error) {
+				return &platform.Change{Entry: entries[binding], WakeInstance: true}, nil
+			}))
+		}},
+	} {
+		t.Run(name, func(t *testing.T) {
+			for key, entry := range entries {
+				write(t, s, key, entry)
+			}
+			diff.Equal(t, knows(t, s, test.key), true, "before")
+			test.call()
+			diff.Equal(t, knows(t, s, test.key), false, "after")
+		})
+	}
+}
+
+func either(one, other error) error {
+	if one != nil {
+		return one
+	}
+	return other
+}
+
+// No more rows are known than a limit.
+func TestFewRowsAreKnown(t *testing.T) {
+	known := knownRows{rows: map[platform.Key]*platform.Entry{}}
+	full := fullEntry(t, keyOf(0))
+	for n := 0; n < mostKnown+2; n++ {
+		entry := full
+		entry.Key = keyOf(n)
+		known.keep(&entry)
+		diff.Equal(t, known.rows[entry.Key] != nil, true, "the row that was written last")
+	}
+	diff.Equal(t, len(known.rows), mostKnown, "rows")
+}
+
+// A table has few statements that set columns. Once it has all, the next set of columns is written with all others.
+func TestFewStatementsSetColumns(t *testing.T) {
+	s := withBroker(t, open(t, filepath.Join(t.TempDir(), "store")))
+	before := fullEntry(t, keyOf(0))
+	check(t, s.write(background, func(c *connection) error {
+		table := newTable(instancesTable, instanceKey, false)
+		for n := 0; n < 2*mostUpdates; n++ {
+			after := before
+			for at, flip := range []func(){
+				func() { after.State = platform.Gone }, func() { after.Since = time.Time{} }, func() { after.Operation = nil },
+				func() { after.Due = time.Time{} }, func() { after.Unchanged = 0 }, func() { after.HasLast = false },
+				func() { after.Because = "" },
+			} {
+				if n>>at&1 == 1 {
+					flip()
+				}
+			}
+			columns, statement, err := table.update(c.Conn, &before, &after)
+			if err != nil || statement == nil {
+				return err
+			}
+			if n > mostUpdates && len(columns) != len(table.state) {
+				t.Errorf("set %d: got %d columns, want %d", n, len(columns), len(table.state))
+			}
+		}
+		diff.Len(t, table.state, len(stateColumns.Of(false)), "")
+		diff.Equal(t, len(table.updates), mostUpdates+1, "statements")
+		return nil
+	}))
+}
+
+// If no statement can be prepared, nothing is written.
+func TestAStatementThatCannotBePrepared(t *testing.T) {
+	s := withBroker(t, open(t, filepath.Join(t.TempDir(), "store")))
+	check(t, s.Insert(background, order(0), nil))
+	entry := fullEntry(t, keyOf(0))
+	err := s.write(background, func(c *connection) error {
+		name := c.instances.name
+		defer func() { c.instances.name = name }()
+		c.instances.name = "osb_none"
+		before := order(0)
+		return c.write(now(), &before, &platform.Change{Entry: entry})
+	})
+	diff.ErrorContains(t, err, "osb_none", "")
+	diff.Equal(t, diff.Value(s.Read(background, keyOf(0)))(t).State, platform.Ordered, "")
+}
