@@ -41,7 +41,7 @@ BINDING = "00000000-0000-0000-0000-00000000000b"
 SERVICE = "00000000-0000-0000-0000-0000000000a0"
 OTHER = "00000000-0000-0000-0000-0000000000ff"
 PLANS = {"sync": "00000000-0000-0000-0000-0000000000b1", "async": "00000000-0000-0000-0000-0000000000b2"}
-NAMED = "plan", "service", "attributes", "accepts", "work-plan", "work-id", "state", "visit", "committed"
+NAMED = "plan", "service", "attributes", "accepts", "work-plan", "work-id", "state", "visit", "committed", "effect"
 """What a line may name in another way than its story does."""
 METHODS = {"claim": "record", "command": "record", "abandon": "record", "credentials": "known"}
 """The methods of Journal for the verbs that have another name."""
@@ -147,6 +147,7 @@ class Journal:
         more: dict[str, Any] = {"instance": instance, **({"binding": binding} if binding else {})}
         digest = next((flag[1:] for flag in flags if flag.startswith("@")), "")
         more |= {"visit": int(self.named["visit"])} if "visit" in self.named else {}
+        more |= {"effect": self.named["effect"].replace("_", " ")} if "effect" in self.named else {}
         more |= {"credentials": digest} if digest else {}
         more |= {"life": 1, "life_before": 0} if "!returned" in flags else {}
         if verb in ("create", "delete"):

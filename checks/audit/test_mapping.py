@@ -451,6 +451,132 @@ RULES = {
     ),
 }
 
+# A driver names the event. Where the tables find several, its name counts.
+ARRIVED = f"{ASKED}B change 1 pending-provision effect=arrive; "
+FAILING = f"{ARRIVED}B begin create; B end create failed; B look absent; "
+RULES |= {
+    "a driver that names a creation's end": Rule(
+        f"{ARRIVED}B create; B look whole; B change 1 ready effect=end_done; B answer 1 201; P hear r1 201; "
+        "P take 1 ready/1",
+        MADE,
+    ),
+    "a driver that names a creation's end as a failure that came after it": Rule(
+        f"{ARRIVED}B begin create; B end create failed; B look whole; B change 1 ready effect=end_after; "
+        "B answer 1 500 other-error; P hear r1 500 other-error; P take 1 cleaning/1",
+        "create I; arrive I 1; work I part; work I whole; end I after; take I 0",
+    ),
+    "a driver that names a creation's failure": Rule(
+        f"{FAILING}B change 1 - effect=end_before; B answer 1 500 other-error",
+        "create I; arrive I 1; work I part; work I absent; end I before",
+    ),
+    "a driver that names the outcome of a failed binding": Rule(
+        f"{BIND}B arrive 2 b1 provision of binding; B change 2 pending-provision effect=arrive of binding; "
+        "B begin create of binding; B end create rejected of binding; B look absent of binding; "
+        "B change 2 tombstone effect=end_refused-400 of binding; B answer 2 503 other-error of binding",
+        f"{MADE}; create B; arrive B 1; work B part; work B absent; end B refused-400",
+    ),
+    "a driver that names a refusal, and an answer that is lost": Rule(
+        f"{FAILING}B change 1 tombstone effect=end_refused-422",
+        "create I; arrive I 1; work I part; work I absent; end I refused-422",
+    ),
+    "a driver that names the end of an operation": Rule(
+        f"{ARRIVED}B change 1 making effect=end_done; B answer 1 202; P hear r1 202; P take 1 polling/1; B create; "
+        "B look whole; B change 0 ready effect=finish_ok",
+        "create I; arrive I 1; end I done; take I 0; work I part; work I whole; finish I ok",
+        "async",
+    ),
+    "a driver that names an operation's failure": Rule(
+        POLLING + "B change 0 failed effect=finish_fail", f"{BEGUN}; finish I fail", "async"
+    ),
+    "a driver that names the end of a wait": Rule(
+        f"{ASKED}B change 1 waiting effect=arrive; B answer 1 202; B change 0 failed effect=give-up-waiting",
+        "create I; arrive I 1; give-up-waiting I",
+        "async",
+        True,
+    ),
+    "a driver that names a request that changes nothing": Rule(
+        CREATED + "B arrive 2 r1 provision; B answer 2 200 saw=ready effect=arrive", f"{MADE}; arrive I 1"
+    ),
+    "a driver that names a deletion that is put off": Rule(
+        f"{BOUND}{REMOVE}B arrive 3 r2 deprovision; B answer 3 422 concurrency-error saw=ready effect=put-off",
+        f"{BINDING_MADE}; remove I; send I; arrive I 2",
+    ),
+    "a driver that names a Bind that is put off": Rule(
+        f"{BIND}{REMOVE}B arrive 2 r2 deprovision; B change 2 ready+deprovision effect=arrive; "
+        "B arrive 3 b1 provision of binding; B answer 3 503 other-error saw=- effect=put-off of binding",
+        f"{MADE}; create B; remove I; send I; arrive I 2; arrive B 1",
+    ),
+    "a driver that names a deletion while work is pending": Rule(
+        f"{PENDING}{GIVEN_UP}B arrive 2 r2 deprovision; "
+        "B answer 2 422 concurrency-error saw=pending-provision effect=arrive",
+        "create I; arrive I 1; timeout I; send I; arrive I 2",
+    ),
+}
+# So does a driver of the platform, of several events in turn.
+CREATION = CREATED.replace("take 1 ready/1", "take 1 ready/1 effect=take")
+GATEWAY = f"{FAILING}B change 1 -; B answer 1 500 other-error; P hear r1 500 other-error; "
+FAILED_FIRST = "create I; arrive I 1; work I part; work I absent; end I before"
+DELETION_POLLED = f"""{POLLING}B create; B look whole; B change 0 ready; B arrive 2 r2 poll; B answer 2 200 succeeded
+P hear r2 200 succeeded; P take 2 ready/2 effect=take; P claim cleaning/3/deprovision effect=remove_send
+P send r3 deprovision 3; B arrive 3 r3 deprovision; B change 3 ready+deprovision; B change 3 deleting; B answer 3 202
+P hear r3 202; P take 3 cleaning-polling/3 effect=take; """
+UNBOUND = BOUND.replace("P take 1 ready/1 @c1 of", "P take 1 cleaning/1 effect=timeout of")
+RULES |= {
+    "a driver of a platform that names a creation, and its answer": Rule(
+        CREATION.replace("claim wanted/1/provision", "claim wanted/1/provision effect=create"), MADE
+    ),
+    "a driver that names a removal": Rule(
+        f"{CREATION}P claim cleaning/2/deprovision effect=remove_send", f"{MADE}; remove I; send I"
+    ),
+    "a driver that names a timeout, and what follows": Rule(
+        f"{PENDING}P lose r1; P take 1 cleaning/1 effect=timeout; P claim cleaning/2/deprovision effect=send",
+        "create I; arrive I 1; timeout I; send I",
+    ),
+    "a driver that names what a crash has left": Rule(
+        f"{PENDING}P2 claim cleaning/2/deprovision effect=timeout_send",
+        "create I; arrive I 1; crash I platform; timeout I; send I",
+    ),
+    "a driver that names the end of a polling": Rule(
+        f"{POLLING}P2 claim cleaning/3/deprovision effect=timeout_expire_send",
+        f"{BEGUN}; crash I platform; timeout I; expire I; send I",
+        "async",
+    ),
+    "a driver that names a removal that leaves the same": Rule(
+        f"{POLLING}P2 claim cleaning/3/deprovision effect=timeout_remove_send",
+        f"{BEGUN}; crash I platform; timeout I; remove I; send I",
+        "async",
+    ),
+    "a driver that names a retry": Rule(
+        f"{DELETION_POLLED}P2 command cleaning/3 effect=retry",
+        f"{BEGUN}; work I part; work I whole; finish I ok; arrive I 2; take I 1; remove I; send I; arrive I 3; "
+        "end I done; take I 2; retry I",
+        "async",
+    ),
+    "a driver that names an answer that leaves the same as a timeout": Rule(
+        f"{GATEWAY}P take 1 cleaning/1 effect=take", f"{FAILED_FIRST}; take I 0"
+    ),
+    "a driver that names a timeout that leaves the same as the answer": Rule(
+        f"{GATEWAY}P take 1 cleaning/1 effect=timeout", f"{FAILED_FIRST}; timeout I"
+    ),
+    "a driver that names an answer of a gateway": Rule(
+        f"{ASKED}P hear r1 502 malformed; P take 1 cleaning/1 effect=take; B answer 1 503 malformed",
+        "create I; gateway I 502",
+    ),
+    "a driver that names an answer whose body can't be read": Rule(
+        CREATED.replace("P hear r1 201; P take 1 ready/1", "P hear r1 201 malformed; P take 1 cleaning/1 effect=take"),
+        MADE.replace("take I 0", "garble I 0"),
+    ),
+    "a driver that names the answer to a Poll and a Fetch": Rule(
+        f"{ASYNC_BIND}B arrive 4 b3 fetch of binding; B answer 4 200 saw=ready of binding; "
+        "P hear b3 200 @c1 of binding; P take 2 ready/2 @c1 effect=take of binding",
+        f"{ASYNC_BOUND}; fetch B; take-fetched B 1 0",
+        binding="async",
+    ),
+    "a driver that names a timeout of a 201 without credentials": Rule(
+        UNBOUND, BINDING_MADE.replace("take B 0", "timeout B")
+    ),
+}
+
 
 @pytest.mark.parametrize("name", RULES)
 def test_rule(name: str) -> None:

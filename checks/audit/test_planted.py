@@ -54,7 +54,9 @@ SLIPS = {
                 _, _ = s.transact(ctx, late, &beside)
             }()
             held := c.entry.Holding
-            row := osb.Reading{Holding: held, Number: driver.Number(), Mode: s.modeOf(c.key, rowOf(held))}
+            row := osb.Reading{
+                Holding: held, Number: driver.Number(), ID: c.key.ID(), RowMode: s.modeOf(c.key, rowOf(held)),
+            }
             early, err := driver.Read(row)
             c.response = Response{Answer: early.Committed().Answer()}
             return err
@@ -70,8 +72,8 @@ SLIPS = {
         STEP,
         STEP
         + """
-        if early := transaction.Committed(); err == nil && early.Stage() == osb.StageWork {
-            _, err = s.work(ctx, early, c)
+        for early := transaction.Committed(); err == nil && early.Stage() == osb.StageWork; {
+            early, err = s.work(ctx, early, c)
         }
         """,
         {"side": "broker", "event": "work", "call": "create", "stage": "begun"},
@@ -286,5 +288,5 @@ def test_planted_without_locks(audit: Audit, broker: Path, platform: Path, tmp_p
 @pytest.mark.long(10)
 def test_planted_in_platform(audit: Audit, broker: Path, tmp_path: Path) -> None:
     """Each request is sent once before its claim is committed, and once after it."""
-    created(broker, built(EAGER, tmp_path, "osb-platform", "platform/lease.go"), tmp_path)
+    created(broker, built(EAGER, tmp_path, "osb-platform", "platform/executor.go"), tmp_path)
     assert_found(audit(tmp_path / "journals"), EAGER)

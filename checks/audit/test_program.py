@@ -248,7 +248,8 @@ def lines_of_03() -> list[str]:
 
 @pytest.mark.parametrize("visit, right, wrong", [(2, "200-in-progress", "410"), (4, "201", "200"), (6, "202", "200")])
 def test_journals_of_03(audit: Audit, tmp_path: Path, visit: int, right: str, wrong: str) -> None:
-    """They are judged to their end, and a wrong answer in them is found."""
+    """They are judged to their end, though no line names an event, and a wrong answer in them is found."""
+    assert not [line for line in lines_of_03() if "effect" in line]
     assert audit(OF_03, options=TEXT) == Ran(0, "1 instance, 38 events, 0 differences\n", "")
     lines = lines_of_03()
     answer = next(at for at, line in enumerate(lines) if f'"answered","visit":{visit},' in line)

@@ -32,6 +32,7 @@ from audit.journals import (
     started,
 )
 from osb_audit.calls import TOGETHER
+from osb_audit.walk import NAMED
 
 pytestmark = pytest.mark.slow
 
@@ -467,6 +468,119 @@ SLIPS |= {
         f"{PENDING}{WORKED}B change 1 ready; B arrive 2 r1 provision attributes=5; B answer 2 409 other-error; "
         "P hear r1 409 other-error; P take 1 unsettled/1",
         "platform 5 | the platform took an answer that no broker has given | - | 409-Other",
+    ),
+}
+
+
+# ---- a driver that names another event than the tables find
+
+CREATING = f"{PENDING}{WORKED}"
+REFUSED = f"{PENDING}B look absent; B begin create; B end create rejected; B look absent; "
+SLIPS |= {
+    "a creation that is named as one that failed": slip(
+        CREATING + "B change 1 ready effect=end_before", f"broker 10 | {NAMED} | end done or end after | end before"
+    ),
+    "a refusal that is named as a success": slip(
+        REFUSED + "B change 1 tombstone effect=end_done",
+        f"broker 10 | {NAMED} | end refused-400 or end refused-422 | end done",
+    ),
+    "an end that is named as an arrival": slip(
+        CREATING + "B change 1 ready effect=arrive", f"broker 10 | {NAMED} | end done or end after | arrive"
+    ),
+    "an arrival that is named as an end": slip(
+        ASKED + "B change 1 pending-provision effect=end_done", f"broker 3 | {NAMED} | arrive | end done"
+    ),
+    "an arrival that is named as one that is put off": slip(
+        ASKED + "B change 1 pending-provision effect=put-off", f"broker 3 | {NAMED} | arrive | put-off"
+    ),
+    "a change that is named as none": slip(
+        ASKED + "B change 1 pending-provision effect=nothing", f"broker 3 | {NAMED} | arrive | nothing"
+    ),
+    "an operation that succeeds and is named as one that fails": slip(
+        ENDED.replace("change 0 ready", "change 0 ready effect=finish_fail"),
+        f"broker 10 | {NAMED} | finish ok | finish fail",
+        "async",
+    ),
+    "an operation that fails and is named as a wait": slip(
+        POLLING + "B change 0 failed effect=give-up-waiting",
+        f"broker 6 | {NAMED} | finish fail | give-up-waiting",
+        "async",
+    ),
+    "a change of no request that is named as an end of work": slip(
+        CREATED + "B change 0 tombstone effect=end_done", f"broker 12 | {NAMED} | arrive | end done"
+    ),
+    "a Bind that is put off and isn't named so": slip(
+        f"{PENDING}B arrive 2 x1 provision of binding; B answer 2 503 other-error saw=- effect=arrive of binding",
+        f"broker 5 | {NAMED} | put-off | arrive",
+    ),
+    "a request that is named as one that is put off": slip(
+        CREATED + "B arrive 2 r1 provision; B answer 2 200 saw=ready effect=put-off",
+        f"broker 13 | {NAMED} | arrive | put-off",
+    ),
+    "a refusal that is named as another one": differing(
+        REFUSED + "B change 1 tombstone effect=end_refused-400; B answer 1 422 other-error",
+        f"broker 10 | end {INSTANCE} refused-400 | answer 400-Other | answer 422-Other",
+    ),
+}
+
+ANSWERED = CREATED.partition("P take")[0]
+SLIPS |= {
+    "a creation that is named as a further request": slip(
+        "P claim wanted/1/provision effect=send; B arrive 9 x poll", f"platform 2 | {NAMED} | create | send"
+    ),
+    "a claim that is named as none": slip(
+        "P claim wanted/1/provision effect=nothing; B arrive 9 x poll", f"platform 2 | {NAMED} | create | nothing"
+    ),
+    "a claim that is named as an event of a broker": slip(
+        "P claim wanted/1/provision effect=arrive; B arrive 9 x poll", f"platform 2 | {NAMED} | create | arrive"
+    ),
+    "a request that a crash has left, and that isn't named": slip(
+        f"{PENDING}P2 claim cleaning/2/deprovision effect=send", f"platform 2 | {NAMED} | timeout send | send"
+    ),
+    "a timeout that is named and wasn't": slip(
+        f"{CREATED}P claim cleaning/2/deprovision effect=timeout_remove_send",
+        f"platform 6 | {NAMED} | remove send | timeout remove send",
+    ),
+    "a removal that is named as the end of a polling": slip(
+        f"{CREATED}P claim cleaning/2/deprovision effect=expire_send",
+        f"platform 6 | {NAMED} | remove send | expire send",
+    ),
+    "a removal that is named without its request": slip(
+        f"{CREATED}P claim cleaning/2/deprovision effect=remove", f"platform 6 | {NAMED} | remove send | remove"
+    ),
+    "the end of a polling that is named as a retry": slip(
+        f"{POLLING}P lose r2; P take 2 polling/2; P claim cleaning/3/deprovision effect=retry_send",
+        f"platform 10 | {NAMED} | expire send | retry send",
+        "async",
+    ),
+    "a removal by an operator that is named as a retry": slip(
+        f"{CREATED}P command cleaning/1 effect=retry", f"platform 6 | {NAMED} | remove | retry"
+    ),
+    "an answer that is named as a timeout": slip(
+        f"{ANSWERED}P take 1 ready/1 effect=timeout", f"platform 5 | {NAMED} | take | timeout"
+    ),
+    "a timeout that is named as an answer": slip(
+        f"{ANSWERED}P take 1 cleaning/1 effect=take", f"platform 5 | {NAMED} | timeout | take"
+    ),
+    "an answer that was lost, and is named": slip(
+        f"{PENDING}P lose r1; P take 1 cleaning/1 effect=take", f"platform 5 | {NAMED} | timeout | take"
+    ),
+    "an answer that is named as a further request": slip(
+        f"{ANSWERED}P take 1 ready/1 effect=send", f"platform 5 | {NAMED} | take | send"
+    ),
+    "an answer of which either may be, and neither is named": slip(
+        f"{PENDING}P hear r1 502 malformed; P take 1 cleaning/1 effect=send",
+        f"platform 5 | {NAMED} | take or timeout | send",
+    ),
+    "an answer that is named where no request is out": slip(
+        f"{CREATED}P take 1 cleaning/1 effect=take", f"platform 6 | {NAMED} | remove | take"
+    ),
+    "an answer that leaves another record, and is named": differing(
+        f"{ANSWERED}P take 1 polling/1 effect=take", f"platform 5 | take {INSTANCE} 0 | state ready | state polling"
+    ),
+    "a record that nothing leads to, and that is named": slip(
+        f"{CREATED}P claim polling/2/poll effect=send",
+        "platform 6 | no events of the platform lead to this record | ready - 1 | polling poll 2",
     ),
 }
 

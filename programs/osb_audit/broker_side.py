@@ -7,7 +7,7 @@ from osb_audit.events import ANSWER, CREDENTIALS, PHASE, TOMBSTONE, WORK, Wanted
 from osb_audit.lines import Line
 from osb_audit.lives import Life, Visit
 from osb_audit.rules import Asked, Held, Said
-from osb_audit.walk import Known, differs, unjudged
+from osb_audit.walk import Known, differs, named, unjudged
 
 FAILED = "requests that a broker answered 5xx and didn't carry out: judged as lost, and as answered by a gateway"
 FOREIGN = "requests that no journal of a platform has: judged by the tables alone"
@@ -57,6 +57,11 @@ class BrokerSide:
         instance = self.known.lives[""].held if life.is_binding else None
         return rules.begun(life.held, asked, self.known.is_bound, instance)
 
+    def _is_put_off(self, visit: Visit, life: Life) -> bool:
+        """Whether a request is put off because of a binding, or of a binding's instance."""
+        asked = self._asked(visit, life)
+        return rules.begun(life.held, asked, False, None)[1] != self._begun_as(asked, life)[1]
+
     def _may_conflict(self, visit: Visit, life: Life) -> bool:
         """Whether a creation is answered now as one with other attributes would be, and its own aren't known."""
         if visit.kind != "provision" or visit.attributes is not None or life.plan is None:
@@ -75,6 +80,8 @@ class BrokerSide:
             return self._resolve_fetch(visit, life, line)
         after, said = self._begun(visit, life)
         if after == life.held and said == visit.said:
+            assert visit.answered is not None
+            named(visit.answered, ["put-off" if self._is_put_off(visit, life) else "arrive"])
             if self.known.attempt(visit) and self._meets_others(visit, life):
                 raise unjudged(line, BOUND_BY_OTHERS)
             self._close(visit)
@@ -183,14 +190,17 @@ class BrokerSide:
             raise unjudged(line, "the broker has deleted a binding by itself whose creation had failed")
         if "life_before" in line.of:
             raise unjudged(line, "the id has returned (--ids-return-after)")
-        before, (after, terms) = life.held, rules.held_in(line.of["after"])
+        after, terms = rules.held_in(line.of["after"])
         if visit is not None:
             self._check_visit(line, life, visit)
             visit.changes -= 1
         naming.check_held(line, life, visit, after, terms)
         self._note_crash(line, life)
-        if before.work != "-":
-            self._end(line, life, visit, after)
+        event = self._event(line, life, visit, after)
+        if event.startswith("end "):
+            self._end(line, life, visit, after, event)
+        elif event != "arrive":
+            self._go_on(line, life, after, event)
         elif after.work != "-":
             self._begin(line, life, visit, after, terms.plan)
         else:
@@ -225,6 +235,33 @@ class BrokerSide:
             self.known.emit(line, life, "crash broker")
             life.worker = None
 
+    def _event(self, line: Line, life: Life, visit: Visit | None, after: Held) -> str:
+        """The event that a change is: of those that the tables find, the one that the driver names."""
+        before = life.held
+        if before.work != "-":
+            found = [f"end {outcome}" for outcome in self._ends(life, visit, after)]
+            if not found:
+                raise differs(line, "no end of the pending work leaves this", "another row", self._words(line))
+        elif visit is None and before.phase == "waiting" and after == before._replace(phase="failed"):
+            found = ["give-up-waiting"]
+        else:
+            how = rules.finished(before, after) if visit is None else None
+            found = [f"finish {how}" if how is not None else "arrive"]
+        return named(line, found)
+
+    def _ends(self, life: Life, visit: Visit | None, after: Held) -> dict[str, Said]:
+        """The outcomes that leave this, with their answers. The first one has the answer that was given."""
+        found = rules.ends(life.held, self.known.mode(life, life.plan), after)
+        said = self._said_at_end(life, visit)
+        return dict(sorted(found, key=lambda end: end[1] != said))
+
+    @staticmethod
+    def _said_at_end(life: Life, visit: Visit | None) -> Said | None:
+        """What a request is answered that ends its own work, if the answer counts."""
+        if visit is None or visit.arrived.visit != life.worker or visit.is_failed:
+            return None
+        return visit.said
+
     @staticmethod
     def _after(after: Held) -> Wanted:
         return (PHASE, after.phase), (WORK, after.work), (TOMBSTONE, "tombstone" if after.tombstone else "-")
@@ -252,10 +289,7 @@ class BrokerSide:
 
     def _meets_others(self, visit: Visit, life: Life) -> bool:
         """Whether a request of an instance is put off because of a binding that the model doesn't have."""
-        if life.is_binding or not self.known.is_bound_by_others:
-            return False
-        asked = self._asked(visit, life)
-        return rules.begun(life.held, asked, False, None) != rules.begun(life.held, asked, True, None)
+        return not life.is_binding and self.known.is_bound_by_others and self._is_put_off(visit, life)
 
     def _check_by_tables(self, line: Line, life: Life, visit: Visit, after: Held) -> None:
         """What a request changes is compared with the tables alone."""
@@ -275,16 +309,12 @@ class BrokerSide:
         self.known.emit(line, life, f"arrive {attempt}", *self._after(after), (ANSWER, "-"))
         life.worker = line.visit
 
+    def _go_on(self, line: Line, life: Life, after: Held, event: str) -> None:
+        """An operation ends, or a row has waited for too long."""
+        self.calls.settle(line, life, rules.left(life.held.phase, event.partition(" ")[2]))
+        self.known.emit(line, life, event, *self._after(after), *self._credentials(line, life, after))
+
     def _change_at_once(self, line: Line, life: Life, visit: Visit | None, after: Held) -> None:
-        before = life.held
-        if visit is None and (before.phase, after.phase) == ("waiting", "failed"):
-            self.known.emit(line, life, "give-up-waiting", *self._after(after))
-            return
-        how = rules.finished(before, after) if before.is_running else None
-        if how is not None and visit is None:
-            self.calls.settle(line, life, rules.left(before.phase, how))
-            self.known.emit(line, life, f"finish {how}", *self._after(after), *self._credentials(line, life, after))
-            return
         self._number(line, life, visit, after)
         assert visit is not None
         _, said = self._begun(visit, life)
@@ -298,17 +328,14 @@ class BrokerSide:
             return ()
         return ((CREDENTIALS, str(life.number_of(line.of.get("credentials", "")))),)
 
-    def _end(self, line: Line, life: Life, visit: Visit | None, after: Held) -> None:
-        found = rules.ends(life.held, self.known.mode(life, life.plan), after)
-        if not found:
-            raise differs(line, "no end of the pending work leaves this", "another row", self._words(line))
+    def _end(self, line: Line, life: Life, visit: Visit | None, after: Held, event: str) -> None:
         waits = self.known.visits[life.worker] if life.worker else None
-        said = visit.said if visit is not None and visit is waits and not visit.is_failed else None
-        outcome, answer = next((end for end in found if end[1] == said), found[0])
+        said, outcome = self._said_at_end(life, visit), event.partition(" ")[2]
+        answer = self._ends(life, visit, after)[outcome]
         wanted = ((ANSWER, shown(said)),) if said is not None else ()
         credentials = self._credentials(line, life, after)
         self.calls.settle(line, life, rules.left(life.held.work, outcome))
-        self.known.emit(line, life, f"end {outcome}", *self._after(after), *wanted, *credentials)
+        self.known.emit(line, life, event, *self._after(after), *wanted, *credentials)
         life.worker = None
         if waits is None:
             return

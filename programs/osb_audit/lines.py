@@ -3,6 +3,7 @@ from __future__ import annotations
 
 import json
 import re
+from itertools import product
 from typing import Any, Container, Mapping, NamedTuple, Optional
 
 HEAD = re.compile(
@@ -97,6 +98,10 @@ _TEXT, _TRUTH = _Value(str, None, "a text"), _Value(bool, None, "true or false")
 _GUID = _Value(str, GUIDS, "a GUID in lower case")
 _NUMBER = _Value(int, range(MOST + 1), "a number from 0 to 2^64 - 1")
 _STATUS = _Value(int, range(100, 1000), "a number from 100 to 999")
+_ENDS = "end done", "end before", "end after", "end refused-400", "end refused-422"
+_OF_BROKERS = "arrive", "put-off", *_ENDS, "finish ok", "finish fail", "give-up-waiting"
+_STEPS = product(("", "timeout"), ("", "expire", "retry", "remove"), ("", "send"))
+_OF_PLATFORMS = "create", "take", *(" ".join(filter(None, steps)) for steps in _STEPS if any(steps))
 _TYPES = {
     **dict.fromkeys("time visit change committed life life_before attempt".split(), _NUMBER),
     **dict.fromkeys("instance binding".split(), _GUID),
@@ -110,16 +115,17 @@ _TYPES = {
     "stage": _one_of("begun", "ended"),
     "result": _one_of("done", "failed", "rejected"),
     "found": _one_of("absent", "part", "whole"),
+    "effect": _one_of("nothing", *_OF_BROKERS, *_OF_PLATFORMS),
 }
 """What each member has to be. All others are texts."""
 _OF_LIFE = " time process instance binding instance_id binding_id"
 _EVENTS = {
     ("broker", "arrived"): "visit! request! kind! service plan accepts attributes committed",
-    ("broker", "changed"): "change! before! after! credentials visit life life_before",
+    ("broker", "changed"): "change! before! after! credentials visit life life_before effect",
     ("broker", "undone"): "change! doubtful",
     ("broker", "work"): "call! stage! result found visit credentials",
-    ("broker", "answered"): "visit! status! body! request credentials saw saw_instance",
-    ("platform", "changed"): "change! before! after! cause! credentials service plan broker state attempt",
+    ("broker", "answered"): "visit! status! body! request credentials saw saw_instance effect",
+    ("platform", "changed"): "change! before! after! cause! credentials service plan broker state attempt effect",
     ("platform", "undone"): "change! doubtful",
     ("platform", "sent"): "request! kind! service plan broker attempt accepts",
     ("platform", "answered"): "request! kind! status body credentials broker lost",

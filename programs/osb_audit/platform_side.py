@@ -8,7 +8,7 @@ from osb_audit.events import ATTEMPT, OUT, RECORDED, STATE, Wanted, shown
 from osb_audit.lines import Line
 from osb_audit.lives import Life, plan_of
 from osb_audit.rules import Recorded, Said
-from osb_audit.walk import Known, differs, unjudged
+from osb_audit.walk import NAMED, Known, differs, named, unjudged
 
 DROPPED = "answers that came and that the platform took for none"
 BRIDGED = "changes of a record that no journal has, and that a platform may have made"
@@ -92,7 +92,7 @@ class PlatformSide:
             if line.of["cause"] == "take" and before.out != "-":
                 self._take(line, life, after)
             else:
-                self._step(line, life, after, rules.steps(life.record, after))
+                self._step(line, life, after, _steps(line, before, after))
             life.come(after)
             life.recorded = line.of.get("credentials", life.recorded)
         elif not life.is_ordered:
@@ -121,7 +121,7 @@ class PlatformSide:
             wanted += ((RECORDED, str(life.number_of(line.of.get("credentials", life.recorded)))),)
         return wanted
 
-    def _step(self, line: Line, life: Life, after: Recorded, events: tuple[str, ...] | None) -> None:
+    def _step(self, line: Line, life: Life, after: Recorded, events: Sequence[str] | None) -> None:
         """The platform goes on by itself."""
         if events is None:
             raise differs(
@@ -153,9 +153,10 @@ class PlatformSide:
         self._check_heard(line, [*requests, *(fetch for fetch in fetches if self.polls[fetch] == attempt)])
         heard = [self.known.heard[request] for request in requests if request in self.known.heard]
         said = _said(heard[-1]) if heard else None
-        timed_out = rules.stepped(life.record, "timeout")
+        effects = {"take": self._effect(life, said), "timeout": rules.stepped(life.record, "timeout")}
+        found = [name for name, record in effects.items() if record == after]
         event = self._event(line, life, attempt, said, after)
-        if event != "timeout" and after == timed_out != self._effect(life, said):
+        if found and named(line, found) == "timeout" != event:
             self.known.notes[DROPPED] += 1
             event = "timeout"
         self.known.emit(line, life, event, *self._after(line, life, after))
@@ -233,6 +234,19 @@ class PlatformSide:
         raise differs(
             line, "the platform took an answer that no broker has given", ", ".join(given) or "-", shown(said)
         )
+
+
+def _steps(line: Line, before: Recorded, after: Recorded) -> Sequence[str] | None:
+    """The events of the platform itself that lead to a record: those that the driver names, or else the shortest list.
+    None if no events lead there.
+    """
+    shortest = rules.steps(before, after)
+    names: Sequence[str] = line.of.get("effect", "").split()
+    if shortest is None or not names:
+        return shortest
+    if rules.led(before, names) != after:
+        raise differs(line, NAMED, " ".join(shortest), " ".join(names))
+    return names
 
 
 def _check_state(line: Line) -> None:

@@ -7,7 +7,7 @@ from __future__ import annotations
 
 import json
 from functools import lru_cache
-from typing import NamedTuple
+from typing import NamedTuple, Sequence
 
 from osb.enums import Body, Kind, Mode, Outcome, Phase, State
 from osb.errors import OsbError
@@ -233,7 +233,7 @@ def left(what: str, how: str) -> str | None:
     """The resource that an end leaves: of pending work of this kind, or of an operation in this phase. None if the
     end doesn't say.
     """
-    return _LEFT.get((what, how))
+    return _LEFT.get((what, "done" if how == "after" else how))
 
 
 # ---- what a platform records
@@ -288,7 +288,7 @@ def stepped(recorded: Recorded, event: str) -> Recorded | None:
     """The record after an event of the platform itself, or None if the event doesn't apply."""
     if event == "create":
         return Recorded("wanted", "provision", 1) if recorded == UNKNOWN else None
-    if recorded == UNKNOWN:
+    if recorded == UNKNOWN or event not in STEPS:
         return None
     record = _record(recorded)
     try:
@@ -318,6 +318,14 @@ def steps(before: Recorded, after: Recorded) -> tuple[str, ...] | None:
                 seen[there] = (*seen[here], event)
                 todo.append(there)
     return seen.get(after)
+
+
+def led(recorded: Recorded, events: Sequence[str]) -> Recorded | None:
+    """The record after these events of the platform itself, or None if one of them doesn't apply."""
+    here: Recorded | None = recorded
+    for event in events:
+        here = here and stepped(here, event)
+    return here
 
 
 @lru_cache(maxsize=1 << 12)

@@ -13,6 +13,8 @@ from osb_audit.lives import Life, Sent, Visit, VisitName, plan_of
 from osb_audit.rules import Plan
 from osb_audit.settings import Settings, Sold
 
+NAMED = "the driver says that it is another event than the tables"
+
 
 class Stopped(Exception):
     """Nothing of the instance is gone through any further."""
@@ -30,6 +32,16 @@ def differs(line: Line, why: str, model: str, journal: str) -> Stopped:
 def unjudged(line: Line, why: str) -> Stopped:
     """What can't be judged from this line on."""
     return Stopped(Stop(line.position, False, why))
+
+
+def named(line: Line, found: Sequence[str]) -> str:
+    """The event that a driver names in a line, among those that the tables find. A journal of version 0.3 names none:
+    then the first one counts.
+    """
+    name: str = line.of.get("effect", found[0])
+    if name not in found:
+        raise differs(line, NAMED, " or ".join(found), name)
+    return name
 
 
 class Known:
