@@ -377,7 +377,7 @@ func (f *File[C]) transaction(batch []*job[C]) (jobs []*job[C], failed *job[C], 
 		}
 		jobs = append(jobs, job)
 	}
-	f.end(&err, failed == nil)
+	err = f.end(err, failed == nil)
 	if failed != nil {
 		close(failed.done)
 	}
@@ -385,15 +385,13 @@ func (f *File[C]) transaction(batch []*job[C]) (jobs []*job[C], failed *job[C], 
 }
 
 // end commits the transaction unless it is to be rolled back, or there is an error.
-func (f *File[C]) end(err *error, isToCommit bool) {
+func (f *File[C]) end(err error, isToCommit bool) error {
 	conn := f.writer.conn
-	if *err == nil && isToCommit {
-		if *err = conn.end.run(); *err != nil {
-			*err = unknownCommit{*err}
+	if err == nil && isToCommit {
+		if err = conn.end.run(); err == nil {
+			return nil
 		}
-	}
-	if *err == nil && isToCommit {
-		return
+		err = unknownCommit{err}
 	}
 	if conn.InTransaction() {
 		_ = conn.Exec("ROLLBACK")
@@ -401,6 +399,7 @@ func (f *File[C]) end(err *error, isToCommit bool) {
 	if f.options.Undone != nil {
 		f.options.Undone(f.writer.with)
 	}
+	return err
 }
 
 // try has a job done. isHalf reports that the job has failed after it had written.
