@@ -6,7 +6,6 @@ import (
 	"bufio"
 	"fmt"
 	"math/rand"
-	"os"
 	"sort"
 	"strconv"
 	"strings"
@@ -16,6 +15,7 @@ import (
 	"pippinterm/broker"
 	"pippinterm/internal/crash"
 	"pippinterm/internal/diff"
+	"pippinterm/internal/schedule"
 	"pippinterm/osb"
 )
 
@@ -120,7 +120,7 @@ func scenarioOf(t *testing.T, catalogue *broker.Catalogue, text string, walk *si
 		walk.send(task)
 		begun.runUntil(task, until)
 	}
-	diff.Equal(t, begun.wrong, "", "the beginning of %q", text)
+	diff.Equal(t, begun.Wrong, "", "the beginning of %q", text)
 	s.begun = begun
 	return s
 }
@@ -152,8 +152,8 @@ func newSimulation(of scenario) *simulation {
 	s := &simulation{
 		scenario: of, rows: map[broker.Key]broker.Entry{}, things: map[broker.Key]simulatedThing{},
 		holders: map[broker.Key]*simulatedLock{}, workers: map[broker.Key]int{}, numbers: map[osb.ID]int{},
-		yields: make(chan struct{}),
 	}
+	s.Scheduler = schedule.New(s)
 	if of.begun != nil {
 		for _, key := range simulatedKeys {
 			s.rows[key], s.things[key] = of.begun.rows[key], of.begun.things[key]
@@ -163,174 +163,39 @@ func newSimulation(of scenario) *simulation {
 	return s
 }
 
-// mostSteps is more than any schedule has.
-const mostSteps = 500
-
 // runUntil runs a driver to its end, or kills it at a call.
-func (s *simulation) runUntil(task broker.Visit, call string) {
-	r := s.start(task)
-	for n := 0; !r.isOver; n++ {
-		choices := s.choices()
-		switch {
-		case n == mostSteps || len(choices) == 0:
-			s.fail("%d never ends", r.number)
-			s.kill(r)
-		case r.call.name == call:
-			s.kill(r)
-		default:
-			s.take(choices[0])
-		}
-	}
-}
-
-// run starts the drivers of the scenario, and has happen what is chosen until all is over, or until the choice is
-// negative. It returns the words of what was chosen.
-func (s *simulation) run(most faults, choose func([]choice) int) (schedule []string) {
-	defer s.stop()
-	s.left = most
-	for _, task := range s.scenario.tasks {
-		s.start(task)
-	}
-	for choices := s.choices(); len(choices) > 0 && s.wrong == ""; choices = s.choices() {
-		at := choose(choices)
-		if at < 0 {
-			return schedule
-		}
-		schedule = append(schedule, choices[at].String())
-		if s.take(choices[at]); len(schedule) == mostSteps {
-			s.fail("it never ends")
-		}
-	}
-	for _, r := range s.runners {
-		if !r.isOver {
-			s.fail("%d waits for ever", r.number)
-		}
-	}
-	if s.wrong == "" {
-		s.finish()
-	}
-	return schedule
-}
-
-// ---- all schedules
+func (s *simulation) runUntil(task broker.Visit, call string) { s.RunUntil(s.start(task).Runner, call) }
 
 // entryWords are what counts of an entry, as a runner sees it, which compares the number with its own alone, or with
 // nil as all see it. All else is the same in all simulations of a scenario.
 func (s *simulation) entryWords(as *runner, entry broker.Entry) string {
 	worker := s.numbers[entry.Worker]
-	if as != nil && worker != as.number || worker > 0 && s.runners[worker-1].isOver {
+	if as != nil && worker != as.Number || worker > 0 && s.runners[worker-1].IsOver {
 		worker = 0
 	}
 	return fmt.Sprint(heldWords(entry.Holding), worker, string(entry.Binding), entry.Description, entry.Since.IsZero())
 }
 
-// state is all on which it depends what can still happen, and what is wrong then.
-//
-// A goroutine can't be looked into. But what it does is a function of what its calls have returned: a driver shares
-// nothing else, has no clock, and of its random number only its equality counts. So if two runs have the same rows,
-// resources and locks, and their drivers have seen the same, whatever happens to the one can happen to the other, and
-// the second needn't go on. That is why the history of a driver is in the state, and not only its call. Of a driver
-// that is over nothing counts.
-func (s *simulation) state() string {
+// State is what exists and is locked, and what the drivers are answered.
+func (s *simulation) State() string {
 	var text strings.Builder
 	for _, key := range simulatedKeys {
 		thing, holder, worker := s.things[key], 0, s.workers[key]
 		if lock := s.holders[key]; lock != nil {
-			holder = lock.of.number
+			holder = lock.of.Number
 		}
-		if worker > 0 && s.runners[worker-1].isOver {
+		if worker > 0 && s.runners[worker-1].IsOver {
 			worker = -1
 		}
 		fmt.Fprint(&text, s.entryWords(nil, s.rows[key]), thing, holder, " ", worker, ";")
 	}
 	for _, r := range s.runners {
-		if r.isOver {
-			text.WriteString("-;")
-			continue
+		if !r.IsOver {
+			fmt.Fprint(&text, r.answered, r.ended, r.object, r.lock != nil && r.lock.isLost, ";")
 		}
-		fmt.Fprint(&text, r.history, r.call.name, r.answered, r.ended, r.object, r.lock != nil && r.lock.isLost, ";")
 	}
-	for _, it := range s.doubtful {
-		fmt.Fprint(&text, it.of.number, it.key, s.entryWords(nil, it.entry), ";")
-	}
-	fmt.Fprint(&text, s.left, s.isLater, s.stepping != nil)
+	fmt.Fprint(&text, s.isLater, s.stepping != nil)
 	return text.String()
-}
-
-// explore runs all schedules of a scenario with so many faults: each choice in each state, and what usually happens
-// after it. It returns the first schedule that fails, or none, and how many states there are and runs were needed.
-func explore(of scenario, most faults) (failed []string, states, runs int) {
-	seen := map[string]bool{}
-	waiting := [][]uint8{nil}
-	for ; len(waiting) > 0; runs++ {
-		prefix := waiting[len(waiting)-1]
-		waiting = waiting[:len(waiting)-1]
-		var path []uint8
-		s := newSimulation(of)
-		schedule := s.run(most, func(choices []choice) int {
-			at := 0
-			if len(path) < len(prefix) {
-				at = int(prefix[len(path)])
-			} else if len(choices) > 1 {
-				state := s.state()
-				if seen[state] {
-					return -1
-				}
-				seen[state] = true
-				for n := len(choices) - 1; n > 0; n-- {
-					waiting = append(waiting, append(append([]uint8(nil), path...), uint8(n)))
-				}
-			}
-			path = append(path, uint8(at))
-			return at
-		})
-		if s.wrong != "" {
-			return schedule, len(seen), runs
-		}
-	}
-	return nil, len(seen), runs
-}
-
-// ---- one schedule
-
-// follow runs a schedule, and then what usually happens. A step that can't be taken is left out, and the first one is
-// returned as missing. It returns all steps that were taken, and what is wrong.
-func follow(of scenario, most faults, wanted []string) (schedule []string, wrong, missing string) {
-	s := newSimulation(of)
-	schedule = s.run(most, func(choices []choice) int {
-		for ; len(wanted) > 0; wanted = wanted[1:] {
-			for at, it := range choices {
-				if it.String() == wanted[0] {
-					wanted = wanted[1:]
-					return at
-				}
-			}
-			if missing == "" {
-				missing = wanted[0]
-			}
-		}
-		return 0
-	})
-	return schedule, s.wrong, missing
-}
-
-// report fails a test with a schedule, of which steps are left out while it still fails.
-func report(t *testing.T, of scenario, most faults, schedule []string) {
-	t.Helper()
-	_, wrong, _ := follow(of, most, schedule)
-	for length := len(schedule); length > 0; length /= 2 {
-		for at := 0; at+length <= len(schedule); {
-			shorter := append(append([]string(nil), schedule[:at]...), schedule[at+length:]...)
-			if _, still, _ := follow(of, most, shorter); still != "" {
-				schedule, wrong = shorter, still
-			} else {
-				at++
-			}
-		}
-	}
-	t.Errorf("got %s; want what the model has. To run it again:\n"+
-		"SCHEDULE='%s | %s' scripts/go test -tags 'libsqlite3 crashpoints' -v -run TestSchedule ./broker",
-		wrong, of.text, strings.Join(schedule, " "))
 }
 
 // ---- the tests
@@ -343,6 +208,18 @@ func withoutCrashes(t *testing.T) *broker.Catalogue {
 	return catalogueFor(t, catalogue)
 }
 
+// schedules are those of the scenario. The walk, or nil, gets what happens.
+func (s scenario) schedules(walk *simulatedWalk) schedule.Scenario {
+	return schedule.Scenario{Text: s.text, Package: "./broker", Begin: func() *schedule.Scheduler {
+		begun := newSimulation(s)
+		walk.begin(begun)
+		for _, task := range s.tasks {
+			walk.send(task)
+		}
+		return begun.Scheduler
+	}}
+}
+
 // TestEverySchedule runs all schedules of two drivers with one fault at most, of the first pair with two, or with as
 // many as FAULTS says. Each kind of fault happens once at most.
 func TestEverySchedule(t *testing.T) {
@@ -352,16 +229,8 @@ func TestEverySchedule(t *testing.T) {
 		if n == 0 {
 			count = 2
 		}
-		if text := os.Getenv("FAULTS"); text != "" {
-			count = diff.Value(strconv.Atoi(text))(t)
-		}
 		t.Run(text, func(t *testing.T) {
-			of, most := scenarioOf(t, catalogue, text, nil), mostOf(1, count)
-			failed, states, runs := explore(of, most)
-			t.Logf("%d states, %d runs", states, runs)
-			if failed != nil {
-				report(t, of, most, failed)
-			}
+			scenarioOf(t, catalogue, text, nil).schedules(nil).Check(t, count)
 		})
 	}
 }
@@ -369,20 +238,11 @@ func TestEverySchedule(t *testing.T) {
 // TestRandomSchedules runs schedules by chance, as many as SEEDS says, with more drivers and more faults. Their events
 // are written to the file that WALKS names, and compared with the proved model.
 func TestRandomSchedules(t *testing.T) {
-	catalogue, most, walks := withoutCrashes(t), mostOf(3, 6), walksTo(t)
+	catalogue, most, walks := withoutCrashes(t), schedule.MostOf(3, 6), walksTo(t)
 	for seed := int64(0); seed < seedsOr(400) && !t.Failed(); seed++ {
 		chance := rand.New(rand.NewSource(seed))
 		walk := &simulatedWalk{}
-		of := scenarioOf(t, catalogue, anyScenario(chance), walk)
-		s := newSimulation(of)
-		walk.begin(s)
-		for _, task := range of.tasks {
-			walk.send(task)
-		}
-		schedule := s.run(most, func(choices []choice) int { return anyChoice(chance, choices) })
-		if s.wrong != "" {
-			report(t, of, most, schedule)
-		}
+		scenarioOf(t, catalogue, anyScenario(chance), walk).schedules(walk).CheckAny(t, most, chance)
 		walk.write(walks)
 	}
 }
@@ -408,21 +268,6 @@ func anyScenario(chance *rand.Rand) string {
 	return text + " from " + one(all...) + ": " + strings.Join(tasks, " + ")
 }
 
-// anyChoice is a choice by chance. One in six is a fault, if there can be one.
-func anyChoice(chance *rand.Rand, choices []choice) int {
-	wantsFault := chance.Intn(6) == 0
-	var found []int
-	for at, it := range choices {
-		if (it.what.kind != usual) == wantsFault {
-			found = append(found, at)
-		}
-	}
-	if len(found) == 0 {
-		return 0
-	}
-	return found[chance.Intn(len(found))]
-}
-
 // TestSchedule runs the schedule that SCHEDULE has, and logs all of its steps. Without the variable it runs a few: a
 // process that dies at its work, a tombstone of which nobody knows, and a power cut once the work was taken over.
 func TestSchedule(t *testing.T) {
@@ -431,20 +276,10 @@ func TestSchedule(t *testing.T) {
 		"async first-poll from waiting: poll + deprovision | 2 2 2-is-unsure",
 		"sync power-cuts from unsynced: provision + take-up | 2 2 2 2 2 2 2 2 2 power-cut",
 	}
-	if text := os.Getenv("SCHEDULE"); text != "" {
-		texts = []string{text}
-	}
 	catalogue := withoutCrashes(t)
-	for _, text := range texts {
-		t.Run(text, func(t *testing.T) {
-			scenarioText, steps, _ := strings.Cut(text, " | ")
-			of := scenarioOf(t, catalogue, scenarioText, nil)
-			schedule, wrong, missing := follow(of, mostOf(9, 99), strings.Fields(steps))
-			t.Log(strings.Join(schedule, " "))
-			diff.Equal(t, missing, "", "a step that can't be taken")
-			diff.Equal(t, wrong, "", "what is wrong")
-		})
-	}
+	schedule.CheckEach(t, texts, func(t *testing.T, text string) schedule.Scenario {
+		return scenarioOf(t, catalogue, text, nil).schedules(nil)
+	})
 }
 
 // ---- the walks

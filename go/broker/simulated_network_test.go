@@ -48,7 +48,7 @@ func (r *runner) arrival(held osb.Holding) (osb.Holding, osb.Begun) {
 // noteReading is called when a runner has read a row. If its request is answered at once by that, and nothing changes,
 // that is an event.
 func (r *runner) noteReading(key broker.Key) {
-	if r.task.Asked.Kind == osb.KindNone || key != r.task.Key || r.workers[key] == r.number {
+	if r.task.Asked.Kind == osb.KindNone || key != r.task.Key || r.workers[key] == r.Number {
 		return
 	}
 	entry := r.rows[key]
@@ -62,15 +62,15 @@ func (r *runner) noteReading(key broker.Key) {
 // judgeCommit is called after an entry was committed.
 func (s *simulation) judgeCommit(of *runner, key broker.Key, before, after broker.Entry) {
 	if after.Worker != before.Worker {
-		if owner, isKnown := s.numbers[after.Worker]; isKnown && owner != of.number {
-			s.fail("%d writes the number of %d", of.number, owner)
+		if owner, isKnown := s.numbers[after.Worker]; isKnown && owner != of.Number {
+			s.Fail("%d writes the number of %d", of.Number, owner)
 		}
-		s.numbers[after.Worker] = of.number
+		s.numbers[after.Worker] = of.Number
 	}
 	if after.Holding != before.Holding {
 		event := s.eventOf(of, key, before.Holding, after)
 		if event == "" {
-			s.fail("%d writes %q over %q while what exists is %v, which is no event", of.number,
+			s.Fail("%d writes %q over %q while what exists is %v, which is no event", of.Number,
 				heldWords(after.Holding), heldWords(before.Holding), s.things[key].there)
 		}
 		s.event(key, event, of)
@@ -89,7 +89,7 @@ func (s *simulation) eventOf(of *runner, key broker.Key, before osb.Holding, nex
 			if begun.Work == osb.WorkNone {
 				of.answered, of.object = begun.Answer, nil
 			} else {
-				s.workers[key] = of.number
+				s.workers[key] = of.Number
 			}
 			return "arrive"
 		}
@@ -143,17 +143,17 @@ func (s *simulation) isTrue(key broker.Key, isCreation, isDone bool) bool {
 func (r *runner) judgeAnswer(response broker.Response) {
 	given := response.Answer
 	if given == (osb.Answer{}) || given != r.answered && given != r.ended {
-		r.fail("%d is answered %d %v, and no event has given that", r.number, given.Status, given.Body)
+		r.Fail("%d is answered %d %v, and no event has given that", r.Number, given.Status, given.Body)
 	}
 	if response.Binding != nil && !bytes.Equal(response.Binding, r.object) {
-		r.fail("%d is answered %s, and its row has %s", r.number, response.Binding, r.object)
+		r.Fail("%d is answered %s, and its row has %s", r.Number, response.Binding, r.object)
 	}
 }
 
 // judgeEnd is called when a runner has ended.
 func (r *runner) judgeEnd(err error) {
-	if err != nil && r.used == 0 && !errors.Is(err, broker.ErrStillTaken) {
-		r.fail("%d fails though nothing else did: %v", r.number, err)
+	if err != nil && r.Used == 0 && !errors.Is(err, broker.ErrStillTaken) {
+		r.Fail("%d fails though nothing else did: %v", r.Number, err)
 	}
 }
 
@@ -165,7 +165,7 @@ func (s *simulation) judgeCall(key broker.Key, name string) {
 	isCreation := work.Kind == osb.KindProvision || !isPending && row.Phase == osb.PhaseMaking
 	isDeletion := work.Kind == osb.KindDeprovision || !isPending && row.Phase == osb.PhaseDeleting
 	if !isCreation && (!isDeletion || name == "create") {
-		s.fail("%s is called, and the row has %q", name, heldWords(held))
+		s.Fail("%s is called, and the row has %q", name, heldWords(held))
 	}
 }
 
@@ -177,7 +177,7 @@ func (s *simulation) judgeState() {
 		if _, isPending := entry.Holding.Work(); key.IsBinding && entry.Holding.IsHeld() {
 			row, _ := entry.Holding.Row()
 			if !isPending && !instance.IsThere(row.Service, row.Plan) {
-				s.fail("a binding is held, and its instance has %q", heldWords(instance))
+				s.Fail("a binding is held, and its instance has %q", heldWords(instance))
 			}
 		}
 		if entry.IsUnfinished() {
@@ -189,11 +189,11 @@ func (s *simulation) judgeState() {
 			want = broker.Whole
 		}
 		if there != want {
-			s.fail("a row has %q, and what exists is %v", heldWords(entry.Holding), there)
+			s.Fail("a row has %q, and what exists is %v", heldWords(entry.Holding), there)
 		}
 		if key.IsBinding && row.Phase == osb.PhaseReady {
 			if object := `{"credentials":` + string(s.credentials(key)) + `}`; string(entry.Binding) != object {
-				s.fail("a binding has %s, and %s would work", entry.Binding, object)
+				s.Fail("a binding has %s, and %s would work", entry.Binding, object)
 			}
 		}
 	}
@@ -217,13 +217,12 @@ func (s *simulation) event(key broker.Key, event string, of *runner) {
 	}
 }
 
-// finish sweeps once, and removes everything then.
-func (s *simulation) finish() {
-	s.left = faults{}
+// Finish sweeps once, and removes everything then.
+func (s *simulation) Finish() {
 	s.sweep()
 	for _, key := range simulatedKeys {
 		if row, _ := s.rows[key].Holding.Row(); s.rows[key].IsUnfinished() && row.Phase != osb.PhaseWaiting {
-			s.fail("after a sweep a row has %q", heldWords(s.rows[key].Holding))
+			s.Fail("after a sweep a row has %q", heldWords(s.rows[key].Holding))
 		}
 	}
 	s.note = nil
@@ -235,7 +234,7 @@ func (s *simulation) finish() {
 		s.runUntil(visitOfKey(key, osb.KindDeprovision, s.scenario.plan), "")
 		s.sweep()
 		if s.rows[key].Holding.IsHeld() || s.things[key].there != broker.None {
-			s.fail("after its removal a row has %q, and what exists is %v", heldWords(s.rows[key].Holding),
+			s.Fail("after its removal a row has %q, and what exists is %v", heldWords(s.rows[key].Holding),
 				s.things[key].there)
 		}
 	}
