@@ -5,6 +5,7 @@ import (
 	"errors"
 	"fmt"
 	"strings"
+	"sync"
 	"sync/atomic"
 	"testing"
 	"time"
@@ -87,6 +88,66 @@ func TestNothingIsSentBeforeItsClaim(t *testing.T) {
 	p.untilState(key, Ready)
 	if got := early.Load(); !isDecided.Load() || got != 0 {
 		t.Errorf("got %d requests before the first claim was committed, want none", got)
+	}
+}
+
+// A meddling store changes the step of each claim.
+type meddling struct {
+	*memory
+	with func(Step) Step
+}
+
+func (m meddling) Claim(ctx context.Context, brokers []string, most int, step Step) ([]ClaimedRow, error) {
+	return m.memory.Claim(ctx, brokers, most, m.with(step))
+}
+
+// again is a step that is done twice, as if its transaction was undone and begun anew.
+func again(step Step, meanwhile func()) Step {
+	return func(now time.Time, snapshot Snapshot) (*Change, error) {
+		if _, err := step(now, snapshot); err != nil {
+			return nil, err
+		}
+		meanwhile()
+		return step(now, snapshot)
+	}
+}
+
+// unwritable is a step whose change can't be written.
+func unwritable(step Step, _ func()) Step {
+	return func(now time.Time, snapshot Snapshot) (*Change, error) {
+		_, err := step(now, snapshot)
+		return nil, either(err, errors.New("the row can't be written"))
+	}
+}
+
+// What was decided of a row isn't sent unless it is written: not if the row can't be written, and not if the claim was
+// begun anew, and nothing was decided then.
+func TestDecisionsThatAreNotWritten(t *testing.T) {
+	for _, test := range []struct {
+		name  string
+		with  func(step Step, loseBroker func()) Step
+		state State
+	}{
+		{"decided twice", func(step Step, _ func()) Step { return again(step, func() {}) }, Wanted},
+		{"decided once, and the broker is lost", again, Ordered},
+		{"can't be written", unwritable, Ordered},
+	} {
+		t.Run(test.name, func(t *testing.T) {
+			p := newPlant(t, Options{})
+			check(t, p.engine.RunOnce(background))
+			key := p.create(NewInstance{})
+			var group sync.WaitGroup
+			registry := newRegistry(background, p.engine, &group)
+			defer registry.stop()
+			check(t, registry.reachAll())
+			p.engine.store = meddling{p.store, func(step Step) Step {
+				return test.with(step, func() { registry.miss(registry.byName["shelf"], ErrOtherStore) })
+			}}
+			claim := p.engine.claim(background, registry, []string{"shelf"}, 1, nil)
+			check(t, claim.err)
+			diff.Equal(t, diff.Value(p.store.Read(background, key))(t).State, test.state, "")
+			diff.Equal(t, len(claim.sendings) == 1, test.state == Wanted, "it is sent")
+		})
 	}
 }
 
