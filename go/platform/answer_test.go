@@ -580,10 +580,15 @@ func TestTakenInDoubtOfTheSameMillisecond(t *testing.T) {
 // An answer that failed to be written, and whose row somebody else has changed since, isn't reported as written. One
 // that was written though the commit failed is.
 func TestAnswerInDoubt(t *testing.T) {
+	abandon := func(e *Entry) { e.State, e.Lease = Abandoned, Lease{} }
+	takeOver := func(e *Entry) { *e = decide(at(101), Snapshot{Entry: *e}, true, plain()).entry }
 	for name, test := range map[string]struct {
 		isWritten bool
-		want      State // or empty if nothing is reported
-	}{"written": {true, Ready}, "not written": {false, ""}} {
+		then      func(*Entry) // what somebody else does with the row
+		want      State        // or empty if nothing is reported
+	}{
+		"written": {true, abandon, Ready}, "not written": {false, abandon, ""}, "taken over": {false, takeOver, ""},
+	} {
 		t.Run(name, func(t *testing.T) {
 			p := newPlant(t, Options{})
 			try := newTrial(t, with(rowIn(anInstance, Ordered), func(e *Entry) { e.Broker = "shelf" }), plain())
@@ -602,7 +607,7 @@ func TestAnswerInDoubt(t *testing.T) {
 				p.store.setFull(nil)
 				p.store.mu.Lock()
 				defer p.store.mu.Unlock()
-				p.store.rows[anInstance] = with(p.store.rows[anInstance], func(e *Entry) { e.State, e.Lease = Abandoned, Lease{} })
+				p.store.rows[anInstance] = with(p.store.rows[anInstance], test.then)
 			}
 			p.exchange = func(context.Context, Outgoing) Incoming { return try.answer(201, `{}`).Incoming }
 			check(t, p.engine.drive(background, &try.sent, func() {}))
