@@ -61,9 +61,11 @@ func TestClaimNotWritten(t *testing.T) {
 func TestNothingIsSentAfterItsTime(t *testing.T) {
 	p := newPlant(t, Options{})
 	p.exchange = func(context.Context, Outgoing) Incoming { return Incoming{Status: 201} }
-	late := sending{out: Outgoing{Until: time.Now()}}
-	if in := p.engine.send(background, late, "provision"); !errors.Is(in.Lost, errLate) || len(p.sent) != 0 {
-		t.Errorf("got %v and %d requests, want %v and none", in.Lost, len(p.sent), errLate)
+	for kind, isFetch := range map[string]bool{"provision": false, "fetch": true} {
+		late := sending{out: Outgoing{Until: time.Now(), IsFetch: isFetch}}
+		if in := p.engine.send(background, late, kind); !errors.Is(in.Lost, errLate) || len(p.sent) != 0 {
+			t.Errorf("%s: got %v and %d requests, want %v and none", kind, in.Lost, len(p.sent), errLate)
+		}
 	}
 }
 
