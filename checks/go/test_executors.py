@@ -10,10 +10,20 @@ LONGEST = 150
 """Lines that an executor may have."""
 
 CALLS = {
-    "broker": r"\bs\.(tryLock|lock|change)\(|\bworker\.(do|look|sync|create|delete)\(",
-    "platform": r"\be\.store\.(Claim|Change)\(|\be\.(ask|fetch)\(|\.transaction\.(Committed|Unsure)\(\)",
+    "broker": {
+        r"\bs\.(tryLock|lock|change)\(|\bcalls\.(look|settle|create|delete)\(": {"executor.go"},
+        r"\bstore\.Change\(|\blocks\.Lock\(": {"service.go"},
+        r"\b(gate\.tryLock|locks\.TryLock)\(": {"locks.go", "service.go"},
+        r"\bbackend\.(Look|Create|Delete|Sync|Credentials)\w*\(": {"worker.go"},
+    },
+    "platform": {
+        r"\be\.(ask|fetch)\(|\.transaction\.(Committed|Unsure)\(\)": {"executor.go"},
+        r"\bstore\.(Claim|Change)\(": {"executor.go", "orders.go"},
+        r"\bclient\.Exchange\(": {"exchange.go"},
+    },
 }
-"""What only the executor calls: the locks, the transactions, the work and the requests."""
+"""The calls of an executor, and those that reach the locks, the transactions, the backend and the brokers: where each
+stands."""
 
 KNOWS = r"\.(Holding|Record|State|Phase|Row|Attempt|Kind|Removal|Number)\b|\bosb\.(State|Phase|Work|Kind|Body|Mode)\w*"
 """What an executor doesn't look at."""
@@ -33,21 +43,33 @@ def found(pattern: str, text: str) -> list[str]:
 @pytest.mark.parametrize("package", sorted(CALLS))
 def test_executor(package: str) -> None:
     files = sources(package)
-    executor = files.pop("executor.go")
+    executor = files["executor.go"]
     assert executor.count("\n") <= LONGEST
     assert found(KNOWS, executor) == []
-    assert found(CALLS[package], executor) != []
-    assert {name: calls for name, text in files.items() if (calls := found(CALLS[package], text))} == {}
+    for pattern, where in CALLS[package].items():
+        assert {name for name, text in files.items() if found(pattern, text)} == where
 
 
 @pytest.mark.parametrize(
-    ("pattern", "line"),
+    "line",
     [
-        (KNOWS, "if snapshot.Entry.Record.InFlight() != osb.KindNone {"),
-        (KNOWS, "if entry.State == Ready {"),
-        (CALLS["broker"], "lock, err := s.tryLock(ctx, key)"),
-        (CALLS["platform"], "err := e.store.Change(ctx, key, step)"),
+        "if snapshot.Entry.Record.InFlight() != osb.KindNone {",
+        "if entry.State == Ready {",
     ],
 )
-def test_finds(pattern: str, line: str) -> None:
-    assert found(pattern, line) != []
+def test_finds_what_is_known(line: str) -> None:
+    assert found(KNOWS, line) != []
+
+
+@pytest.mark.parametrize(
+    ("package", "line", "where"),
+    [
+        ("broker", "lock, err := s.tryLock(ctx, key)", {"executor.go"}),
+        ("broker", "err = s.store.Change(ctx, key, step)", {"service.go"}),
+        ("broker", "err = s.worker.backend.DeleteBinding(ctx, request)", {"worker.go"}),
+        ("platform", "err := r.store.Change(ctx, key, step)", {"executor.go", "orders.go"}),
+        ("platform", "in := e.client.Exchange(ctx, out)", {"exchange.go"}),
+    ],
+)
+def test_finds_calls(package: str, line: str, where: set[str]) -> None:
+    assert [files for pattern, files in CALLS[package].items() if found(pattern, line)] == [where]
