@@ -611,6 +611,20 @@ func TestCommitsAreSynced(t *testing.T) {
 	diff.NoError(t, file.Read(background, look), "")
 }
 
+// Open fails if the log can't be synced: what a killed process has written there would be read, and lost in a power cut.
+func TestOpenSyncsTheLog(t *testing.T) {
+	path, of := filepath.Join(t.TempDir(), "file"), options()
+	usual := of.Prepare
+	of.Prepare = func(ctx context.Context, conn *Conn) (*notes, error) {
+		log := path + "-wal"
+		check(t, os.Rename(log, log+"-in-use"))
+		check(t, os.Symlink(os.DevNull, log)) // it can't be synced
+		return usual(ctx, conn)
+	}
+	_, err := Open(background, path, of)
+	diff.ErrorIs(t, err, syscall.EINVAL, "")
+}
+
 // openWith opens a new file, and executes statements before it is used.
 func openWith(t *testing.T, path, statements string) error {
 	t.Helper()
