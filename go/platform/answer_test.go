@@ -595,7 +595,7 @@ func TestAnswerInDoubt(t *testing.T) {
 			try.sent.out.Until = time.Now().Add(patience)
 			p.store.rows[anInstance] = try.row
 			if test.isWritten {
-				p.store.doubt = errFull
+				p.store.doubt = fmt.Errorf("%w: the answer to the COMMIT is lost", ErrAway)
 			} else {
 				p.store.setFull(errFull)
 			}
