@@ -257,7 +257,7 @@ func TestWorkers(t *testing.T) {
 	}{
 		{[]string{"--broker", s.url, "--once"}, 0, `"broker_reached"`},
 		{[]string{"--broker", s.url + "/elsewhere", "--once"}, 78, "--moved"},
-		{[]string{"--broker", "http://127.0.0.1:1", "--moved", "--once", "--seconds", "0.3"}, 1, "refused\n"},
+		{[]string{"--broker", "http://127.0.0.1:1", "--moved", "--once", "--seconds", "0.3"}, 1, "nothing was sent: dial "},
 		{[]string{"--broker", s.url, "--moved", "--late-for", "0", "--pace", "0.5", "--threads", "2", "--once"}, 0, ""},
 	} {
 		t.Run(strings.Join(test.arguments, " "), func(t *testing.T) {
