@@ -271,6 +271,20 @@ func TestWorkers(t *testing.T) {
 	wantLines(t, store, []line{{"broker show default", 0, ".*password\tnone.*\nhold\t0\nfirst pace\t0.5\n.*", ``}})
 }
 
+// A second worker of a name ends, and what the first one has in flight stays so.
+func TestSecondWorkerOfAName(t *testing.T) {
+	s := newTestBroker(t)
+	release := s.hold()
+	defer release()
+	p, store := newOne(t, s)
+	before := call(t, "show", "--store", store, "one")
+	diff.Contains(t, before.out, "\nworker\tone\nleased until\t", "before the second worker")
+	wantLines(t, store, []line{{"run --worker one --once", 75, ``, `.*osb-platform: a worker one runs already.*`}})
+	diff.Equal(t, call(t, "show", "--store", store, "one").out, before.out, "after it")
+	release()
+	p.stop()
+}
+
 // get is the answer to a GET.
 func get(t *testing.T, url string) (int, string) {
 	t.Helper()
