@@ -13,7 +13,6 @@ import (
 	"time"
 
 	"pippinterm/broker"
-	"pippinterm/internal/crash"
 	"pippinterm/internal/diff"
 	"pippinterm/internal/schedule"
 	"pippinterm/osb"
@@ -200,14 +199,6 @@ func (s *simulation) State() string {
 
 // ---- the tests
 
-// withoutCrashes has no crash point do anything until the test ends.
-func withoutCrashes(t *testing.T) *broker.Catalogue {
-	before := crash.Hook
-	crash.Hook = func(string) {}
-	t.Cleanup(func() { crash.Hook = before })
-	return catalogueFor(t, catalogue)
-}
-
 // schedules are those of the scenario. The walk, or nil, gets what happens.
 func (s scenario) schedules(walk *simulatedWalk) schedule.Scenario {
 	return schedule.Scenario{Text: s.text, Package: "./broker", Begin: func() *schedule.Scheduler {
@@ -223,7 +214,8 @@ func (s scenario) schedules(walk *simulatedWalk) schedule.Scenario {
 // TestEverySchedule runs all schedules of two drivers with one fault at most, of the first pair with two, or with as
 // many as FAULTS says. Each kind of fault happens once at most.
 func TestEverySchedule(t *testing.T) {
-	catalogue := withoutCrashes(t)
+	schedule.WithoutCrashes(t)
+	catalogue := catalogueFor(t, catalogue)
 	for n, text := range pairs {
 		count := 1
 		if n == 0 {
@@ -238,7 +230,8 @@ func TestEverySchedule(t *testing.T) {
 // TestRandomSchedules runs schedules by chance, as many as SEEDS says, with more drivers and more faults. Their events
 // are written to the file that WALKS names, and compared with the proved model.
 func TestRandomSchedules(t *testing.T) {
-	catalogue, most, walks := withoutCrashes(t), schedule.MostOf(3, 6), walksTo(t)
+	schedule.WithoutCrashes(t)
+	catalogue, most, walks := catalogueFor(t, catalogue), schedule.MostOf(3, 6), walksTo(t)
 	for seed := int64(0); seed < seedsOr(400) && !t.Failed(); seed++ {
 		chance := rand.New(rand.NewSource(seed))
 		walk := &simulatedWalk{}
@@ -278,7 +271,8 @@ func TestSchedule(t *testing.T) {
 		"sync power-cuts from unsynced: provision + take-up | 2 2 2 2 2 2 2 2 2 power-cut",
 		"sync from nothing: provision + deprovision | 1 1 1 1 1 1 1 1 1 1-is-unsure 2 written-1 2 2 1-loses-its-lock 2 2",
 	}
-	catalogue := withoutCrashes(t)
+	schedule.WithoutCrashes(t)
+	catalogue := catalogueFor(t, catalogue)
 	schedule.CheckEach(t, texts, func(t *testing.T, text string) schedule.Scenario {
 		return scenarioOf(t, catalogue, text, nil).schedules(nil)
 	})

@@ -144,7 +144,7 @@ func (s *seller) change(key Key, exists bool) {
 func (s *seller) goOn() {
 	s.mu.Lock()
 	defer s.mu.Unlock()
-	for _, key := range s.keys() {
+	for _, key := range keysOf(s.holdings) {
 		if _, isPending := s.requests[key]; isPending {
 			s.work(key)
 		}
@@ -163,14 +163,14 @@ func (s *seller) goOn() {
 	}
 }
 
-// keys are those of which something is held, in an order.
-func (s *seller) keys() []Key {
-	var found []Key
-	for key := range s.holdings {
-		found = append(found, key)
+// keysOf are the keys of a map, in an order.
+func keysOf[V any](of map[Key]V) []Key {
+	keys := make([]Key, 0, len(of))
+	for key := range of {
+		keys = append(keys, key)
 	}
-	sort.Slice(found, func(a, b int) bool { return found[a].String() < found[b].String() })
-	return found
+	sort.Slice(keys, func(a, b int) bool { return keys[a].String() < keys[b].String() })
+	return keys
 }
 
 func (s *seller) fetch(key Key) *reply {
@@ -229,10 +229,12 @@ func (s *seller) is(key Key) string {
 
 // isThere reports whether all of a key exists and nothing is pending, and isNone whether nothing exists or is held.
 func (s *seller) isThere(key Key) bool {
-	return strings.HasPrefix(s.is(key), "ready, pending false, exists \"token")
+	row, _ := s.holdings[key].Row()
+	_, isPending := s.holdings[key].Work()
+	return row.Phase == osb.PhaseReady && !isPending && strings.HasPrefix(s.things[key], "token")
 }
 
-func (s *seller) isNone(key Key) bool { return s.is(key) == `no row, pending false, exists ""` }
+func (s *seller) isNone(key Key) bool { return !s.holdings[key].IsHeld() && s.things[key] == "" }
 
 // A seal is a Vault that hides nothing: it binds a text to its context.
 type seal struct{}
@@ -461,19 +463,27 @@ func (m *memory) Insert(_ context.Context, entry Entry, check func(Snapshot) err
 	}
 	t := m.begin()
 	defer t.end()
+	if err := t.insert(entry, check); err != nil {
+		return err
+	}
+	return t.commit()
+}
+
+// insert writes a row, unless there is one.
+func (t *transaction) insert(entry Entry, check func(Snapshot) error) error {
 	t.lockAll(entry.Key, true)
 	snapshot := t.snapshot(entry.Key)
 	if entry.Key.IsBinding && snapshot.Instance == nil {
 		return ErrUnknown
 	}
-	if _, isUsed := m.rows[entry.Key]; isUsed {
+	if _, isUsed := t.read(entry.Key); isUsed {
 		return ErrUsed
 	}
 	if err := check(snapshot); err != nil {
 		return err
 	}
 	t.writes[entry.Key] = whole(entry)
-	return t.commit()
+	return nil
 }
 
 // isDue reports whether a row is one to claim.
@@ -492,18 +502,25 @@ func (m *memory) Claim(_ context.Context, brokers []string, most int, step Step)
 	if m.away != nil {
 		return nil, m.away
 	}
-	now, t := m.clock(), m.begin()
+	t := m.begin()
 	defer t.end()
+	claimed = t.claim(m.clock(), brokers, most, step)
+	m.outside(func() { m.between("claim-commit", Key{}) })
+	return claimed, t.commit()
+}
+
+// claim has a step decide on each row that is due and that can be locked.
+func (t *transaction) claim(now time.Time, brokers []string, most int, step Step) (claimed []ClaimedRow) {
 	keys := t.keys()
-	sort.SliceStable(keys, func(a, b int) bool { return m.rows[keys[a]].Due.Before(m.rows[keys[b]].Due) })
+	sort.SliceStable(keys, func(a, b int) bool { return t.rows[keys[a]].Due.Before(t.rows[keys[b]].Due) })
 	for _, key := range keys {
 		e, _ := t.read(key)
 		if len(claimed) == most || !isDue(e, now, brokers) || !t.lockAll(key, false) {
 			continue
 		}
 		err := errUnreadable
-		if !m.unreadable[key] {
-			err = m.runStep(t, now, key, "claim", step)
+		if !t.unreadable[key] {
+			err = t.runStep(t, now, key, "claim", step)
 		}
 		if err != nil {
 			e.Due = now.Add(FailedRest)
@@ -511,8 +528,7 @@ func (m *memory) Claim(_ context.Context, brokers []string, most int, step Step)
 		}
 		claimed = append(claimed, ClaimedRow{Key: key, Err: err})
 	}
-	m.outside(func() { m.between("claim-commit", Key{}) })
-	return claimed, t.commit()
+	return claimed
 }
 
 // runStep has a step decide on a row that is locked.

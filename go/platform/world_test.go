@@ -60,11 +60,8 @@ func TestAnyNetwork(t *testing.T) {
 // end compares what is recorded with what is held and what exists, once all rests, and again once all is removed.
 func (w *world) end(ended map[State]int) {
 	w.t.Helper()
-	for key, e := range w.store.rows {
+	for _, e := range w.store.rows {
 		ended[e.State]++
-		if isPolled(e.State) || e.State == Wanted || e.State == Cleaning || e.State == Ordered {
-			w.t.Errorf("seed %d: %v: got it at rest in %s, want it in another state", w.seed, key, e.State)
-		}
 	}
 	w.all()
 	rows, err := w.store.List(background, Filter{})
@@ -94,20 +91,31 @@ func (w *world) end(ended map[State]int) {
 	}
 }
 
-// all is that each that exists, or is held, has a record that says so, or that isn't sure.
+// all is that each that exists, or is held, has a record that says so, or that isn't sure, once all rests.
 func (w *world) all() {
 	w.t.Helper()
-	for key := range w.seller.holdings {
-		e, isThere := w.store.rows[key]
-		if !w.seller.isNone(key) && (!isThere || e.State != Ready && e.State != Unsettled) {
-			w.t.Errorf("seed %d: %v is recorded %q: got %s, want none", w.seed, key, e.State, w.seller.is(key))
+	if wrong := w.seller.unrecorded(w.store.rows); wrong != "" {
+		w.t.Errorf("seed %d: %s", w.seed, wrong)
+	}
+}
+
+// unrecorded is what is held or exists though no record says so, or what can't rest, or empty.
+func (s *seller) unrecorded(rows map[Key]Entry) string {
+	for key := range s.holdings {
+		e, isThere := rows[key]
+		if !s.isNone(key) && (!isThere || e.State != Ready && e.State != Unsettled) {
+			return fmt.Sprintf("%v is recorded %q: got %s, want none", key, e.State, s.is(key))
 		}
 	}
-	for key, e := range w.store.rows {
-		if e.State == Ready && !w.seller.isThere(key) {
-			w.t.Errorf("seed %d: %v is recorded ready: got %s, want it there", w.seed, key, w.seller.is(key))
+	for key, e := range rows {
+		switch {
+		case e.State == Ready && !s.isThere(key):
+			return fmt.Sprintf("%v is recorded ready: got %s, want it there", key, s.is(key))
+		case isPolled(e.State) || e.State == Wanted || e.State == Cleaning || e.State == Ordered:
+			return fmt.Sprintf("%v: got it at rest in %s, want it in another state", key, e.State)
 		}
 	}
+	return ""
 }
 
 // A dial is a clock that a test sets.
@@ -478,42 +486,34 @@ func (w *world) happen() {
 // agree is the theorem of docs/binding.md, about what is recorded, held and there.
 func (w *world) agree() {
 	w.t.Helper()
-	for key, e := range w.store.rows {
-		switch e.State {
-		case Ready:
-			if !w.seller.isThere(key) {
-				w.t.Fatalf("seed %d: %v is recorded ready: got %s, want it there", w.seed, key, w.seller.is(key))
-			}
-			w.credentials(e)
-		case Gone, Withdrawn, Ordered:
-			if !w.seller.isNone(key) {
-				w.t.Fatalf("seed %d: %v is recorded %s: got %s, want none", w.seed, key, e.State, w.seller.is(key))
-			}
-		}
-		if e.State != Ready && e.Credentials != nil {
-			w.t.Fatalf("seed %d: %v in %s: got credentials, want none", w.seed, key, e.State)
-		}
-		of := w.store.rows[osb.InstanceKey(key.Instance)]
-		if key.IsBinding && !w.seller.isNone(key) && of.State != Ready {
-			w.t.Fatalf("seed %d: the binding %v is there: got its instance in %s, want it ready", w.seed, key, of.State)
-		}
-		if key.IsBinding && e.State == Ordered && e.Removal == NotRemoved && checkReady(of) != nil {
-			w.t.Fatalf("seed %d: try %d of the binding %v is ordered: got its instance in %s, removal %d, want it ready", w.seed,
-				e.Try, key, of.State, of.Removal)
-		}
+	if wrong := w.seller.contradicts(w.store.rows); wrong != "" {
+		w.t.Fatalf("seed %d: %s", w.seed, wrong)
 	}
 }
 
-// credentials is that those of a binding that is ready are those that work.
-func (w *world) credentials(e Entry) {
-	w.t.Helper()
-	if !e.Key.IsBinding {
-		return
+// contradicts is how the rows aren't what is held and what exists, or empty.
+func (s *seller) contradicts(rows map[Key]Entry) string {
+	for key, e := range rows {
+		of := rows[osb.InstanceKey(key.Instance)]
+		switch {
+		case e.State == Ready && !s.isThere(key):
+			return fmt.Sprintf("%v is recorded ready: got %s, want it there", key, s.is(key))
+		case (e.State == Gone || e.State == Withdrawn || e.State == Ordered) && !s.isNone(key):
+			return fmt.Sprintf("%v is recorded %s: got %s, want none", key, e.State, s.is(key))
+		case e.State != Ready && e.Credentials != nil:
+			return fmt.Sprintf("%v in %s: got credentials, want none", key, e.State)
+		case key.IsBinding && !s.isNone(key) && of.State != Ready && e.State != Abandoned:
+			return fmt.Sprintf("the binding %v is there: got its instance in %s, want it ready", key, of.State)
+		case key.IsBinding && e.State == Ordered && e.Removal == NotRemoved && checkReady(of) != nil:
+			return fmt.Sprintf("try %d of the binding %v is ordered: got its instance in %s, removal %d, want it ready", e.Try,
+				key, of.State, of.Removal)
+		case key.IsBinding && e.State == Ready:
+			if object, err := (seal{}).Open(e.Credentials, key.String()); err != nil || string(object) != s.object(key) {
+				return fmt.Sprintf("the credentials of %v: got %s (%v), want %s", key, object, err, s.object(key))
+			}
+		}
 	}
-	object, err := w.orders.Credentials(context.Background(), e.Key)
-	if err != nil || string(object) != w.seller.object(e.Key) {
-		w.t.Fatalf("seed %d: the credentials of %v: got %s (%v), want %s", w.seed, e.Key, object, err, w.seller.object(e.Key))
-	}
+	return ""
 }
 
 // settle lets all converge. It returns false if something is due still.
@@ -528,12 +528,7 @@ func (w *world) settle() bool {
 		}
 		w.seller.goOn()
 		w.agree()
-		due := time.Time{}
-		for _, e := range w.store.rows {
-			if free := later(e.Due, e.Lease.Until); !e.Due.IsZero() && (due.IsZero() || free.Before(due)) {
-				due = free
-			}
-		}
+		due := firstDue(w.store.rows)
 		if due.IsZero() {
 			return true
 		}
@@ -542,6 +537,16 @@ func (w *world) settle() bool {
 		}
 	}
 	return false
+}
+
+// firstDue is when the first of these rows is due, or zero if all rest.
+func firstDue(rows map[Key]Entry) (due time.Time) {
+	for _, e := range rows {
+		if free := later(e.Due, e.Lease.Until); !e.Due.IsZero() && (due.IsZero() || free.Before(due)) {
+			due = free
+		}
+	}
+	return due
 }
 
 // What the world gets as an Observer.

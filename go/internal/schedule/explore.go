@@ -4,12 +4,21 @@ import (
 	"fmt"
 	"math/rand"
 	"os"
+	"runtime/debug"
 	"strconv"
 	"strings"
 	"testing"
 
+	"pippinterm/internal/crash"
 	"pippinterm/internal/diff"
 )
+
+// WithoutCrashes has no crash point do anything until the test ends.
+func WithoutCrashes(t *testing.T) {
+	before := crash.Hook
+	crash.Hook = func(string) {}
+	t.Cleanup(func() { crash.Hook = before })
+}
 
 // A Scenario is what schedules begin with.
 type Scenario struct {
@@ -44,7 +53,7 @@ func (s *Scheduler) state() string {
 // explore runs all schedules of a scenario with so many faults: each choice in each state, and what usually happens
 // after it. It returns the first schedule that fails, or none, and how many states there are and runs were needed.
 func (of Scenario) explore(most Faults) (failed []string, states, runs int) {
-	seen := map[string]bool{}
+	seen, ends := map[string]bool{}, map[string]bool{}
 	waiting := [][]uint8{nil}
 	for ; len(waiting) > 0; runs++ {
 		prefix := waiting[len(waiting)-1]
@@ -53,14 +62,17 @@ func (of Scenario) explore(most Faults) (failed []string, states, runs int) {
 		s := of.Begin()
 		schedule := s.Run(most, func(choices []Choice) int {
 			at := 0
-			if len(path) < len(prefix) {
-				at = int(prefix[len(path)])
-			} else if len(choices) > 1 {
-				state := s.state()
-				if seen[state] {
+			switch {
+			case len(choices) == 0:
+				if !isNew(ends, s.state()) {
 					return -1
 				}
-				seen[state] = true
+			case len(path) < len(prefix):
+				at = int(prefix[len(path)])
+			case len(choices) > 1:
+				if !isNew(seen, s.state()) {
+					return -1
+				}
 				for n := len(choices) - 1; n > 0; n-- {
 					waiting = append(waiting, append(append([]uint8(nil), path...), uint8(n)))
 				}
@@ -75,6 +87,13 @@ func (of Scenario) explore(most Faults) (failed []string, states, runs int) {
 	return nil, len(seen), runs
 }
 
+// isNew reports whether a state wasn't seen yet.
+func isNew(seen map[string]bool, state string) bool {
+	before := len(seen)
+	seen[state] = true
+	return len(seen) > before
+}
+
 // Check runs all schedules of a scenario, with so many faults at most, or with as many as FAULTS says. Each kind of fault
 // happens once at most.
 func (of Scenario) Check(t *testing.T, count int) {
@@ -82,6 +101,7 @@ func (of Scenario) Check(t *testing.T, count int) {
 	if text := os.Getenv("FAULTS"); text != "" {
 		count = diff.Value(strconv.Atoi(text))(t)
 	}
+	defer debug.SetGCPercent(debug.SetGCPercent(400)) // runs keep little
 	most := MostOf(1, count)
 	failed, states, runs := of.explore(most)
 	t.Logf("%d states, %d runs", states, runs)

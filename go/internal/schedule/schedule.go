@@ -134,7 +134,7 @@ func (s *Scheduler) Start(do func(*Runner)) *Runner {
 
 // growStack has a goroutine get its stack at once, and not bit by bit, which takes longer than all else.
 func growStack() {
-	var space [16 << 10]byte
+	var space [32 << 10]byte
 	runtime.KeepAlive(&space)
 }
 
@@ -325,7 +325,7 @@ func (s *Scheduler) RunUntil(r *Runner, call string) {
 }
 
 // Run starts the runners of the World, and has happen what is chosen until all is over, or until the choice is
-// negative. It returns the words of what was chosen.
+// negative. Of nothing, the choice is whether to finish. It returns the words of what was chosen.
 func (s *Scheduler) Run(most Faults, choose func([]Choice) int) (schedule []string) {
 	defer s.Stop()
 	s.left = most
@@ -345,7 +345,7 @@ func (s *Scheduler) Run(most Faults, choose func([]Choice) int) (schedule []stri
 			s.Fail("%d waits for ever", r.Number)
 		}
 	}
-	if s.Wrong == "" {
+	if s.Wrong == "" && choose(nil) >= 0 {
 		s.left = Faults{}
 		s.world.Finish()
 	}

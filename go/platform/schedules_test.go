@@ -1,0 +1,215 @@
+//go:build crashpoints
+
+package platform
+
+import (
+	"encoding/json"
+	"math/rand"
+	"os"
+	"sort"
+	"strconv"
+	"strings"
+	"testing"
+	"time"
+
+	"pippinterm/internal/diff"
+	"pippinterm/internal/schedule"
+	"pippinterm/osb"
+)
+
+// A scenario is what a simulation begins with: a plan, the settings, what is recorded, and the tasks.
+type scenario struct {
+	text      string
+	plan      string
+	catalogue *Catalogue
+	hold      time.Duration
+	tries     int
+	minutes   int // that pass at most
+	tasks     []string
+	begun     *simulation // in which it has come about, once it has
+}
+
+// generation is 1 at the beginning of the scenario, and 2 from then on.
+func (s scenario) generation() int {
+	if s.begun == nil {
+		return 1
+	}
+	return 2
+}
+
+// How what is recorded at the beginning came about: tasks, of which some are killed at a call.
+var beginnings = map[string]string{
+	"nothing":       "",
+	"ordered":       "order",
+	"claimed":       "order step@send minute minute",
+	"sent":          "order step@hear minute minute",
+	"answered":      "order step@change",
+	"polling":       "order step minute",
+	"ready":         "order settle",
+	"removing":      "order settle remove",
+	"cleaning":      "order settle remove step@change minute minute",
+	"deleting":      "order settle remove step minute",
+	"bind-ordered":  "order settle bind",
+	"bind-sent":     "order settle bind step@hear minute minute",
+	"bind-polling":  "order settle bind step minute",
+	"bound":         "order settle bind settle",
+	"unbinding":     "order settle bind settle remove-binding",
+	"removing-all":  "order settle bind settle remove-all",
+	"bind-answered": "order settle bind step@change",
+}
+
+// pairs are the scenarios of which all schedules are run.
+var pairs = []string{
+	"now from ordered: step + step",
+	"now from ordered: step + remove",
+	"now from ordered: step + abandon",
+	"now from sent: step + step",
+	"now from answered: step + remove",
+	"now from removing: step + bind",
+	"now from cleaning: step + retry",
+	"now hold from claimed: step + step",
+	"now tries from ordered: step + remove",
+	"later from polling: step + step",
+	"later from polling: step + remove",
+	"later from deleting: step + retry",
+	"now from ready: bind + remove",
+	"now from bind-ordered: step + step",
+	"now from bind-ordered: step + remove",
+	"now from bind-ordered: step + remove-all",
+	"now from bind-ordered: step + remove-binding",
+	"now from bind-answered: step + abandon-binding",
+	"now from unbinding: step + step",
+	"now from removing-all: step + step",
+	"later from bind-polling: step + step",
+	"bind-later from bind-sent: step",
+	"make-later from removing-all: step + step",
+}
+
+// scenarioOf reads the text of a scenario, such as `later hold from polling: step + remove`.
+func scenarioOf(t *testing.T, text string, minutes int) scenario {
+	t.Helper()
+	head, tasks, _ := strings.Cut(text, ": ")
+	words, from, _ := strings.Cut(head, " from ")
+	s := scenario{
+		text: text, plan: strings.Fields(words)[0], catalogue: diff.Value(ReadCatalogue([]byte(sold)))(t), tries: 1,
+		minutes: minutes,
+	}
+	if strings.Contains(words, "hold") {
+		s.hold = 90 * time.Second
+	}
+	if strings.Contains(words, "tries") {
+		s.tries = 2
+	}
+	begun := newSimulation(s)
+	for _, word := range strings.Fields(beginnings[from]) {
+		begun.begin(word)
+	}
+	diff.Equal(t, begun.Wrong, "", "the beginning of %q", text)
+	s.begun, s.tasks = begun, strings.Split(tasks, " + ")
+	return s
+}
+
+// begin does a word of a beginning.
+func (s *simulation) begin(word string) {
+	switch task, until, _ := strings.Cut(word, "@"); task {
+	case "minute":
+		s.passed += time.Minute
+	case "settle":
+		s.settle()
+	default:
+		s.RunUntil(s.start(task).Runner, until)
+	}
+}
+
+// newSimulation is a simulation at the beginning of a scenario.
+func newSimulation(of scenario) *simulation {
+	s := &simulation{
+		scenario: of, seller: newSeller(), numbers: map[osb.ID]string{}, sent: map[osb.ID]bool{},
+	}
+	s.Scheduler, s.store = schedule.New(s), newMemory(s.now)
+	s.store.brokers["shelf"] = Broker{
+		Name: "shelf", URL: "https://broker.example", Catalogue: json.RawMessage(sold), Settings: Settings{Hold: &of.hold},
+	}
+	if begun := of.begun; begun != nil {
+		s.passed, s.network = begun.passed, append([]Outgoing(nil), begun.network...)
+		for key, e := range begun.store.rows {
+			s.store.rows[key], s.numbers[e.Number] = e, ""
+		}
+		s.seller.made = begun.seller.made
+		fill(s.seller.holdings, begun.seller.holdings)
+		fill(s.seller.requests, begun.seller.requests)
+		fill(s.seller.things, begun.seller.things)
+		fill(s.seller.objects, begun.seller.objects)
+		s.most = s.passed + time.Duration(of.minutes)*time.Minute
+	}
+	return s
+}
+
+func fill[V any](to, from map[Key]V) {
+	for key, value := range from {
+		to[key] = value
+	}
+}
+
+// schedules are those of the scenario.
+func (s scenario) schedules() schedule.Scenario {
+	return schedule.Scenario{Text: s.text, Package: "./platform", Begin: func() *schedule.Scheduler {
+		return newSimulation(s).Scheduler
+	}}
+}
+
+// TestEverySchedule runs all schedules of a pair with one fault at most, or with as many as FAULTS says. Each kind of
+// fault happens once at most. Two minutes pass at most.
+func TestEverySchedule(t *testing.T) {
+	schedule.WithoutCrashes(t)
+	for _, text := range pairs {
+		t.Run(text, func(t *testing.T) { scenarioOf(t, text, 2).schedules().Check(t, 1) })
+	}
+}
+
+// TestRandomSchedules runs schedules by chance, as many as SEEDS says, with more runners and more faults.
+func TestRandomSchedules(t *testing.T) {
+	schedule.WithoutCrashes(t)
+	seeds := 400
+	if n, err := strconv.Atoi(os.Getenv("SEEDS")); err == nil {
+		seeds = n
+	}
+	for seed := 0; seed < seeds && !t.Failed(); seed++ {
+		chance := rand.New(rand.NewSource(int64(seed)))
+		scenarioOf(t, anyScenario(chance), 8).schedules().CheckAny(t, schedule.MostOf(3, 6), chance)
+	}
+}
+
+// anyScenario is a scenario by chance: one of two runners, or of more.
+func anyScenario(chance *rand.Rand) string {
+	if chance.Intn(4) == 0 {
+		return pairs[chance.Intn(len(pairs))]
+	}
+	one := func(of ...string) string { return of[chance.Intn(len(of))] }
+	var all []string
+	for beginning := range beginnings {
+		all = append(all, beginning)
+	}
+	sort.Strings(all)
+	tasks := make([]string, 3+chance.Intn(4))
+	for n := range tasks {
+		tasks[n] = one("step", "step", "steps", "steps", "bind", "remove", "remove-binding", "remove-all", "retry", "retry-binding",
+			"abandon", "abandon-binding")
+	}
+	return one(planNames...) + one(" hold", "", "") + one(" tries", "") + " from " + one(all...) +
+		": " + strings.Join(tasks, " + ")
+}
+
+// TestSchedule runs the schedule that SCHEDULE has, and logs all of its steps. Without the variable it runs a few: a
+// worker that dies while it sends, an answer that comes after the lease, and a claim that nobody knows of.
+func TestSchedule(t *testing.T) {
+	texts := []string{
+		"now from ordered: step + step | 1 1-dies",
+		"now from ordered: step + step | 1 1 1 1 a-minute-passes a-minute-passes 2",
+		"now from ordered: step + step | 1 1-is-unsure unwritten-1 2",
+	}
+	schedule.WithoutCrashes(t)
+	schedule.CheckEach(t, texts, func(t *testing.T, text string) schedule.Scenario {
+		return scenarioOf(t, text, 8).schedules()
+	})
+}
