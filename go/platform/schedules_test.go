@@ -24,7 +24,8 @@ type scenario struct {
 	catalogue *Catalogue
 	hold      time.Duration
 	tries     int
-	minutes   int // that pass at most
+	tick      time.Duration // that passes at once
+	most      time.Duration // that passes
 	tasks     []string
 	begun     *simulation // in which it has come about, once it has
 }
@@ -60,7 +61,7 @@ var beginnings = map[string]string{
 
 // pairs are the scenarios of which all schedules are run.
 var pairs = []string{
-	"now from ordered: step + step",
+	"now slowly from ordered: step + step",
 	"now from ordered: step + remove",
 	"now from ordered: step + abandon",
 	"now from sent: step + step",
@@ -70,7 +71,6 @@ var pairs = []string{
 	"now hold from claimed: step + step",
 	"now tries from ordered: step + remove",
 	"later from polling: step + step",
-	"later from polling: step + remove",
 	"later from deleting: step + retry",
 	"now from ready: bind + remove",
 	"now from bind-ordered: step + step",
@@ -86,13 +86,16 @@ var pairs = []string{
 }
 
 // scenarioOf reads the text of a scenario, such as `later hold from polling: step + remove`.
-func scenarioOf(t *testing.T, text string, minutes int) scenario {
+func scenarioOf(t *testing.T, text string, most time.Duration) scenario {
 	t.Helper()
 	head, tasks, _ := strings.Cut(text, ": ")
 	words, from, _ := strings.Cut(head, " from ")
 	s := scenario{
 		text: text, plan: strings.Fields(words)[0], catalogue: diff.Value(ReadCatalogue([]byte(sold)))(t), tries: 1,
-		minutes: minutes,
+		tick: time.Minute, most: most,
+	}
+	if strings.Contains(words, "slowly") {
+		s.tick = 40 * time.Second
 	}
 	if strings.Contains(words, "hold") {
 		s.hold = 90 * time.Second
@@ -140,7 +143,7 @@ func newSimulation(of scenario) *simulation {
 		fill(s.seller.requests, begun.seller.requests)
 		fill(s.seller.things, begun.seller.things)
 		fill(s.seller.objects, begun.seller.objects)
-		s.most = s.passed + time.Duration(of.minutes)*time.Minute
+		s.most = s.passed + of.most
 	}
 	return s
 }
@@ -163,7 +166,7 @@ func (s scenario) schedules() schedule.Scenario {
 func TestEverySchedule(t *testing.T) {
 	schedule.WithoutCrashes(t)
 	for _, text := range pairs {
-		t.Run(text, func(t *testing.T) { scenarioOf(t, text, 2).schedules().Check(t, 1) })
+		t.Run(text, func(t *testing.T) { scenarioOf(t, text, 2*time.Minute).schedules().Check(t, 1) })
 	}
 }
 
@@ -176,7 +179,7 @@ func TestRandomSchedules(t *testing.T) {
 	}
 	for seed := 0; seed < seeds && !t.Failed(); seed++ {
 		chance := rand.New(rand.NewSource(int64(seed)))
-		scenarioOf(t, anyScenario(chance), 8).schedules().CheckAny(t, schedule.MostOf(3, 6), chance)
+		scenarioOf(t, anyScenario(chance), 8*time.Minute).schedules().CheckAny(t, schedule.MostOf(3, 6), chance)
 	}
 }
 
@@ -196,7 +199,7 @@ func anyScenario(chance *rand.Rand) string {
 		tasks[n] = one("step", "step", "steps", "steps", "bind", "remove", "remove-binding", "remove-all", "retry", "retry-binding",
 			"abandon", "abandon-binding")
 	}
-	return one(planNames...) + one(" hold", "", "") + one(" tries", "") + " from " + one(all...) +
+	return one(planNames...) + one(" slowly", "") + one(" hold", "", "") + one(" tries", "") + " from " + one(all...) +
 		": " + strings.Join(tasks, " + ")
 }
 
@@ -205,11 +208,11 @@ func anyScenario(chance *rand.Rand) string {
 func TestSchedule(t *testing.T) {
 	texts := []string{
 		"now from ordered: step + step | 1 1-dies",
-		"now from ordered: step + step | 1 1 1 1 a-minute-passes a-minute-passes 2",
+		"now from ordered: step + step | 1 1 1 1 time-passes time-passes 2",
 		"now from ordered: step + step | 1 1-is-unsure unwritten-1 2",
 	}
 	schedule.WithoutCrashes(t)
 	schedule.CheckEach(t, texts, func(t *testing.T, text string) schedule.Scenario {
-		return scenarioOf(t, text, 8).schedules()
+		return scenarioOf(t, text, 8*time.Minute).schedules()
 	})
 }

@@ -53,6 +53,7 @@ func (r *runner) judgeSending(out Outgoing) {
 func (s *simulation) judgeCommit(of *runner, before, after Entry) {
 	owner, isUsed := s.numbers[after.Number]
 	isNew := after.Record.Attempt() > before.Record.Attempt()
+	isIdle := after.IsSent && after.Record.InFlight() == osb.KindNone && after.State != Gone
 	switch {
 	case after.Number != before.Number && isUsed:
 		s.Fail("%d writes the number of %s", of.Number, owner)
@@ -60,6 +61,8 @@ func (s *simulation) judgeCommit(of *runner, before, after Entry) {
 		s.Fail("%d has a request in flight, and doesn't write a number", of.Number)
 	case isNew && after.Lease.Worker != of.worker():
 		s.Fail("%d has a request in flight, and no lease", of.Number)
+	case isIdle && s.now().Before(after.Lease.Until):
+		s.Fail("%d has nothing in flight, and keeps its lease", of.Number)
 	case after.IsSent && after.Record != before.Record && !s.isEvent(of, before, after):
 		s.Fail("%d writes %v over %v, which is no event", of.Number, after.Record, before.Record)
 	case after.IsSent && after.State != Abandoned && after.State != StateOf(after.Record):

@@ -15,8 +15,8 @@ import (
 	"pippinterm/osb"
 )
 
-// A simulation runs workers and operators of a platform over one store, a network and a broker, by a schedule. Time
-// passes by minutes: an exchange may last one, and a lease is over after two.
+// A simulation runs workers and operators of a platform over one store, a network and a broker, by a schedule. An
+// exchange may last a minute, and a lease is over half a minute later. Time passes by minutes, or in smaller parts.
 type simulation struct {
 	*schedule.Scheduler
 	scenario scenario
@@ -72,11 +72,11 @@ var (
 	rejects  = schedule.Fault{Name: "is-rejected", Kind: schedule.Failure}
 	slow     = schedule.Fault{Name: "takes-two-minutes", Kind: schedule.Failure} // until a commit returns
 
-	aMinutePasses = schedule.Fault{Name: "a-minute-passes", Kind: schedule.Usual}
-	brokerGoesOn  = schedule.Fault{Name: "broker-goes-on", Kind: schedule.Usual}
-	brokerFails   = schedule.Fault{Name: "broker-fails", Kind: schedule.Failure}
-	arrives       = schedule.Fault{Name: "arrives", Kind: schedule.Usual}
-	frees         = schedule.Fault{Name: "frees", Kind: schedule.Usual}
+	timePasses   = schedule.Fault{Name: "time-passes", Kind: schedule.Usual}
+	brokerGoesOn = schedule.Fault{Name: "broker-goes-on", Kind: schedule.Usual}
+	brokerFails  = schedule.Fault{Name: "broker-fails", Kind: schedule.Failure}
+	arrives      = schedule.Fault{Name: "arrives", Kind: schedule.Usual}
+	frees        = schedule.Fault{Name: "frees", Kind: schedule.Usual}
 )
 
 // moods are by how much the work of the broker goes worse than usual (seller.mood), by what becomes of a call.
@@ -173,7 +173,7 @@ func (s *simulation) IsEnabled(of *schedule.Runner) bool {
 // Events are that time passes, the broker works, what was sent arrives late, and a worker that has died begins again.
 func (s *simulation) Events() (found []schedule.Choice) {
 	if s.passed < s.most {
-		found = append(found, schedule.Choice{What: aMinutePasses, Do: func() { s.passed += time.Minute }})
+		found = append(found, schedule.Choice{What: timePasses, Do: func() { s.passed += s.scenario.tick }})
 	}
 	if s.isWorking() {
 		found = append(found, schedule.Choice{What: brokerGoesOn, Do: func() { s.work("") }})
