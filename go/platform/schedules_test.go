@@ -61,8 +61,8 @@ var beginnings = map[string]string{
 
 // pairs are the scenarios of which all schedules are run.
 var pairs = []string{
-	"now slowly from ordered: step + step",
-	"now from ordered: step + remove",
+	"now from ordered: step + step",
+	"now slowly from ordered: step + remove",
 	"now from ordered: step + abandon",
 	"now from sent: step + step",
 	"now from answered: step + remove",
@@ -70,7 +70,7 @@ var pairs = []string{
 	"now from cleaning: step + retry",
 	"now hold from claimed: step + step",
 	"now tries from ordered: step + remove",
-	"later from polling: step + step",
+	"later from polling: step",
 	"later from deleting: step + retry",
 	"now from ready: bind + remove",
 	"now from bind-ordered: step + step",

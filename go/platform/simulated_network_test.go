@@ -16,6 +16,7 @@ import (
 //   - Each commit that changes a record is a few events of the network: an answer that this worker has got to the request
 //     that is in flight; or a request is given up whose lease is over, then the record is cleaned up, and then a request
 //     gets in flight, with a number that no row has had.
+//   - What is gone, withdrawn or abandoned stays so, and a removal is never forgotten.
 //   - A request is sent while its row has its number, within its lease, and once for each number. Its time isn't over.
 //   - A creation is sent before the time that is recorded, that of a binding while its instance is ready, and a deletion
 //     once the hold is over.
@@ -53,6 +54,7 @@ func (r *runner) judgeSending(out Outgoing) {
 func (s *simulation) judgeCommit(of *runner, before, after Entry) {
 	owner, isUsed := s.numbers[after.Number]
 	isNew := after.Record.Attempt() > before.Record.Attempt()
+	isFinal := before.State == Gone || before.State == Withdrawn || before.State == Abandoned
 	isIdle := after.IsSent && after.Record.InFlight() == osb.KindNone && after.State != Gone
 	switch {
 	case after.Number != before.Number && isUsed:
@@ -61,6 +63,10 @@ func (s *simulation) judgeCommit(of *runner, before, after Entry) {
 		s.Fail("%d has a request in flight, and doesn't write a number", of.Number)
 	case isNew && after.Lease.Worker != of.worker():
 		s.Fail("%d has a request in flight, and no lease", of.Number)
+	case isFinal && after.State != before.State:
+		s.Fail("%d writes %s over %s", of.Number, after.State, before.State)
+	case after.Removal < before.Removal:
+		s.Fail("%d forgets a removal", of.Number)
 	case isIdle && s.now().Before(after.Lease.Until):
 		s.Fail("%d has nothing in flight, and keeps its lease", of.Number)
 	case after.IsSent && after.Record != before.Record && !s.isEvent(of, before, after):
