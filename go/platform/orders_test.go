@@ -363,7 +363,7 @@ func TestAbandon(t *testing.T) {
 			t.Run(fmt.Sprint(key, " ", state), func(t *testing.T) {
 				d := newDesk(t)
 				d.put(with(rowIn(anInstance, Ready), remove))
-				before := d.put(rowIn(key, state))
+				before := d.put(with(rowIn(key, state), func(e *Entry) { e.Lease = Lease{Worker: "one", Until: at(1000)} }))
 				d.dial.forward(time.Minute)
 				after, err := d.orders.Abandon(background, key, "the broker was closed")
 				if state == Gone || state == Withdrawn || state == Abandoned || state == Ordered {
@@ -371,7 +371,8 @@ func TestAbandon(t *testing.T) {
 					return
 				}
 				if err != nil || after.State != Abandoned || !after.Rests() || after.Because != "the broker was closed" ||
-					after.Record != before.Record || after.Credentials != nil || !after.Since.Equal(d.dial.time()) {
+					after.Record != before.Record || after.Lease != (Lease{}) || after.Credentials != nil ||
+					!after.Since.Equal(d.dial.time()) {
 					t.Errorf("%s: got %+v, %v, want it abandoned with its record", state, after, err)
 				}
 				if key.IsBinding && !d.store.rows[anInstance].Due.Equal(d.dial.time()) {
