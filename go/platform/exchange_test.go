@@ -153,6 +153,22 @@ func TestDecisionsThatAreNotWritten(t *testing.T) {
 	}
 }
 
+// A change of the state is reported once it is committed.
+func TestNothingIsReportedBeforeItsCommit(t *testing.T) {
+	p := newPlant(t, Options{})
+	check(t, p.engine.RunOnce(background))
+	p.create(NewInstance{})
+	early := []string{"no commit yet"}
+	p.store.between = func(point string, _ Key) {
+		if point == "change-commit" {
+			p.set(func() { early = append([]string{}, p.reported...) })
+		}
+	}
+	check(t, p.engine.RunOnce(background))
+	diff.Empty(t, early, "before the commit")
+	diff.Equal(t, strings.Join(p.reported, ", "), "ordered to ready", "after it")
+}
+
 // Events are reported in their order. A state that passes within a step isn't.
 func TestObserver(t *testing.T) {
 	p := newPlant(t, Options{})
