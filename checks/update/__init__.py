@@ -1,0 +1,1 @@
+"""A model of the updates of an instance, and everything that can come about of them."""
