@@ -65,7 +65,7 @@ def test_no_call_has_the_name_of_one_that_is_gone() -> None:
 
 @pytest.mark.parametrize(
     ("folder", "call"),
-    [("go/osb", r"\bC\.(osb_\w+)\("), ("python/src/osb", r"\blib(?:rary)?\.(osb_\w+)[(,]")],
+    [("go/osb", r"(?:\bC\.|\breturn |= )(osb_\w+)\("), ("python/src/osb", r"\blib(?:rary)?\.(osb_\w+)[(,]")],
     ids=["go", "python"],
 )
 def test_each_package_calls_each_export(folder: str, call: str) -> None:

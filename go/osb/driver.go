@@ -1,6 +1,58 @@
 package osb
 
-// #include <osb.h>
+/*
+#include <osb.h>
+
+// The structs cross by value: Go would put a struct on its heap whose address it gives to C.
+
+struct stepped {
+	struct osb_driver driver;
+	uint32_t status;
+};
+
+static struct stepped new_driver(struct osb_driver numbered, bool is_request, bool has_lock) {
+	struct stepped it;
+	it.status = osb_driver_new(numbered.number, is_request, has_lock, &it.driver);
+	return it;
+}
+
+static struct stepped locked(struct stepped it, bool has_lock) {
+	it.status = osb_driver_locked(&it.driver, has_lock);
+	return it;
+}
+
+static struct stepped looked(struct stepped it, uint8_t there) {
+	it.status = osb_driver_looked(&it.driver, there);
+	return it;
+}
+
+static struct stepped synced(struct stepped it) {
+	it.status = osb_driver_synced(&it.driver);
+	return it;
+}
+
+static struct stepped called(struct stepped it, bool ok, uint16_t rejection) {
+	it.status = osb_driver_called(&it.driver, ok, rejection);
+	return it;
+}
+
+struct row_read {
+	struct osb_transaction transaction;
+	uint32_t status;
+};
+
+static struct row_read read_row(struct osb_driver driver, struct osb_reading row) {
+	struct row_read it;
+	it.status = osb_driver_read(&driver, &row, &it.transaction);
+	return it;
+}
+
+static struct row_read read_binding(struct osb_driver driver, struct osb_reading row, struct osb_holding instance) {
+	struct row_read it;
+	it.status = osb_binding_driver_read(&driver, &row, &instance, &it.transaction);
+	return it;
+}
+*/
 import "C"
 
 // A Driver is the way of one request through a broker, or of one take-up, which goes on with what a dead worker has
@@ -57,12 +109,7 @@ type Transaction struct {
 //
 // Errors: ErrBadDriver if the number is zero.
 func NewDriver(number ID, isRequest, hasLock bool) (Driver, error) {
-	own := bytesOf(number)
-	var driver C.struct_osb_driver
-	if err := errorOf(C.osb_driver_new(&own[0], C.bool(isRequest), C.bool(hasLock), &driver)); err != nil {
-		return Driver{}, err
-	}
-	return driverOf(driver), nil
+	return Driver{}.next(C.new_driver(Driver{number: number}.c(), C.bool(isRequest), C.bool(hasLock)))
 }
 
 // Stage is the action that the program carries out next.
@@ -92,8 +139,7 @@ func (d Driver) Answer() Answer { return d.answer }
 //
 // Errors: ErrBadDriver, ErrWrongStage.
 func (d Driver) Locked(hasLock bool) (Driver, error) {
-	driver := d.c()
-	return d.next(&driver, C.osb_driver_locked(&driver, C.bool(hasLock)))
+	return d.next(C.locked(d.step(), C.bool(hasLock)))
 }
 
 // Looked reports what the look of CallLook has found. A look that shows how the work has ended moves the driver on, to
@@ -101,16 +147,14 @@ func (d Driver) Locked(hasLock bool) (Driver, error) {
 //
 // Errors: ErrBadDriver, ErrBadThere, ErrWrongStage.
 func (d Driver) Looked(there There) (Driver, error) {
-	driver := d.c()
-	return d.next(&driver, C.osb_driver_looked(&driver, C.uint8_t(there)))
+	return d.next(C.looked(d.step(), C.uint8_t(there)))
 }
 
 // Synced reports that what exists is on disk (CallSync). If that has failed, step the driver no more.
 //
 // Errors: ErrBadDriver, ErrWrongStage.
 func (d Driver) Synced() (Driver, error) {
-	driver := d.c()
-	return d.next(&driver, C.osb_driver_synced(&driver))
+	return d.next(C.synced(d.step()))
 }
 
 // Called reports that CallCreate or CallDelete has returned, and whether without an error. The rejection is 400 or 422 if
@@ -118,16 +162,18 @@ func (d Driver) Synced() (Driver, error) {
 //
 // Errors: ErrBadDriver, ErrNotRefused, ErrWrongStage.
 func (d Driver) Called(ok bool, rejection uint16) (Driver, error) {
-	driver := d.c()
-	return d.next(&driver, C.osb_driver_called(&driver, C.bool(ok), C.uint16_t(rejection)))
+	return d.next(C.called(d.step(), C.bool(ok), C.uint16_t(rejection)))
 }
 
+// step is the driver as it crosses.
+func (d Driver) step() C.struct_stepped { return C.struct_stepped{driver: d.c()} }
+
 // next is what a report gave, or with an error the driver before.
-func (d Driver) next(driver *C.struct_osb_driver, status C.uint32_t) (Driver, error) {
-	if err := errorOf(status); err != nil {
+func (d Driver) next(after C.struct_stepped) (Driver, error) {
+	if err := errorOf(after.status); err != nil {
 		return d, err
 	}
-	return driverOf(*driver), nil
+	return driverOf(after.driver), nil
 }
 
 // Read is the transaction of an instance's driver at StageBegin, StageEnd, StageFinish and StageUnsure. If the
@@ -137,12 +183,7 @@ func (d Driver) next(driver *C.struct_osb_driver, status C.uint32_t) (Driver, er
 // Errors: ErrBadDriver, ErrBadHolding, ErrBadMode, ErrBadKind, ErrWrongStage; ErrMisfit if the row doesn't fit its plan,
 // or its pending work is of another id. Such a row is left alone.
 func (d Driver) Read(row Reading) (Transaction, error) {
-	driver, reading := d.c(), row.c()
-	var transaction C.struct_osb_transaction
-	if err := errorOf(C.osb_driver_read(&driver, &reading, &transaction)); err != nil {
-		return Transaction{}, err
-	}
-	return transactionOf(transaction), nil
+	return read(C.read_row(d.c(), row.c()))
 }
 
 // ReadBinding is the transaction of a binding's driver, as Read is that of an instance's. The instance is the holding of
@@ -151,12 +192,15 @@ func (d Driver) Read(row Reading) (Transaction, error) {
 //
 // Errors: those of Read, of which ErrBadHolding also stands for the instance's.
 func (d Driver) ReadBinding(row Reading, instance Holding) (Transaction, error) {
-	driver, reading, beside := d.c(), row.c(), instance.c()
-	var transaction C.struct_osb_transaction
-	if err := errorOf(C.osb_binding_driver_read(&driver, &reading, &beside, &transaction)); err != nil {
+	return read(C.read_binding(d.c(), row.c(), instance.c()))
+}
+
+// read is what a transaction comes to that has read its row.
+func read(it C.struct_row_read) (Transaction, error) {
+	if err := errorOf(it.status); err != nil {
 		return Transaction{}, err
 	}
-	return transactionOf(transaction), nil
+	return transactionOf(it.transaction), nil
 }
 
 // Row is what the row has to have.

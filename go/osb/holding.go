@@ -1,6 +1,14 @@
 package osb
 
-// #include <osb.h>
+/*
+#include <osb.h>
+
+// These are asked several times for each request. The holding crosses by value, as a driver does.
+
+static bool fits(struct osb_holding holding, uint8_t mode) { return osb_holding_fits(&holding, mode); }
+
+static bool is_held(struct osb_holding holding) { return osb_holding_is_held(&holding); }
+*/
 import "C"
 
 import "database/sql/driver"
@@ -57,8 +65,7 @@ func (h Holding) Attributes() Digest { return h.attributes }
 // that of the pending request's. A program asks it of each holding of its database: at another mode End would forget
 // what was made.
 func (h Holding) Fits(mode Mode) bool {
-	holding := h.c()
-	return bool(C.osb_holding_fits(&holding, C.uint8_t(mode)))
+	return bool(C.fits(h.c(), C.uint8_t(mode)))
 }
 
 // Begin begins with a request to this instance: it is answered, or its work is pending. The mode is that of the
@@ -109,8 +116,7 @@ func (d Digest) c() (to [32]C.uint8_t) {
 // IsHeld reports whether there is a row, or work is pending. It is true also of a holding that no call gives, so that
 // nothing begins then. While a binding is held, the deletion of its instance doesn't begin.
 func (h Holding) IsHeld() bool {
-	holding := h.c()
-	return bool(C.osb_holding_is_held(&holding))
+	return bool(C.is_held(h.c()))
 }
 
 // IsThere reports whether the row is ready, with this service and plan, and no work is pending. BeginBinding asks this

@@ -2,6 +2,18 @@ package osb
 
 /*
 #include <osb.h>
+
+struct id_read {
+	struct osb_id id;
+	uint32_t status;
+};
+
+static struct id_read read_id(_GoString_ text) {
+	size_t length = _GoStringLen(text);
+	struct id_read it;
+	it.status = osb_id_from_text((const uint8_t *)(length == 0 ? "" : _GoStringPtr(text)), length, &it.id);
+	return it;
+}
 */
 import "C"
 
@@ -34,9 +46,11 @@ func IDOfText(text string) (ID, error) {
 // ParseID reads a GUID, 36 bytes in either case, as 12345678-9abc-def0-1234-56789abcdef0: the number that its digits
 // write. Every other text is ErrNotAnID. For the id in a request or a catalogue call IDOfText.
 func ParseID(text string) (ID, error) {
-	var id ID
-	err := id.UnmarshalText([]byte(text))
-	return id, err
+	read := C.read_id(text)
+	if err := errorOf(read.status); err != nil {
+		return ID{}, err
+	}
+	return idOf(read.id), nil
 }
 
 // MustParseID is ParseID for texts that stand in a program. It panics where the text is no id's.
@@ -80,19 +94,28 @@ func (id ID) textOfLibrary() (text [36]byte) {
 
 // UnmarshalText reads an id as ParseID does. Where it is refused the id is as before.
 func (id *ID) UnmarshalText(text []byte) error {
-	var read C.struct_osb_id
-	if err := errorOf(C.osb_id_from_text(pointer(text), size(text), &read)); err != nil {
-		return err
+	read, err := ParseID(string(text))
+	if err == nil {
+		*id = read
 	}
-	*id = idOf(read)
-	return nil
+	return err
 }
 
 // Value is the text of the id, for a column of a text type or of PostgreSQL's uuid.
 func (id ID) Value() (driver.Value, error) { return id.String(), nil }
 
 // Scan reads the text of an id from a column. NULL isn't an id's.
-func (id *ID) Scan(column any) error { return scan(column, id.UnmarshalText) }
+func (id *ID) Scan(column any) error {
+	text, isString := column.(string)
+	if !isString {
+		return scan(column, id.UnmarshalText)
+	}
+	read, err := ParseID(text)
+	if err == nil {
+		*id = read
+	}
+	return err
+}
 
 // scan hands the text of a column on.
 func scan(column any, read func([]byte) error) error {

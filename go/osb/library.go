@@ -72,12 +72,21 @@ const firstBuffer = 512
 
 // textFrom returns the text that a call writes: it calls again with a longer buffer where the first was too short.
 func textFrom(write func(buffer *C.uint8_t, bytes C.size_t, needed *C.size_t) C.uint32_t) ([]byte, error) {
-	buffer := make([]byte, firstBuffer)
 	var needed C.size_t
-	status := write(pointer(buffer), size(buffer), &needed)
+	return textOf(firstBuffer, func(buffer []byte) (C.size_t, C.uint32_t) {
+		status := write(pointer(buffer), size(buffer), &needed)
+		return needed, status
+	})
+}
+
+// textOf returns the text that a call writes into a buffer, first into one of so many bytes. The call returns how many
+// bytes are needed, and its status.
+func textOf(first int, write func(buffer []byte) (needed C.size_t, status C.uint32_t)) ([]byte, error) {
+	buffer := make([]byte, first)
+	needed, status := write(buffer)
 	if status == C.OSB_TOO_SMALL {
 		buffer = make([]byte, needed)
-		status = write(pointer(buffer), size(buffer), &needed)
+		needed, status = write(buffer)
 	}
 	if err := errorOf(status); err != nil {
 		return nil, err

@@ -2,6 +2,44 @@ package osb
 
 /*
 #include <osb.h>
+
+// Each request is read by these, so its texts cross as Go has them, and the structs by value.
+
+static const uint8_t *start_of(_GoString_ text) {
+	return (const uint8_t *)(_GoStringLen(text) == 0 ? "" : _GoStringPtr(text));
+}
+
+static uint8_t read_target(_GoString_ prefix, _GoString_ target) {
+	return osb_read_target(start_of(prefix), _GoStringLen(prefix), start_of(target), _GoStringLen(target));
+}
+
+struct request_received {
+	struct osb_asked asked;
+	struct osb_received lengths;
+	size_t needed;
+	uint32_t status;
+};
+
+static struct request_received receive_request(_GoString_ prefix, size_t longest_body, _GoString_ method,
+	_GoString_ target, const uint8_t *body, size_t length, uint8_t *buffer, size_t bytes) {
+	struct request_received it;
+	it.status = osb_receive_request(start_of(prefix), _GoStringLen(prefix), longest_body, start_of(method),
+		_GoStringLen(method), start_of(target), _GoStringLen(target), body, length, &it.asked, &it.lengths, buffer,
+		bytes, &it.needed);
+	return it;
+}
+
+struct request_made {
+	struct osb_request request;
+	uint32_t status;
+};
+
+static struct request_made make_request(struct osb_asked asked, bool is_held, struct osb_id service,
+	struct osb_id plan) {
+	struct request_made it;
+	it.status = osb_asked_request(&asked, is_held, service, plan, &it.request);
+	return it;
+}
 */
 import "C"
 
@@ -50,13 +88,11 @@ type Asked struct {
 //
 // Errors: ErrBadAsked.
 func (a Asked) Request(held BrokerRow, isHeld bool) (Request, error) {
-	asked := a.c()
-	var request C.struct_osb_request
-	status := C.osb_asked_request(&asked, C.bool(isHeld), held.Service.c(), held.Plan.c(), &request)
-	if err := errorOf(status); err != nil {
+	made := C.make_request(a.c(), C.bool(isHeld), held.Service.c(), held.Plan.c())
+	if err := errorOf(made.status); err != nil {
 		return Request{}, err
 	}
-	return requestOf(request), nil
+	return requestOf(made.request), nil
 }
 
 // WriteDescribedAnswer writes the body of an answer. The operation, or nil for none, is written in a 202 alone. The
@@ -147,8 +183,7 @@ type Parts struct {
 // request. The path begins with the prefix, or stands for such a path as in ReceiveRequest. It is TargetNone if both
 // ReceiveRequest and ReceiveBindingRequest return ErrRefusedTarget, and if the prefix isn't UTF-8.
 func ReadTarget(prefix, target string) Target {
-	before, uri := []byte(prefix), []byte(target)
-	return Target(C.osb_read_target(pointer(before), size(before), pointer(uri), size(uri)))
+	return Target(C.read_target(prefix, target))
 }
 
 // ReceiveRequest reads what a request asks of a broker, from its method, its target (path and query, as the request
@@ -160,19 +195,19 @@ func ReadTarget(prefix, target string) Target {
 // first of ErrRefusedRepeated to ErrRefusedSpace in the order of docs/wire.md, and ErrMemory. RefusalStatus and
 // RefusalBody are the answer to all but ErrNotUTF8.
 func ReceiveRequest(prefix string, longestBody int, method, target string, body []byte) (Received, error) {
-	before, verb, uri := []byte(prefix), []byte(method), []byte(target)
-	var asked C.struct_osb_asked
-	var lengths C.struct_osb_received
-	text, err := textFrom(func(buffer *C.uint8_t, bytes C.size_t, needed *C.size_t) C.uint32_t {
-		return C.osb_receive_request(pointer(before), size(before), C.size_t(max(0, longestBody)), pointer(verb),
-			size(verb), pointer(uri), size(uri), pointer(body), size(body), &asked, &lengths, buffer, bytes, needed)
+	var received C.struct_request_received
+	// the texts stand in the target and the body, and are rarely shorter there
+	text, err := textOf(len(target)+len(body)+64, func(buffer []byte) (C.size_t, C.uint32_t) {
+		received = C.receive_request(prefix, C.size_t(max(0, longestBody)), method, target, pointer(body), size(body),
+			pointer(buffer), size(buffer))
+		return received.needed, received.status
 	})
 	if err != nil {
 		return Received{}, err
 	}
-	rest := texts(text)
+	rest, lengths := texts(text), received.lengths
 	return Received{
-		Asked: askedOf(asked),
+		Asked: askedOf(received.asked),
 		Names: Names{
 			Instance: string(rest.next(true, lengths.instance)),
 			Service:  string(rest.next(lengths.has_service, lengths.service)),
