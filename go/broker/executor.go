@@ -79,7 +79,7 @@ func (s *Service) transact(ctx context.Context, driver osb.Driver, c *course) (o
 			point = pointOf(transaction)
 			crash.At(point + "-next")
 		case isRead && c.doubt != nil: // the commit of the same row again confirms what was read
-			return &snapshot.Entry, nil
+			return snapshot.Entry.again(), nil
 		}
 		return next, err
 	})

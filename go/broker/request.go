@@ -56,6 +56,7 @@ func (r Request) Member(name string) json.RawMessage {
 // bytes for each < of it.
 func (r *Request) text() (json.RawMessage, error) {
 	text := bytes.Buffer{}
+	text.Grow(len(r.Body) + 512) // more than most requests have
 	encoder := json.NewEncoder(&text)
 	encoder.SetEscapeHTML(false)
 	err := encoder.Encode(r)
@@ -105,7 +106,7 @@ func (n Names) of(key Key) Names {
 }
 
 // namesAnother reports whether a request names another id than the one that is held under its key.
-func (v Visit) namesAnother(held Entry) (bool, error) {
+func (v *Visit) namesAnother(held *Entry) (bool, error) {
 	if !held.Holding.IsHeld() {
 		return false, nil
 	}
@@ -113,9 +114,9 @@ func (v Visit) namesAnother(held Entry) (bool, error) {
 }
 
 // instance is the holding of a binding's instance. If the request names another instance, it is the zero Holding.
-func (v Visit) instance(snapshot Snapshot) (osb.Holding, error) {
+func (v *Visit) instance(snapshot *Snapshot) (osb.Holding, error) {
 	key := osb.InstanceKey(v.Key.Instance)
-	differ, err := Names{Instance: v.Names.of(v.Key).Instance}.differ(key, snapshot.Instance)
+	differ, err := Names{Instance: v.Names.of(v.Key).Instance}.differ(key, &snapshot.Instance)
 	if err != nil || differ {
 		return osb.Holding{}, err
 	}
@@ -123,26 +124,37 @@ func (v Visit) instance(snapshot Snapshot) (osb.Holding, error) {
 }
 
 // differ reports whether the names aren't those with which an entry was created.
-func (n Names) differ(key Key, entry Entry) (bool, error) {
-	if bytes.HasPrefix(entry.Request, n.head()) {
+func (n Names) differ(key Key, entry *Entry) (bool, error) {
+	if n.begin(entry.Request) {
 		return false, nil
 	}
 	request, err := requestOf(key, osb.BrokerRow{}, entry.Request)
 	return err == nil && request.names() != n, err
 }
 
-// head is how the text of a Request with these names begins, unless a name has to be escaped in JSON.
-func (n Names) head() []byte {
-	head := append(make([]byte, 0, 128), `{"instance_id":"`...)
-	head = append(append(head, n.Instance...), `",`...)
-	if n.Binding != "" {
-		head = append(append(append(head, `"binding_id":"`...), n.Binding...), `",`...)
+// begin reports whether a text begins as that of a Request with these names does, unless a name has to be escaped in
+// JSON.
+func (n Names) begin(text []byte) bool {
+	rest, isSame := cut(text, `{"instance_id":"`, n.Instance, `",`)
+	if isSame && n.Binding != "" {
+		_, isSame = cut(rest, `"binding_id":"`, n.Binding, `",`)
 	}
-	return head
+	return isSame
+}
+
+// cut is what follows these parts in a text that begins with them.
+func cut(text []byte, parts ...string) (rest []byte, begins bool) {
+	for _, part := range parts {
+		if len(text) < len(part) || string(text[:len(part)]) != part {
+			return nil, false
+		}
+		text = text[len(part):]
+	}
+	return text, true
 }
 
 // unknownResponse answers a request that names something that doesn't exist, under a number that somebody else has.
-func (v Visit) unknownResponse() Response {
+func (v *Visit) unknownResponse() Response {
 	response := Response{
 		Answer:      osb.Answer{Status: http.StatusGone, Body: osb.BodyOtherError},
 		Description: "Nothing exists under this id.",

@@ -29,7 +29,7 @@ var errLate = Away(errors.New("the request has waited in the broker for over a m
 
 // enter returns what a request finds. If the id returns with it, that is what is held of an id without any request, in
 // the next life of the instance.
-func (o ServiceOptions) enter(snapshot Snapshot, visit Visit) (found Snapshot, returned *Return) {
+func (o ServiceOptions) enter(snapshot *Snapshot, visit *Visit) (found *Snapshot, returned *Return) {
 	isCreation := !visit.IsFetch && visit.Asked.Kind == osb.KindProvision
 	if o.IDsReturnAfter == 0 || !isCreation || !snapshot.Holding.HasTombstone() || snapshot.EndedAgo < o.IDsReturnAfter {
 		return snapshot, nil
@@ -40,37 +40,38 @@ func (o ServiceOptions) enter(snapshot Snapshot, visit Visit) (found Snapshot, r
 	if !visit.Key.IsBinding {
 		life++
 	}
-	snapshot.Entry, snapshot.EndedAgo = Entry{Life: life, Worker: snapshot.Worker}, 0
-	return snapshot, returned
+	entered := *snapshot
+	entered.Entry, entered.EndedAgo = Entry{Life: life, Worker: snapshot.Worker}, 0
+	return &entered, returned
 }
 
 // renewal is what is written if a deletion finds a tombstone, if ids return: the tombstone again, which the store gives
 // the time of now. Otherwise it is nil. The platform may have sent the deletion after a creation that has timed out and
 // is still under way. That creation mustn't find an old tombstone: nobody would know what it creates.
-func (o ServiceOptions) renewal(snapshot Snapshot, visit Visit) *Entry {
+func (o ServiceOptions) renewal(snapshot *Snapshot, visit *Visit) *Entry {
 	if o.IDsReturnAfter == 0 || visit.Asked.Kind != osb.KindDeprovision || !snapshot.Holding.HasTombstone() {
 		return nil
 	}
-	return &snapshot.Entry
+	return snapshot.Entry.again()
 }
 
 // isLate reports whether the broker has kept a request for too long. It is asked while the row is locked, or after it
 // was read.
-func (s *Service) isLate(visit Visit) bool {
+func (s *Service) isLate(visit *Visit) bool {
 	return s.options.IDsReturnAfter != 0 && !visit.Arrived.IsZero() && time.Since(visit.Arrived) > s.stay
 }
 
-// inLife is what is held in the life of the instance that goes on. The tombstone of a binding counts in the life of its
-// instance in which it was written. A binding that is held is of this life, since no instance ends before its bindings.
-func (h Snapshot) inLife(key Key) Snapshot {
+// leaveLives leaves what is held in the life of the instance that goes on. The tombstone of a binding counts in the life
+// of its instance in which it was written. A binding that is held is of this life, since no instance ends before its
+// bindings.
+func (h *Snapshot) leaveLives(key Key) {
 	if !key.IsBinding || h.Life == h.Instance.Life {
-		return h
+		return
 	}
 	if !h.Holding.IsHeld() {
 		h.Entry, h.EndedAgo = Entry{Worker: h.Worker}, 0
 	}
 	h.Life = h.Instance.Life
-	return h
 }
 
 func (s *Service) tellReturn(it Return) {

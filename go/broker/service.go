@@ -103,7 +103,7 @@ type Response struct {
 // needs no work, and all else fails.
 func (s *Service) Handle(ctx context.Context, visit Visit) (Response, error) {
 	if visit.IsFetch {
-		return s.fetch(ctx, visit)
+		return s.fetch(ctx, &visit)
 	}
 	c := &course{key: visit.Key, visit: &visit}
 	switch err := s.answer(ctx, c); {
@@ -166,7 +166,7 @@ func (s *Service) lock(ctx context.Context, key Key) (Lock, error) {
 }
 
 // fetch answers the Fetch of a binding with what is stored.
-func (s *Service) fetch(ctx context.Context, visit Visit) (Response, error) {
+func (s *Service) fetch(ctx context.Context, visit *Visit) (Response, error) {
 	snapshot, err := s.read(ctx, visit.Key)
 	if err == nil && !snapshot.Holding.Fits(s.modeOf(visit.Key, rowOf(snapshot.Holding))) {
 		err = osb.ErrMisfit
@@ -177,7 +177,7 @@ func (s *Service) fetch(ctx context.Context, visit Visit) (Response, error) {
 	if s.isLate(visit) {
 		return Response{}, errLate
 	}
-	if isAnother, err := visit.namesAnother(snapshot.Entry); err != nil || isAnother {
+	if isAnother, err := visit.namesAnother(&snapshot.Entry); err != nil || isAnother {
 		return visit.unknownResponse(), err
 	}
 	answer, err := snapshot.Holding.Fetch()
@@ -231,12 +231,16 @@ func (e *Entry) noteEnd(key Key, done result) {
 
 // change is one transaction over what is held.
 func (s *Service) change(ctx context.Context, key Key, step Step) error {
-	return s.store.Change(ctx, key, func(snapshot Snapshot) (*Entry, error) { return step(snapshot.inLife(key)) })
+	return s.store.Change(ctx, key, func(snapshot Snapshot) (*Entry, error) {
+		snapshot.leaveLives(key)
+		return step(snapshot)
+	})
 }
 
 func (s *Service) read(ctx context.Context, key Key) (Snapshot, error) {
 	snapshot, err := s.store.Read(ctx, key)
-	return snapshot.inLife(key), err
+	snapshot.leaveLives(key)
+	return snapshot, err
 }
 
 // now is the time that is stored, in milliseconds.
@@ -245,9 +249,9 @@ func now() time.Time { return time.Now().UTC().Truncate(time.Millisecond) }
 // step has a driver read a row. It returns what the transaction comes to, and the entry to write, or nil if that stays.
 func (s *Service) step(driver osb.Driver, snapshot Snapshot, c *course) (osb.Transaction, *Entry, error) {
 	if c.visit != nil && driver.Stage() == osb.StageBegin {
-		return s.begin(driver, snapshot, c)
+		return s.begin(driver, &snapshot, c)
 	}
-	row := s.reading(c.key, snapshot)
+	row := s.reading(c.key, &snapshot)
 	row.MayGiveUp = time.Since(snapshot.Since) >= s.options.WaitForPoll
 	transaction, err := read(driver, row, c.key, snapshot.Instance.Holding)
 	if err != nil {
@@ -272,7 +276,7 @@ func (s *Service) step(driver osb.Driver, snapshot Snapshot, c *course) (osb.Tra
 	if err != nil || !transaction.Writes() {
 		return transaction, nil, err
 	}
-	return transaction, &entry, nil
+	return transaction, &c.entry, nil
 }
 
 // read has the driver of an instance or of a binding read its row.
@@ -284,7 +288,7 @@ func read(driver osb.Driver, row osb.Reading, key Key, instance osb.Holding) (os
 }
 
 // reading is what a driver reads of a row.
-func (s *Service) reading(key Key, snapshot Snapshot) osb.Reading {
+func (s *Service) reading(key Key, snapshot *Snapshot) osb.Reading {
 	return osb.Reading{
 		Holding: snapshot.Holding, Number: snapshot.Worker, ID: key.ID(), RowMode: s.modeOf(key, rowOf(snapshot.Holding)),
 	}
@@ -296,10 +300,10 @@ func (s *Service) modeOf(key Key, row osb.BrokerRow) osb.Mode {
 }
 
 // begin is the first transaction of a request.
-func (s *Service) begin(driver osb.Driver, snapshot Snapshot, c *course) (
+func (s *Service) begin(driver osb.Driver, snapshot *Snapshot, c *course) (
 	transaction osb.Transaction, next *Entry, err error,
 ) {
-	visit := *c.visit
+	visit := c.visit
 	if s.isLate(visit) {
 		return transaction, nil, errLate
 	}
@@ -308,7 +312,7 @@ func (s *Service) begin(driver osb.Driver, snapshot Snapshot, c *course) (
 	if err != nil {
 		return transaction, nil, err
 	}
-	if isAnother, err := visit.namesAnother(snapshot.Entry); err != nil || isAnother {
+	if isAnother, err := visit.namesAnother(&snapshot.Entry); err != nil || isAnother {
 		return transaction, nil, either(err, errAnother)
 	}
 	entry := snapshot.Entry
@@ -331,12 +335,12 @@ func (s *Service) begin(driver osb.Driver, snapshot Snapshot, c *course) (
 	}
 	c.request, err = entry.noteBeginning(visit)
 	c.entry = entry
-	return transaction, &entry, err
+	return transaction, &c.entry, err
 }
 
 // beginHolding has the driver of a request read its row. Nothing of an instance begins while one of its bindings is
 // held: then isBound is true.
-func (s *Service) beginHolding(driver osb.Driver, snapshot Snapshot, visit Visit) (
+func (s *Service) beginHolding(driver osb.Driver, snapshot *Snapshot, visit *Visit) (
 	transaction osb.Transaction, isBound bool, err error,
 ) {
 	request, err := visit.Asked.Request(snapshot.Holding.Row())
@@ -386,7 +390,7 @@ func (s *Service) tellEnd(entry Entry, transaction osb.Transaction, c *course) (
 }
 
 // respond returns an answer that needs no work, with what is stored beside the holding.
-func (s *Service) respond(snapshot Snapshot, visit Visit, answer osb.Answer) (Response, error) {
+func (s *Service) respond(snapshot *Snapshot, visit *Visit, answer osb.Answer) (Response, error) {
 	isBind := visit.Key.IsBinding && visit.Asked.Kind == osb.KindProvision
 	if isBind && answer.Status == http.StatusOK && answer.Body == osb.BodyEmpty {
 		return s.withBinding(visit.Key, answer, snapshot.Binding)
@@ -401,7 +405,7 @@ func (s *Service) respond(snapshot Snapshot, visit Visit, answer osb.Answer) (Re
 }
 
 // failedBefore answers the creation of what has failed. It says why, unless a deletion has failed since.
-func failedBefore(snapshot Snapshot, visit Visit, answer osb.Answer) (Response, error) {
+func failedBefore(snapshot *Snapshot, visit *Visit, answer osb.Answer) (Response, error) {
 	request, err := requestOf(visit.Key, rowOf(snapshot.Holding), snapshot.Request)
 	if err != nil || request.Deletion != nil {
 		return Response{Answer: answer}, err
@@ -411,7 +415,7 @@ func failedBefore(snapshot Snapshot, visit Visit, answer osb.Answer) (Response, 
 
 // noteBeginning writes down, beside a holding that has changed, what the worker needs. It returns what the entry's
 // Request is the text of, or nil if that has to be read.
-func (e *Entry) noteBeginning(visit Visit) (*Request, error) {
+func (e *Entry) noteBeginning(visit *Visit) (*Request, error) {
 	e.Since = now()
 	switch {
 	case !e.Holding.IsHeld(): // only a tombstone
@@ -425,7 +429,7 @@ func (e *Entry) noteBeginning(visit Visit) (*Request, error) {
 	return nil, nil
 }
 
-func (e *Entry) noteDeletion(visit Visit) (*Request, error) {
+func (e *Entry) noteDeletion(visit *Visit) (*Request, error) {
 	row, _ := e.Holding.Row()
 	request, err := requestOf(visit.Key, row, e.Request)
 	if err != nil {

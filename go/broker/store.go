@@ -44,6 +44,9 @@ func (e Entry) IsUnfinished() bool {
 	return isHeld && (row.Phase == osb.PhaseMaking || row.Phase == osb.PhaseDeleting || row.Phase == osb.PhaseWaiting)
 }
 
+// again is the entry, to be written as it is.
+func (e Entry) again() *Entry { return &e }
+
 // A Snapshot is what a transaction reads.
 type Snapshot struct {
 	Entry
