@@ -23,19 +23,24 @@ type connection struct {
 	texts                     texts.Memory // of the holdings
 }
 
+// The columns of an entry. The driver makes a text of the declared type of each column, for each row: what has a + before
+// it has none. As a BLOB, a text is copied once less.
+const entryColumns = "+holding, CAST(request AS BLOB), +description, +since, +life, +ended, +worker"
+
 // prepare prepares the statements for a connection.
 func prepare(ctx context.Context, conn *sqlitefile.Conn) (*connection, error) {
 	c := &connection{Conn: conn}
 	for to, text := range map[**sqlitefile.Statement]string{
-		&c.readInstance: "SELECT holding, request, description, since, life, ended, worker FROM holdings WHERE id = ?",
+		&c.readInstance: "SELECT " + entryColumns + " FROM holdings WHERE id = ?",
 		&c.putInstance: "INSERT INTO holdings (id, holding, unfinished, request, description, since, life, ended, " +
-			"worker) VALUES (?, ?, ?, ?, ?, ?, ?, ?, ?) ON CONFLICT (id) DO UPDATE SET holding = excluded.holding, " +
+			"worker) VALUES (?, ?, ?, CAST(? AS TEXT), ?, ?, ?, ?, ?) " +
+			"ON CONFLICT (id) DO UPDATE SET holding = excluded.holding, " +
 			"unfinished = excluded.unfinished, request = excluded.request, description = excluded.description, " +
 			"since = excluded.since, life = excluded.life, ended = excluded.ended, worker = excluded.worker",
-		&c.readBinding: "SELECT holding, request, description, since, life, ended, worker, object FROM bindings " +
+		&c.readBinding: "SELECT " + entryColumns + ", CAST(object AS BLOB) FROM bindings " +
 			"WHERE instance = ? AND binding = ?",
 		&c.putBinding: "INSERT INTO bindings (instance, binding, holding, unfinished, request, description, since, " +
-			"life, ended, worker, object, held) VALUES (?, ?, ?, ?, ?, ?, ?, ?, ?, ?, ?, ?) " +
+			"life, ended, worker, object, held) VALUES (?, ?, ?, ?, CAST(? AS TEXT), ?, ?, ?, ?, ?, CAST(? AS TEXT), ?) " +
 			"ON CONFLICT (instance, binding) DO UPDATE SET holding = excluded.holding, " +
 			"unfinished = excluded.unfinished, request = excluded.request, description = excluded.description, " +
 			"since = excluded.since, life = excluded.life, ended = excluded.ended, worker = excluded.worker, " +
@@ -71,9 +76,7 @@ func (c *connection) snapshot(key broker.Key) (snapshot broker.Snapshot, err err
 		return snapshot, unreadable{fmt.Errorf("sqlite: what is held of %v: %w", key, err)}
 	}
 	snapshot.EndedAgo = ago(row[5])
-	if snapshot.Entry.Binding, err = optional(row[7]); err != nil {
-		return snapshot, unreadable{fmt.Errorf("sqlite: what is held of %v: %w", key, err)}
-	}
+	snapshot.Entry.Binding = optional(row[7])
 	return snapshot, nil
 }
 
@@ -116,9 +119,7 @@ func (c *connection) entry(row []driver.Value, isBinding bool) (entry broker.Ent
 	if entry.Holding, err = c.texts.Holding(isBinding, text); err != nil {
 		return entry, err
 	}
-	if entry.Request, err = optional(row[1]); err != nil {
-		return entry, err
-	}
+	entry.Request = optional(row[1])
 	if description, ok := row[2].(string); ok {
 		entry.Description = description
 	}
@@ -132,15 +133,10 @@ func (c *connection) entry(row []driver.Value, isBinding bool) (entry broker.Ent
 	return entry, err
 }
 
-// optional is the JSON of a column, or nil if it is NULL.
-func optional(column driver.Value) (json.RawMessage, error) {
-	switch text := column.(type) {
-	case nil:
-		return nil, nil
-	case string:
-		return json.RawMessage(text), nil
-	}
-	return nil, fmt.Errorf("a column has %T, and not a text", column)
+// optional is the JSON of a column that is read as a BLOB, or nil if it is NULL.
+func optional(column driver.Value) json.RawMessage {
+	text, _ := column.([]byte)
+	return text
 }
 
 // put writes what is kept of a key.
@@ -152,38 +148,34 @@ func (c *connection) put(key broker.Key, entry broker.Entry) error {
 	if err != nil {
 		return err
 	}
-	values := []driver.Value{
-		text, entry.IsUnfinished(), column(entry.Request), nil, nil, entry.Life, nil, nil,
-	}
+	var description, since, ended, worker driver.Value
 	if entry.Description != "" {
-		values[3] = entry.Description
+		description = entry.Description
 	}
 	if !entry.Since.IsZero() {
-		values[4] = entry.Since.UnixMilli()
+		since = entry.Since.UnixMilli()
 	}
 	if entry.Holding.HasTombstone() {
-		values[6] = time.Now().UnixMilli()
+		ended = time.Now().UnixMilli()
 	}
 	if entry.Worker != (osb.ID{}) {
-		values[7] = entry.Worker.String()
+		worker = entry.Worker.String()
 	}
+	values := append(make([]driver.Value, 0, 12), key.Instance.String())
 	if key.IsBinding {
-		values = append([]driver.Value{key.Instance.String(), key.Binding.String()}, values...)
-		_, err = c.putBinding.Run(append(values, column(entry.Binding), entry.Holding.IsHeld())...)
+		values = append(values, key.Binding.String())
+	}
+	values = append(values,
+		text, entry.IsUnfinished(), []byte(entry.Request), description, since, entry.Life, ended, worker)
+	if key.IsBinding {
+		_, err = c.putBinding.Run(append(values, []byte(entry.Binding), entry.Holding.IsHeld())...)
 	} else {
-		_, err = c.putInstance.Run(append([]driver.Value{key.Instance.String()}, values...)...)
+		_, err = c.putInstance.Run(values...)
 	}
 	if err != nil {
 		return fmt.Errorf("sqlite: %w", err)
 	}
 	return nil
-}
-
-func column(text json.RawMessage) driver.Value {
-	if text == nil {
-		return nil
-	}
-	return string(text)
 }
 
 // one is the first row of a query, or nil if there is none.
