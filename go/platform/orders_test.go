@@ -357,6 +357,19 @@ func TestRetryAfterCrash(t *testing.T) {
 	}
 }
 
+// What was sent isn't withdrawn, however often it is removed.
+func TestRemovedAgain(t *testing.T) {
+	for _, key := range []Key{anInstance, aBinding} {
+		for _, state := range []State{Wanted, Polling, Ready, Cleaning, CleaningPolling, Unsettled} {
+			d := newDesk(t)
+			d.put(rowIn(anInstance, Ready))
+			d.put(with(rowIn(key, state), remove))
+			after := diff.Value(d.orders.Remove(background, key, false))(t)
+			diff.Equal(t, after.State, state, "%v", key)
+		}
+	}
+}
+
 func TestAbandon(t *testing.T) {
 	for _, key := range []Key{anInstance, aBinding} {
 		for _, state := range everyState {
