@@ -362,6 +362,20 @@ func TestCancelled(t *testing.T) {
 	wantNotes(t, file, "stayed")
 }
 
+// A caller whose context ends while its job is done gets the result, and not the error of the context.
+func TestCancelledWhileItIsDone(t *testing.T) {
+	file := open(t, filepath.Join(t.TempDir(), "file"), options())
+	for _, text := range []string{"a", "b", "c", "d"} {
+		ctx, cancel := context.WithCancel(background)
+		err := file.Write(ctx, func(n *notes) error {
+			cancel()
+			return note(text)(n)
+		})
+		diff.NoError(t, err, text)
+	}
+	wantNotes(t, file, "a", "b", "c", "d")
+}
+
 // Close ends a job that has begun, and no other. It doesn't wait for another process.
 func TestClose(t *testing.T) {
 	path, one := filepath.Join(t.TempDir(), "file"), options()
