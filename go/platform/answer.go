@@ -60,13 +60,13 @@ func (s *sending) takeAnswer(now time.Time, snapshot Snapshot) (*Change, error) 
 }
 
 // note notes what a transaction does with the row. If an answer is to be written again, and the row has the number of
-// its request, and nothing of it is left to be written, that was done before.
+// its request and the record that was to be written, that was done before.
 func (s *sending) note(now time.Time, snapshot Snapshot, change *Change) {
 	s.read = now
 	switch {
 	case change != nil:
 		s.entry = &change.Entry
-	case s.transaction.Writes() || snapshot.Number != s.number:
+	case s.entry == nil || snapshot.Number != s.number || snapshot.Record != s.entry.Record:
 		s.entry = nil
 	}
 }

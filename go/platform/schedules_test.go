@@ -75,7 +75,7 @@ var pairs = []string{
 	"now from ready: bind + remove",
 	"now from bind-ordered: step + step",
 	"now from bind-ordered: step + remove",
-	"now from bind-ordered: step + remove-all",
+	"now tries from bind-ordered: step + remove-all",
 	"now from bind-ordered: step + remove-binding",
 	"now from bind-answered: step + abandon-binding",
 	"now from unbinding: step + step",
@@ -128,6 +128,7 @@ func (s *simulation) begin(word string) {
 func newSimulation(of scenario) *simulation {
 	s := &simulation{
 		scenario: of, seller: newSeller(), numbers: map[osb.ID]string{}, sent: map[osb.ID]bool{},
+		had: map[Key]map[State]bool{},
 	}
 	s.Scheduler, s.store = schedule.New(s), newMemory(s.now)
 	s.store.brokers["shelf"] = Broker{
@@ -204,12 +205,14 @@ func anyScenario(chance *rand.Rand) string {
 }
 
 // TestSchedule runs the schedule that SCHEDULE has, and logs all of its steps. Without the variable it runs a few: a
-// worker that dies while it sends, an answer that comes after the lease, and a claim that nobody knows of.
+// worker that dies while it sends, an answer that comes after the lease, a claim that nobody knows of, and an answer that
+// isn't written before an operator gives the request up.
 func TestSchedule(t *testing.T) {
 	texts := []string{
 		"now from ordered: step + step | 1 1-dies",
 		"now from ordered: step + step | 1 1 1 1 time-passes time-passes 2",
 		"now from ordered: step + step | 1 1-is-unsure unwritten-1 2",
+		"now from cleaning: step + retry | 1 1 1 1 1 1-fails time-passes time-passes 2",
 	}
 	schedule.WithoutCrashes(t)
 	schedule.CheckEach(t, texts, func(t *testing.T, text string) schedule.Scenario {

@@ -159,7 +159,7 @@ func (r *runner) judgeEnd(err error) {
 	}
 }
 
-// A simulatedObserver finds what no worker reports.
+// A simulatedObserver finds what no worker reports, and changes that aren't written.
 type simulatedObserver struct {
 	Silent
 	of *runner
@@ -168,6 +168,12 @@ type simulatedObserver struct {
 func (o simulatedObserver) OnFailure(it Failure) {
 	if it.Event == "step_failed" || o.of.Used == 0 && it.Event != "lease_lost" {
 		o.of.Fail("%d reports %s: %v", o.of.Number, it.Event, it.Err)
+	}
+}
+
+func (o simulatedObserver) OnChange(key Key, _, after State) {
+	if len(o.of.Doubts) == 0 && !o.of.had[key][after] {
+		o.of.Fail("%d reports that a row is %s, and it never was", o.of.Number, after)
 	}
 }
 

@@ -26,8 +26,9 @@ type simulation struct {
 	most     time.Duration // that passes before the end
 	network  []Outgoing    // requests that may still arrive
 	runners  []*runner
-	numbers  map[osb.ID]string // the word for each number that a row has had
-	sent     map[osb.ID]bool   // the numbers whose requests were sent
+	numbers  map[osb.ID]string      // the word for each number that a row has had
+	sent     map[osb.ID]bool        // the numbers whose requests were sent
+	had      map[Key]map[State]bool // the states that each row has had
 }
 
 // A runner is a process that does something: that of a worker, or that of an operator's command.
@@ -379,7 +380,10 @@ func (r *runner) commit(t *transaction, hasWritten bool) error {
 func (s *simulation) write(of *runner, writes map[Key]Entry) {
 	before := map[Key]Entry{}
 	for key, e := range writes {
-		before[key], s.store.rows[key] = s.store.rows[key], e
+		if before[key], s.store.rows[key] = s.store.rows[key], e; s.had[key] == nil {
+			s.had[key] = map[State]bool{}
+		}
+		s.had[key][e.State] = true
 	}
 	for _, key := range keysOf(writes) {
 		s.judgeCommit(of, before[key], writes[key])
