@@ -211,14 +211,14 @@ func (s scenario) schedules(walk *simulatedWalk) schedule.Scenario {
 	}}
 }
 
-// TestEverySchedule runs all schedules of two drivers with one fault at most, of the first pair with two, or with as
-// many as FAULTS says. Each kind of fault happens once at most.
+// TestEverySchedule runs all schedules of two drivers with one fault at most, of the first pair and of those with power
+// cuts with two, or with as many as FAULTS says. Each kind of fault happens once at most.
 func TestEverySchedule(t *testing.T) {
 	schedule.WithoutCrashes(t)
 	catalogue := catalogueFor(t, catalogue)
 	for n, text := range pairs {
 		count := 1
-		if n == 0 {
+		if n == 0 || strings.Contains(text, "power-cuts") {
 			count = 2
 		}
 		t.Run(text, func(t *testing.T) {
