@@ -430,6 +430,16 @@ func TestFetchOfWhatIsNotRetrievable(t *testing.T) {
 	}
 }
 
+// A platform that goes away while its request is carried out cancels nothing.
+func TestPlatformThatGoesAway(t *testing.T) {
+	l := newLoneBroker(t)
+	gone, cancel := context.WithCancel(context.Background())
+	cancel()
+	given := message{method: "PUT", target: instances + "i", body: []byte(bodyOf(now, ""))}.serve(
+		http.HandlerFunc(func(w http.ResponseWriter, r *http.Request) { l.handler.ServeHTTP(w, r.WithContext(gone)) }))
+	diff.Equal(t, given.status, 201, "%s", given.body)
+}
+
 // Each of two passwords of a user is valid, and so is another user's.
 func TestUsers(t *testing.T) {
 	s := newTestBroker(t, setting{users: map[string][]string{"u": {"p", "new"}, "v": {"w"}}})
