@@ -6,6 +6,7 @@ import (
 	"context"
 	"errors"
 	"fmt"
+	"time"
 
 	"pippinterm/osb"
 )
@@ -44,6 +45,8 @@ func (r *runner) judgeSending(out Outgoing) {
 		r.Fail("%d sends a creation after the time that is recorded", r.Number)
 	case kind == osb.KindProvision && e.Key.IsBinding && instance.State != Ready && e.State != Abandoned:
 		r.Fail("%d sends a Bind, and its instance is %s", r.Number, instance.State)
+	case kind == osb.KindPoll && !isFetch && now.Sub(e.PolledSince) >= longestPoll+time.Minute:
+		r.Fail("%d sends a Poll of what was polled for too long", r.Number)
 	case kind == osb.KindDeprovision && r.scenario.hold > 0 && now.Before(e.SentUntil.Add(r.scenario.hold)):
 		r.Fail("%d sends a deletion before the hold is over", r.Number)
 	}
@@ -65,6 +68,8 @@ func (s *simulation) judgeCommit(of *runner, before, after Entry) {
 		s.Fail("%d has a request in flight, and no lease", of.Number)
 	case isFinal && after.State != before.State:
 		s.Fail("%d writes %s over %s", of.Number, after.State, before.State)
+	case after.State == Gone && !isFinal && s.scenario.hold > 0 && !after.HasLast:
+		s.Fail("%d leaves out the last deletion", of.Number)
 	case after.Removal < before.Removal:
 		s.Fail("%d forgets a removal", of.Number)
 	case isIdle && s.now().Before(after.Lease.Until):

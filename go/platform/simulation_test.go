@@ -133,9 +133,12 @@ func (r *runner) carryOut() (err error) {
 	return err
 }
 
+// longestPoll is how long an operation is polled.
+const longestPoll = 2 * time.Minute
+
 // step has a worker claim a row, and make the exchange that follows.
 func (r *runner) step(ctx context.Context) {
-	options := Options{Worker: r.worker(), Share: func() float64 { return 0 }}
+	options := Options{Worker: r.worker(), Share: func() float64 { return 0 }, LongestPoll: longestPoll}
 	r.engine = NewEngine(simulatedStore{r.store, r}, simulatedClient{of: r}, seal{}, options, simulatedObserver{of: r})
 	r.engine.retry, r.engine.newID = time.Nanosecond, r.newID
 	known := newRegistry(ctx, r.engine, &sync.WaitGroup{})
