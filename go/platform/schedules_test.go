@@ -28,14 +28,8 @@ type scenario struct {
 	most      time.Duration // that passes
 	tasks     []string
 	begun     *simulation // in which it has come about, once it has
-}
 
-// generation is 1 at the beginning of the scenario, and 2 from then on.
-func (s scenario) generation() int {
-	if s.begun == nil {
-		return 1
-	}
-	return 2
+	generation int // of the names of workers and of ids: 1 until it has come about, and 2 from then on
 }
 
 // How what is recorded at the beginning came about: tasks, of which some are killed at a call.
@@ -94,7 +88,7 @@ func scenarioOf(t *testing.T, text string, most time.Duration) scenario {
 	words, from, _ := strings.Cut(head, " from ")
 	s := scenario{
 		text: text, plan: strings.Fields(words)[0], catalogue: diff.Value(ReadCatalogue([]byte(sold)))(t), tries: 1,
-		tick: time.Minute, most: most,
+		tick: time.Minute, most: most, generation: 1,
 	}
 	if strings.Contains(words, "slowly") {
 		s.tick = 40 * time.Second
@@ -110,7 +104,7 @@ func scenarioOf(t *testing.T, text string, most time.Duration) scenario {
 		begun.begin(word)
 	}
 	diff.Equal(t, begun.Wrong, "", "the beginning of %q", text)
-	s.begun, s.tasks = begun, strings.Split(tasks, " + ")
+	s.begun, s.generation, s.tasks = begun, 2, strings.Split(tasks, " + ")
 	return s
 }
 

@@ -36,7 +36,6 @@ type runner struct {
 	*schedule.Runner
 	*simulation
 	task   string
-	engine *Engine
 	orders *Orders
 	out    *Outgoing // what is about to be sent, or nil
 	ids    int       // that it has made up
@@ -99,12 +98,12 @@ func (s *simulation) start(task string) *runner {
 // newID is an id that is made up, the same in each schedule in which the runner has seen the same.
 func (r *runner) newID() (osb.ID, error) {
 	r.ids++
-	return id(fmt.Sprintf("%d%02d%02d", r.scenario.generation(), r.Number, r.ids)), nil
+	return id(fmt.Sprintf("%d%02d%02d", r.scenario.generation, r.Number, r.ids)), nil
 }
 
 // worker is the name of the worker that the runner is.
 func (r *runner) worker() string {
-	return fmt.Sprintf("worker %d.%d", r.scenario.generation(), r.Number)
+	return fmt.Sprintf("worker %d.%d", r.scenario.generation, r.Number)
 }
 
 // carryOut carries out the task: some steps of a worker, or a command of an operator.
@@ -139,13 +138,13 @@ const longestPoll = 2 * time.Minute
 // step has a worker claim a row, and make the exchange that follows.
 func (r *runner) step(ctx context.Context) {
 	options := Options{Worker: r.worker(), Share: func() float64 { return 0 }, LongestPoll: longestPoll}
-	r.engine = NewEngine(simulatedStore{r.store, r}, simulatedClient{of: r}, seal{}, options, simulatedObserver{of: r})
-	r.engine.retry, r.engine.newID = time.Nanosecond, r.newID
-	known := newRegistry(ctx, r.engine, &sync.WaitGroup{})
+	engine := NewEngine(simulatedStore{r.store, r}, simulatedClient{of: r}, seal{}, options, simulatedObserver{of: r})
+	engine.retry, engine.newID = time.Nanosecond, r.newID
+	known := newRegistry(ctx, engine, &sync.WaitGroup{})
 	defer known.stop()
 	known.byName["shelf"] = &knownBroker{broker: r.store.brokers["shelf"], catalogue: r.scenario.catalogue}
-	for _, sending := range r.engine.claim(ctx, known, []string{"shelf"}, 1, nil).sendings {
-		r.engine.exchange(ctx, known, sending, func(bool) {})
+	for _, sending := range engine.claim(ctx, known, []string{"shelf"}, 1, nil).sendings {
+		engine.exchange(ctx, known, sending, func(bool) {})
 	}
 }
 
