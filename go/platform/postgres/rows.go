@@ -1,15 +1,12 @@
 package postgres
 
 import (
-	"bytes"
 	"context"
 	"database/sql"
-	"encoding/hex"
 	"encoding/json"
 	"errors"
 	"fmt"
 	"math"
-	"strconv"
 	"strings"
 	"time"
 
@@ -36,6 +33,9 @@ var (
 	stateColumns   = platform.StateColumns
 	changedColumns = append(append(entryColumns{}, keyColumns...), stateColumns...)
 	rowColumns     = append(append(append(entryColumns{}, keyColumns...), orderColumns...), stateColumns...)
+
+	// changedOf are changedColumns of bindings, and of instances.
+	changedOf = map[bool]entryColumns{true: changedColumns.Of(true), false: changedColumns.Of(false)}
 )
 
 // A namesText is platform.Names as an object.
@@ -48,34 +48,24 @@ func (n namesText) UnmarshalText(text []byte) error { return json.Unmarshal(text
 // objectOf is an object with columns of an entry or a broker, as json_populate_recordset reads it. So a statement has
 // one parameter for any number of rows.
 func objectOf[T any](of *T, columns platform.Columns[T]) ([]byte, error) {
-	object := bytes.NewBufferString("{")
-	encoder := json.NewEncoder(object)
+	object := make([]byte, 0, usualObject)
 	for n, column := range columns {
 		value, err := column.Value(of)
 		if err != nil {
 			return nil, err
 		}
-		switch it := value.(type) {
-		case string:
-			value = storable(it)
-		case time.Time:
-			value = seconds(it)
-		case time.Duration:
-			value = it.Seconds()
-		case []byte:
-			value = bytea(it)
+		before := byte(',')
+		if n == 0 {
+			before = '{'
 		}
-		if n > 0 {
-			object.WriteString(",")
-		}
-		object.WriteString(`"` + column.Name + `":`)
-		if err := encoder.Encode(value); err != nil {
-			return nil, err
-		}
+		object = appendText(append(object, before), column.Name)
+		object = appendValue(append(object, ':'), value)
 	}
-	object.WriteString("}")
-	return object.Bytes(), nil
+	return append(object, '}'), nil
 }
+
+// usualObject is as long as most objects are at most, in bytes.
+const usualObject = 1 << 10
 
 // lineOf is an array with the columns of a row, as entryOf reads it, or one without the columns that may be long. It has
 // NULL for the columns that the table doesn't have.
@@ -98,7 +88,7 @@ func entryOf(line []byte) (entry platform.Entry, unreadable, err error) {
 	if err != nil {
 		return entry, nil, err
 	}
-	if entry.Key, err = keyOf(orEmpty(texts[0]), orEmpty(texts[1])); err != nil {
+	if entry.Key, err = keyOf(string(texts[0]), string(texts[1])); err != nil {
 		return entry, nil, err
 	}
 	others := len(keyColumns)
@@ -106,45 +96,33 @@ func entryOf(line []byte) (entry platform.Entry, unreadable, err error) {
 }
 
 // readLine reads an array of columns, and returns the texts of those that are a Text: readTexts reads them, once all
-// others are read.
-func readLine[T any](line []byte, columns platform.Columns[T], of *T) (texts []*string, err error) {
-	texts = make([]*string, len(columns))
-	members := []any{}
+// others are read. The text of a column that is NULL is nil.
+func readLine[T any](line []byte, columns platform.Columns[T], of *T) (texts [][]byte, err error) {
+	texts = make([][]byte, len(columns))
+	values := scalars{rest: line}
 	for n, column := range columns {
-		members = append(members, memberOf(column.Member(of), &texts[n]))
-	}
-	if err := json.Unmarshal(line, &members); err != nil {
-		return nil, fmt.Errorf("a row: %w", err)
+		value, err := values.next()
+		if err == nil {
+			texts[n], err = value.readInto(column.Member(of))
+		}
+		if err != nil {
+			return nil, fmt.Errorf("the column %s of a row: %w", column.Name, err)
+		}
 	}
 	return texts, nil
 }
 
 // readTexts reads all texts that can be read. The error is that of the first one that can't.
-func readTexts[T any](texts []*string, columns platform.Columns[T], of *T, name string) (failed error) {
+func readTexts[T any](texts [][]byte, columns platform.Columns[T], of *T, name string) (failed error) {
 	for n, column := range columns {
 		if texts[n] == nil {
 			continue
 		}
-		if err := column.Member(of).(platform.Text).UnmarshalText([]byte(*texts[n])); err != nil {
+		if err := column.Member(of).(platform.Text).UnmarshalText(texts[n]); err != nil {
 			failed = either(failed, fmt.Errorf("the column %s of %s: %w", column.Name, name, err))
 		}
 	}
 	return failed
-}
-
-// memberOf is what a member is read into from JSON: itself, or text.
-func memberOf(member any, text **string) any {
-	switch member := member.(type) {
-	case *time.Time:
-		return (*seconds)(member)
-	case *time.Duration:
-		return (*duration)(member)
-	case *[]byte:
-		return (*bytea)(member)
-	case platform.Text:
-		return text
-	}
-	return member
 }
 
 func keyOf(id, binding string) (key platform.Key, err error) {
@@ -177,77 +155,12 @@ func shownOf(line []byte) (platform.Entry, error) {
 	return entry, err
 }
 
-// seconds is a time as a column has it, in whole microseconds: NULL for the zero time.
-type seconds time.Time
-
-// MarshalJSON writes the seconds since 1970.
-func (s seconds) MarshalJSON() ([]byte, error) {
-	if time.Time(s).IsZero() {
-		return []byte("null"), nil
-	}
-	return strconv.AppendFloat(nil, secondsOf(time.Time(s)), 'f', -1, 64), nil
-}
-
-// UnmarshalJSON reads the seconds since 1970.
-func (s *seconds) UnmarshalJSON(text []byte) error {
-	var read *float64
-	if err := json.Unmarshal(text, &read); err != nil {
-		return err
-	}
-	*s = seconds{}
-	if read != nil {
-		*s = seconds(timeOf(*read))
-	}
-	return nil
-}
-
 func secondsOf(at time.Time) float64 { return float64(at.UnixMicro()) / 1e6 }
 
 // timeOf is the time that secondsOf has written: the nearest microsecond.
 func timeOf(at float64) time.Time {
 	whole := math.Floor(at)
 	return time.Unix(int64(whole), int64(math.Round((at-whole)*1e6))*1000).UTC()
-}
-
-// duration is a time.Duration as a column has it, in seconds.
-type duration time.Duration
-
-// UnmarshalJSON reads the seconds, in whole microseconds.
-func (d *duration) UnmarshalJSON(text []byte) error {
-	var read float64
-	err := json.Unmarshal(text, &read)
-	*d = duration(math.Round(read*1e6)) * duration(time.Microsecond)
-	return err
-}
-
-// bytea are bytes as a column of the type bytea has them: NULL for nil.
-type bytea []byte
-
-// MarshalJSON writes the bytes as PostgreSQL reads them.
-func (s bytea) MarshalJSON() ([]byte, error) {
-	if s == nil {
-		return []byte("null"), nil
-	}
-	return json.Marshal(`\x` + hex.EncodeToString(s))
-}
-
-// UnmarshalJSON reads the bytes as PostgreSQL writes them.
-func (s *bytea) UnmarshalJSON(text []byte) error {
-	var read *string
-	if err := json.Unmarshal(text, &read); err != nil || read == nil {
-		*s = nil
-		return err
-	}
-	bytes, err := hex.DecodeString(strings.TrimPrefix(*read, `\x`))
-	*s = bytes
-	return err
-}
-
-func orEmpty(text *string) string {
-	if text == nil {
-		return ""
-	}
-	return *text
 }
 
 // storable is a text that a column of PostgreSQL has: others would be rejected with each try, and their work would

@@ -4,7 +4,6 @@ import (
 	"bytes"
 	"context"
 	"database/sql"
-	"encoding/json"
 	"errors"
 	"fmt"
 	"sort"
@@ -304,9 +303,8 @@ type lockedRow struct {
 
 // A stay is a row of osb_lives without its number.
 type stay struct {
-	ID    string  `json:"id"` // platform.Key as a text
-	State string  `json:"state"`
-	Since seconds `json:"since"`
+	key platform.Key
+	platform.Stay
 }
 
 // batch calls a function in a transaction, with a batch whose rows are locked by a statement. The batch is written if
@@ -360,7 +358,7 @@ func (b *batch) take(key platform.Key, change platform.Change) error {
 	it := b.rows[key]
 	before, entry := it.entry, change.Entry
 	entry.Order = before.Order
-	object, err := objectOf(&entry, changedColumns.Of(entry.Key.IsBinding))
+	object, err := objectOf(&entry, changedOf[entry.Key.IsBinding])
 	if err != nil {
 		return err
 	}
@@ -371,7 +369,7 @@ func (b *batch) take(key platform.Key, change platform.Change) error {
 	}
 	it.entry, it.toSend = entry, object
 	if entry.State != before.State {
-		b.stays = append(b.stays, stay{key.String(), string(before.State), seconds(before.Since)})
+		b.stays = append(b.stays, stay{key, platform.Stay{State: before.State, Since: before.Since}})
 	}
 	if change.RemoveBindings && !key.IsBinding {
 		b.removeBindings(key)
@@ -413,7 +411,7 @@ func (b *batch) wake(instance platform.Key) {
 
 // set has an entry written in place of the one that was read.
 func (b *batch) set(it *lockedRow, entry platform.Entry) {
-	object, err := objectOf(&entry, changedColumns.Of(entry.Key.IsBinding))
+	object, err := objectOf(&entry, changedOf[entry.Key.IsBinding])
 	it.entry, it.toSend = entry, object
 	b.failed = either(b.failed, err)
 }
@@ -572,19 +570,32 @@ SELECT (SELECT count(*) FROM i), (SELECT count(*) FROM b), (SELECT count(*) FROM
 `
 
 func (b *batch) writeRows(instances, bindings objects) error {
-	stays, err := json.Marshal(append([]stay{}, b.stays...))
-	if err != nil {
-		return err
-	}
 	got, want := [3]int{}, [3]int{len(instances.ids), len(bindings.ids), len(b.stays)}
-	parameters := []any{instances.text(), bindings.text(), string(stays), array(instances.ids), array(bindings.ids)}
-	err = b.each(b.send, parameters, func(rows *sql.Rows) error {
+	parameters := []any{
+		instances.text(), bindings.text(), textOfStays(b.stays), array(instances.ids), array(bindings.ids),
+	}
+	err := b.each(b.send, parameters, func(rows *sql.Rows) error {
 		return rows.Scan(&got[0], &got[1], &got[2])
 	})
 	if err == nil && got != want {
 		err = fmt.Errorf("%v rows were written, and not %v. Never delete rows of the store", got, want)
 	}
 	return err
+}
+
+// textOfStays is an array of stays, as json_populate_recordset reads it.
+func textOfStays(stays []stay) string {
+	text := []byte("[")
+	for n, it := range stays {
+		if n > 0 {
+			text = append(text, ',')
+		}
+		text = appendText(append(text, `{"id":`...), it.key.String())
+		text = appendText(append(text, `,"state":`...), string(it.State))
+		text = appendValue(append(text, `,"since":`...), it.Since)
+		text = append(text, '}')
+	}
+	return string(append(text, ']'))
 }
 
 // objects are rows of one table that are to be written, with the ids of their instances.
