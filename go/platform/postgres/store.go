@@ -233,15 +233,25 @@ func within[T any](ctx context.Context, s *Store, passed func(*call) (T, error))
 		return value, err
 	}
 	defer s.running.Done()
+	return entered(ctx, passed)
+}
+
+// entered is within of a call that Close waits for already.
+func entered[T any](ctx context.Context, passed func(*call) (T, error)) (T, error) {
 	this := &call{}
 	value, isLeft, err := runWithin(ctx, func() (T, error) { return passed(this) })
 	if isLeft {
 		this.end()
 	}
+	return value, errorOf(ctx, err)
+}
+
+// errorOf is the error of a call for its caller.
+func errorOf(ctx context.Context, err error) error {
 	if ctx.Err() != nil && pg.IsCode(err, pg.QueryCanceled) {
 		err = ctx.Err()
 	}
-	return value, asAway(err)
+	return asAway(err)
 }
 
 // A result is what a function returns that within has called.
@@ -256,24 +266,37 @@ func runWithin[T any](ctx context.Context, passed func() (T, error)) (value T, i
 		value, err = passed()
 		return value, false, err
 	}
-	done := make(chan result[T], 1)
+	made := &result[T]{err: errors.New("a function that was passed has ended its goroutine")}
+	ended := make(chan struct{})
 	go func() {
-		made := result[T]{err: errors.New("a function that was passed has ended its goroutine")}
-		defer func() { done <- made }()
+		defer close(ended)
 		made.value, made.err = passed()
 	}()
-	select {
-	case made := <-done:
-		return made.value, false, made.err
-	case <-ctx.Done():
+	if !endsBefore(ctx, ended) && !endsSoon(ended) {
+		return value, true, away{ctx.Err()}
 	}
+	return made.value, false, made.err
+}
+
+// endsBefore waits until something has ended, or the context has, and returns false then.
+func endsBefore(ctx context.Context, ended <-chan struct{}) bool {
+	select {
+	case <-ended:
+		return true
+	case <-ctx.Done():
+		return false
+	}
+}
+
+// endsSoon waits until something has ended, but no longer than grace, and returns whether it has.
+func endsSoon(ended <-chan struct{}) bool {
 	timer := time.NewTimer(grace)
 	defer timer.Stop()
 	select {
-	case made := <-done:
-		return made.value, false, made.err
+	case <-ended:
+		return true
 	case <-timer.C:
-		return value, true, away{ctx.Err()}
+		return false
 	}
 }
 

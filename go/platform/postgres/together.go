@@ -25,16 +25,17 @@ type together struct {
 
 // A oneChange is a change of an instance.
 type oneChange struct {
-	call *call
-	key  platform.Key
-	step platform.Step
-	// lead has the changes of a transaction, which the first of them begins, or nil for the others once it has ended.
-	lead   chan []*oneChange
+	ctx   context.Context
+	call  *call
+	key   platform.Key
+	step  platform.Step
+	ended chan struct{} // closed once the transaction has ended that has the change
+	// What follows counts once it has ended.
 	isDone bool // whether the transaction has had the change done. Otherwise it is done alone
 	err    error
 }
 
-// join returns the changes of a transaction that the change is to begin, or nil if it waits.
+// join returns the changes of a transaction that is to begin with the change, or nil if the change waits.
 func (t *together) join(it *oneChange) []*oneChange {
 	t.turn.Lock()
 	defer t.turn.Unlock()
@@ -59,10 +60,10 @@ func (t *together) leave(it *oneChange) bool {
 	return false
 }
 
-// end ends a transaction, and has the first of the changes that wait begin the next one.
-func (t *together) end(of []*oneChange) {
-	for _, it := range of[1:] {
-		it.lead <- nil
+// end ends a transaction, and returns the changes of the next one, or nil if none waits.
+func (t *together) end(of []*oneChange) (next []*oneChange) {
+	for _, it := range of {
+		close(it.ended)
 	}
 	t.turn.Lock()
 	defer t.turn.Unlock()
@@ -72,40 +73,62 @@ func (t *together) end(of []*oneChange) {
 	}
 	if count == 0 {
 		t.running--
-		return
+		return nil
 	}
-	next := append([]*oneChange{}, t.waiting[:count]...)
-	t.waiting = append([]*oneChange{}, t.waiting[count:]...)
-	next[0].lead <- next
+	next = append(next, t.waiting[:count]...)
+	t.waiting = append(t.waiting[:0], t.waiting[count:]...)
+	return next
 }
 
-// changeInstance is Change of an instance.
-func (s *Store) changeInstance(ctx context.Context, this *call, key platform.Key, step platform.Step) error {
-	it := &oneChange{call: this, key: key, step: step, lead: make(chan []*oneChange, 1)}
-	led := s.changes.join(it)
-	if led == nil {
-		select {
-		case led = <-it.lead:
-		case <-ctx.Done():
-			if s.changes.leave(it) {
-				return ctx.Err()
-			}
-			led = <-it.lead
-		}
+// changeInstance is Change of an instance. Once the context has ended, it waits for the transaction that has the change no
+// longer than within waits for a function.
+func (s *Store) changeInstance(ctx context.Context, key platform.Key, step platform.Step) error {
+	if err := ctx.Err(); err != nil {
+		return err
 	}
-	if led != nil {
-		s.lead(ctx, led)
+	if err := s.enter(); err != nil {
+		return err
+	}
+	defer s.running.Done()
+	it := &oneChange{ctx: ctx, call: &call{}, key: key, step: step, ended: make(chan struct{})}
+	if first := s.changes.join(it); first != nil {
+		go s.changeAll(first)
+	}
+	switch {
+	case endsBefore(ctx, it.ended):
+	case s.changes.leave(it):
+		return ctx.Err()
+	case !endsSoon(it.ended):
+		it.call.end()
+		return away{ctx.Err()}
 	}
 	if it.isDone {
-		return it.err
+		return errorOf(ctx, it.err)
 	}
-	return s.changeOne(ctx, this, key, step)
+	_, err := entered(ctx, func(this *call) (struct{}, error) {
+		return struct{}{}, s.changeOne(ctx, this, key, step)
+	})
+	return err
 }
 
-// lead has changes done together, as far as no lock is waited for, and then has the next ones done.
-func (s *Store) lead(ctx context.Context, all []*oneChange) {
-	defer s.changes.end(all)
-	s.changeTogether(ctx, all)
+// changeAll has changes done by one transaction, and then those that wait by the next one, until none waits. Its callers
+// wait for their changes, and Close waits for the callers.
+func (s *Store) changeAll(changes []*oneChange) {
+	defer func() {
+		if changes == nil {
+			return
+		}
+		for _, it := range changes { // a step has ended the goroutine, and nothing is written
+			it.isDone = false
+		}
+		if next := s.changes.end(changes); next != nil {
+			go s.changeAll(next)
+		}
+	}()
+	for changes != nil {
+		s.changeTogether(changes)
+		changes = s.changes.end(changes)
+	}
 }
 
 // A row that another transaction has locked is passed over. So no two of these transactions wait for each other.
@@ -115,9 +138,10 @@ SELECT ` + lineOf("t", false, false) + `, NULL, ` + clock + ` FROM t
 `
 
 // changeTogether has changes done in one transaction. What it can't do is left to be done alone: a change whose row is
-// locked, can't be read or has another change here, and if the transaction of several fails, all of them.
-func (s *Store) changeTogether(ctx context.Context, all []*oneChange) {
-	err := s.batch(ctx, all[0].call, lockInstances, func(of *batch) error {
+// locked, can't be read or has another change here, and if the transaction of several fails, all of them. It fails if the
+// context of the first one ends.
+func (s *Store) changeTogether(all []*oneChange) {
+	err := s.batch(all[0].ctx, all[0].call, lockInstances, func(of *batch) error {
 		ids := []string{}
 		for _, it := range all {
 			it.isDone, it.err = false, nil // the transaction may be tried again

@@ -4,6 +4,7 @@ import (
 	"context"
 	"errors"
 	"fmt"
+	"runtime"
 	"testing"
 	"time"
 
@@ -32,6 +33,15 @@ func insertOrder(t *testing.T, store *Store, key platform.Key) {
 	}
 	entry := platform.Entry{Order: order, State: platform.Ordered, Since: time.Now(), Due: time.Now()}
 	diff.Must(t, store.Insert(context.Background(), entry, func(platform.Snapshot) error { return nil }))
+}
+
+// isWaiting returns whether so many changes wait for a transaction.
+func isWaiting(store *Store, count int) func() bool {
+	return func() bool {
+		store.changes.turn.Lock()
+		defer store.changes.turn.Unlock()
+		return len(store.changes.waiting) == count
+	}
 }
 
 // counted is a step that counts itself in the row.
@@ -85,14 +95,7 @@ func TestChangesTogether(t *testing.T) {
 		results[name] = result
 		go func() { result <- store.Change(test.ctx, test.key, test.step) }()
 	}
-	isWaiting := func(count int) func() bool {
-		return func() bool {
-			store.changes.turn.Lock()
-			defer store.changes.turn.Unlock()
-			return len(store.changes.waiting) == count
-		}
-	}
-	waits.Until(t, "all changes wait", isWaiting(len(results)))
+	waits.Until(t, "all changes wait", isWaiting(store, len(results)))
 	leave()
 	diff.ErrorIs(t, <-results["left"], context.Canceled, "left")
 	close(gate)
@@ -109,6 +112,13 @@ func TestChangesTogether(t *testing.T) {
 	}
 }
 
+// newChange is a change that counts itself in the row of a key.
+func newChange(key platform.Key) *oneChange {
+	return &oneChange{
+		ctx: context.Background(), call: &call{}, key: key, step: counted, ended: make(chan struct{}),
+	}
+}
+
 // If a transaction of several changes fails, each of them is done alone.
 func TestChangesTogetherThatFail(t *testing.T) {
 	background := context.Background()
@@ -119,7 +129,7 @@ func TestChangesTogetherThatFail(t *testing.T) {
 	all := []*oneChange{}
 	for n := 0; n < rows; n++ {
 		insertOrder(t, store, togetherKey(n))
-		all = append(all, &oneChange{call: &call{}, key: togetherKey(n), step: counted, lead: make(chan []*oneChange, 1)})
+		all = append(all, newChange(togetherKey(n)))
 	}
 	all[1].step = func(now time.Time, snapshot platform.Snapshot) (*platform.Change, error) {
 		const end = "SELECT pg_terminate_backend(pid, 10000) FROM pg_stat_activity WHERE application_name = $1"
@@ -128,37 +138,80 @@ func TestChangesTogetherThatFail(t *testing.T) {
 		}
 		return counted(now, snapshot)
 	}
-	store.changeTogether(background, all)
+	store.changeTogether(all)
 	for n, it := range all {
 		diff.Equal(t, it.isDone, false, "change %d is done", n)
 		diff.Equal(t, diff.Value(store.Read(background, it.key))(t).Unchanged, 0, "changes of row %d", n)
 	}
 }
 
+// A step that ends its goroutine fails, and the changes that wait for its transaction are done.
+func TestChangesTogetherWhoseGoroutineEnds(t *testing.T) {
+	store := diff.Value(Open(context.Background(), pgtest.Schema(t, pgtest.URL(t), "osb_platform_together_ends"), 8))(t)
+	defer store.Close()
+	ctx, cancel := context.WithCancel(context.Background())
+	defer cancel()
+	for n := 0; n < atATime+2; n++ {
+		insertOrder(t, store, togetherKey(n))
+	}
+	begun, gate, results := make(chan struct{}, atATime), make(chan struct{}), make(chan error, atATime)
+	for n := 0; n < atATime; n++ {
+		go func(key platform.Key) {
+			results <- store.Change(ctx, key, func(time.Time, platform.Snapshot) (*platform.Change, error) {
+				begun <- struct{}{}
+				<-gate
+				runtime.Goexit()
+				return nil, nil
+			})
+		}(togetherKey(n))
+	}
+	for n := 0; n < atATime; n++ {
+		<-begun
+	}
+	usual := make(chan error, 2)
+	for n := atATime; n < atATime+2; n++ {
+		go func(key platform.Key) { usual <- store.Change(ctx, key, counted) }(togetherKey(n))
+	}
+	waits.Until(t, "the usual changes wait", isWaiting(store, cap(usual)))
+	close(gate)
+	for n := 0; n < 2; n++ {
+		diff.NoError(t, <-usual, "a usual change")
+	}
+	for n := 0; n < atATime; n++ {
+		diff.ErrorContains(t, <-results, "ended its goroutine", "a step that ends its goroutine")
+	}
+	for n := 0; n < atATime+2; n++ {
+		want := 0
+		if n >= atATime {
+			want = 1
+		}
+		diff.Equal(t, diff.Value(store.Read(ctx, togetherKey(n)))(t).Unchanged, want, "changes of row %d", n)
+	}
+}
+
 // Those that wait are done by the next transaction, as many as it may have, and none that has left.
 func TestTurnsOfChanges(t *testing.T) {
 	changes := &together{}
-	newChange := func() *oneChange { return &oneChange{lead: make(chan []*oneChange, 1)} }
-	first := newChange()
+	first := newChange(togetherKey(0))
 	diff.Len(t, changes.join(first), 1, "the first")
 	for n := 1; n < atATime; n++ {
-		diff.Len(t, changes.join(newChange()), 1, "change %d", n)
+		diff.Len(t, changes.join(newChange(togetherKey(n))), 1, "change %d", n)
 	}
 	waiting := []*oneChange{}
 	for n := 0; n < mostOfOne+2; n++ {
-		waiting = append(waiting, newChange())
+		waiting = append(waiting, newChange(togetherKey(n)))
 		diff.Len(t, changes.join(waiting[n]), 0, "change %d that waits", n)
 	}
 	diff.Equal(t, changes.leave(waiting[0]), true, "the first one leaves")
-	changes.end([]*oneChange{first})
-	next := <-waiting[1].lead
+	next := changes.end([]*oneChange{first})
+	<-first.ended
 	diff.Len(t, next, mostOfOne, "the next transaction")
 	diff.Equal(t, changes.leave(waiting[2]), false, "one leaves that is in it")
-	changes.end(next)
-	diff.Len(t, <-waiting[2].lead, 0, "one that is in it")
-	last := <-waiting[mostOfOne+1].lead
+	last := changes.end(next)
+	<-waiting[2].ended
 	diff.Len(t, last, 1, "the last transaction")
-	changes.end(last)
+	diff.Equal(t, last[0], waiting[mostOfOne+1], "the last change")
+	diff.Len(t, changes.end(last), 0, "those that wait at the end")
 	diff.Equal(t, changes.running, atATime-1, "transactions that run")
 }
 
@@ -171,9 +224,9 @@ func TestChangesTogetherOfAnUnknownCommit(t *testing.T) {
 	insertOrder(t, store, togetherKey(0))
 	insertOrder(t, store, togetherKey(1))
 	for n, failed := 1, ""; !storefaults.IsCommit(failed); n++ {
-		all := []*oneChange{{call: &call{}, key: togetherKey(0), step: counted}, {call: &call{}, key: togetherKey(1), step: counted}}
+		all := []*oneChange{newChange(togetherKey(0)), newChange(togetherKey(1))}
 		proxy.Fail(n, storefaults.Lost)
-		store.changeTogether(background, all)
+		store.changeTogether(all)
 		if failed = proxy.FailedStatement(); failed == "" {
 			t.Fatalf("got %d statements, and no COMMIT that fails", n-1)
 		}

@@ -161,12 +161,10 @@ SELECT ` + lineOf("t", false, false) + ` FROM t
 // Change is one transaction, as platform.Store says, or of an instance a part of one whose other parts are other
 // changes. A panic of step is an error.
 func (s *Store) Change(ctx context.Context, key platform.Key, step platform.Step) error {
-	return s.run(ctx, func(this *call) error {
-		if key.IsBinding {
-			return s.changeOne(ctx, this, key, step)
-		}
-		return s.changeInstance(ctx, this, key, step)
-	})
+	if !key.IsBinding {
+		return s.changeInstance(ctx, key, step)
+	}
+	return s.run(ctx, func(this *call) error { return s.changeOne(ctx, this, key, step) })
 }
 
 // changeOne is Change in a transaction of its own.
