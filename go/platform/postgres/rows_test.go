@@ -218,17 +218,37 @@ func TestQueriesUseIndexes(t *testing.T) {
 	}
 }
 
+// A claim reads the rows that are due in the order of an index, also if the server has no statistics of them.
+func TestAClaimWithoutStatistics(t *testing.T) {
+	url := pgtest.Schema(t, pgtest.URL(t), "osb_platform_burst")
+	store := diff.Value(Open(context.Background(), url, 1))(t)
+	defer store.Close()
+	pgtest.Exec(t, pgtest.DB(t, url), "ALTER TABLE osb_instances SET (autovacuum_enabled = false)", manyRows,
+		"UPDATE osb_instances SET due = 1, worker = NULL")
+	conn := diff.Value(store.db.Conn(context.Background()))(t)
+	defer conn.Close()
+	plan := planOf(t, conn, lockDue, "('{one}', 16, 96)", "force_custom_plan")
+	diff.Lacks(t, plan, "Bitmap", "the plan")
+	diff.Contains(t, plan, "Index Scan using osb_due_instances_of", "the plan")
+}
+
 func quote(texts ...string) string { return "'" + strings.Join(texts, "', '") + "'" }
 
 // wantIndexed fails if a plan reads a table from end to end.
 func wantIndexed(t *testing.T, conn *sql.Conn, query, values, mode string) {
 	t.Helper()
+	if values != "" {
+		values = "(" + values + ")"
+	}
+	diff.Lacks(t, planOf(t, conn, query, values, mode), "Seq Scan on osb_", "%s, of %s", mode, query)
+}
+
+// planOf is the plan of a query, as the server explains it.
+func planOf(t *testing.T, conn *sql.Conn, query, values, mode string) string {
+	t.Helper()
 	ctx := context.Background()
 	for _, statement := range []string{"SET plan_cache_mode = " + mode, "PREPARE planned AS " + query} {
 		diff.Value(conn.ExecContext(ctx, statement))(t)
-	}
-	if values != "" {
-		values = "(" + values + ")"
 	}
 	rows, err := conn.QueryContext(ctx, "EXPLAIN EXECUTE planned "+values)
 	plan := []string{}
@@ -242,7 +262,7 @@ func wantIndexed(t *testing.T, conn *sql.Conn, query, values, mode string) {
 		_, err = conn.ExecContext(ctx, "DEALLOCATE planned")
 	}
 	check(t, err)
-	diff.Lacks(t, strings.Join(plan, "\n"), "Seq Scan on osb_", "%s, of %s", mode, query)
+	return strings.Join(plan, "\n")
 }
 
 var check = diff.Must

@@ -42,8 +42,10 @@ const (
 
 var errClosed = errors.New("the store is closed")
 
-// settings are those that the texts of rows depend on.
-var settings = map[string]string{"bytea_output": "hex"}
+// settings are those of the sessions. The texts of rows depend on bytea_output. With bitmap scans, a claim would read and
+// sort all rows that are due, and not the first ones of an index, as long as the server expects that few are due: its
+// statistics may be old, or there are none.
+var settings = map[string]string{"bytea_output": "hex", "enable_bitmapscan": "off"}
 
 // A Store is a platform.Store.
 type Store struct {
