@@ -5,8 +5,10 @@ import (
 	"encoding"
 	"encoding/json"
 	"fmt"
+	"strconv"
 	"time"
 
+	"pippinterm/internal/flatjson"
 	"pippinterm/osb"
 )
 
@@ -201,58 +203,92 @@ func (r *reasonText) MarshalText() ([]byte, error) {
 	if *r == (reasonText{}) {
 		return nil, nil
 	}
-	reason := Reason(*r)
-	reason.At = reason.At.UTC()
-	return json.Marshal(reason)
+	return append(appendReason(nil, Reason(*r)), '}'), nil
 }
 
 func (r *reasonText) UnmarshalText(text []byte) error {
-	err := json.Unmarshal(text, (*Reason)(r))
-	r.At = r.At.UTC()
+	members := flatjson.NewReader(text)
+	return members.Each((*Reason)(r).read)
+}
+
+// appendReason appends an object of a reason without its end.
+func appendReason(to []byte, reason Reason) []byte {
+	to = append(reason.At.UTC().AppendFormat(append(to, `{"at":"`...), time.RFC3339Nano), '"')
+	to = flatjson.AppendMember(to, "kind", reason.Kind)
+	if reason.Status != 0 {
+		to = strconv.AppendInt(append(to, `,"status":`...), int64(reason.Status), 10)
+	}
+	for _, member := range [...]struct{ name, text string }{
+		{"error", reason.Error}, {"description", reason.Description}, {"lost", reason.Lost},
+	} {
+		if member.text != "" {
+			to = flatjson.AppendMember(to, member.name, member.text)
+		}
+	}
+	return to
+}
+
+// read reads a member of an object of a reason. It passes over a member that isn't of a reason.
+func (r *Reason) read(name string, value flatjson.Scalar) (err error) {
+	switch name {
+	case "at":
+		var at string
+		if err = value.Into(&at); err == nil {
+			r.At, err = time.Parse(time.RFC3339, at)
+			r.At = r.At.UTC()
+		}
+	case "kind":
+		err = value.Into(&r.Kind)
+	case "status":
+		r.Status, err = strconv.Atoi(string(value))
+	case "error":
+		err = value.Into(&r.Error)
+	case "description":
+		err = value.Into(&r.Description)
+	case "lost":
+		err = value.Into(&r.Lost)
+	}
 	return err
 }
 
-// A lastText is Entry.Last, Entry.Number and Entry.DueSince.
+// A lastText is Entry.Last, Entry.Number and Entry.DueSince: an object of the reason with the members claim, which is
+// Entry.Number, and due_since, in milliseconds since 1970.
 type lastText Entry
 
-// A keptLast is a lastText in JSON.
-type keptLast struct {
-	Reason
-	Claim    string `json:"claim,omitempty"`     // Entry.Number
-	DueSince int64  `json:"due_since,omitempty"` // in milliseconds since 1970
-}
-
-// MarshalText writes DueSince as the number of the member due_since, in milliseconds since 1970, which comes last.
+// MarshalText writes DueSince as the number of the member due_since, which comes last.
 func (l *lastText) MarshalText() ([]byte, error) {
 	if l.Last == (Reason{}) && l.DueSince.IsZero() && l.Number == (osb.ID{}) {
 		return nil, nil
 	}
-	kept := keptLast{Reason: l.Last}
-	kept.At = kept.At.UTC()
+	text := appendReason(make([]byte, 0, usualReason), l.Last)
 	if l.Number != (osb.ID{}) {
-		kept.Claim = l.Number.String()
+		text = flatjson.AppendMember(text, "claim", l.Number.String())
 	}
 	if !l.DueSince.IsZero() {
-		kept.DueSince = l.DueSince.UnixMilli()
+		text = strconv.AppendInt(append(text, `,"due_since":`...), l.DueSince.UnixMilli(), 10)
 	}
-	return json.Marshal(kept)
+	return append(text, '}'), nil
 }
 
-// UnmarshalText reads what MarshalText has written, also in version 0.2, which wrote no Claim and no DueSince.
+// usualReason is as long as most texts of a lastText are at most, in bytes.
+const usualReason = 256
+
+// UnmarshalText reads what MarshalText has written, also in version 0.2, which wrote no claim and no due_since.
 func (l *lastText) UnmarshalText(text []byte) error {
-	var kept keptLast
-	if err := json.Unmarshal(text, &kept); err != nil {
-		return err
-	}
-	l.Last = kept.Reason
-	l.Last.At = l.Last.At.UTC()
-	if kept.Claim != "" {
-		if err := l.Number.UnmarshalText([]byte(kept.Claim)); err != nil {
+	members := flatjson.NewReader(text)
+	return members.Each(func(name string, value flatjson.Scalar) error {
+		switch name {
+		case "claim":
+			number, err := value.Text()
+			if err == nil {
+				err = l.Number.UnmarshalText(number)
+			}
+			return err
+		case "due_since":
+			since, err := strconv.ParseInt(string(value), 10, 64)
+			l.DueSince = time.UnixMilli(since).UTC()
 			return err
 		}
-	}
-	if kept.DueSince != 0 {
-		l.DueSince = time.UnixMilli(kept.DueSince).UTC()
-	}
-	return nil
+		return l.Last.read(name, value)
+	})
 }

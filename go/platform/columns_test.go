@@ -91,7 +91,9 @@ func TestValuesThatCannotBeWritten(t *testing.T) {
 // What a Store keeps of the last reason is read again, with since when the row is due. A text of version 0.2 is read,
 // too.
 func TestLastText(t *testing.T) {
-	reason := Reason{At: at(1), Kind: "poll", Status: 503, Description: `"due_since":1`}
+	reason := Reason{
+		At: at(1), Kind: "poll", Status: 503, Error: "Error", Description: `"due_since":1`, Lost: "it was \x01 lost",
+	}
 	for _, want := range []Entry{
 		{}, {Last: reason}, {DueSince: at(3)}, {Last: reason, DueSince: at(3)}, {Number: id("77")},
 		{Last: reason, DueSince: at(3), Number: id("77")},
@@ -103,8 +105,7 @@ func TestLastText(t *testing.T) {
 				check(t, (*lastText)(&got).UnmarshalText(text))
 			}
 			isNone := want.Last == Reason{} && want.DueSince.IsZero() && want.Number == osb.ID{}
-			if (text == nil) != isNone || got.Number != want.Number || got.Last.Kind != want.Last.Kind ||
-				!got.Last.At.Equal(want.Last.At) || got.Last.Description != want.Last.Description ||
+			if (text == nil) != isNone || got.Number != want.Number || got.Last != want.Last ||
 				!got.DueSince.Equal(want.DueSince) {
 				t.Errorf("%s: got %+v, %v, want what was written", text, got.Last, got.DueSince)
 			}
@@ -115,7 +116,10 @@ func TestLastText(t *testing.T) {
 	if got.Last.Kind != "poll" || !got.DueSince.IsZero() || got.Number != (osb.ID{}) {
 		t.Errorf("got %+v, due since %v, number %v, want poll, and neither", got.Last, got.DueSince, got.Number)
 	}
-	for _, text := range []string{`{"due_since": "x"}`, `{"claim": "x"}`} {
+	for _, text := range []string{
+		`{"due_since": "x"}`, `{"claim": "x"}`, `{"claim": 1}`, `{"at": "x"}`, `{"at": 1}`, `{"status": "x"}`, `{"kind": 1}`,
+		`{"kind": "poll"`, "",
+	} {
 		diff.Error(t, (*lastText)(&got).UnmarshalText([]byte(text)), "%s", text)
 	}
 }

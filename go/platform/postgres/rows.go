@@ -10,6 +10,7 @@ import (
 	"strings"
 	"time"
 
+	"pippinterm/internal/flatjson"
 	"pippinterm/osb"
 	"pippinterm/platform"
 )
@@ -43,7 +44,22 @@ type namesText struct{ of *platform.Names }
 
 func (n namesText) MarshalText() ([]byte, error) { return json.Marshal(n.of) }
 
-func (n namesText) UnmarshalText(text []byte) error { return json.Unmarshal(text, n.of) }
+func (n namesText) UnmarshalText(text []byte) error {
+	members := flatjson.NewReader(text)
+	return members.Each(func(name string, value flatjson.Scalar) error {
+		switch name {
+		case "instance":
+			return value.Into(&n.of.Instance)
+		case "binding":
+			return value.Into(&n.of.Binding)
+		case "service":
+			return value.Into(&n.of.Service)
+		case "plan":
+			return value.Into(&n.of.Plan)
+		}
+		return nil
+	})
+}
 
 // objectOf is an object with columns of an entry or a broker, as json_populate_recordset reads it. So a statement has
 // one parameter for any number of rows.
@@ -58,7 +74,7 @@ func objectOf[T any](of *T, columns platform.Columns[T]) ([]byte, error) {
 		if n == 0 {
 			before = '{'
 		}
-		object = appendText(append(object, before), column.Name)
+		object = flatjson.AppendText(append(object, before), column.Name)
 		object = appendValue(append(object, ':'), value)
 	}
 	return append(object, '}'), nil
@@ -99,11 +115,11 @@ func entryOf(line []byte) (entry platform.Entry, unreadable, err error) {
 // others are read. The text of a column that is NULL is nil.
 func readLine[T any](line []byte, columns platform.Columns[T], of *T) (texts [][]byte, err error) {
 	texts = make([][]byte, len(columns))
-	values := scalars{rest: line}
+	values := flatjson.NewReader(line)
 	for n, column := range columns {
-		value, err := values.next()
+		value, err := values.Next()
 		if err == nil {
-			texts[n], err = value.readInto(column.Member(of))
+			texts[n], err = readInto(column.Member(of), value)
 		}
 		if err != nil {
 			return nil, fmt.Errorf("the column %s of a row: %w", column.Name, err)

@@ -11,6 +11,7 @@ import (
 	"time"
 
 	"pippinterm/internal/diff"
+	"pippinterm/internal/flatjson"
 	"pippinterm/internal/pg/pgtest"
 	"pippinterm/platform"
 )
@@ -66,7 +67,7 @@ func TestTimes(t *testing.T) {
 		at := time.UnixMicro(random.Int63n(4e15)).UTC() // until 2096
 		text := appendValue(nil, at.Add(time.Duration(random.Intn(1000))))
 		var read time.Time
-		if _, err := scalar(text).readInto(&read); err != nil || !read.Equal(at) {
+		if _, err := readInto(&read, flatjson.Scalar(text)); err != nil || !read.Equal(at) {
 			t.Fatalf("%[1]v, written as %[2]s: got %[3]v, %[4]v, want %[1]v", at, text, read, err)
 		}
 		diff.Equal(t, string(appendValue(nil, read)), string(text), "%s", text)
@@ -77,7 +78,7 @@ func TestTimes(t *testing.T) {
 	} {
 		t.Run(text, func(t *testing.T) {
 			var read time.Time
-			if _, err := scalar(text).readInto(&read); err != nil || !read.Equal(want) {
+			if _, err := readInto(&read, flatjson.Scalar(text)); err != nil || !read.Equal(want) {
 				t.Errorf("got %v, %v, want %v", read, err, want)
 			}
 		})

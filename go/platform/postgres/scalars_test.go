@@ -6,6 +6,7 @@ import (
 	"time"
 
 	"pippinterm/internal/diff"
+	"pippinterm/internal/flatjson"
 	"pippinterm/platform"
 )
 
@@ -51,7 +52,7 @@ func TestReadInto(t *testing.T) {
 		{"null", &bytes, []byte("x")}, {`"\\x00ff07"`, &bytes, []byte{0, 255, 7}}, {`"\\x"`, &bytes, []byte{}},
 	} {
 		t.Run(test.written, func(t *testing.T) {
-			diff.Must(t, diff.Err(scalar(test.written).readInto(test.member)))
+			diff.Must(t, diff.Err(readInto(test.member, flatjson.Scalar(test.written))))
 			switch member := test.member.(type) {
 			case *string:
 				diff.Check(t, *member, test.want.(string), "")
@@ -71,23 +72,7 @@ func TestReadInto(t *testing.T) {
 		`"\\xzz"`: new([]byte), `"\u00"`: new(string), "1.5": new(int), "0": new(int64),
 	} {
 		t.Run("not "+written, func(t *testing.T) {
-			diff.Error(t, diff.Err(scalar(written).readInto(member)), "read into %T", member)
-		})
-	}
-}
-
-// The elements of an array are read in their order, with or without spaces, and those of no other text.
-func TestNextScalar(t *testing.T) {
-	for _, text := range []string{`[1, "a,]\"" , null,true]`, `[1,"a,]\"",null, true ]`} {
-		values := scalars{rest: []byte(text)}
-		for _, want := range []string{"1", `"a,]\""`, "null", "true"} {
-			diff.Equal(t, string(diff.Value(values.next())(t)), want, "%s", text)
-		}
-		diff.ErrorIs(t, diff.Err(values.next()), errArray, "after the last element of %s", text)
-	}
-	for _, text := range []string{"", "null", "[", "[]", `["a`, `["a\"`, "[1"} {
-		t.Run(text, func(t *testing.T) {
-			diff.ErrorIs(t, diff.Err((&scalars{rest: []byte(text)}).next()), errArray, "")
+			diff.Error(t, diff.Err(readInto(member, flatjson.Scalar(written))), "read into %T", member)
 		})
 	}
 }
@@ -100,4 +85,16 @@ func TestALineThatCannotBeRead(t *testing.T) {
 			diff.Error(t, err, "")
 		})
 	}
+}
+
+// Names are read as they were written, also those that a statement has written.
+func TestNamesText(t *testing.T) {
+	want := platform.Names{Instance: "an \"instance\"", Binding: "b", Service: "s", Plan: "p"}
+	var got platform.Names
+	diff.Must(t, namesText{&got}.UnmarshalText(diff.Value(namesText{&want}.MarshalText())(t)))
+	diff.Equal(t, got, want, "")
+	got = platform.Names{}
+	diff.Must(t, namesText{&got}.UnmarshalText([]byte(`{"instance" : "i", "service" : "s", "plan" : "p", "other" : 1}`)))
+	diff.Equal(t, got, platform.Names{Instance: "i", Service: "s", Plan: "p"}, "")
+	diff.Error(t, namesText{&got}.UnmarshalText([]byte(`{"instance": 1}`)), "a number")
 }

@@ -10,6 +10,7 @@ import (
 	"strings"
 	"time"
 
+	"pippinterm/internal/flatjson"
 	"pippinterm/osb"
 	"pippinterm/platform"
 )
@@ -588,10 +589,9 @@ func textOfStays(stays []stay) string {
 		if n > 0 {
 			text = append(text, ',')
 		}
-		text = appendText(append(text, `{"id":`...), it.key.String())
-		text = appendText(append(text, `,"state":`...), string(it.State))
-		text = appendValue(append(text, `,"since":`...), it.Since)
-		text = append(text, '}')
+		text = flatjson.AppendText(append(text, `{"id":`...), it.key.String())
+		text = flatjson.AppendMember(text, "state", string(it.State))
+		text = append(appendValue(append(text, `,"since":`...), it.Since), '}')
 	}
 	return string(append(text, ']'))
 }
