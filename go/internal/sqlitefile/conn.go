@@ -38,11 +38,10 @@ func isFull(err error) bool { return errors.Is(err, syscall.ENOSPC) || errors.Is
 
 // A Conn is a connection. One goroutine at a time uses it.
 type Conn struct {
-	sqlite                       sqliteConn
-	begin, end                   *Statement
-	savepoint, rollback, release *Statement
-	prepared                     []*Statement
-	writes                       int // how many statements were executed that return no rows, and haven't failed
+	sqlite     sqliteConn
+	begin, end *Statement
+	prepared   []*Statement
+	writes     int // how many statements were executed that return no rows, and haven't failed
 }
 
 // A sqliteConn is what is used of a *sqlite3.SQLiteConn.
@@ -100,7 +99,7 @@ func escapePath(path string) string { return (&url.URL{Path: path}).EscapedPath(
 func (c *Conn) set(ctx context.Context) error {
 	for _, statement := range []string{
 		"PRAGMA journal_mode = WAL", "PRAGMA synchronous = FULL",
-		"PRAGMA temp_store = MEMORY", // what SAVEPOINT needs to undo would be written to a file
+		"PRAGMA temp_store = MEMORY", // what a statement with a trigger needs to undo would be written to a file
 	} {
 		if err := Patiently(ctx, func() error { return c.Exec(statement) }); err != nil {
 			return err
@@ -108,7 +107,6 @@ func (c *Conn) set(ctx context.Context) error {
 	}
 	for to, text := range map[**Statement]string{
 		&c.begin: "BEGIN IMMEDIATE", &c.end: "COMMIT",
-		&c.savepoint: "SAVEPOINT job", &c.rollback: "ROLLBACK TO job", &c.release: "RELEASE job",
 	} {
 		var err error
 		if *to, err = c.Prepare(ctx, text); err != nil {
@@ -191,30 +189,6 @@ func (c *Conn) Snapshot(do func() error) error {
 	}
 	defer func() { _ = c.Exec("ROLLBACK") }() // nothing was written
 	return do()
-}
-
-// WithSavepoint calls do in a transaction, and undoes what it has written if it fails or panics: what was written before
-// stays. It may be called in itself.
-func (c *Conn) WithSavepoint(do func() error) error {
-	if !c.InTransaction() {
-		return ErrBroken
-	}
-	if err := c.savepoint.run(); err != nil {
-		return err
-	}
-	failed := Safely(do)
-	if failed != nil && c.InTransaction() {
-		if err := c.rollback.run(); err != nil {
-			return fmt.Errorf("%w: %v, after %v", ErrBroken, err, failed)
-		}
-	}
-	if !c.InTransaction() {
-		return brokenOff(failed)
-	}
-	if err := c.release.run(); err != nil {
-		return fmt.Errorf("%w: %v, after %v", ErrBroken, err, failed)
-	}
-	return failed
 }
 
 // brokenOff is ErrBroken, with what has failed before, if anything has.

@@ -163,28 +163,6 @@ func first(errs ...error) error {
 	return nil
 }
 
-// What is undone in a job is undone alone.
-func TestWithSavepoint(t *testing.T) {
-	file := open(t, filepath.Join(t.TempDir(), "file"), options())
-	err := file.Write(background, func(n *notes) error {
-		if err := note("a")(n); err != nil {
-			return err
-		}
-		err := n.WithSavepoint(func() error {
-			if err := n.WithSavepoint(func() error { return note("b")(n) }); err != nil {
-				return err
-			}
-			return first(note("c")(n), errWrong)
-		})
-		if !errors.Is(err, errWrong) {
-			return fmt.Errorf("WithSavepoint: %w", err)
-		}
-		return n.WithSavepoint(func() error { return note("d")(n) })
-	})
-	diff.NoError(t, err, "")
-	wantNotes(t, file, "a", "d")
-}
-
 // If the transaction itself is broken off, as SQLite does if the disk is full, no job of it is reported as written. The
 // next one is written.
 func TestTransactionFails(t *testing.T) {
@@ -199,18 +177,14 @@ func TestTransactionFails(t *testing.T) {
 // of its own. Nothing is written, and neither is what it would write after that, without a transaction.
 func TestRolledBack(t *testing.T) {
 	ends := func(n *notes) error { return first(note("lost")(n), n.Exec("ROLLBACK")) }
-	undoing := func(n *notes) error { return n.WithSavepoint(func() error { return ends(n) }) }
-	goesOn := func(n *notes) error {
-		return first(ends(n), n.WithSavepoint(func() error { return note("alone")(n) }))
-	}
+	knows := func(n *notes) error { return first(ends(n), ErrBroken) }
 	transaction := func(n *notes) error { return n.Transaction(background, func() error { return ends(n) }) }
 	for _, test := range []struct {
 		name string
 		call func(*File[*notes]) error
 	}{
 		{"Write", func(file *File[*notes]) error { return file.Write(background, ends) }},
-		{"WithSavepoint in a Write", func(file *File[*notes]) error { return file.Write(background, undoing) }},
-		{"WithSavepoint after the end", func(file *File[*notes]) error { return file.Write(background, goesOn) }},
+		{"Write that returns it", func(file *File[*notes]) error { return file.Write(background, knows) }},
 		{"Transaction", func(file *File[*notes]) error { return file.Read(background, transaction) }},
 	} {
 		t.Run(test.name, func(t *testing.T) {
@@ -246,8 +220,7 @@ func TestTransactionThatFails(t *testing.T) {
 	diff.NoError(t, file.Write(background, note("next")), "the next write")
 }
 
-// Jobs that fail, panic or break a constraint before they have written anything undo nothing: each job is done once,
-// without a savepoint.
+// Jobs that fail, panic or break a constraint before they have written anything undo nothing: each job is done once.
 func TestJobsThatFailUnwritten(t *testing.T) {
 	var begun, undone, done atomic.Int64
 	with := options()
@@ -750,25 +723,18 @@ func TestStatementsThatFail(t *testing.T) {
 	}
 }
 
-// If a job or a part of it fails, and what would undo it fails too, nothing of the transaction is written.
+// If a job fails, and what would undo it fails too, nothing of the transaction is written.
 func TestJobsThatAreNotUndone(t *testing.T) {
-	wrong := func(n *notes) error { return first(note("a")(n), errWrong) }
-	for name, job := range map[string]func(*notes) error{
-		"job": wrong, "part": func(n *notes) error { return n.WithSavepoint(func() error { return wrong(n) }) },
-	} {
-		t.Run(name, func(t *testing.T) {
-			by, with := &storefaults.Driver{}, options()
-			with.Driver = by
-			file := open(t, filepath.Join(t.TempDir(), "file"), with)
-			for n, failed := 1, "none yet"; failed != ""; n++ {
-				by.Fail(n, storefaults.Refused)
-				err := file.Write(background, job)
-				failed = by.FailedStatement()
-				by.Fail(0, storefaults.Refused)
-				diff.Error(t, err, "%q has failed", failed)
-				wantNotes(t, file)
-			}
-		})
+	by, with := &storefaults.Driver{}, options()
+	with.Driver = by
+	file := open(t, filepath.Join(t.TempDir(), "file"), with)
+	for n, failed := 1, "none yet"; failed != ""; n++ {
+		by.Fail(n, storefaults.Refused)
+		err := file.Write(background, func(n *notes) error { return first(note("a")(n), errWrong) })
+		failed = by.FailedStatement()
+		by.Fail(0, storefaults.Refused)
+		diff.Error(t, err, "%q has failed", failed)
+		wantNotes(t, file)
 	}
 }
 

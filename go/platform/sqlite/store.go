@@ -146,13 +146,35 @@ func (s *Store) Change(ctx context.Context, key platform.Key, step platform.Step
 	})
 }
 
-// Claim is one transaction, or a part of one. Nobody writes beside it, so no row is locked by another transaction.
+// Claim is one transaction, or a part of one. Nobody writes beside it, so no row is locked by another transaction. If a
+// row can't be written, and a part of it is, the transaction is rolled back, and the claim is done again without the row:
+// a savepoint for each row would cost more than its statements.
 func (s *Store) Claim(
 	ctx context.Context, brokers []string, most int, step platform.Step,
 ) (claimed []platform.ClaimedRow, err error) {
 	if most <= 0 || len(brokers) == 0 {
 		return nil, ctx.Err()
 	}
+	for failed := map[platform.Key]error{}; ; {
+		claimed, err = s.claimExcept(ctx, failed, brokers, most, step)
+		var half halfWritten
+		if !errors.As(err, &half) {
+			return claimed, err
+		}
+		failed[half.key] = half.error
+	}
+}
+
+// A halfWritten is why a row can't be written of which a part is.
+type halfWritten struct {
+	key platform.Key
+	error
+}
+
+// claimExcept is Claim that doesn't step rows that have failed.
+func (s *Store) claimExcept(
+	ctx context.Context, failed map[platform.Key]error, brokers []string, most int, step platform.Step,
+) (claimed []platform.ClaimedRow, err error) {
 	err = s.write(ctx, func(c *connection) error {
 		now := now()
 		claimed = nil // the job may be done twice
@@ -160,14 +182,20 @@ func (s *Store) Claim(
 		if err != nil {
 			return err
 		}
-		for _, key := range keys {
-			failed := c.claim(now, key.key, step)
-			if failed != nil {
-				if err := c.postpone(now, key.key); err != nil {
-					return fmt.Errorf("%w (after: %v)", err, failed)
+		for _, due := range keys {
+			row := platform.ClaimedRow{Key: due.key, Err: failed[due.key]}
+			if row.Err == nil {
+				row.Err = c.claim(now, due.key, step)
+			}
+			if half, isHalf := row.Err.(halfWritten); isHalf {
+				return half
+			}
+			if row.Err != nil {
+				if err := c.postpone(now, due.key); err != nil {
+					return fmt.Errorf("%w (after: %v)", err, row.Err)
 				}
 			}
-			claimed = append(claimed, platform.ClaimedRow{Key: key.key, Err: failed})
+			claimed = append(claimed, row)
 		}
 		return nil
 	})
@@ -177,7 +205,7 @@ func (s *Store) Claim(
 	return claimed, nil
 }
 
-// claim steps one row. If it fails, nothing of the row is written.
+// claim steps one row. If it fails, nothing of the row is written, unless the error is a halfWritten.
 func (c *connection) claim(now time.Time, key platform.Key, step platform.Step) error {
 	snapshot, err := c.readSnapshot(key)
 	if err != nil {
@@ -189,15 +217,12 @@ func (c *connection) claim(now time.Time, key platform.Key, step platform.Step) 
 		change, err = step(now, snapshot)
 		return err
 	})
-	switch {
-	case err != nil || change == nil:
+	if err != nil || change == nil {
 		return err
-	case isOne(&before, change):
-		return c.write(now, &before, change)
 	}
-	err = c.WithSavepoint(func() error { return c.write(now, &before, change) })
-	if err != nil {
-		c.known.forgetAll()
+	err = c.write(now, &before, change)
+	if err != nil && !isOne(&before, change) {
+		return halfWritten{key, err}
 	}
 	return err
 }
