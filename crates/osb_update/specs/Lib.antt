@@ -1,0 +1,5 @@
+pub mod Begun
+pub mod Ended
+pub mod Recorded
+pub mod Reported
+pub mod Settings
