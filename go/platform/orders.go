@@ -555,8 +555,9 @@ func (e *Entry) retry(now time.Time) (transaction osb.PlatformTransaction, err e
 	return transaction, nil
 }
 
-// Abandon ends the record as abandoned, for a reason that an operator gives. Nothing is sent any more. Nobody knows
-// whether the resource exists. If a binding of an instance may exist, the instance can't be abandoned. An instance
+// Abandon ends the record as abandoned, for a reason that an operator gives. No further request is claimed. One that a
+// worker has claimed before may still be sent, within the time of its exchange. Nobody knows whether the resource
+// exists. If a binding of an instance may exist, the instance can't be abandoned. An instance
 // whose bindings are gone or abandoned can be removed, and it can be abandoned. Bindings of it that were ordered and
 // never sent are withdrawn.
 //
