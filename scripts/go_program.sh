@@ -9,7 +9,8 @@
 program=$top/out/go/$who
 install="apt-get install golang-go gcc libc6-dev pkg-config golang-github-mattn-go-sqlite3-dev \
 golang-github-lib-pq-dev golang-github-spf13-cobra-dev golang-github-rs-zerolog-dev \
-golang-github-prometheus-client-golang-dev golang-github-pires-go-proxyproto-dev golang-github-coreos-go-systemd-dev"
+golang-github-prometheus-client-golang-dev golang-github-pires-go-proxyproto-dev golang-github-coreos-go-systemd-dev \
+golang-github-json-iterator-go-dev"
 
 # run_go_program VARIABLE ARGUMENT ..: runs the program in place of this shell. If the environment has VARIABLE, it
 # names the program that runs. Else out/go/$who runs, which is built first if it isn't built from the sources in this
@@ -75,7 +76,7 @@ check_tools() {
         command -v "$name" >/dev/null || fail "to build the program, $name is missing: $install"
     done
     for name in mattn/go-sqlite3 lib/pq spf13/cobra rs/zerolog prometheus/client_golang pires/go-proxyproto \
-        coreos/go-systemd; do
+        coreos/go-systemd json-iterator/go; do
         [ -d "/usr/share/gocode/src/github.com/$name" ] ||
             fail "to build the program, the Go package github.com/$name is missing: $install"
     done

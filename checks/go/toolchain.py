@@ -63,6 +63,7 @@ NEEDS = {
     "github.com/prometheus/client_golang": "golang-github-prometheus-client-golang-dev",
     "github.com/pires/go-proxyproto": "golang-github-pires-go-proxyproto-dev",
     "github.com/coreos/go-systemd": "golang-github-coreos-go-systemd-dev",
+    "github.com/json-iterator/go": "golang-github-json-iterator-go-dev",
 }
 """The packages of others, and the Debian packages that have them."""
 

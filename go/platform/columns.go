@@ -5,10 +5,10 @@ import (
 	"encoding"
 	"encoding/json"
 	"fmt"
-	"strconv"
 	"time"
 
-	"pippinterm/internal/flatjson"
+	jsoniter "github.com/json-iterator/go"
+
 	"pippinterm/osb"
 )
 
@@ -203,92 +203,64 @@ func (r *reasonText) MarshalText() ([]byte, error) {
 	if *r == (reasonText{}) {
 		return nil, nil
 	}
-	return append(appendReason(nil, Reason(*r)), '}'), nil
+	reason := Reason(*r)
+	reason.At = reason.At.UTC()
+	return jsoniter.Marshal(reason)
 }
 
 func (r *reasonText) UnmarshalText(text []byte) error {
-	members := flatjson.NewReader(text)
-	return members.Each((*Reason)(r).read)
-}
-
-// appendReason appends an object of a reason without its end.
-func appendReason(to []byte, reason Reason) []byte {
-	to = append(reason.At.UTC().AppendFormat(append(to, `{"at":"`...), time.RFC3339Nano), '"')
-	to = flatjson.AppendMember(to, "kind", reason.Kind)
-	if reason.Status != 0 {
-		to = strconv.AppendInt(append(to, `,"status":`...), int64(reason.Status), 10)
-	}
-	for _, member := range [...]struct{ name, text string }{
-		{"error", reason.Error}, {"description", reason.Description}, {"lost", reason.Lost},
-	} {
-		if member.text != "" {
-			to = flatjson.AppendMember(to, member.name, member.text)
-		}
-	}
-	return to
-}
-
-// read reads a member of an object of a reason. It passes over a member that isn't of a reason.
-func (r *Reason) read(name string, value flatjson.Scalar) (err error) {
-	switch name {
-	case "at":
-		var at string
-		if err = value.Into(&at); err == nil {
-			r.At, err = time.Parse(time.RFC3339, at)
-			r.At = r.At.UTC()
-		}
-	case "kind":
-		err = value.Into(&r.Kind)
-	case "status":
-		r.Status, err = strconv.Atoi(string(value))
-	case "error":
-		err = value.Into(&r.Error)
-	case "description":
-		err = value.Into(&r.Description)
-	case "lost":
-		err = value.Into(&r.Lost)
-	}
+	err := unmarshal(text, (*Reason)(r))
+	r.At = r.At.UTC()
 	return err
 }
 
-// A lastText is Entry.Last, Entry.Number and Entry.DueSince: an object of the reason with the members claim, which is
-// Entry.Number, and due_since, in milliseconds since 1970.
+// unmarshal reads JSON. Bytes that aren't UTF-8 become U+FFFD, as they do where jsoniter.Marshal writes. Each step reads
+// and writes such texts, and encoding/json takes several times as long.
+func unmarshal(text []byte, to any) error {
+	return jsoniter.Unmarshal(bytes.ToValidUTF8(text, []byte("\uFFFD")), to)
+}
+
+// A lastText is Entry.Last, Entry.Number and Entry.DueSince.
 type lastText Entry
 
-// MarshalText writes DueSince as the number of the member due_since, which comes last.
+// A keptLast is a lastText in JSON.
+type keptLast struct {
+	Reason
+	Claim    string `json:"claim,omitempty"`     // Entry.Number
+	DueSince int64  `json:"due_since,omitempty"` // in milliseconds since 1970
+}
+
+// MarshalText writes DueSince as the number of the member due_since, in milliseconds since 1970, which comes last.
 func (l *lastText) MarshalText() ([]byte, error) {
 	if l.Last == (Reason{}) && l.DueSince.IsZero() && l.Number == (osb.ID{}) {
 		return nil, nil
 	}
-	text := appendReason(make([]byte, 0, usualReason), l.Last)
+	kept := keptLast{Reason: l.Last}
+	kept.At = kept.At.UTC()
 	if l.Number != (osb.ID{}) {
-		text = flatjson.AppendMember(text, "claim", l.Number.String())
+		kept.Claim = l.Number.String()
 	}
 	if !l.DueSince.IsZero() {
-		text = strconv.AppendInt(append(text, `,"due_since":`...), l.DueSince.UnixMilli(), 10)
+		kept.DueSince = l.DueSince.UnixMilli()
 	}
-	return append(text, '}'), nil
+	return jsoniter.Marshal(kept)
 }
 
-// usualReason is as long as most texts of a lastText are at most, in bytes.
-const usualReason = 256
-
-// UnmarshalText reads what MarshalText has written, also in version 0.2, which wrote no claim and no due_since.
+// UnmarshalText reads what MarshalText has written, also in version 0.2, which wrote no Claim and no DueSince.
 func (l *lastText) UnmarshalText(text []byte) error {
-	members := flatjson.NewReader(text)
-	return members.Each(func(name string, value flatjson.Scalar) error {
-		switch name {
-		case "claim":
-			number, err := value.Text()
-			if err == nil {
-				err = l.Number.UnmarshalText(number)
-			}
-			return err
-		case "due_since":
-			since, err := strconv.ParseInt(string(value), 10, 64)
-			l.DueSince = time.UnixMilli(since).UTC()
+	var kept keptLast
+	if err := unmarshal(text, &kept); err != nil {
+		return err
+	}
+	l.Last = kept.Reason
+	l.Last.At = l.Last.At.UTC()
+	if kept.Claim != "" {
+		if err := l.Number.UnmarshalText([]byte(kept.Claim)); err != nil {
 			return err
 		}
-		return l.Last.read(name, value)
-	})
+	}
+	if kept.DueSince != 0 {
+		l.DueSince = time.UnixMilli(kept.DueSince).UTC()
+	}
+	return nil
 }

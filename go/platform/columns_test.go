@@ -112,6 +112,12 @@ func TestLastText(t *testing.T) {
 		})
 	}
 	var got Entry
+	text := diff.Value((*lastText)(&Entry{Last: Reason{Description: "a\xffb"}}).MarshalText())(t)
+	check(t, (*lastText)(&got).UnmarshalText(text))
+	diff.Equal(t, got.Last.Description, "a\uFFFDb", "written, and read")
+	check(t, (*lastText)(&got).UnmarshalText([]byte("{\"description\": \"\xff\"}")))
+	diff.Equal(t, got.Last.Description, "\uFFFD", "read")
+	got = Entry{}
 	check(t, (*lastText)(&got).UnmarshalText([]byte(`{"at": "2026-01-02T03:04:05Z", "kind": "poll"}`)))
 	if got.Last.Kind != "poll" || !got.DueSince.IsZero() || got.Number != (osb.ID{}) {
 		t.Errorf("got %+v, due since %v, number %v, want poll, and neither", got.Last, got.DueSince, got.Number)

@@ -3,14 +3,15 @@ package postgres
 import (
 	"context"
 	"database/sql"
-	"encoding/json"
 	"errors"
 	"fmt"
+	"io"
 	"math"
 	"strings"
 	"time"
 
-	"pippinterm/internal/flatjson"
+	jsoniter "github.com/json-iterator/go"
+
 	"pippinterm/osb"
 	"pippinterm/platform"
 )
@@ -42,42 +43,28 @@ var (
 // A namesText is platform.Names as an object.
 type namesText struct{ of *platform.Names }
 
-func (n namesText) MarshalText() ([]byte, error) { return json.Marshal(n.of) }
+func (n namesText) MarshalText() ([]byte, error) { return jsoniter.Marshal(n.of) }
 
-func (n namesText) UnmarshalText(text []byte) error {
-	members := flatjson.NewReader(text)
-	return members.Each(func(name string, value flatjson.Scalar) error {
-		switch name {
-		case "instance":
-			return value.Into(&n.of.Instance)
-		case "binding":
-			return value.Into(&n.of.Binding)
-		case "service":
-			return value.Into(&n.of.Service)
-		case "plan":
-			return value.Into(&n.of.Plan)
-		}
-		return nil
-	})
-}
+func (n namesText) UnmarshalText(text []byte) error { return jsoniter.Unmarshal(text, n.of) }
 
 // objectOf is an object with columns of an entry or a broker, as json_populate_recordset reads it. So a statement has
 // one parameter for any number of rows.
 func objectOf[T any](of *T, columns platform.Columns[T]) ([]byte, error) {
-	object := make([]byte, 0, usualObject)
+	object := jsoniter.NewStream(jsoniter.ConfigDefault, nil, usualObject)
+	object.WriteObjectStart()
 	for n, column := range columns {
 		value, err := column.Value(of)
 		if err != nil {
 			return nil, err
 		}
-		before := byte(',')
-		if n == 0 {
-			before = '{'
+		if n > 0 {
+			object.WriteMore()
 		}
-		object = flatjson.AppendText(append(object, before), column.Name)
-		object = appendValue(append(object, ':'), value)
+		object.WriteObjectField(column.Name)
+		writeValue(object, value)
 	}
-	return append(object, '}'), nil
+	object.WriteObjectEnd()
+	return object.Buffer(), object.Error
 }
 
 // usualObject is as long as most objects are at most, in bytes.
@@ -114,16 +101,23 @@ func entryOf(line []byte) (entry platform.Entry, unreadable, err error) {
 // readLine reads an array of columns, and returns the texts of those that are a Text: readTexts reads them, once all
 // others are read. The text of a column that is NULL is nil.
 func readLine[T any](line []byte, columns platform.Columns[T], of *T) (texts [][]byte, err error) {
-	texts = make([][]byte, len(columns))
-	values := flatjson.NewReader(line)
-	for n, column := range columns {
-		value, err := values.Next()
-		if err == nil {
-			texts[n], err = readInto(column.Member(of), value)
+	texts = make([][]byte, 0, len(columns))
+	values := valuesOf(line)
+	isWhole := values.WhatIsNext() == jsoniter.ArrayValue && values.ReadArrayCB(func(*jsoniter.Iterator) bool {
+		if len(texts) == len(columns) {
+			return false
 		}
-		if err != nil {
-			return nil, fmt.Errorf("the column %s of a row: %w", column.Name, err)
+		var text []byte
+		if text, err = readInto(columns[len(texts)].Member(of), values); err == nil {
+			texts = append(texts, text)
 		}
+		return err == nil
+	})
+	if len(texts) < len(columns) {
+		return nil, fmt.Errorf("the column %s of a row: %w", columns[len(texts)].Name, either(err, errNotRead))
+	}
+	if !isWhole || values.WhatIsNext() != jsoniter.InvalidValue || values.Error != io.EOF {
+		return nil, fmt.Errorf("the end of a row: %w", errNotRead)
 	}
 	return texts, nil
 }

@@ -11,7 +11,6 @@ import (
 	"time"
 
 	"pippinterm/internal/diff"
-	"pippinterm/internal/flatjson"
 	"pippinterm/internal/pg/pgtest"
 	"pippinterm/platform"
 )
@@ -65,12 +64,12 @@ func TestTimes(t *testing.T) {
 	random := rand.New(rand.NewSource(1))
 	for n := 0; n < 10000; n++ {
 		at := time.UnixMicro(random.Int63n(4e15)).UTC() // until 2096
-		text := appendValue(nil, at.Add(time.Duration(random.Intn(1000))))
+		text := written(at.Add(time.Duration(random.Intn(1000))))
 		var read time.Time
-		if _, err := readInto(&read, flatjson.Scalar(text)); err != nil || !read.Equal(at) {
+		if _, err := readInto(&read, valuesOf(text)); err != nil || !read.Equal(at) {
 			t.Fatalf("%[1]v, written as %[2]s: got %[3]v, %[4]v, want %[1]v", at, text, read, err)
 		}
-		diff.Equal(t, string(appendValue(nil, read)), string(text), "%s", text)
+		diff.Equal(t, string(written(read)), string(text), "%s", text)
 	}
 	for text, want := range map[string]time.Time{
 		"null": {}, "0": time.Unix(0, 0), "1.5": time.UnixMilli(1500), "-0.25": time.UnixMilli(-250),
@@ -78,7 +77,7 @@ func TestTimes(t *testing.T) {
 	} {
 		t.Run(text, func(t *testing.T) {
 			var read time.Time
-			if _, err := readInto(&read, flatjson.Scalar(text)); err != nil || !read.Equal(want) {
+			if _, err := readInto(&read, valuesOf([]byte(text))); err != nil || !read.Equal(want) {
 				t.Errorf("got %v, %v, want %v", read, err, want)
 			}
 		})

@@ -1,69 +1,88 @@
 package postgres
 
 import (
+	"bytes"
 	"encoding/hex"
+	"errors"
 	"fmt"
+	"io"
 	"math"
-	"strconv"
 	"strings"
 	"time"
 
-	"pippinterm/internal/flatjson"
+	jsoniter "github.com/json-iterator/go"
+
 	"pippinterm/platform"
 )
 
-// appendValue appends a value of a column (platform.Column.Value). Times are seconds since 1970, in whole microseconds.
-func appendValue(to []byte, value any) []byte {
+// writeValue writes a value of a column (platform.Column.Value). Times are seconds since 1970, in whole microseconds.
+func writeValue(to *jsoniter.Stream, value any) {
 	switch it := value.(type) {
 	case string:
-		return flatjson.AppendText(to, storable(it))
+		to.WriteString(storable(it))
 	case int:
-		return strconv.AppendInt(to, int64(it), 10)
+		to.WriteInt(it)
 	case bool:
-		return strconv.AppendBool(to, it)
+		to.WriteBool(it)
 	case time.Time:
-		return appendNumber(to, secondsOf(it))
+		to.WriteFloat64(secondsOf(it))
 	case time.Duration:
-		return appendNumber(to, it.Seconds())
+		to.WriteFloat64(it.Seconds())
 	case []byte:
-		return flatjson.AppendText(to, `\x`+hex.EncodeToString(it)) // as a column of the type bytea reads it
+		to.WriteString(`\x` + hex.EncodeToString(it)) // as a column of the type bytea reads it
+	default:
+		to.WriteNil()
 	}
-	return append(to, "null"...)
 }
 
-func appendNumber(to []byte, number float64) []byte {
-	return strconv.AppendFloat(to, number, 'f', -1, 64)
+// errNotRead reports that a text isn't JSON, or has a value of another type. The errors of jsoniter quote what is around
+// the value, which may be secret.
+var errNotRead = errors.New("it isn't JSON of the column's type")
+
+// valuesOf returns an iterator over JSON, where bytes that aren't UTF-8 become U+FFFD.
+func valuesOf(text []byte) *jsoniter.Iterator {
+	return jsoniter.ParseBytes(jsoniter.ConfigDefault, bytes.ToValidUTF8(text, []byte("\uFFFD")))
 }
 
-// readInto reads a value into the member of a column, which NULL leaves as it is. That of a Text is only returned, or
-// nil if it is NULL.
-func readInto(member any, value flatjson.Scalar) (text []byte, err error) {
-	if value.IsNull() {
-		return nil, nil
+// failureOf returns errNotRead if a call of values has failed. At the end of the text, values.Error is io.EOF.
+func failureOf(values *jsoniter.Iterator) error {
+	if values.Error != nil && values.Error != io.EOF {
+		return errNotRead
+	}
+	return nil
+}
+
+// readInto reads the next value into the member of a column, which NULL leaves as it is. That of a Text is only returned,
+// or nil if it is NULL.
+//
+// A number is read by strconv: ReadInt takes some that are beyond 64 bits for others.
+func readInto(member any, values *jsoniter.Iterator) (text []byte, err error) {
+	if values.ReadNil() {
+		return nil, failureOf(values)
 	}
 	switch member := member.(type) {
 	case *string:
-		err = value.Into(member)
+		*member = values.ReadString()
 	case *int:
-		*member, err = strconv.Atoi(string(value))
+		var read int64
+		read, err = values.ReadNumber().Int64()
+		*member = int(read)
 	case *bool:
-		*member, err = strconv.ParseBool(string(value))
+		*member = values.ReadBool()
 	case *time.Time:
 		var read float64
-		read, err = strconv.ParseFloat(string(value), 64)
+		read, err = values.ReadNumber().Float64()
 		*member = timeOf(read)
 	case *time.Duration:
 		var read float64
-		read, err = strconv.ParseFloat(string(value), 64)
+		read, err = values.ReadNumber().Float64()
 		*member = time.Duration(math.Round(read*1e6)) * time.Microsecond
 	case *[]byte:
-		if text, err = value.Text(); err == nil {
-			*member, err = hex.DecodeString(strings.TrimPrefix(string(text), `\x`))
-		}
+		*member, err = hex.DecodeString(strings.TrimPrefix(values.ReadString(), `\x`))
 	case platform.Text:
-		return value.Text()
+		text = []byte(values.ReadString())
 	default:
 		err = fmt.Errorf("a column can't be read into %T", member)
 	}
-	return nil, err
+	return text, either(failureOf(values), err)
 }

@@ -5,8 +5,9 @@ import (
 	"testing"
 	"time"
 
+	jsoniter "github.com/json-iterator/go"
+
 	"pippinterm/internal/diff"
-	"pippinterm/internal/flatjson"
 	"pippinterm/platform"
 )
 
@@ -29,13 +30,19 @@ func TestScalars(t *testing.T) {
 		"no bytes":  {[]byte{}, `"\\x"`},
 	} {
 		t.Run(name, func(t *testing.T) {
-			text := appendValue(nil, test.value)
+			text := written(test.value)
 			var got, want any
 			diff.Must(t, json.Unmarshal(text, &got))
 			diff.Must(t, json.Unmarshal([]byte(test.want), &want))
 			diff.Check(t, got, want, "%s", text)
 		})
 	}
+}
+
+func written(value any) []byte {
+	stream := jsoniter.NewStream(jsoniter.ConfigDefault, nil, 0)
+	writeValue(stream, value)
+	return stream.Buffer()
 }
 
 // A member is read as json_build_array writes it, and NULL leaves it as it is.
@@ -52,7 +59,7 @@ func TestReadInto(t *testing.T) {
 		{"null", &bytes, []byte("x")}, {`"\\x00ff07"`, &bytes, []byte{0, 255, 7}}, {`"\\x"`, &bytes, []byte{}},
 	} {
 		t.Run(test.written, func(t *testing.T) {
-			diff.Must(t, diff.Err(readInto(test.member, flatjson.Scalar(test.written))))
+			diff.Must(t, diff.Err(readInto(test.member, valuesOf([]byte(test.written)))))
 			switch member := test.member.(type) {
 			case *string:
 				diff.Check(t, *member, test.want.(string), "")
@@ -70,15 +77,28 @@ func TestReadInto(t *testing.T) {
 	for written, member := range map[string]any{
 		`"x"`: new(int), "7": new(string), "2": new(bool), "x": new(time.Time), `"1"`: new(time.Duration),
 		`"\\xzz"`: new([]byte), `"\u00"`: new(string), "1.5": new(int), "0": new(int64),
+		"25000000000000000000": new(int), "nul": new(int), "\"\n\"": new(string),
 	} {
 		t.Run("not "+written, func(t *testing.T) {
-			diff.Error(t, diff.Err(readInto(member, flatjson.Scalar(written))), "read into %T", member)
+			diff.Error(t, diff.Err(readInto(member, valuesOf([]byte(written)))), "read into %T", member)
 		})
 	}
 }
 
-// A row whose columns can't be read has no entry.
+// A row whose columns can't be read has no entry. It is a whole array, with an element for each column.
 func TestALineThatCannotBeRead(t *testing.T) {
+	worker := entryColumns{{Name: "worker", Member: func(e *platform.Entry) any { return &e.Lease.Worker }}}
+	var entry platform.Entry
+	diff.Must(t, diff.Err(readLine([]byte(` [ "a" ] `), worker, &entry)))
+	diff.Equal(t, entry.Lease.Worker, "a", "the column")
+	for _, line := range []string{
+		"", "null", "[", "[]", `["a`, `["a"`, `["a"}`, `["a",`, `["a",]`, `["a", "b"]`, `["a"null`, `["a"[]`, `["a"]]`, `["a"]x`,
+		`["a"]1`, `,"a"]`, `["a]`, `[["a"]]`, `[{}]`, `{"a"}`, `"a"`,
+	} {
+		t.Run(line, func(t *testing.T) {
+			diff.Error(t, diff.Err(readLine([]byte(line), worker, &entry)), "")
+		})
+	}
 	for _, line := range []string{"[]", `["a", 1]`, `[null, null, 7]`} {
 		t.Run(line, func(t *testing.T) {
 			_, err := readLine([]byte(line), rowColumns, &platform.Entry{})

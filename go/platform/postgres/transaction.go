@@ -10,7 +10,8 @@ import (
 	"strings"
 	"time"
 
-	"pippinterm/internal/flatjson"
+	jsoniter "github.com/json-iterator/go"
+
 	"pippinterm/osb"
 	"pippinterm/platform"
 )
@@ -569,11 +570,13 @@ SELECT (SELECT count(*) FROM i), (SELECT count(*) FROM b), (SELECT count(*) FROM
 `
 
 func (b *batch) writeRows(instances, bindings objects) error {
-	got, want := [3]int{}, [3]int{len(instances.ids), len(bindings.ids), len(b.stays)}
-	parameters := []any{
-		instances.text(), bindings.text(), textOfStays(b.stays), array(instances.ids), array(bindings.ids),
+	stays, err := jsoniter.MarshalToString(keptStays(b.stays))
+	if err != nil {
+		return err
 	}
-	err := b.each(b.send, parameters, func(rows *sql.Rows) error {
+	got, want := [3]int{}, [3]int{len(instances.ids), len(bindings.ids), len(b.stays)}
+	parameters := []any{instances.text(), bindings.text(), stays, array(instances.ids), array(bindings.ids)}
+	err = b.each(b.send, parameters, func(rows *sql.Rows) error {
 		return rows.Scan(&got[0], &got[1], &got[2])
 	})
 	if err == nil && got != want {
@@ -582,18 +585,19 @@ func (b *batch) writeRows(instances, bindings objects) error {
 	return err
 }
 
-// textOfStays is an array of stays, as json_populate_recordset reads it.
-func textOfStays(stays []stay) string {
-	text := []byte("[")
-	for n, it := range stays {
-		if n > 0 {
-			text = append(text, ',')
-		}
-		text = flatjson.AppendText(append(text, `{"id":`...), it.key.String())
-		text = flatjson.AppendMember(text, "state", string(it.State))
-		text = append(appendValue(append(text, `,"since":`...), it.Since), '}')
+// A keptStay is a stay in JSON, as json_populate_recordset reads it.
+type keptStay struct {
+	ID    string         `json:"id"`
+	State platform.State `json:"state"`
+	Since float64        `json:"since"` // secondsOf
+}
+
+func keptStays(stays []stay) []keptStay {
+	kept := make([]keptStay, 0, len(stays))
+	for _, it := range stays {
+		kept = append(kept, keptStay{it.key.String(), it.State, secondsOf(it.Since)})
 	}
-	return string(append(text, ']'))
+	return kept
 }
 
 // objects are rows of one table that are to be written, with the ids of their instances.
