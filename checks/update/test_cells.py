@@ -1,6 +1,7 @@
 """Steps everything that can come about of an instance and its updates, and finds what breaks without a part.
 
-In ./check --anew, each kind of plan and of updates is stepped; otherwise one, by a seed that is drawn and printed.
+In ./check --anew, each kind of plan and of updates is stepped; otherwise one, by a seed that is drawn and printed. Each
+line of the invariant is left out then, and otherwise those that break soon.
 """
 
 from __future__ import annotations
@@ -40,17 +41,13 @@ def test_synchronous_updates() -> None:
 
 
 @pytest.mark.slow
-@pytest.mark.long(20)
-@pytest.mark.skipif(ANEW, reason="test_all_updates steps all")
-def test_some_updates() -> None:
+@pytest.mark.long(100 if ANEW else 20)
+def test_updates() -> None:
+    """All kinds of plans and of updates in ./check --anew, and one of them otherwise."""
     print("seed", SEED)
-    assert check_all(*random.Random(SEED).choice(ALL[1:]))
-
-
-@pytest.mark.slow
-@pytest.mark.long(100)
-@pytest.mark.skipif(not ANEW, reason="./check --anew steps all kinds of plans and of updates")
-def test_all_updates() -> None:
+    if not ANEW:
+        check_all(*random.Random(SEED).choice(ALL[1:]))
+        return
     found = [check_all(plan, mode) for plan, mode in ALL]
     assert (sum(pairs for pairs, _ in found), sum(steps for _, steps in found)) == (PAIRS, STEPS)
 
@@ -146,16 +143,13 @@ def test_invariant() -> None:
     assert checked.changes > 1_000 if share else checked[1:] == (48_354, 1_179_820)
 
 
-# The lines `ready` and `there` tie the change to the life: without them all agree.
-@pytest.mark.slow
-@pytest.mark.parametrize("line", ["settled", "row", "judged", "other", "200", "fetch", "mine"])
-def test_line_that_is_needed(line: str) -> None:
-    assert invariant.check([name for name in invariant.LINES if name != line]).broken is not None
+# The lines `ready` and `there` tie the change to the life: without them all agree. What breaks without one of the last
+# four takes up to 20 s to find.
+NEEDED = ["settled", "row", "judged", "other", "200", "fetch", "mine", *(["one", "202", "400", "poll"] if ANEW else [])]
 
 
 @pytest.mark.slow
 @pytest.mark.long(20)
-@pytest.mark.skipif(not ANEW, reason="./check --anew leaves out each line that is needed")
-@pytest.mark.parametrize("line", ["one", "202", "400", "poll"])
-def test_further_line_that_is_needed(line: str) -> None:
+@pytest.mark.parametrize("line", NEEDED)
+def test_line_that_is_needed(line: str) -> None:
     assert invariant.check([name for name in invariant.LINES if name != line]).broken is not None
