@@ -110,6 +110,7 @@ def storm(path: Path) -> None:
                 _insert(connection, _bound(life, at, chance), chance, now)
         for at, life in enumerate(flying[-16:]):
             _fly(connection, life, now + at * 30.0 - 60.0, at % 3 == 0)
+        _count(connection)
 
 
 def _lived(life: _Life, state: str, steps: list[Answer | None], chance: Random) -> _Life:
@@ -239,6 +240,7 @@ def order(path: Path) -> None:
     with _rows(path) as connection:
         chance = Random(time.time_ns())
         _insert(connection, _Life(_id(chance), time.time()), chance, time.time())
+        _count(connection)
 
 
 def large(path: Path) -> None:
@@ -258,6 +260,7 @@ def large(path: Path) -> None:
             connection.execute(
                 "INSERT INTO osb_lives SELECT ?, number, state, since - ? FROM osb_lives WHERE id = ?", copied
             )
+        _count(connection)
 
 
 def longest_life(path: Path, state: str) -> str:
@@ -299,6 +302,15 @@ def _rows(path: Path) -> Iterator[sqlite3.Connection]:
     with contextlib.closing(sqlite3.connect(path, timeout=30.0)) as connection, connection:
         connection.execute("PRAGMA synchronous = OFF")
         yield connection
+
+
+def _count(connection: sqlite3.Connection) -> None:
+    """Count the rows, as the program does when it writes them."""
+    connection.execute("DELETE FROM osb_counts")
+    for is_binding, table in enumerate(["osb_instances", "osb_bindings"]):
+        connection.execute(
+            f"INSERT INTO osb_counts SELECT broker, {is_binding}, state, count(*) FROM {table} GROUP BY broker, state"
+        )
 
 
 def _milliseconds(at: float) -> float:

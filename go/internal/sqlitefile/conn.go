@@ -99,7 +99,7 @@ func escapePath(path string) string { return (&url.URL{Path: path}).EscapedPath(
 func (c *Conn) set(ctx context.Context) error {
 	for _, statement := range []string{
 		"PRAGMA journal_mode = WAL", "PRAGMA synchronous = FULL",
-		"PRAGMA temp_store = MEMORY", // what a statement with a trigger needs to undo would be written to a file
+		"PRAGMA temp_store = MEMORY", // what a statement of many rows needs to undo would be written to a file
 	} {
 		if err := Patiently(ctx, func() error { return c.Exec(statement) }); err != nil {
 			return err

@@ -40,6 +40,9 @@ type Options[C any] struct {
 	Prepare func(ctx context.Context, conn *Conn) (C, error)
 	// Begun is called in each transaction before its jobs. If it fails, so does the transaction. It may be nil.
 	Begun func(C) error
+	// BeforeCommit is called in each transaction that is to be committed, after its jobs, and may write. If it fails or
+	// panics, the transaction is rolled back, and each of its callers gets the error. It may be nil.
+	BeforeCommit func(C) error
 	// Undone is called once a transaction was rolled back, or may be rolled back. It may be nil.
 	Undone func(C)
 	// Committed gets how many jobs each transaction had, before their callers get their results. It may be nil.
@@ -265,8 +268,8 @@ func (f *File[C]) Read(ctx context.Context, call func(C) error) error {
 // fails or panics is undone, and the others are written. A job may be done more than once; the last time counts. It must
 // not call Write.
 //
-// Errors: those of do; that of ctx, if it is done before the job has begun; ErrBusy; ErrClosed; ErrUnknownCommit (by
-// errors.Is), which is SQLite's error of the commit. After any other error nothing is written.
+// Errors: those of do, Begun and BeforeCommit; that of ctx, if it is done before the job has begun; ErrBusy; ErrClosed;
+// ErrUnknownCommit (by errors.Is), which is SQLite's error of the commit. After any other error nothing is written.
 func (f *File[C]) Write(ctx context.Context, do func(C) error) error {
 	it := &job[C]{ctx: ctx, do: do, done: make(chan struct{})}
 	select {
@@ -387,6 +390,9 @@ func (f *File[C]) transaction(batch []*job[C]) (jobs []*job[C], failed *job[C], 
 // end commits the transaction unless it is to be rolled back, or there is an error.
 func (f *File[C]) end(err error, isToCommit bool) error {
 	conn := f.writer.conn
+	if err == nil && isToCommit && f.options.BeforeCommit != nil {
+		err = Safely(func() error { return f.options.BeforeCommit(f.writer.with) })
+	}
 	if err == nil && isToCommit {
 		if err = conn.end.run(); err == nil {
 			return nil

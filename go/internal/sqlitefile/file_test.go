@@ -276,6 +276,37 @@ func TestBegunFails(t *testing.T) {
 	wantNotes(t, file, "next")
 }
 
+// BeforeCommit writes in the transaction of the jobs, once for all of them, and not in one that is undone. If it fails or
+// panics, neither its writes nor those of the jobs are left, and the next transaction is written.
+func TestBeforeCommit(t *testing.T) {
+	calls, undone, fails, with := 0, 0, error(nil), options()
+	with.BeforeCommit = func(n *notes) error {
+		calls++
+		if err := note(fmt.Sprint("call ", calls))(n); err != nil || fails == nil {
+			return err
+		}
+		if fails == errWrong {
+			return fails
+		}
+		panic(fails)
+	}
+	with.Undone = func(*notes) { undone++ }
+	file := open(t, filepath.Join(t.TempDir(), "file"), with)
+	for _, fails = range []error{errWrong, errors.New("a bug")} {
+		err := file.Write(background, note("lost"))
+		diff.ErrorContains(t, err, fails.Error(), "")
+		diff.Equal(t, errors.Is(err, ErrUnknownCommit), false, "%v: the commit is unknown", err)
+		wantNotes(t, file)
+	}
+	diff.Equal(t, undone, 2, "transactions that are undone")
+	fails = nil
+	err := file.Write(background, func(n *notes) error { return first(note("lost")(n), errWrong) })
+	diff.ErrorIs(t, err, errWrong, "")
+	writeTogether(t, file, map[string]func(*notes) error{"": note("a"), "wrong": func(*notes) error { return errWrong }})
+	// that without the job that has failed, that of the job that holds the writer, and that of the two others
+	wantNotes(t, file, "a", "call 3", "call 4", "call 5")
+}
+
 // breakOff writes three jobs in a transaction, of which the second one breaks it off by a statement.
 func breakOff(t *testing.T, file *File[*notes], by string) {
 	t.Helper()

@@ -320,6 +320,8 @@ func large(t *testing.T) *sqlite.Store {
 	defer raw.Close()
 	for _, text := range []string{
 		copies,
+		"DELETE FROM osb_counts",
+		"INSERT INTO osb_counts SELECT broker, 0, state, count(*) FROM osb_instances GROUP BY broker, state",
 		"INSERT INTO osb_lives SELECT id, 1, 'ordered', since - 60 FROM osb_instances",
 		"INSERT INTO osb_lives SELECT id, 2, 'wanted', since - 30 FROM osb_instances",
 	} {

@@ -17,6 +17,8 @@ type connection struct {
 	*sqlitefile.Conn
 	instances, bindings          table
 	known                        knownRows
+	counted                      counts // of the transaction
+	addCount                     *sqlitefile.Statement
 	stay, anyBinding             *sqlitefile.Statement
 	removeBindings, wakeInstance *sqlitefile.Statement
 	freeInstances, freeBindings  *sqlitefile.Statement
@@ -122,8 +124,11 @@ const earlier = "min(coalesce(due, ?1), ?1)"
 func (c *connection) ofOthers() map[**sqlitefile.Statement]string {
 	free := " SET worker = NULL, leased_until = NULL, due = " + earlier + " WHERE worker = ?2"
 	return map[**sqlitefile.Statement]string{
-		&c.stay: "INSERT INTO osb_lives (id, number, state, since) SELECT ?1, coalesce(max(number), 0) + 1, ?2, ?3 " +
-			"FROM osb_lives WHERE id = ?1",
+		// with SELECT in place of VALUES, SQLite would note what it has to undo if one of many rows fails
+		&c.stay: "INSERT INTO osb_lives (id, number, state, since) VALUES (?1, " +
+			"(SELECT coalesce(max(number), 0) + 1 FROM osb_lives WHERE id = ?1), ?2, ?3)",
+		&c.addCount: "INSERT INTO osb_counts VALUES (?, ?, ?, ?) " +
+			"ON CONFLICT (broker, is_binding, state) DO UPDATE SET count = count + excluded.count",
 		&c.anyBinding: "SELECT 1 FROM osb_bindings WHERE instance = ? AND may_exist LIMIT 1",
 		&c.removeBindings: fmt.Sprintf("UPDATE osb_bindings SET removal = max(removal, %d), due = %s "+
 			"WHERE instance = ?2 AND state NOT IN ('%s', '%s', '%s')",
@@ -248,10 +253,14 @@ func (c *connection) insert(entry platform.Entry) error {
 		return err
 	}
 	rows, err := table.insert.Run(append(values, keyValues(entry.Key)...)...)
-	if err == nil && rows == 0 {
+	if err != nil {
+		return err
+	}
+	if rows == 0 {
 		return platform.ErrUsed
 	}
-	return err
+	c.counted.add(&entry.Order, entry.State, rows)
+	return nil
 }
 
 // isOne reports whether a change is one statement, which needs nothing else to be undone.
@@ -283,6 +292,10 @@ func (c *connection) write(now time.Time, before *platform.Entry, change *platfo
 	}
 	if _, err := update.Run(append(values, keyValues(key)...)...); err != nil {
 		return err
+	}
+	if before.State != after.State {
+		c.counted.add(&before.Order, before.State, -1)
+		c.counted.add(&before.Order, after.State, 1)
 	}
 	c.known.keep(&after)
 	return c.writeBeside(now, key, change)

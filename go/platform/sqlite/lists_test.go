@@ -188,7 +188,7 @@ func openMetered(t *testing.T) (*Store, *meter) {
 	return s, m
 }
 
-// statements are how many statements and triggers have run that read or write rows, without BEGIN, COMMIT and the like.
+// statements are how many statements have run that read or write rows, without BEGIN, COMMIT and the like.
 // Nobody uses the store meanwhile.
 func (m *meter) statements(t *testing.T) (count int64) {
 	t.Helper()
@@ -210,8 +210,8 @@ func (m *meter) statements(t *testing.T) (count int64) {
 }
 
 // What a step of an engine takes if none shares its claim with another: what many steps take more than few. Each step
-// changes the state twice, which fires the trigger that counts the rows of a state. So 8 statements are 10 with
-// triggers.
+// changes the state twice. If no other change is in the same transaction, two counts are written each time. So 6
+// statements are 10 with those of counts.
 func TestAStepOfAnEngine(t *testing.T) {
 	s, m := openMetered(t)
 	withBroker(t, s)
@@ -241,12 +241,13 @@ func TestAStepOfAnEngine(t *testing.T) {
 	diff.AtLeast(t, statements, 4*steps, "%d steps: statements", steps)
 	diff.AtMost(t, statements, 10*steps, "%d steps: statements", steps)
 	diff.AtMost(t, transactions, 3*steps, "%d steps", steps)
-	t.Logf("%d steps take %d statements and triggers in %d transactions", steps, statements, transactions)
+	t.Logf("%d steps take %d statements in %d transactions", steps, statements, transactions)
 }
 
 const (
 	workers = 16
-	batch   = 4 // as many rows are claimed at once
+	batch   = 4  // as many rows are claimed at once
+	large   = 32 // of new ones
 )
 
 // fill is a store with so many rows: of ten, eight are ready or gone, one is polled and due later, and one is due.
@@ -315,17 +316,17 @@ func BenchmarkTransactions(b *testing.B) {
 			begun := time.Now()
 			for n := 0; n < workers; n++ {
 				all.Add(1)
-				go func(worker string) {
+				go func() {
 					defer all.Done()
 					for atomic.LoadInt64(&left) > 0 {
-						done, err := runSteps(s, worker)
+						done, err := runSteps(s, batch, send, takeStep)
 						if err != nil {
 							b.Error(err)
 							return
 						}
 						atomic.AddInt64(&left, -int64(done))
 					}
-				}(fmt.Sprint("worker ", n))
+				}()
 			}
 			all.Wait()
 			b.ReportMetric(float64(int64(b.N)-left)/time.Since(begun).Seconds(), "steps/s")
@@ -333,15 +334,17 @@ func BenchmarkTransactions(b *testing.B) {
 	}
 }
 
-// runSteps claims rows, and takes an answer for each.
-func runSteps(s *Store, worker string) (steps int, err error) {
-	claimed, err := s.Claim(background, []string{"one"}, batch,
-		func(now time.Time, snapshot platform.Snapshot) (*platform.Change, error) {
-			entry := snapshot.Entry
-			next, _, err := entry.Record.Send(entry.Key.Instance)
-			entry.Record, entry.Lease = next, platform.Lease{Worker: worker, Until: now.Add(time.Minute)}
-			return &platform.Change{Entry: entry}, err
-		})
+// send records a request.
+func send(now time.Time, snapshot platform.Snapshot) (*platform.Change, error) {
+	entry := snapshot.Entry
+	next, _, err := entry.Record.Send(entry.Key.Instance)
+	entry.Record, entry.Lease = next, platform.Lease{Worker: "worker", Until: now.Add(time.Minute)}
+	return &platform.Change{Entry: entry}, err
+}
+
+// runSteps claims at most so many rows by one step, and takes an answer for each by another one.
+func runSteps(s *Store, most int, claim, take platform.Step) (steps int, err error) {
+	claimed, err := s.Claim(background, []string{"one"}, most, claim)
 	if err != nil {
 		return 0, err
 	}
@@ -354,7 +357,7 @@ func runSteps(s *Store, worker string) (steps int, err error) {
 		all.Add(1)
 		go func(n int, key platform.Key) {
 			defer all.Done()
-			errs[n] = s.Change(background, key, takeStep)
+			errs[n] = s.Change(background, key, take)
 		}(n, row.Key)
 	}
 	all.Wait()
@@ -372,6 +375,51 @@ func takeStep(now time.Time, snapshot platform.Snapshot) (*platform.Change, erro
 	next, err := entry.Record.Answer(entry.Record.Attempt(), osb.Answer{Status: 200, Body: osb.BodyInProgress})
 	entry.Record, entry.Lease, entry.Due = next, platform.Lease{}, now
 	entry.Last = platform.Reason{At: now, Kind: "poll", Status: 200, Description: "it goes on"}
+	return &platform.Change{Entry: entry}, err
+}
+
+// The transactions of instances that are created by one request: a Claim, which records the request, and a Change, which
+// takes the answer. No row is known.
+//
+//	scripts/go test -run xxx -bench Creations -benchtime 20000x -benchmem ./platform/sqlite
+func BenchmarkCreations(b *testing.B) {
+	s := withBroker(b, open(b, filepath.Join(b.TempDir(), "store")))
+	var all sync.WaitGroup
+	for n := 0; n < b.N; n++ {
+		all.Add(1)
+		go func(n int) {
+			defer all.Done()
+			diff.NoError(b, s.Insert(background, order(n), nil), "")
+		}(n)
+		if n%1000 == 0 {
+			all.Wait()
+		}
+	}
+	all.Wait()
+	b.ResetTimer()
+	for done, steps := 0, 1; done < b.N && steps > 0; done += steps {
+		var err error
+		steps, err = runSteps(s, large, create, created)
+		check(b, err)
+	}
+}
+
+// create records the request of a creation.
+func create(now time.Time, snapshot platform.Snapshot) (*platform.Change, error) {
+	entry := snapshot.Entry
+	entry.Record, _ = osb.Create(entry.Key.Instance, entry.Service, entry.Plan, true)
+	entry.IsSent, entry.State, entry.Since = true, platform.Wanted, now
+	entry.Lease, entry.SentUntil = platform.Lease{Worker: "worker", Until: now.Add(time.Minute)}, now.Add(time.Minute)
+	return &platform.Change{Entry: entry}, nil
+}
+
+// created takes the answer that the instance is ready.
+func created(now time.Time, snapshot platform.Snapshot) (*platform.Change, error) {
+	entry := snapshot.Entry
+	next, err := entry.Record.Answer(entry.Record.Attempt(), osb.Answer{Status: 201, Body: osb.BodyEmpty})
+	entry.Record, entry.State, entry.Since = next, platform.Ready, now
+	entry.Lease, entry.Due = platform.Lease{}, time.Time{}
+	entry.Last = platform.Reason{At: now, Kind: "provision", Status: 201}
 	return &platform.Change{Entry: entry}, err
 }
 

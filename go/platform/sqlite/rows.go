@@ -318,9 +318,12 @@ func (r *row) key() (key platform.Key) {
 	return key
 }
 
-// format is the number of the tables that this version reads and writes, in the file's user_version. Version 0.2 has 0
-// there.
-const format = 3
+// The numbers of the tables, in the file's user_version: that which this version reads and writes, and that of version
+// 0.3. Version 0.2 has 0 there.
+const (
+	format   = 4
+	formatV3 = 3
+)
 
 // The values that version 0.2 has as defaults of its options, and that its tables don't have.
 const (
@@ -388,24 +391,13 @@ var further = []string{
 	"CREATE INDEX osb_bindings_that_may_exist ON osb_bindings (instance) WHERE may_exist",
 }
 
-// Rows are counted as they are written: to count them takes longer, the more there are.
-var counting = []string{
-	"INSERT INTO osb_counts SELECT broker, 0, state, count(*) FROM osb_instances GROUP BY broker, state",
-	"CREATE TRIGGER osb_instances_counted AFTER INSERT ON osb_instances BEGIN " + countRow("0") + "END",
-	"CREATE TRIGGER osb_bindings_counted AFTER INSERT ON osb_bindings BEGIN " + countRow("1") + "END",
-	"CREATE TRIGGER osb_instances_recounted AFTER UPDATE OF state ON osb_instances " + recountRow("0"),
-	"CREATE TRIGGER osb_bindings_recounted AFTER UPDATE OF state ON osb_bindings " + recountRow("1"),
-}
+// Rows are counted as they are written (counts): to count them takes longer, the more there are.
+const counting = "INSERT INTO osb_counts SELECT broker, 0, state, count(*) FROM osb_instances GROUP BY broker, state"
 
-func countRow(isBinding string) string {
-	return "INSERT INTO osb_counts VALUES (NEW.broker, " + isBinding + ", NEW.state, 1) " +
-		"ON CONFLICT (broker, is_binding, state) DO UPDATE SET count = count + 1; "
-}
-
-func recountRow(isBinding string) string {
-	return "WHEN OLD.state <> NEW.state BEGIN UPDATE osb_counts SET count = count - 1 " +
-		"WHERE broker = OLD.broker AND is_binding = " + isBinding + " AND state = OLD.state; " +
-		countRow(isBinding) + "END"
+// In version 0.3, each statement counted what it wrote.
+var countingOfV3 = []string{
+	"DROP TRIGGER osb_instances_counted", "DROP TRIGGER osb_bindings_counted",
+	"DROP TRIGGER osb_instances_recounted", "DROP TRIGGER osb_bindings_recounted",
 }
 
 // What becomes of the rows of 0.2. Times get whole milliseconds, as all that are written: a position in a list finds
@@ -443,7 +435,7 @@ func migrate(ctx context.Context, conn *sqlitefile.Conn, path string) error {
 	return conn.Transaction(ctx, func() error {
 		found, _, err := schemaOf(ctx, conn) // another process may have extended them meanwhile
 		if err == nil && found != format {
-			err = extend(conn)
+			err = extend(conn, found)
 		}
 		if err != nil {
 			return err
@@ -502,7 +494,7 @@ func schemaOf(ctx context.Context, conn *sqlitefile.Conn) (found int64, missing 
 		return 0, nil, err
 	case found > format && isKnown:
 		return 0, nil, errLater
-	case found != 0 && found != format, !isKnown && others > 0:
+	case found != 0 && found != formatV3 && found != format, !isKnown && others > 0:
 		return 0, nil, errForeign
 	}
 	missing, err = missingColumns(ctx, conn)
@@ -544,13 +536,16 @@ func typeOf(column entryColumn) string {
 	return "text"
 }
 
-// extend makes the tables of 0.2 if they are missing, and then extends them.
-func extend(conn *sqlitefile.Conn) error {
-	statements := append([]string{}, tables...)
-	for _, column := range columns {
-		statements = append(statements, "ALTER TABLE osb_instances ADD COLUMN "+column)
+// extend extends the tables of 0.3, or those of 0.2, which it creates if they are missing.
+func extend(conn *sqlitefile.Conn, found int64) error {
+	statements := append([]string{}, countingOfV3...)
+	if found != formatV3 {
+		statements = append([]string{}, tables...)
+		for _, column := range columns {
+			statements = append(statements, "ALTER TABLE osb_instances ADD COLUMN "+column)
+		}
+		statements = append(append(append(statements, further...), changes...), counting)
 	}
-	statements = append(append(append(statements, further...), changes...), counting...)
 	return execute(conn, append(statements, fmt.Sprintf("PRAGMA user_version = %d", format)))
 }
 

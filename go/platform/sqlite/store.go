@@ -78,7 +78,7 @@ func options(
 ) sqlitefile.Options[*connection] {
 	return sqlitefile.Options[*connection]{
 		Readers: readers, Together: together, Cache: cache, Driver: by, Migrate: bring, Prepare: prepare,
-		Begun:  func(c *connection) error { return c.known.begin() },
+		Begun: (*connection).begin, BeforeCommit: (*connection).writeCounts,
 		Undone: func(c *connection) { c.known.forgetAll() },
 	}
 }

@@ -77,6 +77,35 @@ func old(t *testing.T) string {
 	return path
 }
 
+// old03 is the path of a store that version 0.3 has written, with two instances and a binding. It has a broker of each
+// name in ofCounts.
+func old03(t *testing.T) string {
+	t.Helper()
+	dump := diff.Value(os.ReadFile("../vault/testdata/store-0.3.sql"))(t)
+	path := filepath.Join(t.TempDir(), "instances.sqlite")
+	values := ", since, removal, tries, service, plan, further, organization, space, is_own, identity, try, most_tries, " +
+		"has_last, is_passing, after_ms"
+	rest := fmt.Sprintf(", 1.5, 0, 0, '%s', '%s', '{}', 'o', 's', 0, '', 1, 1, 0, 0, 0", service, plan)
+	executeIn(t, path, "PRAGMA journal_mode = WAL", string(dump),
+		fmt.Sprintf("INSERT INTO osb_instances (id, broker, state%s) VALUES ('%s', 'shop', 'ordered'%s), "+
+			"('%s', 'shop', 'ordered'%s)", values, keyOf(1), rest, keyOf(2), rest),
+		fmt.Sprintf("INSERT INTO osb_bindings (instance, id, may_exist, broker, state%s) "+
+			"VALUES ('%s', '%s', 0, 'other', 'ordered'%s)", values, keyOf(1), keyOf(3), rest),
+		"UPDATE osb_instances SET state = 'withdrawn' WHERE id = '"+keyOf(2).String()+"'")
+	return path
+}
+
+// counted are the rows of osb_counts, and are compared with the rows that there are.
+func counted(t *testing.T, path string) (found []string) {
+	t.Helper()
+	const kind = "broker || ' ' || is_binding || ' ' || state || ' '"
+	found = query(t, path, "SELECT "+kind+" || count FROM osb_counts WHERE count <> 0 ORDER BY 1")
+	diff.Check(t, found, query(t, path, "SELECT "+kind+" || count(*) FROM (SELECT broker, 0 AS is_binding, state "+
+		"FROM osb_instances UNION ALL SELECT broker, 1, state FROM osb_bindings) GROUP BY broker, is_binding, state "+
+		"ORDER BY 1"), "the counts")
+	return found
+}
+
 // at is a time of the dump, in milliseconds.
 func at(ms int64) time.Time { return time.UnixMilli(ms).UTC() }
 
@@ -172,6 +201,48 @@ func TestMigration(t *testing.T) {
 	diff.Equal(t, fmt.Sprint(life), fmt.Sprint(want), "")
 }
 
+// The rows of version 0.3 are counted by the statements that wrote them, and from now on before each commit. Version 0.3
+// rejects the number of the file.
+func TestMigrationOf03(t *testing.T) {
+	path := old03(t)
+	want := []string{"other 1 ordered 1", "shop 0 ordered 1", "shop 0 withdrawn 1"}
+	diff.Check(t, counted(t, path), want, "before")
+	s := open(t, path)
+	diff.Check(t, query(t, path, "SELECT user_version FROM pragma_user_version"), []string{"4"}, "the number of the file")
+	diff.Equal(t, len(query(t, path, "SELECT name FROM sqlite_master WHERE type = 'trigger'")), 0, "triggers")
+	diff.Check(t, counted(t, path), want, "after")
+	withdraw := storetest.Edit(func(e *platform.Entry, _ time.Time) { e.State = platform.Withdrawn })
+	check(t, s.Change(background, keyOf(1), withdraw))
+	check(t, s.Change(background, osb.BindingKey(keyOf(1).Instance, keyOf(3).Instance), withdraw))
+	check(t, withBroker(t, s).Insert(background, order(4), nil))
+	diff.Check(t, counted(t, path), []string{"one 0 ordered 1", "other 1 withdrawn 1", "shop 0 withdrawn 2"}, "counts")
+}
+
+// What is undone isn't counted, and what one transaction changes twice is counted once.
+func TestCounts(t *testing.T) {
+	path := filepath.Join(t.TempDir(), "store")
+	s := withBroker(t, open(t, path))
+	check(t, s.Insert(background, order(1), nil))
+	diff.ErrorIs(t, s.Insert(background, order(1), nil), platform.ErrUsed, "")
+	insert := func(n int, after error) func(*connection) error {
+		return func(c *connection) error { return either(c.insert(order(n)), after) }
+	}
+	diff.ErrorIs(t, s.write(background, insert(2, errWrong)), errWrong, "a job that fails")
+	diff.Check(t, counted(t, path), []string{"one 0 ordered 1"}, "")
+	check(t, s.write(background, func(c *connection) error {
+		before := order(1)
+		wanted := before
+		wanted.State = platform.Wanted
+		ready := wanted
+		ready.State = platform.Ready
+		next := order(3)
+		return either(c.write(now(), &before, &platform.Change{Entry: wanted, Next: &next}),
+			c.write(now(), &wanted, &platform.Change{Entry: ready}))
+	}))
+	diff.Check(t, counted(t, path), []string{"one 0 ordered 1", "one 0 ready 1"}, "")
+	diff.Equal(t, len(query(t, path, "SELECT 1 FROM osb_counts WHERE state = 'wanted'")), 0, "rows that count nothing")
+}
+
 // Rows of 0.2 are gone on with, found again in a list, and counted.
 func TestMigratedRowsAreUsed(t *testing.T) {
 	path := old(t)
@@ -229,7 +300,7 @@ func closeAndRead(t *testing.T, path string) []byte {
 
 // A file whose tables are current isn't written when it is opened.
 func TestOpeningWritesNothing(t *testing.T) {
-	for _, path := range []string{old(t), filepath.Join(t.TempDir(), "new")} {
+	for _, path := range []string{old(t), old03(t), filepath.Join(t.TempDir(), "new")} {
 		first := closeAndRead(t, path)
 		for n := 0; n < 2; n++ {
 			diff.Equal(t, bytes.Equal(first, closeAndRead(t, path)), true, "%s is the same after opening", path)
@@ -279,24 +350,26 @@ func TestTypesOfColumns(t *testing.T) {
 	}
 }
 
-// Many that open a file of 0.2 at once extend it once.
+// Many that open a file of 0.2 or 0.3 at once extend it once.
 func TestMigrationsAtOnce(t *testing.T) {
-	path := old(t)
-	var all sync.WaitGroup
-	for n := 0; n < 6; n++ {
-		all.Add(1)
-		go func() {
-			defer all.Done()
-			s, err := Open(background, path)
-			if err != nil {
-				t.Errorf("got the error %v, want none", err)
-				return
-			}
-			diff.Equal(t, len(diff.Value(s.List(background, platform.Filter{}))(t)), 12, "rows")
-			diff.NoError(t, s.Close(), "")
-		}()
+	for path, rows := range map[string]int{old(t): 12, old03(t): 3} {
+		path, rows := path, rows
+		var all sync.WaitGroup
+		for n := 0; n < 6; n++ {
+			all.Add(1)
+			go func() {
+				defer all.Done()
+				s, err := Open(background, path)
+				if err != nil {
+					t.Errorf("got the error %v, want none", err)
+					return
+				}
+				diff.Equal(t, len(diff.Value(s.List(background, platform.Filter{}))(t)), rows, "rows")
+				diff.NoError(t, s.Close(), "")
+			}()
+		}
+		all.Wait()
 	}
-	all.Wait()
 }
 
 // A migration that fails leaves the file as it was, also if it has done most by then.
@@ -319,9 +392,9 @@ func TestForeignFiles(t *testing.T) {
 	namesake := filepath.Join(folder, "namesake")
 	executeIn(t, namesake, "PRAGMA journal_mode = WAL", "CREATE TABLE osb_instances (id TEXT PRIMARY KEY, plan TEXT)")
 	closeAndRead(t, later)
-	executeIn(t, later, "PRAGMA user_version = 4")
+	executeIn(t, later, "PRAGMA user_version = 5")
 	executeIn(t, foreign, "PRAGMA journal_mode = WAL", "CREATE TABLE holdings (id TEXT PRIMARY KEY)")
-	executeIn(t, numbered, "PRAGMA journal_mode = WAL", "CREATE TABLE x (y)", "PRAGMA user_version = 4")
+	executeIn(t, numbered, "PRAGMA journal_mode = WAL", "CREATE TABLE x (y)", "PRAGMA user_version = 5")
 	check(t, os.WriteFile(text, bytes.Repeat([]byte("a text\n"), 1000), 0o600))
 	for path, want := range map[string]error{
 		namesake: errForeign,
@@ -407,18 +480,20 @@ func TestOnlyIsTheLockOfOldVersions(t *testing.T) {
 	}
 }
 
-// While a worker of version 0.2 runs, its file isn't extended: it would send what isn't its broker's.
+// While a worker of version 0.2 runs, its file isn't extended: it would send what isn't its broker's. Neither is one of
+// version 0.3, whose worker would count no rows.
 func TestOldWorkerRuns(t *testing.T) {
-	path := old(t)
-	lock, err := lock(path+".worker-1.lock", os.O_CREATE) // that of 0.2
-	check(t, err)
-	before := diff.Value(os.ReadFile(path))(t)
-	diff.ErrorContains(t, diff.Err(Open(background, path)), "worker-1 ", "")
-	diff.Equal(t, bytes.Equal(before, diff.Value(os.ReadFile(path))(t)), true, "the file is unchanged")
-	unlock(lock)
-	end, _ := storetest.Right(t, open(t, path), "worker-1")
-	defer end()
-	open(t, path) // beside workers of this version
+	for _, path := range []string{old(t), old03(t)} {
+		lock, err := lock(path+".worker-1.lock", os.O_CREATE) // that of 0.2
+		check(t, err)
+		before := diff.Value(os.ReadFile(path))(t)
+		diff.ErrorContains(t, diff.Err(Open(background, path)), "worker-1 ", "")
+		diff.Equal(t, bytes.Equal(before, diff.Value(os.ReadFile(path))(t)), true, "the file is unchanged")
+		unlock(lock)
+		end, _ := storetest.Right(t, open(t, path), "worker-1")
+		defer end()
+		open(t, path) // beside workers of this version
+	}
 }
 
 // What is asked for often is read from the beginning of an index: it takes as long with many rows as with few.
@@ -533,6 +608,7 @@ func TestFaults(t *testing.T) {
 		Open: func(t *testing.T) (platform.Store, *storefaults.Countdown) {
 			by := &storefaults.Driver{}
 			store := diff.Value(openAt(background, path(t), by, migrate))(t)
+			t.Cleanup(func() { counted(t, path(t)) })
 			return store, &by.Countdown
 		},
 		Beside: func(t *testing.T) platform.Store {
@@ -550,10 +626,10 @@ func TestFaults(t *testing.T) {
 	})
 }
 
-// Each statement of Open and OpenExisting fails once, over a new file and over one of version 0.2: the error is
-// returned, and the file can be opened later.
+// Each statement of Open and OpenExisting fails once, over a new file and over those of versions 0.2 and 0.3: the error
+// is returned, and the file can be opened later.
 func TestOpeningThatFails(t *testing.T) {
-	for _, path := range []string{filepath.Join(t.TempDir(), "store"), old(t)} {
+	for _, path := range []string{filepath.Join(t.TempDir(), "store"), old(t), old03(t)} {
 		for _, bring := range []func(context.Context, *sqlitefile.Conn, string) error{migrate, migrateExisting} {
 			for n, failed := 1, "none yet"; failed != ""; n++ {
 				by := &storefaults.Driver{}
