@@ -203,9 +203,7 @@ func (r *reasonText) MarshalText() ([]byte, error) {
 	if *r == (reasonText{}) {
 		return nil, nil
 	}
-	reason := Reason(*r)
-	reason.At = reason.At.UTC()
-	return jsoniter.Marshal(reason)
+	return keptLast{Reason: Reason(*r)}.marshal()
 }
 
 func (r *reasonText) UnmarshalText(text []byte) error {
@@ -236,14 +234,42 @@ func (l *lastText) MarshalText() ([]byte, error) {
 		return nil, nil
 	}
 	kept := keptLast{Reason: l.Last}
-	kept.At = kept.At.UTC()
 	if l.Number != (osb.ID{}) {
 		kept.Claim = l.Number.String()
 	}
 	if !l.DueSince.IsZero() {
 		kept.DueSince = l.DueSince.UnixMilli()
 	}
-	return jsoniter.Marshal(kept)
+	return kept.marshal()
+}
+
+// marshal writes what jsoniter.Marshal does, with At in UTC, in less time: each step writes such a text.
+func (k keptLast) marshal() ([]byte, error) {
+	at, err := k.At.UTC().MarshalJSON()
+	to := jsoniter.ConfigDefault.BorrowStream(nil)
+	defer jsoniter.ConfigDefault.ReturnStream(to)
+	to.WriteRaw(`{"at":`)
+	to.SetBuffer(append(to.Buffer(), at...))
+	to.WriteRaw(`,"kind":`)
+	to.WriteStringWithHTMLEscaped(k.Kind)
+	if k.Status != 0 {
+		to.WriteRaw(`,"status":`)
+		to.WriteInt(k.Status)
+	}
+	for _, member := range [...]struct{ name, text string }{
+		{`,"error":`, k.Error}, {`,"description":`, k.Description}, {`,"lost":`, k.Lost}, {`,"claim":`, k.Claim},
+	} {
+		if member.text != "" {
+			to.WriteRaw(member.name)
+			to.WriteStringWithHTMLEscaped(member.text)
+		}
+	}
+	if k.DueSince != 0 {
+		to.WriteRaw(`,"due_since":`)
+		to.WriteInt64(k.DueSince)
+	}
+	to.WriteRaw("}")
+	return append([]byte(nil), to.Buffer()...), err
 }
 
 // UnmarshalText reads what MarshalText has written, also in version 0.2, which wrote no Claim and no DueSince.

@@ -7,6 +7,8 @@ import (
 	"testing"
 	"time"
 
+	jsoniter "github.com/json-iterator/go"
+
 	"pippinterm/internal/diff"
 	"pippinterm/osb"
 )
@@ -128,6 +130,22 @@ func TestLastText(t *testing.T) {
 	} {
 		diff.Error(t, (*lastText)(&got).UnmarshalText([]byte(text)), "%s", text)
 	}
+}
+
+// What is kept is the text that jsoniter.Marshal writes, whatever stands in it. No year after 9999 can be written.
+func TestKeptLast(t *testing.T) {
+	kept := keptLast{Reason: Reason{At: at(1), Kind: "poll"}}
+	for _, change := range []func(){
+		func() {}, func() { kept.Status = 503 }, func() { kept.Error = "a <code> & \"more\"" },
+		func() { kept.Description = "\u2028 \u00e9 \U0001f600 \t\r\n\x01\x7f \xff \\" }, func() { kept.Lost = "it was lost" },
+		func() { kept.Claim = id("77").String() }, func() { kept.DueSince = -1 }, func() { kept.At = time.Unix(1, 5).UTC() },
+	} {
+		change()
+		got, want := diff.Value(kept.marshal())(t), diff.Value(jsoniter.Marshal(kept))(t)
+		diff.Equal(t, string(got), string(want), "%+v", kept)
+	}
+	kept.At = time.Date(10000, 1, 1, 0, 0, 0, 0, time.UTC)
+	diff.Error(t, diff.Err(kept.marshal()), "")
 }
 
 // Each column differs between entries that differ in its member, and no other one does, except a text that is always
