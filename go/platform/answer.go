@@ -45,13 +45,13 @@ func (s *sending) takeAnswer(now time.Time, snapshot Snapshot) (*Change, error) 
 	record, _ := transaction.Row()
 	e.enter(now, record)
 	e.Lease = Lease{}
-	e.keep(result, *s)
+	e.keep(result, s)
 	e.Last = reasonOf(now, result)
 	if isFailedCreation(read, e.State) {
 		e.Failure, e.Passing, e.After = e.Last, result.isPassing(), atMostAnHour(result.RetryAfter)
 	}
-	e.schedule(now, *s, result.RetryAfter)
-	e.putOff(*s, result.Incoming)
+	e.schedule(now, s, result.RetryAfter)
+	e.putOff(s, result.Incoming)
 	change := &Change{Entry: e, Transaction: &transaction, WakeInstance: e.Key.IsBinding && e.State == Gone}
 	if e.State == Gone {
 		change.Next, err = nextTry(now, e, snapshot.Instance, t)
@@ -72,7 +72,7 @@ func (s *sending) note(now time.Time, snapshot Snapshot, change *Change) {
 }
 
 // keep keeps what an answer says besides.
-func (e *Entry) keep(result exchangeResult, s sending) {
+func (e *Entry) keep(result exchangeResult, s *sending) {
 	if e.Key.IsBinding && e.State == Ready {
 		e.Credentials = result.sealed
 	}
@@ -106,7 +106,7 @@ func isFailedCreation(before, after State) bool {
 }
 
 // schedule is when the next step is due after an exchange, and whether one deletion more follows.
-func (e *Entry) schedule(now time.Time, s sending, named time.Duration) {
+func (e *Entry) schedule(now time.Time, s *sending, named time.Duration) {
 	t := s.terms
 	if e.Unchanged++; hasProgressed(s.before, e.State) {
 		e.Unchanged = 0
@@ -139,7 +139,7 @@ func (e *Entry) schedule(now time.Time, s sending, named time.Duration) {
 
 // putOff notes since when a row is due whose request the broker hasn't taken up. A row that waits for the hold isn't
 // due.
-func (e *Entry) putOff(s sending, in Incoming) {
+func (e *Entry) putOff(s *sending, in Incoming) {
 	e.DueSince = time.Time{}
 	if !in.isTakenUp() && !e.Rests() && !e.Due.Equal(e.heldUntil(s.terms)) {
 		e.DueSince = s.since
@@ -246,7 +246,7 @@ func (s *sending) takeLastAnswer(now time.Time, snapshot Snapshot) (*Change, err
 	}
 	e.Unchanged++
 	e.Due = now.Add(s.terms.pace.wait(e.Unchanged, in.RetryAfter))
-	e.putOff(*s, in)
+	e.putOff(s, in)
 	return &Change{Entry: e}, nil
 }
 

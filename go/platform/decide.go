@@ -43,7 +43,7 @@ type sending struct {
 }
 
 // isLast reports whether the request is the last deletion, of which nothing is in the record.
-func (s sending) isLast() bool { return s.attempt == 0 }
+func (s *sending) isLast() bool { return s.attempt == 0 }
 
 // A decision is what a worker does with a row that is due.
 type decision struct {

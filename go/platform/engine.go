@@ -478,7 +478,7 @@ func (r *run) spareSlots() *spareSlots {
 }
 
 // hasFor reports whether there is a slot for one more request to a broker, after these decisions.
-func (s *spareSlots) hasFor(broker string, decided map[Key]decision) bool {
+func (s *spareSlots) hasFor(broker string, decided map[Key]*decision) bool {
 	all, left := s.all, s.to[broker]
 	for _, decision := range decided {
 		if decision.send == nil || !decision.send.isBeside {
@@ -498,7 +498,7 @@ func (e Entry) isPutOff() bool { return !e.DueSince.IsZero() && e.Lease.Worker =
 // useFor has the request that was decided on a row take a slot beside the usual ones, if the row was put off. If there
 // is none, the row rests again for as long as after its last request: what has failed less often is due again sooner. A
 // nil spare has the row take a usual slot.
-func (s *spareSlots) useFor(now time.Time, e Entry, made *decision, decided map[Key]decision) {
+func (s *spareSlots) useFor(now time.Time, e Entry, made *decision, decided map[Key]*decision) {
 	switch {
 	case s == nil || made.send == nil || !e.isPutOff():
 	case s.hasFor(e.Broker, decided):

@@ -35,15 +35,15 @@ func (e *Engine) exchange(ctx context.Context, registry *registry, s *sending, a
 	release() // also if nothing could be written
 	switch {
 	case err != nil:
-		e.fail("answer_not_written", *s, err)
+		e.fail("answer_not_written", s, err)
 		return nextDue{}
 	case s.entry == nil && s.unsure != nil: // it wasn't recorded
 		return nextDue{isDue: true}
 	case s.entry == nil:
-		e.fail("lease_lost", *s, osb.ErrNotInFlight)
+		e.fail("lease_lost", s, osb.ErrNotInFlight)
 		return nextDue{}
 	}
-	e.changed(*s.entry, s.before)
+	e.changed(s.entry, s.before)
 	if s.isLast() {
 		if shown, _ := judgeLast(s.result.Incoming); shown != nothingLeft {
 			e.observer.OnOrphan(s.entry.Key, s.result.Status, shown == orphanFound)
@@ -53,7 +53,7 @@ func (e *Engine) exchange(ctx context.Context, registry *registry, s *sending, a
 }
 
 // changed reports that a row has changed to another state.
-func (e *Engine) changed(after Entry, before State) {
+func (e *Engine) changed(after *Entry, before State) {
 	if after.State != before {
 		e.observer.OnChange(after.Key, before, after.State)
 	}
@@ -76,7 +76,7 @@ func isRefusal(status int) bool {
 	return status == http.StatusUnauthorized || status == http.StatusForbidden
 }
 
-func (e *Engine) fail(event string, s sending, err error) {
+func (e *Engine) fail(event string, s *sending, err error) {
 	e.observer.OnFailure(Failure{
 		Event: event, Broker: s.out.Entry.Broker, Key: s.out.Entry.Key, IsNamed: true, RequestID: s.out.RequestID,
 		Err: brief(err),
@@ -91,16 +91,9 @@ func (e *Engine) stepFailed(key Key, err error) {
 	}
 }
 
-func either(one, other error) error {
-	if one != nil {
-		return one
-	}
-	return other
-}
-
 // ask sends the request of a driver.
 func (e *Engine) ask(ctx context.Context, s *sending) (osb.PlatformDriver, error) {
-	s.result.Incoming = e.send(ctx, *s, s.result.kind)
+	s.result.Incoming = e.send(ctx, s, s.result.kind)
 	e.seal(s)
 	if s.result.Lost != nil {
 		return s.driver.Lost()
@@ -113,7 +106,7 @@ func (e *Engine) fetch(ctx context.Context, s *sending) (osb.PlatformDriver, err
 	crash.At("fetch-next")
 	fetch := *s
 	fetch.out.IsFetch, fetch.attempt = true, 0
-	fetched := e.send(ctx, fetch, "fetch")
+	fetched := e.send(ctx, &fetch, "fetch")
 	if fetched.Lost == nil && fetched.Binding == nil {
 		fetched.Lost = fmt.Errorf("status %d: %w", fetched.Status, osb.ErrNoBinding)
 	}
@@ -128,7 +121,7 @@ func (e *Engine) fetch(ctx context.Context, s *sending) (osb.PlatformDriver, err
 // sendLast sends the last deletion of a row that is gone, of which nothing is in the record.
 func (e *Engine) sendLast(ctx context.Context, s *sending, answered func()) error {
 	if s.unsure == nil {
-		s.result.Incoming = e.send(ctx, *s, s.result.kind)
+		s.result.Incoming = e.send(ctx, s, s.result.kind)
 	}
 	answered()
 	return e.write(ctx, s, s.takeLastAnswer)
@@ -145,12 +138,12 @@ func (e *Engine) seal(s *sending) {
 	}
 	if err != nil {
 		s.result.Lost, s.result.isUnsealed = fmt.Errorf("the credentials can't be sealed: %w", err), true
-		e.fail("credentials_lost", *s, err)
+		e.fail("credentials_lost", s, err)
 	}
 }
 
-// send is one exchange.
-func (e *Engine) send(ctx context.Context, s sending, kind string) Incoming {
+// send is one exchange. It changes nothing of the request.
+func (e *Engine) send(ctx context.Context, s *sending, kind string) Incoming {
 	id, err := newID()
 	if err != nil {
 		return Incoming{Lost: err}
@@ -159,13 +152,14 @@ func (e *Engine) send(ctx context.Context, s sending, kind string) Incoming {
 	if !e.client.Clock().Before(s.out.Until) {
 		return Incoming{Lost: errLate}
 	}
-	s.out.RequestID = id.String()
+	out := s.out
+	out.RequestID = id.String()
 	exchange := Exchange{
-		RequestID: s.out.RequestID, Broker: s.out.Entry.Broker, Key: s.out.Entry.Key, Kind: kind, Attempt: s.attempt,
+		RequestID: out.RequestID, Broker: s.out.Entry.Broker, Key: s.out.Entry.Key, Kind: kind, Attempt: s.attempt,
 	}
 	e.observer.OnRequest(exchange)
 	crash.Soon("send-running")
-	in := e.client.Exchange(ctx, s.out)
+	in := e.client.Exchange(ctx, out)
 	exchange.Status, exchange.Lost, exchange.RetryAfter, exchange.Duration = in.Status, brief(in.Lost), in.RetryAfter, in.Duration
 	exchange.Error, exchange.Description = textOf(in.Details.Error), textOf(in.Details.Description)
 	e.observer.OnAnswer(exchange)

@@ -63,7 +63,7 @@ func TestNothingIsSentAfterItsTime(t *testing.T) {
 	p.exchange = func(context.Context, Outgoing) Incoming { return Incoming{Status: 201} }
 	for kind, isFetch := range map[string]bool{"provision": false, "fetch": true} {
 		late := sending{out: Outgoing{Until: time.Now(), IsFetch: isFetch}}
-		if in := p.engine.send(background, late, kind); !errors.Is(in.Lost, errLate) || len(p.sent) != 0 {
+		if in := p.engine.send(background, &late, kind); !errors.Is(in.Lost, errLate) || len(p.sent) != 0 {
 			t.Errorf("%s: got %v and %d requests, want %v and none", kind, in.Lost, len(p.sent), errLate)
 		}
 	}
@@ -117,8 +117,10 @@ func again(step Step, meanwhile func()) Step {
 // unwritable is a step whose change can't be written.
 func unwritable(step Step, _ func()) Step {
 	return func(now time.Time, snapshot Snapshot) (*Change, error) {
-		_, err := step(now, snapshot)
-		return nil, either(err, errors.New("the row can't be written"))
+		if _, err := step(now, snapshot); err != nil {
+			return nil, err
+		}
+		return nil, errors.New("the row can't be written")
 	}
 }
 

@@ -24,7 +24,7 @@ func (e *Engine) claim(
 	ctx context.Context, registry *registry, names []string, most int, spare *spareSlots,
 ) (found claimResult) {
 	until := e.client.Clock().Add(e.Exchange)
-	decisions := map[Key]decision{}
+	decisions := map[Key]*decision{}
 	rows, err := e.store.Claim(ctx, names, most, func(now time.Time, snapshot Snapshot) (*Change, error) {
 		delete(decisions, snapshot.Key)
 		made, err := registry.decide(now, snapshot)
@@ -32,7 +32,7 @@ func (e *Engine) claim(
 			return nil, err
 		}
 		spare.useFor(now, snapshot.Entry, made, decisions)
-		decisions[snapshot.Key] = *made
+		decisions[snapshot.Key] = made
 		crash.At("claim-next")
 		return made.change(), nil
 	})
@@ -43,22 +43,22 @@ func (e *Engine) claim(
 	}
 	crash.At("claim-written")
 	for _, row := range rows {
-		made, isMade := decisions[row.Key]
-		e.stepFailed(row.Key, either(row.Err, made.err))
-		switch {
-		case !isMade || row.Err != nil:
+		switch made := decisions[row.Key]; {
+		case made == nil || row.Err != nil:
+			e.stepFailed(row.Key, row.Err)
 		case made.send != nil:
 			made.send.out.Until, made.send.driver = until, made.send.transaction.Committed()
 			found.sendings = append(found.sendings, made.send)
 		default:
-			e.changed(made.entry, made.before)
+			e.stepFailed(row.Key, made.err)
+			e.changed(&made.entry, made.before)
 		}
 	}
 	return found
 }
 
 // inDoubt are the requests of a claim of which nobody knows whether it was committed.
-func inDoubt(decisions map[Key]decision, most int, err error) (sendings []*sending) {
+func inDoubt(decisions map[Key]*decision, most int, err error) (sendings []*sending) {
 	for _, decision := range decisions {
 		if s := decision.send; s != nil {
 			s.driver, s.unsure = s.transaction.Unsure(), err
