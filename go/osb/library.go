@@ -36,7 +36,10 @@ static void return_memory(void) {
 */
 import "C"
 
-import "fmt"
+import (
+	"fmt"
+	"sync"
+)
 
 // Version is the version of the library that is linked, as OSB_VERSION of osb.h has it: 300 for 0.3.0.
 func Version() uint32 { return uint32(C.osb_version()) }
@@ -67,16 +70,30 @@ func pointer(bytes []byte) *C.uint8_t {
 // size is how many bytes there are.
 func size(bytes []byte) C.size_t { return C.size_t(len(bytes)) }
 
-// firstBuffer is long enough for a record, a holding, a target and most bodies, so that one call writes them.
-const firstBuffer = 512
+// A firstBuffer is long enough for a record, a holding, a target and most bodies, so that one call writes them.
+type firstBuffer struct {
+	text   [512]byte
+	needed C.size_t
+}
+
+// firstBuffers are those that no call uses.
+var firstBuffers = sync.Pool{New: func() any { return new(firstBuffer) }}
 
 // textFrom returns the text that a call writes: it calls again with a longer buffer where the first was too short.
 func textFrom(write func(buffer *C.uint8_t, bytes C.size_t, needed *C.size_t) C.uint32_t) ([]byte, error) {
-	var needed C.size_t
-	return textOf(firstBuffer, func(buffer []byte) (C.size_t, C.uint32_t) {
-		status := write(pointer(buffer), size(buffer), &needed)
-		return needed, status
-	})
+	first := firstBuffers.Get().(*firstBuffer)
+	defer firstBuffers.Put(first)
+	status := write(pointer(first.text[:]), size(first.text[:]), &first.needed)
+	if status == C.OSB_TOO_SMALL {
+		return textOf(int(first.needed), func(buffer []byte) (C.size_t, C.uint32_t) {
+			status := write(pointer(buffer), size(buffer), &first.needed)
+			return first.needed, status
+		})
+	}
+	if err := errorOf(status); err != nil {
+		return nil, err
+	}
+	return append(make([]byte, 0, first.needed), first.text[:first.needed]...), nil
 }
 
 // textOf returns the text that a call writes into a buffer, first into one of so many bytes. The call returns how many
