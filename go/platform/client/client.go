@@ -365,6 +365,13 @@ func (c *Client) enter(ctx context.Context, to *broker, sent sending) (*connecti
 	return conn, err
 }
 
+// These headers, by their keys in an http.Header.
+var (
+	versionHeader             = http.CanonicalHeaderKey(osb.VersionHeader)
+	requestIdentityHeader     = http.CanonicalHeaderKey(osb.RequestIdentityHeader)
+	originatingIdentityHeader = http.CanonicalHeaderKey(osb.OriginatingIdentityHeader)
+)
+
 // request makes the request that is written.
 func (c *Client) request(to *broker, of platform.Broker, sent sending) (*http.Request, error) {
 	request, err := http.NewRequest(sent.method, to.origin+sent.target, bytes.NewReader(sent.body))
@@ -376,7 +383,7 @@ func (c *Client) request(to *broker, of platform.Broker, sent sending) (*http.Re
 	}
 	request.Close = sent.isAlone || !to.returns.Load()
 	request.Header.Set("User-Agent", c.options.UserAgent)
-	request.Header.Set(osb.VersionHeader, osb.VersionSent)
+	request.Header.Set(versionHeader, osb.VersionSent)
 	if len(sent.body) > 0 {
 		request.Header.Set("Content-Type", osb.ContentType)
 	}
@@ -384,9 +391,10 @@ func (c *Client) request(to *broker, of platform.Broker, sent sending) (*http.Re
 	if sent.isOfAny {
 		store = ""
 	}
-	for _, header := range [...]struct{ name, value string }{
-		{osb.RequestIdentityHeader, sent.id}, {osb.OriginatingIdentityHeader, sent.identity},
-		{journalfile.Header, sent.journalTime}, {platform.StoreHeader, store},
+	for _, header := range [...]struct{ name, key, value string }{
+		{osb.RequestIdentityHeader, requestIdentityHeader, sent.id},
+		{osb.OriginatingIdentityHeader, originatingIdentityHeader, sent.identity},
+		{journalfile.Header, journalfile.Header, sent.journalTime}, {platform.StoreHeader, platform.StoreHeader, store},
 	} {
 		if header.value == "" {
 			continue
@@ -394,7 +402,7 @@ func (c *Client) request(to *broker, of platform.Broker, sent sending) (*http.Re
 		if err := osb.RequestIdentity(header.value); err != nil {
 			return nil, fmt.Errorf("the header %s: %w", header.name, err)
 		}
-		request.Header.Set(header.name, header.value)
+		request.Header.Set(header.key, header.value)
 	}
 	return request, c.authorize(request, of)
 }
@@ -455,7 +463,7 @@ func (c *Client) on(
 	case got.status < http.StatusOK:
 		return got, fmt.Errorf("status %d: %w", got.status, osb.ErrNoAnswer)
 	}
-	switch returned := got.header.Values(osb.RequestIdentityHeader); {
+	switch returned := got.header[requestIdentityHeader]; {
 	case sent.id != "" && !all(returned, sent.id): // neither its status nor its headers belong to this request
 		return wholeAnswer{}, fmt.Errorf("%w: it has another one in %s", ErrOtherRequest, osb.RequestIdentityHeader)
 	case len(returned) == 0 && conn.isKept:
@@ -469,7 +477,7 @@ func (c *Client) on(
 
 // giveBack keeps a connection for the next request, or closes it.
 func (c *Client) giveBack(ctx context.Context, to *broker, conn *connection, sent sending, got wholeAnswer, err error) {
-	isReturned := err == nil && sent.id != "" && len(got.header.Values(osb.RequestIdentityHeader)) > 0
+	isReturned := err == nil && sent.id != "" && len(got.header[requestIdentityHeader]) > 0
 	if got.status != 0 && sent.id != "" {
 		to.returns.Store(isReturned)
 	}

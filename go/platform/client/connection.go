@@ -101,7 +101,8 @@ type connection struct {
 	top    *meter
 	reader *bufio.Reader
 	writer *bufio.Writer
-	isKept bool // whether it has carried a request before
+	raw    syscall.RawConn // that of the connection at the bottom, or nil
+	isKept bool            // whether it has carried a request before
 
 	// heeded is closed once what waits on the connection has to end, or nil. endHeed ends the goroutine that waits for
 	// that.
@@ -109,16 +110,20 @@ type connection struct {
 	endHeed func()
 
 	idleSince time.Time
-	expiry    *time.Timer // while it waits for a request
+	expiry    *time.Timer // runs while it waits for a request; nil before it has waited for one
 }
 
 // newConnection is a connection to a broker, over one at the bottom that TLS may have been added to.
 func newConnection(bottom *timedConn, top net.Conn) *connection {
 	metered := &meter{Conn: top}
-	return &connection{
+	made := &connection{
 		bottom: bottom, top: metered, reader: bufio.NewReader(metered), writer: bufio.NewWriterSize(metered, piece),
 		endHeed: func() {},
 	}
+	if system, ok := bottom.Conn.(syscall.Conn); ok {
+		made.raw, _ = system.SyscallConn() // nil with an error
+	}
+	return made
 }
 
 // begin begins an exchange, which may last until a time, and read so many bytes.
@@ -223,16 +228,11 @@ func (c *connection) answer(request *http.Request) (*http.Response, error) {
 
 // isQuiet reports whether nothing has arrived since the last answer, not even the end of the connection.
 func (c *connection) isQuiet() bool {
-	system, ok := c.bottom.Conn.(syscall.Conn)
-	if !ok {
-		return false
-	}
-	raw, err := system.SyscallConn()
-	if err != nil {
+	if c.raw == nil {
 		return false
 	}
 	isQuiet := false
-	err = raw.Control(func(descriptor uintptr) { // whatever deadline the last exchange had
+	err := c.raw.Control(func(descriptor uintptr) { // whatever deadline the last exchange had
 		var one [1]byte
 		_, _, err := syscall.Recvfrom(int(descriptor), one[:], syscall.MSG_PEEK|syscall.MSG_DONTWAIT)
 		isQuiet = err == syscall.EAGAIN
@@ -425,7 +425,11 @@ func (b *broker) keep(it *connection, now time.Time) {
 		return
 	}
 	it.isKept, it.idleSince = true, now
-	it.expiry = time.AfterFunc(b.longest, func() { b.expire(it) })
+	if it.expiry == nil {
+		it.expiry = time.AfterFunc(b.longest, func() { b.expire(it) })
+	} else { // it was stopped before it fired, or the connection would be closed
+		it.expiry.Reset(b.longest)
+	}
 	b.idle = append(b.idle, it)
 }
 
