@@ -188,11 +188,12 @@ func (b Broker) CheckCatalogue(document json.RawMessage, headers []string) error
 // PasswordContext is the context under which the password of a broker is sealed: it can't be opened for another URL, or
 // for another user. No key of a row is like it, and no two brokers have the same.
 func PasswordContext(broker Broker) string {
-	context := "password"
-	for _, text := range []string{broker.Name, broker.URL, broker.User} {
-		context += " " + strconv.Itoa(len(text)) + ":" + text
+	context := append(make([]byte, 0, 256), "password"...)
+	for _, text := range [...]string{broker.Name, broker.URL, broker.User} {
+		context = append(strconv.AppendInt(append(context, ' '), int64(len(text)), 10), ':')
+		context = append(context, text...)
 	}
-	return context
+	return string(context)
 }
 
 // longestSetting is the greatest time that a setting of a broker may have.
