@@ -108,7 +108,9 @@ type logObserver struct {
 var _ platform.Observer = logObserver{}
 
 func (o logObserver) OnRequest(of platform.Exchange) {
-	o.addExchange(o.at(debugLevel, "request_sent"), of).Send()
+	if event := o.at(debugLevel, "request_sent"); event != nil { // of a line that is left out, no id is written
+		o.addExchange(event, of).Send()
+	}
 }
 
 func (o logObserver) OnAnswer(of platform.Exchange) {
@@ -303,7 +305,7 @@ func (c changes) OnChange(key platform.Key, _, after platform.State) {
 	if key.IsBinding {
 		id += "/" + binding
 	}
-	fmt.Fprintf(c.to, "%s\t%s\t%s\n", moment(time.Now()), printable(id), after)
+	_, _ = io.WriteString(c.to, moment(time.Now())+"\t"+printable(id)+"\t"+string(after)+"\n")
 }
 
 // showCounts shows on a terminal how many rows are in each state, until ctx is done.
