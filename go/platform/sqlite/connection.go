@@ -4,6 +4,7 @@ import (
 	"context"
 	"database/sql/driver"
 	"fmt"
+	"strconv"
 	"strings"
 	"time"
 
@@ -37,10 +38,11 @@ type connection struct {
 // A table has the columns of one of the two tables of rows, without its key, and the statements. state are the columns
 // that change.
 type table struct {
-	name, key                           string // key is the condition for the row of a key
-	row, state                          entryColumns
-	read, readBriefly, insert, postpone *sqlitefile.Statement
-	updates                             map[uint64]*sqlitefile.Statement // by the set of columns, by their indexes in state
+	name, key                    string // key is the condition for the row of a key
+	row, state                   entryColumns
+	read, readBriefly, readAhead *sqlitefile.Statement
+	insert, postpone             *sqlitefile.Statement
+	updates                      map[uint64]*sqlitefile.Statement // by the set of columns, by their indexes in state
 }
 
 // The tables of rows, and the condition for the row of a key.
@@ -109,12 +111,22 @@ func (c *connection) ofRows() map[**sqlitefile.Statement]string {
 		&c.instances.readBriefly: "SELECT " + lineOf(false, true) + ofInstance,
 		&c.bindings.readBriefly:  "SELECT " + lineOf(true, true) + ofOne,
 
+		&c.instances.readAhead: aheadText(instancesTable, false),
+		&c.bindings.readAhead:  aheadText(bindingsTable, true),
+
 		&c.instances.insert: inserting(instancesTable, append(c.instances.row.Names(), "id")...),
 		&c.bindings.insert:  inserting(bindingsTable, append(c.bindings.row.Names(), "instance", "id")...),
 
 		&c.instances.postpone: updating(instancesTable, instanceKey, []string{"due"}),
 		&c.bindings.postpone:  updating(bindingsTable, bindingKey, []string{"due"}),
 	}
+}
+
+// aheadText is the text of a statement that reads the rows of a table with these numbers, which are an array of JSON, one
+// after another.
+func aheadText(table string, isBinding bool) string {
+	return "SELECT " + lineOf(isBinding, false) + " FROM (SELECT value FROM json_each(?)) CROSS JOIN " + table +
+		" ON " + table + ".rowid = value"
 }
 
 // earlier is when a row is due that is due at the time ?1 at the latest.
@@ -191,7 +203,7 @@ func (c *connection) of(key platform.Key) *table {
 
 // entry reads a row, unless it is known. Errors: platform.ErrUnknown; that the row can't be read.
 func (c *connection) entry(key platform.Key) (platform.Entry, error) {
-	if known, isKnown := c.known.rows[key]; isKnown {
+	if known := c.known.of(key); known != nil {
 		return *known, nil
 	}
 	return readBy(c.of(key).read, entryOf, key)
@@ -310,7 +322,7 @@ func (c *connection) writeBeside(now time.Time, key platform.Key, change *platfo
 		}
 	}
 	if change.WakeInstance {
-		delete(c.known.rows, osb.InstanceKey(key.Instance))
+		c.known.forget(osb.InstanceKey(key.Instance))
 		if _, err := c.wakeInstance.Run(seconds(now), key.Instance.String()); err != nil {
 			return err
 		}
@@ -337,12 +349,57 @@ func (c *connection) keysDue(brokers []string, until, now driver.Value, most int
 		brokers = brokers[count:]
 		err = statement.Each(values, func(values []driver.Value) error {
 			r := &row{values: values}
-			it := dueKey{at: r.at(), key: r.keyOfTexts()}
+			it := dueKey{at: r.at(), key: r.keyOfTexts(), row: r.number()}
 			found = append(found, it)
 			return r.err
 		})
 	}
 	return longestDue(found, most), err
+}
+
+// readAhead reads the rows of these keys that aren't known, and have no error, each table's by one query. The error of a
+// row that can't be read is that of its claim, and the rows behind it are read by another query.
+func (c *connection) readAhead(due []dueKey, claimed []platform.ClaimedRow) {
+	for _, table := range []*table{&c.instances, &c.bindings} {
+		var unread []int
+		for n, it := range due {
+			if c.of(it.key) == table && claimed[n].Err == nil && c.known.of(it.key) == nil {
+				unread = append(unread, n)
+			}
+		}
+		for len(unread) > 0 {
+			read := 0
+			err := table.readAhead.Each([]driver.Value{numbersOf(due, unread)}, func(values []driver.Value) error {
+				entry, err := entryOf(values)
+				claimed[unread[read]].Err = err
+				read++
+				if err == nil {
+					c.known.ahead[entry.Key] = &entry
+				}
+				return nil
+			})
+			if err == nil {
+				break
+			}
+			if read == len(unread) {
+				read-- // it has failed behind its last row
+			}
+			claimed[unread[read]].Err = err
+			unread = unread[read+1:]
+		}
+	}
+}
+
+// numbersOf are the numbers of some of these rows, as an array of JSON.
+func numbersOf(due []dueKey, of []int) string {
+	text := []byte{'['}
+	for at, n := range of {
+		if at > 0 {
+			text = append(text, ',')
+		}
+		text = strconv.AppendInt(text, due[n].row, 10)
+	}
+	return string(append(text, ']'))
 }
 
 // keyOfTexts is a key whose binding is an empty text for an instance.
@@ -372,7 +429,7 @@ func (c *connection) dueOf(count int) (*sqlitefile.Statement, error) {
 func dueText(count int) string {
 	var parts []string
 	for n := 0; n < count; n++ {
-		for _, pair := range [][2]string{{"osb_instances", "id, ''"}, {"osb_bindings", "instance, id"}} {
+		for _, pair := range [][2]string{{"osb_instances", "id, '', rowid"}, {"osb_bindings", "instance, id, rowid"}} {
 			parts = append(parts, fmt.Sprintf("SELECT * FROM (SELECT due, %s FROM %s INDEXED BY %s_to_do "+
 				"WHERE broker = ?%d AND due IS NOT NULL AND due <= ?1 AND (leased_until IS NULL OR leased_until < ?2) "+
 				"ORDER BY due LIMIT ?3)", pair[1], pair[0], pair[0], n+4))

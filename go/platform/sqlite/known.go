@@ -17,6 +17,7 @@ type knownRows struct {
 	read    *sqlitefile.Statement // what changes as soon as another connection has written
 	version driver.Value          // what it was when these rows were written
 	rows    map[platform.Key]*platform.Entry
+	ahead   map[platform.Key]*platform.Entry // of any length, which this transaction has read
 }
 
 const (
@@ -34,21 +35,38 @@ func (k *knownRows) begin() error {
 		k.forgetAll()
 		k.version = row[0]
 	}
+	k.ahead = map[platform.Key]*platform.Entry{}
 	return nil
 }
 
+// of is the row of a key, or nil if it isn't known.
+func (k *knownRows) of(key platform.Key) *platform.Entry {
+	if entry := k.rows[key]; entry != nil {
+		return entry
+	}
+	return k.ahead[key]
+}
+
+// forget has a row read again.
+func (k *knownRows) forget(key platform.Key) {
+	delete(k.rows, key)
+	delete(k.ahead, key)
+}
+
 // forgetAll has all rows read again.
-func (k *knownRows) forgetAll() { k.rows = map[platform.Key]*platform.Entry{} }
+func (k *knownRows) forgetAll() {
+	k.rows, k.ahead = map[platform.Key]*platform.Entry{}, map[platform.Key]*platform.Entry{}
+}
 
 // keep notes a row that was written, and changes it to what is read. One that rests is forgotten: nothing is to be done
 // for it.
 func (k *knownRows) keep(entry *platform.Entry) {
 	length := len(entry.Body) + len(entry.Metadata) + len(entry.Credentials) + len(entry.Dashboard)
+	k.forget(entry.Key)
 	if k.rows == nil || entry.Rests() || length > longestKnown || !asRead(entry) {
-		delete(k.rows, entry.Key)
 		return
 	}
-	if _, isThere := k.rows[entry.Key]; !isThere && len(k.rows) >= mostKnown {
+	if len(k.rows) >= mostKnown {
 		for other := range k.rows {
 			delete(k.rows, other)
 			break

@@ -8,8 +8,11 @@ import (
 	"time"
 
 	"pippinterm/internal/diff"
+	"pippinterm/internal/sqlitefile"
+	"pippinterm/internal/storefaults"
 	"pippinterm/osb"
 	"pippinterm/platform"
+	"pippinterm/platform/storetest"
 )
 
 // fullEntry is an entry of which each member has a value that its column changes, if there is one.
@@ -157,6 +160,137 @@ func either(one, other error) error {
 	return other
 }
 
+// insertBound inserts an instance and a binding of it, which are due one after another.
+func insertBound(t *testing.T, s *Store) (instance, binding platform.Key) {
+	t.Helper()
+	instance, binding = keyOf(1), osb.BindingKey(keyOf(1).Instance, osb.ID{1})
+	bound := order(2)
+	bound.Key, bound.First, bound.Names.Binding = binding, binding.ID(), binding.Binding.String()
+	check(t, s.Insert(background, order(1), nil))
+	check(t, s.Insert(background, bound, nil))
+	return instance, binding
+}
+
+// A step sees what an earlier step of the same claim has changed, though its row was read before that.
+func TestStepsOfOneClaim(t *testing.T) {
+	for _, test := range []struct {
+		name           string
+		instance       platform.Entry // what it is changed to
+		removeBindings bool
+		binding        func(snapshot platform.Snapshot) bool // whether the snapshot of the binding is right
+	}{
+		{"the instance", platform.Entry{State: platform.Wanted, Since: at(1e12), Due: at(1e12), Because: "a step"}, false,
+			func(it platform.Snapshot) bool { return it.Instance.Because == "a step" }},
+		{"an instance that isn't known", platform.Entry{State: platform.Wanted, Since: at(1e12), Because: "a step"}, false,
+			func(it platform.Snapshot) bool { return it.Instance.Because == "a step" }},
+		{"the binding", platform.Entry{State: platform.Wanted, Since: at(1e12), Due: at(1e12)}, true,
+			func(it platform.Snapshot) bool { return it.Entry.Removal == platform.Removed }},
+	} {
+		t.Run(test.name, func(t *testing.T) {
+			s := withBroker(t, open(t, filepath.Join(t.TempDir(), "store")))
+			instance, binding := insertBound(t, s)
+			var seen []platform.Key
+			step := func(_ time.Time, snapshot platform.Snapshot) (*platform.Change, error) {
+				seen = append(seen, snapshot.Entry.Key)
+				if !snapshot.Entry.Key.IsBinding {
+					return &platform.Change{Entry: test.instance, RemoveBindings: test.removeBindings}, nil
+				}
+				diff.Equal(t, test.binding(snapshot), true, "the snapshot %+v is of the changed row", snapshot)
+				return nil, nil
+			}
+			claimed := diff.Value(s.Claim(background, []string{"one"}, 2, step))(t)
+			diff.Check(t, claimed, []platform.ClaimedRow{{Key: instance}, {Key: binding}}, "claimed")
+			diff.Check(t, seen, []platform.Key{instance, binding}, "stepped")
+		})
+	}
+}
+
+// A row that was read for a claim is read again once a step has woken it, and in the next transaction.
+func TestReadAheadIsForgotten(t *testing.T) {
+	s := withBroker(t, open(t, filepath.Join(t.TempDir(), "store")))
+	instance, binding := insertBound(t, s)
+	check(t, s.write(background, func(c *connection) error {
+		c.known.ahead[instance], c.known.ahead[keyOf(2)] = &platform.Entry{}, &platform.Entry{}
+		before, err := c.entry(binding)
+		err = either(err, c.write(now(), &before, &platform.Change{Entry: before, WakeInstance: true}))
+		diff.Equal(t, c.known.of(instance) == nil, true, "the instance is read again")
+		return err
+	}))
+	check(t, s.write(background, func(c *connection) error {
+		diff.Equal(t, len(c.known.ahead), 0, "rows of an earlier transaction")
+		return nil
+	}))
+}
+
+// Rows that aren't known are read by one query for a claim, also long ones. One that can't be read fails alone.
+func TestReadAhead(t *testing.T) {
+	s, m := openMetered(t)
+	withBroker(t, s)
+	const rows = 20
+	for n := 0; n < rows; n++ {
+		entry := order(n)
+		entry.Body = make([]byte, longestKnown)
+		check(t, s.Insert(background, entry, nil))
+	}
+	statements := m.statements(t)
+	steps := 0
+	step := func(time.Time, platform.Snapshot) (*platform.Change, error) { steps++; return nil, nil }
+	diff.Value(s.Claim(background, []string{"one"}, rows, step))(t)
+	diff.Equal(t, steps, rows, "steps")
+	diff.Equal(t, m.statements(t)-statements, 2, "statements")
+}
+
+// Each row of the query of a claim fails once: its claim has the error, and the others are claimed. If it fails behind the
+// last row, that one fails.
+func TestReadAheadThatFails(t *testing.T) {
+	by := &storefaults.Driver{}
+	s := withBroker(t, diff.Value(openAt(background, filepath.Join(t.TempDir(), "store"), by, migrate))(t))
+	defer s.Close()
+	const rows = 3
+	for n := 0; n < rows; n++ {
+		check(t, s.Insert(background, order(n), nil))
+	}
+	for failing, want := range []int{0, 0, 1, 2, 2} {
+		var stepped []platform.Key
+		check(t, s.write(background, func(c *connection) error {
+			var claimed []platform.ClaimedRow
+			due, err := c.keysDue([]string{"one"}, seconds(now()), seconds(now()), rows)
+			for _, it := range due {
+				claimed = append(claimed, platform.ClaimedRow{Key: it.key})
+			}
+			by.Fail(failing+1, storefaults.Refused)
+			c.readAhead(due, claimed)
+			by.Fail(0, storefaults.Refused)
+			for n, row := range claimed {
+				diff.Equal(t, errors.Is(row.Err, storefaults.ErrFault), n == want, "statement %d, row %d: failed", failing, n)
+				if c.known.of(row.Key) != nil {
+					stepped = append(stepped, row.Key)
+				}
+			}
+			return err
+		}))
+		diff.AtLeast(t, len(stepped), rows-1, "rows that are read")
+	}
+}
+
+// If SQLite rolls back because a row can't be read for a claim, no other row is stepped, and nothing is written.
+func TestReadingThatRollsBack(t *testing.T) {
+	s := withBroker(t, open(t, filepath.Join(t.TempDir(), "store")))
+	instance, _ := insertBound(t, s)
+	diff.Value(s.Fingerprint(background, "x"))(t)
+	check(t, s.write(background, func(c *connection) (err error) {
+		c.bindings.readAhead, err = c.Prepare(background, "INSERT OR ROLLBACK INTO osb_store VALUES (1, ?)")
+		return err
+	}))
+	_, err := s.Claim(background, []string{"one"}, 2, storetest.Edit(func(e *platform.Entry, _ time.Time) {
+		t.Errorf("got a step of %v, want none", e.Key)
+		e.Because = "it was stepped"
+	}))
+	diff.ErrorIs(t, err, sqlitefile.ErrBroken, "")
+	diff.ErrorContains(t, err, "UNIQUE", "")
+	diff.Equal(t, diff.Value(s.Read(background, instance))(t).Because, "", "")
+}
+
 // No more rows are known than a limit.
 func TestFewRowsAreKnown(t *testing.T) {
 	known := knownRows{rows: map[platform.Key]*platform.Entry{}}
@@ -164,8 +298,10 @@ func TestFewRowsAreKnown(t *testing.T) {
 	for n := 0; n < mostKnown+2; n++ {
 		entry := full
 		entry.Key = keyOf(n)
+		known.ahead = map[platform.Key]*platform.Entry{entry.Key: {}}
 		known.keep(&entry)
-		diff.Equal(t, known.rows[entry.Key] != nil, true, "the row that was written last")
+		diff.Equal(t, known.of(entry.Key) == &entry, true, "the row that was written last")
+		diff.Equal(t, len(known.ahead), 0, "rows as they were read before")
 	}
 	diff.Equal(t, len(known.rows), mostKnown, "rows")
 }

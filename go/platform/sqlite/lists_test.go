@@ -163,8 +163,7 @@ func TestNoCallChangesTables(t *testing.T) {
 	}
 }
 
-// A meter counts what the connections of a store execute. SQLite counts how often each prepared statement has run, and
-// the triggers that it has fired with it.
+// A meter counts what the connections of a store execute. SQLite counts how often each prepared statement has run.
 type meter struct {
 	conns        []*sqlitefile.Conn
 	transactions atomic.Int64

@@ -91,16 +91,19 @@ func (f *first) MarshalText() ([]byte, error) {
 func (f *first) UnmarshalText(text []byte) error { return f.First.UnmarshalText(text) }
 
 // lineOf is what is read of a row of a table, as entryOf reads it: NULL for the columns that the table doesn't have, and
-// if it is brief for those that may be long.
+// if it is brief for those that may be long. The driver makes a text of the declared type of each column, for each query:
+// what has a + before it has none.
 func lineOf(isBinding, isBrief bool) string {
-	names := append([]string{"id", "NULL"}, rowColumns.Names()...)
+	names := []string{"+id", "NULL"}
 	if isBinding {
-		names[0], names[1] = "instance", "id"
+		names = []string{"+instance", "+id"}
 	}
-	for at, column := range rowColumns {
+	for _, column := range rowColumns {
+		name := "+" + column.Name
 		if column.IsOfBinding && !isBinding || column.IsLong && isBrief {
-			names[2+at] = "NULL"
+			name = "NULL"
 		}
+		names = append(names, name)
 	}
 	return join(names)
 }

@@ -1,5 +1,5 @@
-// Package sqlite keeps the rows of a platform in a file of SQLite, for any number of workers of one machine. It reads
-// and extends the file of version 0.2.
+// Package sqlite keeps the rows of a platform in a file of SQLite, for any number of workers of one machine. It brings
+// the files of versions 0.2 and 0.3 up to date.
 //
 // Changes that wait are written together, by package sqlitefile. Times are those of the machine, to the millisecond.
 package sqlite
@@ -41,16 +41,16 @@ var (
 	ErrUnknownCommit = sqlitefile.ErrUnknownCommit
 )
 
-// Open opens a file, and creates it if there is none. A file of version 0.2 is extended in one transaction: its broker
-// becomes the broker "default" with the user "platform" and no password, and its rows have the organization and the
-// space "osb-platform". Version 0.2 refuses to run over the file afterwards. Nothing is written to a file whose tables
-// are those of this version.
+// Open opens a file, and creates it if there is none. A file of version 0.2 or 0.3 is brought up to date in one
+// transaction. The broker of version 0.2 becomes the broker "default" with the user "platform" and no password, and its
+// rows have the organization and the space "osb-platform". The version refuses to run over the file afterwards. Nothing
+// is written to a file whose tables are those of this version.
 //
-// Errors name the file: it can't be opened or extended, it is of a later version or of another program, or it is of
-// version 0.2 and a worker of that version runs. Nothing was changed then.
+// Errors name the file: it can't be opened or brought up to date, it is of a later version or of another program, or it
+// is of version 0.2 or 0.3 and a worker of that version runs. Nothing was changed then.
 func Open(ctx context.Context, path string) (*Store, error) { return openAt(ctx, path, nil, migrate) }
 
-// OpenExisting is Open of a file that has the tables, of this version or of version 0.2. Otherwise it creates nothing,
+// OpenExisting is Open of a file that has the tables, of this version or of 0.2 or 0.3. Otherwise it creates nothing,
 // and the error is platform.ErrNoStore: there is no file, or it has no tables.
 func OpenExisting(ctx context.Context, path string) (*Store, error) {
 	about, err := os.Stat(path)
@@ -183,19 +183,25 @@ func (s *Store) claimExcept(
 			return err
 		}
 		for _, due := range keys {
-			row := platform.ClaimedRow{Key: due.key, Err: failed[due.key]}
-			if row.Err == nil {
-				row.Err = c.claim(now, due.key, step)
+			claimed = append(claimed, platform.ClaimedRow{Key: due.key, Err: failed[due.key]})
+		}
+		c.readAhead(keys, claimed)
+		// if SQLite has rolled back because a row can't be read, nothing may be written: see postpone
+		if err := c.postponeFailed(now, claimed); err != nil {
+			return err
+		}
+		for n := range claimed {
+			row := &claimed[n]
+			if row.Err != nil {
+				continue
 			}
+			row.Err = c.claim(now, row.Key, step)
 			if half, isHalf := row.Err.(halfWritten); isHalf {
 				return half
 			}
-			if row.Err != nil {
-				if err := c.postpone(now, due.key); err != nil {
-					return fmt.Errorf("%w (after: %v)", err, row.Err)
-				}
+			if err := c.postponeFailed(now, claimed[n:n+1]); err != nil {
+				return err
 			}
-			claimed = append(claimed, row)
 		}
 		return nil
 	})
@@ -227,21 +233,35 @@ func (c *connection) claim(now time.Time, key platform.Key, step platform.Step) 
 	return err
 }
 
+// postponeFailed has those of these rows due later that have failed.
+func (c *connection) postponeFailed(now time.Time, claimed []platform.ClaimedRow) error {
+	for _, row := range claimed {
+		if row.Err == nil {
+			continue
+		}
+		if err := c.postpone(now, row.Key); err != nil {
+			return fmt.Errorf("%w (after: %v)", err, row.Err)
+		}
+	}
+	return nil
+}
+
 // postpone has a row whose step has failed due later. Nothing else of it is read or written.
 func (c *connection) postpone(now time.Time, key platform.Key) error {
 	if !c.InTransaction() {
 		return sqlitefile.ErrBroken
 	}
-	delete(c.known.rows, key)
+	c.known.forget(key)
 	due := seconds(now.Add(platform.FailedRest))
 	_, err := c.of(key).postpone.Run(append([]driver.Value{due}, keyValues(key)...)...)
 	return err
 }
 
-// A dueKey is the key of a row that is due.
+// A dueKey is the key of a row that is due, and the number of the row in its table.
 type dueKey struct {
 	at  time.Time
 	key platform.Key
+	row int64
 }
 
 // longestDue are at most so many of these, the longest due first.

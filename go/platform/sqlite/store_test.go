@@ -523,6 +523,8 @@ func TestQueriesUseIndexes(t *testing.T) {
 		for _, count := range []int{1, 3} {
 			wantIndexed(t, c, dueText(count), count+3, true)
 		}
+		wantIndexed(t, c, aheadText(instancesTable, false), 1, false)
+		wantIndexed(t, c, aheadText(bindingsTable, true), 1, false)
 		others, reading := c.ofOthers(), c.ofReading()
 		for statement, values := range map[**sqlitefile.Statement]int{
 			&c.freeInstances: 2, &c.freeBindings: 2, &c.removeBindings: 2, &c.wakeInstance: 2, &c.anyBinding: 1,
