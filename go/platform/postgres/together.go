@@ -11,7 +11,7 @@ import (
 )
 
 const (
-	atATime   = 2  // so many transactions of changes of instances run at once
+	atATime   = 1  // so many transactions of changes of instances run at once: with more, each has fewer changes
 	mostOfOne = 64 // so many changes are in one of them at most
 )
 
