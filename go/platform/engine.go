@@ -26,7 +26,7 @@ const (
 // Options are how an Engine works. Of each that is zero, the default counts.
 type Options struct {
 	Worker   string        // the name of this worker; no other process over the Store has it
-	AtOnce   int           // how many requests are in flight at once, without those beside (MostInFlight); 32
+	AtOnce   int           // how many requests are in flight at once, without those beside (MostInFlight); 64
 	Exchange time.Duration // how long an exchange may last; 60 s
 	Margin   time.Duration // how much longer a step may take before another worker takes it over; 30 s
 	Look     time.Duration // how often it looks for what others have written; 1 s
@@ -58,7 +58,7 @@ func (o Options) withDefaults() Options {
 		}
 	}
 	if o.AtOnce <= 0 {
-		o.AtOnce = 32
+		o.AtOnce = 64
 	}
 	if o.Unsettled == "" {
 		o.Unsettled = RemoveUnsettled
@@ -79,6 +79,7 @@ type Engine struct {
 	once     *once
 	health   *storeHealth
 	retry    time.Duration // until a transaction is tried again that has failed, the first time
+	apart    time.Duration // between two claims at least, while few slots are free
 	newID    func() (osb.ID, error)
 }
 
@@ -87,7 +88,7 @@ func NewEngine(store Store, client Client, vault Vault, options Options, observe
 	return &Engine{
 		Options: options.withDefaults(), store: store, client: client, vault: vault, observer: observer,
 		once: &once{observer: observer, reasons: map[string]string{}}, health: &storeHealth{observer: observer},
-		retry: 50 * time.Millisecond, newID: newID,
+		retry: 50 * time.Millisecond, apart: 20 * time.Millisecond, newID: newID,
 	}
 }
 
@@ -131,6 +132,7 @@ type run struct {
 	known             time.Time       // when something is due, as far as is known; zero if nothing is
 	rest              backOff         // after claims that have failed
 	resting           time.Time       // until when nothing is claimed
+	claimed           time.Time       // when the last claim began
 	look              time.Time       // when the Store is asked again
 	asked             map[string]bool // for which brokers it was asked last
 }
@@ -242,6 +244,9 @@ func (r *run) pump() time.Duration {
 		}
 		return r.Look
 	}
+	if wait := r.gather(); wait > 0 {
+		return wait
+	}
 	for _, name := range names {
 		if !r.asked[name] { // it took no slot then, and may have something due
 			r.look = time.Time{}
@@ -261,6 +266,16 @@ func (r *run) pump() time.Duration {
 		return wait
 	}
 	return 0
+}
+
+// gather returns for how long the next claim waits for more free slots: one transaction for many requests costs less
+// than many of one each. It is no longer than apart after the last claim, and while a quarter of the slots is free, it
+// is 0.
+func (r *run) gather() time.Duration {
+	if free := r.AtOnce - r.inFlight; 4*free >= r.AtOnce {
+		return 0
+	}
+	return time.Until(r.claimed.Add(r.apart))
 }
 
 // ask asks the Store when something is due.
@@ -284,6 +299,7 @@ func (r *run) ask(names []string) {
 
 // begin claims what is due, and begins its exchanges.
 func (r *run) begin(names []string, most int) {
+	r.claimed = time.Now()
 	claim := r.claim(r.ctx, r.registry, names, most, r.spareSlots())
 	r.start(claim.sendings)
 	r.known = time.Time{}

@@ -214,7 +214,7 @@ func (p *plant) checkIdentities() {
 // The options that are zero have their defaults.
 func TestOptions(t *testing.T) {
 	got := Options{}.withDefaults()
-	if got.AtOnce != 32 || got.Exchange != time.Minute || got.Margin != 30*time.Second || got.Look != time.Second ||
+	if got.AtOnce != 64 || got.Exchange != time.Minute || got.Margin != 30*time.Second || got.Look != time.Second ||
 		got.FirstPace != 2*time.Second || got.LongestPace != 2*time.Minute || got.LongestPoll != 168*time.Hour ||
 		got.Hold != 300*time.Second || got.Unsettled != RemoveUnsettled || got.Share == nil {
 		t.Errorf("got %+v, want the documented defaults", got)
@@ -472,6 +472,28 @@ func TestPumpWithoutSlots(t *testing.T) {
 	for _, running := range []int{0, 2 * p.engine.AtOnce} {
 		r.running, r.inFlight = running, running
 		diff.Equal(t, r.pump(), p.engine.Look, "with %d that run", running)
+	}
+}
+
+// While less than a quarter of the slots is free, a claim waits for more, but not for long.
+func TestPumpGathers(t *testing.T) {
+	for _, test := range []struct {
+		inFlight int
+		apart    time.Duration
+		want     bool
+	}{{7, time.Hour, false}, {7, time.Nanosecond, true}, {6, time.Hour, true}} {
+		t.Run(fmt.Sprintf("%d in flight, %v apart", test.inFlight, test.apart), func(t *testing.T) {
+			p := newPlant(t, Options{AtOnce: 8})
+			check(t, p.engine.RunOnce(background))
+			key := p.create(NewInstance{})
+			p.engine.apart = test.apart
+			r := newRun(background, p.engine)
+			defer r.wait()
+			check(t, r.registry.reachAll())
+			r.running, r.inFlight, r.claimed = test.inFlight, test.inFlight, time.Now()
+			r.pump()
+			diff.Equal(t, diff.Value(p.store.Read(background, key))(t).IsSent, test.want, "whether the order is claimed")
+		})
 	}
 }
 

@@ -85,7 +85,7 @@ The page and the API are served too, if --page and --api name where. GET /health
 
 func (s *runSettings) addWork(flags *pflag.FlagSet) {
 	flags.Var(workerFlag(&s.worker), "worker", "the `name` of this worker, that no other one over the store has")
-	flags.Var(cli.Count(&s.atOnce, 32, 1, 1024), "at-once",
+	flags.Var(cli.Count(&s.atOnce, 64, 1, 1024), "at-once",
 		"requests that are in flight at once; half as many more if some weren't answered before")
 	flags.Var(cli.Seconds(&s.seconds, time.Minute), "seconds", "for a request to be sent and answered")
 	flags.BoolVar(&s.once, "once", false,
