@@ -83,23 +83,19 @@ var firstBuffers = sync.Pool{New: func() any { return new(firstBuffer) }}
 func textFrom(write func(buffer *C.uint8_t, bytes C.size_t, needed *C.size_t) C.uint32_t) ([]byte, error) {
 	first := firstBuffers.Get().(*firstBuffer)
 	defer firstBuffers.Put(first)
-	status := write(pointer(first.text[:]), size(first.text[:]), &first.needed)
-	if status == C.OSB_TOO_SMALL {
-		return textOf(int(first.needed), func(buffer []byte) (C.size_t, C.uint32_t) {
-			status := write(pointer(buffer), size(buffer), &first.needed)
-			return first.needed, status
-		})
+	text, err := textIn(first.text[:], func(buffer []byte) (C.size_t, C.uint32_t) {
+		status := write(pointer(buffer), size(buffer), &first.needed)
+		return first.needed, status
+	})
+	if err != nil || len(text) > len(first.text) {
+		return text, err
 	}
-	if err := errorOf(status); err != nil {
-		return nil, err
-	}
-	return append(make([]byte, 0, first.needed), first.text[:first.needed]...), nil
+	return append(make([]byte, 0, len(text)), text...), nil
 }
 
-// textOf returns the text that a call writes into a buffer, first into one of so many bytes. The call returns how many
-// bytes are needed, and its status.
-func textOf(first int, write func(buffer []byte) (needed C.size_t, status C.uint32_t)) ([]byte, error) {
-	buffer := make([]byte, first)
+// textIn returns the text that a call writes into a buffer, or into a longer one if the first is too short. The call
+// returns how many bytes are needed, and its status.
+func textIn(buffer []byte, write func(buffer []byte) (needed C.size_t, status C.uint32_t)) ([]byte, error) {
 	needed, status := write(buffer)
 	if status == C.OSB_TOO_SMALL {
 		buffer = make([]byte, needed)

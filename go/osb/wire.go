@@ -197,7 +197,7 @@ func ReadTarget(prefix, target string) Target {
 func ReceiveRequest(prefix string, longestBody int, method, target string, body []byte) (Received, error) {
 	var received C.struct_request_received
 	// the texts stand in the target and the body, and are rarely shorter there
-	text, err := textOf(len(target)+len(body)+64, func(buffer []byte) (C.size_t, C.uint32_t) {
+	text, err := textIn(make([]byte, len(target)+len(body)+64), func(buffer []byte) (C.size_t, C.uint32_t) {
 		received = C.receive_request(prefix, C.size_t(max(0, longestBody)), method, target, pointer(body), size(body),
 			pointer(buffer), size(buffer))
 		return received.needed, received.status
