@@ -220,11 +220,3 @@ func (t Transaction) Unsure() Driver { return t.unsure }
 func (t Transaction) Effect() (effect Effect, outcome Outcome, ok bool) {
 	return t.effect, t.outcome, t.ok
 }
-
-// bytesOf is the number of a driver as it crosses.
-func bytesOf(number ID) (to [16]C.uint8_t) {
-	for at, one := range number {
-		to[at] = C.uint8_t(one)
-	}
-	return to
-}

@@ -1,6 +1,45 @@
 package osb
 
-// #include <osb.h>
+/*
+#include <osb.h>
+
+// The structs cross by value, as those of a Driver do.
+
+struct platform_stepped {
+	struct osb_platform_driver driver;
+	uint32_t status;
+};
+
+static struct platform_stepped new_platform_driver(struct osb_platform_driver numbered, bool is_binding) {
+	struct platform_stepped it;
+	it.status = osb_platform_driver_new(numbered.number, is_binding, &it.driver);
+	return it;
+}
+
+static struct platform_stepped answered(struct osb_platform_driver driver, bool has_answer, struct osb_answer answer,
+	bool has_credentials) {
+	struct platform_stepped it = {driver, 0};
+	it.status = osb_platform_driver_answered(&it.driver, has_answer, answer, has_credentials);
+	return it;
+}
+
+static struct platform_stepped fetched(struct osb_platform_driver driver, bool has_credentials) {
+	struct platform_stepped it = {driver, 0};
+	it.status = osb_platform_driver_fetched(&it.driver, has_credentials);
+	return it;
+}
+
+struct platform_row_read {
+	struct osb_platform_transaction transaction;
+	uint32_t status;
+};
+
+static struct platform_row_read read_platform_row(struct osb_platform_driver driver, struct osb_platform_reading row) {
+	struct platform_row_read it;
+	it.status = osb_platform_driver_read(&driver, &row, &it.transaction);
+	return it;
+}
+*/
 import "C"
 
 // A PlatformDriver is the way of one request of a platform, of an instance or of a binding, from its record to its answer.
@@ -57,9 +96,7 @@ type PlatformTransaction struct {
 //
 // Errors: ErrBadDriver if the number is zero.
 func NewPlatformDriver(number ID, isBinding bool) (PlatformDriver, error) {
-	own := bytesOf(number)
-	var driver C.struct_osb_platform_driver
-	return PlatformDriver{}.next(&driver, C.osb_platform_driver_new(&own[0], C.bool(isBinding), &driver))
+	return PlatformDriver{}.next(C.new_platform_driver(PlatformDriver{number: number}.c(), C.bool(isBinding)))
 }
 
 // Stage is the action that the program carries out next.
@@ -86,9 +123,7 @@ func (d PlatformDriver) Answered(answer Answer, hasCredentials bool) (PlatformDr
 func (d PlatformDriver) Lost() (PlatformDriver, error) { return d.heard(false, Answer{}, false) }
 
 func (d PlatformDriver) heard(hasAnswer bool, answer Answer, hasCredentials bool) (PlatformDriver, error) {
-	driver := d.c()
-	return d.next(&driver, C.osb_platform_driver_answered(
-		&driver, C.bool(hasAnswer), answer.c(), C.bool(hasCredentials)))
+	return d.next(C.answered(d.c(), C.bool(hasAnswer), answer.c(), C.bool(hasCredentials)))
 }
 
 // Fetched reports whether the Fetch of PlatformStageFetch was answered with an object of the binding, and the program has
@@ -96,16 +131,15 @@ func (d PlatformDriver) heard(hasAnswer bool, answer Answer, hasCredentials bool
 //
 // Errors: ErrBadDriver, ErrWrongStage.
 func (d PlatformDriver) Fetched(hasCredentials bool) (PlatformDriver, error) {
-	driver := d.c()
-	return d.next(&driver, C.osb_platform_driver_fetched(&driver, C.bool(hasCredentials)))
+	return d.next(C.fetched(d.c(), C.bool(hasCredentials)))
 }
 
 // next is what a call gave, or with an error the driver before.
-func (d PlatformDriver) next(driver *C.struct_osb_platform_driver, status C.uint32_t) (PlatformDriver, error) {
-	if err := errorOf(status); err != nil {
+func (d PlatformDriver) next(after C.struct_platform_stepped) (PlatformDriver, error) {
+	if err := errorOf(after.status); err != nil {
 		return d, err
 	}
-	return platformDriverOf(*driver), nil
+	return platformDriverOf(after.driver), nil
 }
 
 // Read is the transaction of a driver at PlatformStageClaim, PlatformStageTake and PlatformStageUnsure. If the
@@ -113,12 +147,11 @@ func (d PlatformDriver) next(driver *C.struct_osb_platform_driver, status C.uint
 //
 // Errors: ErrBadDriver, ErrBadRecord (of the row or of the instance), ErrWrongStage.
 func (d PlatformDriver) Read(row PlatformReading) (PlatformTransaction, error) {
-	driver, reading := d.c(), row.c()
-	var transaction C.struct_osb_platform_transaction
-	if err := errorOf(C.osb_platform_driver_read(&driver, &reading, &transaction)); err != nil {
+	it := C.read_platform_row(d.c(), row.c())
+	if err := errorOf(it.status); err != nil {
 		return PlatformTransaction{}, err
 	}
-	return platformTransactionOf(transaction), nil
+	return platformTransactionOf(it.transaction), nil
 }
 
 // Row is what the row has to have. It has a record if HasRecord.
