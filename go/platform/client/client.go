@@ -205,12 +205,12 @@ type wholeAnswer struct {
 // any other part of an answer.
 func (c *Client) Exchange(ctx context.Context, out platform.Outgoing) platform.Incoming {
 	begun := time.Now()
-	in := c.exchange(ctx, out)
+	in := c.exchange(ctx, &out)
 	in.Duration = time.Since(begun)
 	return in
 }
 
-func (c *Client) exchange(ctx context.Context, out platform.Outgoing) platform.Incoming {
+func (c *Client) exchange(ctx context.Context, out *platform.Outgoing) platform.Incoming {
 	to, err := c.broker(out.Broker)
 	if err != nil {
 		return platform.Incoming{Lost: notSent{err}}
@@ -230,7 +230,7 @@ func (c *Client) exchange(ctx context.Context, out platform.Outgoing) platform.I
 }
 
 // parse reads an answer as package osb does, once it may be parsed. An answer for which that is too late is lost.
-func (c *Client) parse(out platform.Outgoing, got wholeAnswer) platform.Incoming {
+func (c *Client) parse(out *platform.Outgoing, got wholeAnswer) platform.Incoming {
 	size := len(got.body)
 	if !c.parsed.Take(out.Broker.Name, size, out.Until.Sub(c.now())) {
 		return platform.Incoming{
@@ -249,7 +249,7 @@ func (c *Client) parse(out platform.Outgoing, got wholeAnswer) platform.Incoming
 const largeAnswer = 32 << 10
 
 // write writes a request as package osb has it.
-func write(prefix string, out platform.Outgoing) (sent sending, err error) {
+func write(prefix string, out *platform.Outgoing) (sent sending, err error) {
 	kind := out.Request.Kind
 	if out.IsFetch {
 		kind = osb.KindPoll // the method is the same, and neither has a body
@@ -261,12 +261,12 @@ func write(prefix string, out platform.Outgoing) (sent sending, err error) {
 	if sent.target, err = target(prefix, out); err != nil {
 		return sending{}, err
 	}
-	sent.body, err = body(kind, out.Entry)
+	sent.body, err = body(kind, &out.Entry)
 	return sent, err
 }
 
-func target(prefix string, out platform.Outgoing) (string, error) {
-	request, entry := out.Request, out.Entry
+func target(prefix string, out *platform.Outgoing) (string, error) {
+	request, entry := out.Request, &out.Entry
 	var operation *string
 	if request.Kind == osb.KindPoll {
 		operation = entry.Operation
@@ -280,7 +280,7 @@ func target(prefix string, out platform.Outgoing) (string, error) {
 	return osb.WriteNamedTarget(prefix, request, instanceNames(entry), operation)
 }
 
-func body(kind osb.Kind, entry platform.Entry) ([]byte, error) {
+func body(kind osb.Kind, entry *platform.Entry) ([]byte, error) {
 	further := []byte(entry.Body)
 	if len(further) == 0 {
 		further = []byte("{}")
@@ -291,11 +291,11 @@ func body(kind osb.Kind, entry platform.Entry) ([]byte, error) {
 	return osb.WriteNamedBody(kind, instanceNames(entry), entry.Organization, entry.Space, further)
 }
 
-func instanceNames(entry platform.Entry) osb.Names {
+func instanceNames(entry *platform.Entry) osb.Names {
 	return osb.Names{Instance: entry.Names.Instance, Service: entry.Names.Service, Plan: entry.Names.Plan}
 }
 
-func bindingNames(entry platform.Entry) osb.BindingNames {
+func bindingNames(entry *platform.Entry) osb.BindingNames {
 	names := entry.Names
 	return osb.BindingNames{
 		Instance: names.Instance, Binding: names.Binding, Service: names.Service, Plan: names.Plan,
@@ -489,7 +489,7 @@ func (c *Client) giveBack(ctx context.Context, to *broker, conn *connection, sen
 }
 
 // read reads an answer as package osb does.
-func read(out platform.Outgoing, got wholeAnswer) (in platform.Incoming) {
+func read(out *platform.Outgoing, got wholeAnswer) (in platform.Incoming) {
 	in = platform.Incoming{
 		Status: got.status, RetryAfter: retryAfter(got.header), JournalTime: got.header.Get(journalfile.Header),
 	}

@@ -89,7 +89,7 @@ func (c *Client) question(
 // questionTarget is the target of a question. That of the Fetch of an instance is that of its last operation, without
 // the last part of the path (section Fetching a Service Instance).
 func questionTarget(prefix string, entry platform.Entry, isFetch bool) (string, error) {
-	asked, err := target(prefix, platform.Outgoing{
+	asked, err := target(prefix, &platform.Outgoing{
 		Entry: entry, IsFetch: isFetch && entry.Key.IsBinding,
 		Request: osb.Request{Kind: osb.KindPoll, ID: entry.Key.ID(), Service: entry.Service, Plan: entry.Plan},
 	})
