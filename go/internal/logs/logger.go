@@ -64,7 +64,21 @@ func Milliseconds(of time.Duration) float64 {
 	return math.Round(float64(of)/float64(time.Millisecond)*10) / 10
 }
 
-func timeOf(t time.Time) string { return t.UTC().Format("2006-01-02T15:04:05.000Z") }
+// timeOf is the time of a line, up to the year 9999. Format takes twice as long, and each line has a time.
+func timeOf(t time.Time) string {
+	t = t.UTC()
+	year, month, day := t.Date()
+	hour, minute, second := t.Clock()
+	text := []byte("0000-00-00T00:00:00.000Z")
+	for _, number := range [...]struct{ end, of int }{
+		{4, year}, {7, int(month)}, {10, day}, {13, hour}, {16, minute}, {19, second}, {23, t.Nanosecond() / 1e6},
+	} {
+		for at, left := number.end-1, number.of; left > 0 && at >= 0; at, left = at-1, left/10 {
+			text[at] += byte(left % 10)
+		}
+	}
+	return string(text)
+}
 
 // ascii writes lines of JSON in ASCII. In JSON, other characters are only in strings, in which they can be escaped.
 type ascii struct{ to io.Writer }

@@ -37,6 +37,13 @@ func TestEventsOfALogger(t *testing.T) {
 func TestTimesAreInUTC(t *testing.T) {
 	at := time.Date(2024, 7, 1, 1, 2, 3, 4_999_999, time.FixedZone("", 7200))
 	diff.Equal(t, timeOf(at), "2024-06-30T23:02:03.004Z", "")
+	for step := time.Nanosecond; at.Year() < 9000; step = step*2 + 7 {
+		if step > 1000*24*time.Hour {
+			step = 1000 * 24 * time.Hour
+		}
+		at = at.Add(step)
+		diff.Equal(t, timeOf(at), at.UTC().Format("2006-01-02T15:04:05.000Z"), "")
+	}
 }
 
 func TestLinesAreASCIIAndHaveNoControlCharacters(t *testing.T) {
