@@ -197,7 +197,7 @@ func decideRecord(now time.Time, snapshot Snapshot, allGone bool, t terms) decis
 
 // claim is the first transaction of a driver of a row: what is wished for is by the terms.
 func (t terms) claim(now time.Time, snapshot Snapshot, allGone bool) (osb.PlatformTransaction, error) {
-	e := snapshot.Entry
+	e := &snapshot.Entry
 	driver, err := newDriver(e.Key)
 	if err != nil {
 		return osb.PlatformTransaction{}, err
@@ -228,7 +228,7 @@ func newDriver(key Key) (osb.PlatformDriver, error) {
 }
 
 // reading is what a driver reads of a row.
-func (e Entry) reading(t terms) osb.PlatformReading {
+func (e *Entry) reading(t terms) osb.PlatformReading {
 	return osb.PlatformReading{
 		Record: e.Record, HasRecord: e.IsSent, Number: e.Number,
 		ID: e.Key.ID(), Service: e.Service, Plan: e.Plan,
@@ -237,7 +237,7 @@ func (e Entry) reading(t terms) osb.PlatformReading {
 }
 
 // cleanUp is how a row is to be cleaned up, if its record allows it.
-func (e Entry) cleanUp(now time.Time, allGone bool, t terms) osb.CleanUp {
+func (e *Entry) cleanUp(now time.Time, allGone bool, t terms) osb.CleanUp {
 	isLate := isPolled(e.State) && !now.Before(e.PolledSince.Add(t.longestPoll))
 	switch {
 	case e.isToBeRemoved(t) && (e.Key.IsBinding || allGone):
@@ -252,7 +252,7 @@ func (e Entry) cleanUp(now time.Time, allGone bool, t terms) osb.CleanUp {
 
 // follow notes what a transaction makes of the record, and why.
 func (e *Entry) follow(now time.Time, transaction osb.PlatformTransaction, t terms) {
-	before := *e
+	before := e.State
 	if transaction.TimesOut() {
 		e.Last = Reason{
 			At: now, Kind: kindOf(e.Record.InFlight(), e.Key),
@@ -266,7 +266,7 @@ func (e *Entry) follow(now time.Time, transaction osb.PlatformTransaction, t ter
 	e.IsSent, e.Number = true, number
 	e.enter(now, record)
 	switch {
-	case before.State == Wanted && transaction.TimesOut():
+	case before == Wanted && transaction.TimesOut():
 		e.Failure, e.Passing, e.After = e.Last, true, 0
 	case transaction.CleansUp() == osb.CleanUpExpire:
 		e.Failure, e.Passing, e.After = Reason{
