@@ -42,7 +42,13 @@ type table struct {
 	row, state                   entryColumns
 	read, readBriefly, readAhead *sqlitefile.Statement
 	insert, postpone             *sqlitefile.Statement
-	updates                      map[uint64]*sqlitefile.Statement // by the set of columns, by their indexes in state
+	updates                      map[uint64]update // by the set of columns, by their indexes in state
+}
+
+// An update sets columns of a row.
+type update struct {
+	columns   entryColumns
+	statement *sqlitefile.Statement
 }
 
 // The tables of rows, and the condition for the row of a key.
@@ -54,34 +60,41 @@ const (
 func newTable(name, key string, isBinding bool) table {
 	return table{
 		name: name, key: key, row: rowColumns.Of(isBinding), state: stateColumns.Of(isBinding),
-		updates: map[uint64]*sqlitefile.Statement{},
+		updates: map[uint64]update{},
 	}
 }
 
 // mostUpdates is how many sets of columns have a statement of their own. The others share that of all columns.
 const mostUpdates = 64
 
-// update returns the columns that differ between two entries, at least one, and the statement that sets them. With fewer
-// columns, fewer indexes are written.
-func (t *table) update(conn *sqlitefile.Conn, before, after *platform.Entry) (
-	columns entryColumns, statement *sqlitefile.Statement, err error,
-) {
-	columns, set := make(entryColumns, 0, len(t.state)), uint64(0)
+// update returns what sets the columns that differ between two entries, at least one. With fewer columns, fewer indexes
+// are written.
+func (t *table) update(conn *sqlitefile.Conn, before, after *platform.Entry) (update, error) {
+	set := uint64(0)
 	for at, column := range t.state {
 		if column.Differs(before, after) {
-			columns, set = append(columns, column), set|1<<at
+			set |= 1 << at
 		}
 	}
-	if t.updates[set] == nil && len(t.updates) >= mostUpdates {
-		columns, set = t.state, 1<<len(t.state)-1
+	found, isThere := t.updates[set]
+	if !isThere && len(t.updates) >= mostUpdates {
+		set = 1<<len(t.state) - 1
+		found, isThere = t.updates[set]
 	}
-	if statement = t.updates[set]; statement == nil {
-		statement, err = conn.Prepare(context.Background(), updating(t.name, t.key, columns.Names()))
-		if err == nil {
-			t.updates[set] = statement
+	if isThere {
+		return found, nil
+	}
+	for at, column := range t.state {
+		if set>>at&1 == 1 {
+			found.columns = append(found.columns, column)
 		}
 	}
-	return columns, statement, err
+	var err error
+	found.statement, err = conn.Prepare(context.Background(), updating(t.name, t.key, found.columns.Names()))
+	if err == nil {
+		t.updates[set] = found
+	}
+	return found, err
 }
 
 // prepare prepares the statements for a connection.
@@ -201,12 +214,13 @@ func (c *connection) of(key platform.Key) *table {
 	return &c.instances
 }
 
-// entry reads a row, unless it is known. Errors: platform.ErrUnknown; that the row can't be read.
-func (c *connection) entry(key platform.Key) (platform.Entry, error) {
+// entry reads a row, unless it is known. It must not be changed. Errors: platform.ErrUnknown; that the row can't be read.
+func (c *connection) entry(key platform.Key) (*platform.Entry, error) {
 	if known := c.known.of(key); known != nil {
-		return *known, nil
+		return known, nil
 	}
-	return readBy(c.of(key).read, entryOf, key)
+	entry, err := readBy(c.of(key).read, entryOf, key)
+	return &entry, err
 }
 
 // show reads a row to show it (shownOf). Errors: platform.ErrUnknown.
@@ -232,20 +246,21 @@ func readBy(
 	return read(values)
 }
 
-// readSnapshot reads what a step gets of a row.
-func (c *connection) readSnapshot(key platform.Key) (snapshot platform.Snapshot, err error) {
-	if snapshot.Entry, err = c.entry(key); err != nil {
-		return snapshot, err
+// readSnapshot reads a row, and what a step gets of it. The row must not be changed.
+func (c *connection) readSnapshot(key platform.Key) (before *platform.Entry, snapshot platform.Snapshot, err error) {
+	if before, err = c.entry(key); err != nil {
+		return nil, snapshot, err
 	}
+	snapshot.Entry = *before
 	if key.IsBinding {
 		snapshot.Instance, err = c.instance(key)
-		return snapshot, err
+		return before, snapshot, err
 	}
 	snapshot.AllGone = func() (bool, error) {
 		row, err := c.anyBinding.One(key.Instance.String())
 		return row == nil && err == nil, err
 	}
-	return snapshot, nil
+	return before, snapshot, nil
 }
 
 // instance reads the row of a binding's instance.
@@ -254,7 +269,8 @@ func (c *connection) instance(key platform.Key) (*platform.Entry, error) {
 	if err != nil {
 		return nil, fmt.Errorf("the instance of %v: %w", key, err)
 	}
-	return &entry, nil
+	instance := *entry // a step may change it
+	return &instance, nil
 }
 
 // insert writes a new row. Errors: platform.ErrUsed, and then nothing was written.
@@ -294,15 +310,15 @@ func (c *connection) write(now time.Time, before *platform.Entry, change *platfo
 			return err
 		}
 	}
-	columns, update, err := c.of(key).update(c.Conn, before, &after)
+	update, err := c.of(key).update(c.Conn, before, &after)
 	if err != nil {
 		return err
 	}
-	values, err := valuesOf(&after, columns)
+	values, err := valuesOf(&after, update.columns)
 	if err != nil {
 		return err
 	}
-	if _, err := update.Run(append(values, keyValues(key)...)...); err != nil {
+	if _, err := update.statement.Run(append(values, keyValues(key)...)...); err != nil {
 		return err
 	}
 	if before.State != after.State {

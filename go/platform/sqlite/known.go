@@ -78,7 +78,7 @@ func (k *knownRows) keep(entry *platform.Entry) {
 // asRead changes an entry, whose order was read and whose rest was written, to what entryOf reads then. It returns false
 // if only reading shows that.
 func asRead(e *platform.Entry) bool {
-	for _, column := range stateColumns {
+	for _, column := range timeColumns {
 		switch member := column.Member(e).(type) {
 		case *time.Time:
 			if !member.IsZero() {

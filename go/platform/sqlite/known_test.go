@@ -212,7 +212,7 @@ func TestReadAheadIsForgotten(t *testing.T) {
 	check(t, s.write(background, func(c *connection) error {
 		c.known.ahead[instance], c.known.ahead[keyOf(2)] = &platform.Entry{}, &platform.Entry{}
 		before, err := c.entry(binding)
-		err = either(err, c.write(now(), &before, &platform.Change{Entry: before, WakeInstance: true}))
+		err = either(err, c.write(now(), before, &platform.Change{Entry: *before, WakeInstance: true}))
 		diff.Equal(t, c.known.of(instance) == nil, true, "the instance is read again")
 		return err
 	}))
@@ -323,12 +323,12 @@ func TestFewStatementsSetColumns(t *testing.T) {
 					flip()
 				}
 			}
-			columns, statement, err := table.update(c.Conn, &before, &after)
-			if err != nil || statement == nil {
+			update, err := table.update(c.Conn, &before, &after)
+			if err != nil || update.statement == nil {
 				return err
 			}
-			if n > mostUpdates && len(columns) != len(table.state) {
-				t.Errorf("set %d: got %d columns, want %d", n, len(columns), len(table.state))
+			if n > mostUpdates {
+				diff.Len(t, update.columns, len(table.state), "set %d", n)
 			}
 		}
 		diff.Len(t, table.state, len(stateColumns.Of(false)), "")

@@ -41,6 +41,8 @@ var (
 		}},
 	)
 	rowColumns = append(append(entryColumns{}, orderColumns...), stateColumns...)
+	// those that are written in whole milliseconds
+	timeColumns = timesOf(stateColumns)
 
 	brokerColumns = columnsOf(platform.BrokerColumns)
 )
@@ -58,6 +60,16 @@ func columnsOf[T any](columns platform.Columns[T]) platform.Columns[T] {
 		columns[at].NotNull = column.NotNull || column.Name == "identity"
 	}
 	return columns
+}
+
+func timesOf(columns entryColumns) (times entryColumns) {
+	for _, column := range columns {
+		switch column.Member(&platform.Entry{}).(type) {
+		case *time.Time, *time.Duration:
+			times = append(times, column)
+		}
+	}
+	return times
 }
 
 // A name is a text that is NULL if it is the number of its id.
@@ -133,17 +145,22 @@ func keyValues(key platform.Key) []driver.Value {
 func valuesOf[T any](of *T, columns platform.Columns[T]) ([]driver.Value, error) {
 	values := make([]driver.Value, 0, len(columns)+2) // and a key
 	for _, column := range columns {
-		value, err := column.Value(of)
+		var value driver.Value
+		var err error
+		switch member := column.Member(of).(type) {
+		case *int:
+			value = int64(*member)
+		case *time.Time:
+			if !member.IsZero() {
+				value = seconds(*member)
+			}
+		case *time.Duration:
+			value = member.Milliseconds()
+		default:
+			value, err = column.Value(of)
+		}
 		if err != nil {
 			return nil, err
-		}
-		switch it := value.(type) {
-		case int:
-			value = int64(it)
-		case time.Time:
-			value = seconds(it)
-		case time.Duration:
-			value = it.Milliseconds()
 		}
 		values = append(values, value)
 	}

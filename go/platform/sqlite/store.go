@@ -133,16 +133,15 @@ func (s *Store) Insert(ctx context.Context, entry platform.Entry, check func(pla
 func (s *Store) Change(ctx context.Context, key platform.Key, step platform.Step) error {
 	return s.write(ctx, func(c *connection) error {
 		now := now()
-		snapshot, err := c.readSnapshot(key)
+		before, snapshot, err := c.readSnapshot(key)
 		if err != nil {
 			return err
 		}
-		before := snapshot.Entry
 		change, err := step(now, snapshot)
 		if err != nil || change == nil {
 			return err
 		}
-		return c.write(now, &before, change)
+		return c.write(now, before, change)
 	})
 }
 
@@ -213,11 +212,10 @@ func (s *Store) claimExcept(
 
 // claim steps one row. If it fails, nothing of the row is written, unless the error is a halfWritten.
 func (c *connection) claim(now time.Time, key platform.Key, step platform.Step) error {
-	snapshot, err := c.readSnapshot(key)
+	before, snapshot, err := c.readSnapshot(key)
 	if err != nil {
 		return err
 	}
-	before := snapshot.Entry
 	var change *platform.Change
 	err = sqlitefile.Safely(func() (err error) {
 		change, err = step(now, snapshot)
@@ -226,8 +224,8 @@ func (c *connection) claim(now time.Time, key platform.Key, step platform.Step) 
 	if err != nil || change == nil {
 		return err
 	}
-	err = c.write(now, &before, change)
-	if err != nil && !isOne(&before, change) {
+	err = c.write(now, before, change)
+	if err != nil && !isOne(before, change) {
 		return halfWritten{key, err}
 	}
 	return err
