@@ -30,7 +30,7 @@ func newTrial(t *testing.T, row Entry, terms terms) trial {
 		t.Fatalf("%s: got nothing sent (%v), want a request", row.State, got.err)
 	}
 	got.send.driver = got.send.transaction.Committed()
-	return trial{row: got.entry, sent: *got.send, terms: terms}
+	return trial{row: got.Entry, sent: *got.send, terms: terms}
 }
 
 // answer returns what a Client reads of an answer.
@@ -198,7 +198,7 @@ func TestTakenLost(t *testing.T) {
 func TestTakenByAnother(t *testing.T) {
 	try := newTrial(t, rowIn(anInstance, Ordered), plain())
 	result := try.answer(201, `{}`)
-	later := decide(at(101), Snapshot{Entry: try.row}, true, plain()).entry
+	later := decide(at(101), Snapshot{Entry: try.row}, true, plain()).Entry
 	abandoned := with(try.row, func(e *Entry) { e.State = Abandoned })
 	for name, row := range map[string]Entry{
 		"given up": later, "abandoned": abandoned, "unsent": rowIn(anInstance, Ordered),
@@ -581,7 +581,7 @@ func TestTakenInDoubtOfTheSameMillisecond(t *testing.T) {
 // that was written though the commit failed is.
 func TestAnswerInDoubt(t *testing.T) {
 	abandon := func(e *Entry) { e.State, e.Lease = Abandoned, Lease{} }
-	takeOver := func(e *Entry) { *e = decide(at(101), Snapshot{Entry: *e}, true, plain()).entry }
+	takeOver := func(e *Entry) { *e = decide(at(101), Snapshot{Entry: *e}, true, plain()).Entry }
 	for name, test := range map[string]struct {
 		isWritten bool
 		then      func(*Entry) // what somebody else does with the row

@@ -45,25 +45,22 @@ type sending struct {
 // isLast reports whether the request is the last deletion, of which nothing is in the record.
 func (s *sending) isLast() bool { return s.attempt == 0 }
 
-// A decision is what a worker does with a row that is due.
+// A decision is what a worker does with a row that is due. The Change has the transaction of the driver that makes the
+// decision, if one does.
 type decision struct {
-	entry  Entry // the row as it is written
+	Change
 	before State
 	// send is what is sent once the row is written, or nil.
 	send *sending
-	// transaction is that of the driver that makes the decision, or nil.
-	transaction *osb.PlatformTransaction
 	// err is why nothing could be decided. The row is looked at again.
 	err error
 }
 
 // change is what the transaction writes.
-func (d decision) change() *Change {
-	isNew := d.entry.State != d.before
-	return &Change{
-		Entry: d.entry, Transaction: d.transaction,
-		WakeInstance: d.entry.Key.IsBinding && isNew && d.entry.State == Withdrawn,
-	}
+func (d *decision) change() *Change {
+	isNew := d.Entry.State != d.before
+	d.WakeInstance = d.Entry.Key.IsBinding && isNew && d.Entry.State == Withdrawn
+	return &d.Change
 }
 
 // needsAllGone reports whether the decision hangs on the bindings of an instance.
@@ -90,26 +87,26 @@ func decide(now time.Time, snapshot Snapshot, allGone bool, t terms) decision {
 
 func restUntilAsked(e Entry, before State) decision {
 	e.Due, e.DueSince, e.Unchanged = time.Time{}, time.Time{}, 0
-	return decision{entry: e, before: before}
+	return decision{Change: Change{Entry: e}, before: before}
 }
 
 // holdUntil is the decision of a row whose deletion isn't sent before a time.
 func holdUntil(until time.Time, e Entry, before State) decision {
 	e.Due, e.DueSince = until, time.Time{}
-	return decision{entry: e, before: before}
+	return decision{Change: Change{Entry: e}, before: before}
 }
 
 // restStuck is the decision of a row of which nothing can be decided. It doesn't keep others waiting.
 func restStuck(now time.Time, e Entry, err error, t terms) decision {
 	e.Due = now.Add(t.pace.wait(e.Unchanged, t.longest))
-	return decision{entry: e, before: e.State, err: err}
+	return decision{Change: Change{Entry: e}, before: e.State, err: err}
 }
 
 // waitForOther is the decision of a row that waits for another one.
 func waitForOther(now time.Time, e Entry, before State, t terms) decision {
 	e.Unchanged++
 	e.Due = now.Add(t.pace.wait(e.Unchanged, 0))
-	return decision{entry: e, before: before}
+	return decision{Change: Change{Entry: e}, before: before}
 }
 
 // leaseFor is the decision to send a request, for which a row has got a number. Whole milliseconds outlive every
@@ -120,7 +117,7 @@ func leaseFor(now time.Time, e Entry, before State, request osb.Request, t terms
 		since = e.Due
 	}
 	e.Lease, e.Due = Lease{Worker: t.worker, Until: until}, until
-	return decision{entry: e, before: before, send: &sending{
+	return decision{Change: Change{Entry: e}, before: before, send: &sending{
 		out: Outgoing{Entry: e, Request: request}, number: e.Number, before: before, since: since, terms: t,
 		result: exchangeResult{kind: kindOf(request.Kind, e.Key)},
 	}}
@@ -191,7 +188,7 @@ func decideRecord(now time.Time, snapshot Snapshot, allGone bool, t terms) decis
 	default:
 		return restStuck(now, read, errNothingSent, t)
 	}
-	made.transaction = &transaction
+	made.Transaction = &transaction
 	return made
 }
 

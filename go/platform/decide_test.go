@@ -229,15 +229,15 @@ func checkExpected(t *testing.T, got decision, want expectation, now time.Time) 
 	check(t, got.err)
 	kind := ""
 	if got.send != nil {
-		kind = kindOf(got.send.out.Request.Kind, got.entry.Key)
+		kind = kindOf(got.send.out.Request.Kind, got.Entry.Key)
 		want.due = now.Add(90 * time.Second)
-		diff.Equal(t, got.entry.Lease, Lease{"one", want.due}, "the lease")
-		diff.Equal(t, got.entry.Number != osb.ID{} && got.entry.Number == got.send.number, true, "the row has its number")
-	} else if got.entry.Lease != (Lease{}) {
-		t.Errorf("got the lease %v, want none, as nothing is sent", got.entry.Lease)
+		diff.Equal(t, got.Entry.Lease, Lease{"one", want.due}, "the lease")
+		diff.Equal(t, got.Entry.Number != osb.ID{} && got.Entry.Number == got.send.number, true, "the row has its number")
+	} else if got.Entry.Lease != (Lease{}) {
+		t.Errorf("got the lease %v, want none, as nothing is sent", got.Entry.Lease)
 	}
-	if got.entry.State != want.state || kind != want.sends || !got.entry.Due.Equal(want.due) {
-		t.Errorf("got %s, sends %q, due %v; want %s, %q, %v", got.entry.State, kind, got.entry.Due, want.state,
+	if got.Entry.State != want.state || kind != want.sends || !got.Entry.Due.Equal(want.due) {
+		t.Errorf("got %s, sends %q, due %v; want %s, %q, %v", got.Entry.State, kind, got.Entry.Due, want.state,
 			want.sends, want.due)
 	}
 }
@@ -263,7 +263,7 @@ func TestDecideBind(t *testing.T) {
 			})
 		}
 	}
-	diff.Equal(t, decide(start, Snapshot{Entry: rowIn(aBinding, Ordered)}, false, plain()).entry.State, Withdrawn,
+	diff.Equal(t, decide(start, Snapshot{Entry: rowIn(aBinding, Ordered)}, false, plain()).Entry.State, Withdrawn,
 		"without an instance")
 }
 
@@ -285,11 +285,11 @@ func TestDecideAccepts(t *testing.T) {
 
 // What a crash left of a creation is its failure, and passes.
 func TestGivenUpReason(t *testing.T) {
-	got := decide(at(91), Snapshot{Entry: inFlight(rowIn(anInstance, Wanted))}, true, plain()).entry
+	got := decide(at(91), Snapshot{Entry: inFlight(rowIn(anInstance, Wanted))}, true, plain()).Entry
 	if !got.Passing || got.Failure.Kind != "provision" || got.Failure.Lost == "" || got.Failure != got.Last {
 		t.Errorf("got %+v, want a failure of the Provision that may pass", got)
 	}
-	got = decide(at(91), Snapshot{Entry: inFlight(rowIn(aBinding, Cleaning))}, true, plain()).entry
+	got = decide(at(91), Snapshot{Entry: inFlight(rowIn(aBinding, Cleaning))}, true, plain()).Entry
 	if got.Passing || got.Failure != (Reason{}) || got.Last.Kind != "unbind" {
 		t.Errorf("got %+v, want no failure, and an Unbind last", got)
 	}
@@ -297,11 +297,11 @@ func TestGivenUpReason(t *testing.T) {
 
 // Polling that took too long is why the creation has failed. It doesn't pass: the broker used all its time.
 func TestExpiredReason(t *testing.T) {
-	got := decide(at(3600), Snapshot{Entry: rowIn(anInstance, Polling)}, true, plain()).entry
+	got := decide(at(3600), Snapshot{Entry: rowIn(anInstance, Polling)}, true, plain()).Entry
 	if got.Passing || got.Failure.Kind != "poll" || got.Failure.Lost == "" || !got.Failure.At.Equal(at(3600)) {
 		t.Errorf("got %+v, want a failure of the Poll at its end", got)
 	}
-	got = decide(at(3600), Snapshot{Entry: rowIn(anInstance, CleaningPolling)}, true, plain()).entry
+	got = decide(at(3600), Snapshot{Entry: rowIn(anInstance, CleaningPolling)}, true, plain()).Entry
 	if got.Failure != (Reason{}) || got.Operation != nil {
 		t.Errorf("a deletion: got %+v, want no failure and no operation", got)
 	}
@@ -312,8 +312,8 @@ func TestStuck(t *testing.T) {
 	row := rowIn(anInstance, Cleaning)
 	row.Record = osb.Record{}
 	got := decide(at(9), Snapshot{Entry: row}, true, plain())
-	if got.err == nil || got.send != nil || !got.entry.Due.Equal(at(9+120)) || got.entry.State != Cleaning {
-		t.Errorf("got %v, %+v, want an error, and a deletion that is due later", got.err, got.entry)
+	if got.err == nil || got.send != nil || !got.Entry.Due.Equal(at(9+120)) || got.Entry.State != Cleaning {
+		t.Errorf("got %v, %+v, want an error, and a deletion that is due later", got.err, got.Entry)
 	}
 }
 
@@ -374,7 +374,7 @@ func checkDecision(
 	t *testing.T, row Entry, got decision, allGone bool, now time.Time, terms terms, due map[State]string,
 ) {
 	t.Helper()
-	e := got.entry
+	e := got.Entry
 	fail := func(what string) {
 		t.Helper()
 		t.Errorf("%s: %v, %s, removal %d, own %v, in flight %v, hold %v, at %v: got %s, sends %v, due %v, want it not so",
@@ -415,7 +415,7 @@ func checkDecision(
 
 // checkRequest is what holds of everything that is sent.
 func checkRequest(fail func(string), row Entry, got decision, now time.Time, terms terms, due map[State]string) {
-	e, request := got.entry, got.send.out.Request
+	e, request := got.Entry, got.send.out.Request
 	if request.Kind.String() != due[e.State] {
 		fail("another request is due: " + request.Kind.String())
 	}

@@ -500,7 +500,7 @@ func (s *spareSlots) hasFor(broker string, decided map[Key]*decision) bool {
 		if decision.send == nil || !decision.send.isBeside {
 			continue
 		}
-		if all--; decision.entry.Broker == broker {
+		if all--; decision.Entry.Broker == broker {
 			left--
 		}
 	}
@@ -521,7 +521,7 @@ func (s *spareSlots) useFor(now time.Time, e Entry, made *decision, decided map[
 		made.send.isBeside = true
 	default:
 		e.Due = now.Add(made.send.terms.wait(e.Unchanged, 0))
-		*made = decision{entry: e, before: e.State}
+		*made = decision{Change: Change{Entry: e}, before: e.State}
 	}
 }
 

@@ -51,7 +51,7 @@ func (e *Engine) claim(
 			found.sendings = append(found.sendings, made.send)
 		default:
 			e.stepFailed(row.Key, made.err)
-			e.changed(&made.entry, made.before)
+			e.changed(&made.Entry, made.before)
 		}
 	}
 	return found

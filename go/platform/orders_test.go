@@ -301,8 +301,8 @@ func TestRemoveWhileBindingWaits(t *testing.T) {
 			}
 			instance := d.store.rows[anInstance]
 			if got := decide(d.dial.time(), Snapshot{Entry: e, Instance: &instance}, false, plain()); got.send != nil ||
-				got.entry.State != Withdrawn || !got.entry.Rests() {
-				t.Errorf("got %+v, want it withdrawn", got.entry)
+				got.Entry.State != Withdrawn || !got.Entry.Rests() {
+				t.Errorf("got %+v, want it withdrawn", got.Entry)
 			}
 		})
 	}
@@ -440,8 +440,8 @@ func TestAbandonedBesideOrdered(t *testing.T) {
 	instance := diff.Value(d.orders.Abandon(background, anInstance, "the broker was closed"))(t)
 	diff.Equal(t, instance.State, Abandoned, "the instance")
 	made := decide(d.dial.time(), Snapshot{Entry: ordered, Instance: &instance}, false, terms{})
-	if made.send != nil || made.entry.State != Withdrawn || !made.entry.Rests() {
-		t.Errorf("got %s, and %+v sent, want it withdrawn", made.entry.State, made.send)
+	if made.send != nil || made.Entry.State != Withdrawn || !made.Entry.Rests() {
+		t.Errorf("got %s, and %+v sent, want it withdrawn", made.Entry.State, made.send)
 	}
 }
 
@@ -730,11 +730,11 @@ func TestDueSinceOfDeletion(t *testing.T) {
 		})
 	}
 	waits := with(rowIn(anInstance, Cleaning), func(e *Entry) { e.SentUntil, e.DueSince = at(5), at(3) })
-	if got := decide(at(10), Snapshot{Entry: waits}, true, usualTerms()); got.send != nil || !got.entry.DueSince.IsZero() {
-		t.Errorf("a deletion that is held: got it due since %v, want no such time", got.entry.DueSince)
+	if got := decide(at(10), Snapshot{Entry: waits}, true, usualTerms()); got.send != nil || !got.Entry.DueSince.IsZero() {
+		t.Errorf("a deletion that is held: got it due since %v, want no such time", got.Entry.DueSince)
 	}
 	ready := with(rowIn(anInstance, Ready), func(e *Entry) { e.DueSince = at(3) })
-	if got := decide(at(10), Snapshot{Entry: ready}, true, plain()); !got.entry.Rests() || !got.entry.DueSince.IsZero() {
-		t.Errorf("a row that rests: got it due since %v, want no such time", got.entry.DueSince)
+	if got := decide(at(10), Snapshot{Entry: ready}, true, plain()); !got.Entry.Rests() || !got.Entry.DueSince.IsZero() {
+		t.Errorf("a row that rests: got it due since %v, want no such time", got.Entry.DueSince)
 	}
 }
