@@ -449,7 +449,7 @@ func TestIdle(t *testing.T) {
 				}))
 			}()
 			c := newClient(t, Options{})
-			for range [2]int{} {
+			for range [3]int{} { // the connection of the second is kept, and the third uses it
 				diff.Must(t, exchange(t, c, "http://"+listener.Addr().String(), osb.KindDeprovision).Lost)
 			}
 			end(c)
@@ -459,6 +459,16 @@ func TestIdle(t *testing.T) {
 			until(t, what, func() bool { return atomic.LoadInt32(&open) == 0 })
 		})
 	}
+}
+
+// A connection that can't be looked at isn't used again.
+func TestNoDescriptor(t *testing.T) {
+	near, far := net.Pipe()
+	defer far.Close()
+	bottom := &timedConn{Conn: near, now: time.Now}
+	conn := newConnection(bottom, bottom)
+	defer conn.close()
+	diff.Equal(t, conn.isQuiet(), false, "")
 }
 
 // countingConn counts the connections that are open.
