@@ -107,6 +107,7 @@ func (e *Engine) fetch(ctx context.Context, s *sending) (osb.PlatformDriver, err
 	fetch := *s
 	fetch.out.IsFetch, fetch.attempt = true, 0
 	fetched := e.send(ctx, &fetch, "fetch")
+	s.out.RequestID = fetch.out.RequestID
 	if fetched.Lost == nil && fetched.Binding == nil {
 		fetched.Lost = fmt.Errorf("status %d: %w", fetched.Status, osb.ErrNoBinding)
 	}
@@ -142,7 +143,7 @@ func (e *Engine) seal(s *sending) {
 	}
 }
 
-// send is one exchange. It changes nothing of the request.
+// send is one exchange. The request gets an identity.
 func (e *Engine) send(ctx context.Context, s *sending, kind string) Incoming {
 	id, err := newID()
 	if err != nil {
@@ -152,14 +153,13 @@ func (e *Engine) send(ctx context.Context, s *sending, kind string) Incoming {
 	if !e.client.Clock().Before(s.out.Until) {
 		return Incoming{Lost: errLate}
 	}
-	out := s.out
-	out.RequestID = id.String()
+	s.out.RequestID = id.String()
 	exchange := Exchange{
-		RequestID: out.RequestID, Broker: s.out.Entry.Broker, Key: s.out.Entry.Key, Kind: kind, Attempt: s.attempt,
+		RequestID: s.out.RequestID, Broker: s.out.Entry.Broker, Key: s.out.Entry.Key, Kind: kind, Attempt: s.attempt,
 	}
 	e.observer.OnRequest(exchange)
 	crash.Soon("send-running")
-	in := e.client.Exchange(ctx, out)
+	in := e.client.Exchange(ctx, s.out)
 	exchange.Status, exchange.Lost, exchange.RetryAfter, exchange.Duration = in.Status, brief(in.Lost), in.RetryAfter, in.Duration
 	exchange.Error, exchange.Description = textOf(in.Details.Error), textOf(in.Details.Description)
 	e.observer.OnAnswer(exchange)

@@ -265,6 +265,32 @@ func TestWithoutVault(t *testing.T) {
 	e := diff.Value(p.orders.Bind(background, NewBinding{Instance: instance.String()}))(t)
 	p.untilState(e.Key, Gone)
 	diff.AtLeast(t, p.hasFailed("credentials_lost"), 1, "reports")
+	p.checkFailedRequest("bind")
+}
+
+// A Fetch whose object can't be sealed is the request that is reported, and not the Poll before it.
+func TestFetchWithoutVault(t *testing.T) {
+	p := newPlant(t, Options{})
+	p.engine.vault = nil
+	p.start(background)
+	instance := p.create(NewInstance{Plan: "bind-later"})
+	p.untilState(instance, Ready)
+	check(t, diff.Err(p.orders.Bind(background, NewBinding{Instance: instance.String()})))
+	p.until("a report", func() bool { return p.hasFailed("credentials_lost") > 0 })
+	p.checkFailedRequest("fetch")
+}
+
+// checkFailedRequest checks that the first failure names the latest request of a kind that was sent until then.
+func (p *plant) checkFailedRequest(kind string) {
+	p.t.Helper()
+	p.set(func() {
+		for _, request := range p.sent {
+			if request.Kind == kind && request.RequestID == p.failures[0].RequestID {
+				return
+			}
+		}
+		p.t.Errorf("got the request %q in %v, want that of a %s", p.failures[0].RequestID, p.failures[0], kind)
+	})
 }
 
 // What is reported and kept of an error isn't long, as that of a certificate with many names. What it wraps is found.
