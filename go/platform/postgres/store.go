@@ -111,6 +111,7 @@ func open(ctx context.Context, url string, most int, bring extension) (*Store, e
 		return nil, fmt.Errorf("the store: %w", err)
 	}
 	store := &Store{url: url, db: db, most: most, prepared: map[string]*sql.Stmt{}}
+	store.changes.isEnough = make(chan struct{}, 1)
 	if err := store.prepare(ctx, bring); err != nil {
 		_ = db.Close()
 		return nil, fmt.Errorf("the store: %w", asAway(err))

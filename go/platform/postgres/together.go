@@ -5,22 +5,28 @@ import (
 	"database/sql"
 	"errors"
 	"sync"
+	"time"
 
 	"pippinterm/internal/pg"
 	"pippinterm/platform"
 )
 
 const (
-	atATime   = 1  // so many transactions of changes of instances run at once: with more, each has fewer changes
-	mostOfOne = 64 // so many changes are in one of them at most
+	atATime   = 1                     // so many transactions of changes of instances run at once: with more, each has fewer changes
+	mostOfOne = 64                    // so many changes are in one of them at most
+	enough    = 32                    // so many changes that wait don't wait for more
+	apart     = 20 * time.Millisecond // between the beginnings of two transactions, unless enough changes wait
 )
 
 // Together has the changes of instances that wait done by few transactions, each with its own result. A change that
-// comes while fewer transactions run than may run begins one. The others wait until one ends, and are in the next.
+// comes while fewer transactions run than may run begins one, at the earliest apart after the last one began. The others
+// wait until one begins, and are in it.
 type together struct {
-	turn    sync.Mutex
-	running int
-	waiting []*oneChange
+	turn     sync.Mutex
+	running  int
+	waiting  []*oneChange
+	begun    time.Time     // when the last transaction began
+	isEnough chan struct{} // has a value if enough changes may wait
 }
 
 // A oneChange is a change of an instance.
@@ -41,10 +47,50 @@ func (t *together) join(it *oneChange) []*oneChange {
 	defer t.turn.Unlock()
 	if t.running >= atATime {
 		t.waiting = append(t.waiting, it)
+		t.tell()
 		return nil
 	}
 	t.running++
 	return []*oneChange{it}
+}
+
+// tell notes whether enough changes wait.
+func (t *together) tell() {
+	if len(t.waiting) >= enough {
+		select {
+		case t.isEnough <- struct{}{}:
+		default:
+		}
+	}
+}
+
+// gather waits until a transaction of these changes may begin, and adds those that wait by then.
+func (t *together) gather(changes []*oneChange) []*oneChange {
+	t.turn.Lock()
+	rest := time.Until(t.begun.Add(apart))
+	t.turn.Unlock()
+	if len(changes) < enough && rest > 0 {
+		timer := time.NewTimer(rest)
+		defer timer.Stop()
+		select {
+		case <-timer.C:
+		case <-t.isEnough:
+		}
+	}
+	t.turn.Lock()
+	defer t.turn.Unlock()
+	t.begun = time.Now()
+	return append(changes, t.take(mostOfOne-len(changes))...)
+}
+
+// take takes at most so many of the changes that wait.
+func (t *together) take(most int) []*oneChange {
+	if most > len(t.waiting) {
+		most = len(t.waiting)
+	}
+	taken := append([]*oneChange(nil), t.waiting[:most]...)
+	t.waiting = append(t.waiting[:0], t.waiting[most:]...)
+	return taken
 }
 
 // leave reports whether a change that has waited isn't in a transaction, and is in none later.
@@ -67,16 +113,9 @@ func (t *together) end(of []*oneChange) (next []*oneChange) {
 	}
 	t.turn.Lock()
 	defer t.turn.Unlock()
-	count := len(t.waiting)
-	if count > mostOfOne {
-		count = mostOfOne
-	}
-	if count == 0 {
+	if next = t.take(mostOfOne); next == nil {
 		t.running--
-		return nil
 	}
-	next = append(next, t.waiting[:count]...)
-	t.waiting = append(t.waiting[:0], t.waiting[count:]...)
 	return next
 }
 
@@ -126,6 +165,7 @@ func (s *Store) changeAll(changes []*oneChange) {
 		}
 	}()
 	for changes != nil {
+		changes = s.changes.gather(changes)
 		s.changeTogether(changes)
 		changes = s.changes.end(changes)
 	}

@@ -215,6 +215,27 @@ func TestTurnsOfChanges(t *testing.T) {
 	diff.Equal(t, changes.running, atATime-1, "transactions that run")
 }
 
+// A transaction waits for the changes that come until a moment after the last one began, or until there are enough.
+func TestChangesGather(t *testing.T) {
+	changes := &together{isEnough: make(chan struct{}, 1)}
+	first := changes.join(newChange(togetherKey(0)))
+	diff.Len(t, changes.gather(first), 1, "the first transaction")
+	changes.begun = time.Now().Add(time.Hour)
+	gathered := make(chan []*oneChange, 1)
+	go func() { gathered <- changes.gather(first) }()
+	for n := 1; n < enough; n++ {
+		changes.join(newChange(togetherKey(n)))
+	}
+	select {
+	case got := <-gathered:
+		t.Errorf("got a transaction of %d changes, want it to wait for %d", len(got), enough)
+	case <-time.After(apart):
+	}
+	changes.join(newChange(togetherKey(enough)))
+	diff.Len(t, <-gathered, enough+1, "the transaction of enough changes")
+	diff.AtLeast(t, time.Since(changes.begun), 0, "the time since it began")
+}
+
 // If nobody knows whether a transaction of several changes was committed, nobody knows it of each of them.
 func TestChangesTogetherOfAnUnknownCommit(t *testing.T) {
 	background := context.Background()
