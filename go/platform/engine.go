@@ -269,10 +269,9 @@ func (r *run) pump() time.Duration {
 }
 
 // gather returns for how long the next claim waits for more free slots: one transaction for many requests costs less
-// than many of one each. It is no longer than apart after the last claim, and while a quarter of the slots is free, it
-// is 0.
+// than many of one each. It is no longer than apart after the last claim, and while half of the slots are free, it is 0.
 func (r *run) gather() time.Duration {
-	if free := r.AtOnce - r.inFlight; 4*free >= r.AtOnce {
+	if free := r.AtOnce - r.inFlight; 2*free >= r.AtOnce {
 		return 0
 	}
 	return time.Until(r.claimed.Add(r.apart))

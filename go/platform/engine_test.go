@@ -475,13 +475,13 @@ func TestPumpWithoutSlots(t *testing.T) {
 	}
 }
 
-// While less than a quarter of the slots is free, a claim waits for more, but not for long.
+// While less than half of the slots are free, a claim waits for more, but not for long.
 func TestPumpGathers(t *testing.T) {
 	for _, test := range []struct {
 		inFlight int
 		apart    time.Duration
 		want     bool
-	}{{7, time.Hour, false}, {7, time.Nanosecond, true}, {6, time.Hour, true}} {
+	}{{5, time.Hour, false}, {5, time.Nanosecond, true}, {4, time.Hour, true}} {
 		t.Run(fmt.Sprintf("%d in flight, %v apart", test.inFlight, test.apart), func(t *testing.T) {
 			p := newPlant(t, Options{AtOnce: 8})
 			check(t, p.engine.RunOnce(background))
