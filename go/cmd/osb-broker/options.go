@@ -132,7 +132,7 @@ func (s *settings) addRules(flags *pflag.FlagSet) {
 
 func (s *settings) addLimits(flags *pflag.FlagSet) {
 	flags.Var(cli.Count(&s.threads, 64, 1, most), "threads", "requests that are carried out at once")
-	flags.Var(cli.Count(&s.workers, 4, 1, most), "workers",
+	flags.Var(cli.Count(&s.workers, 32, 1, most), "workers",
 		"operations and pending work at once, besides requests; up to twice as many if some are slow or have failed before")
 	flags.Var(cli.Count(&s.connections, 800, 1, most), "connections", "connections of clients at once")
 	flags.Var(cli.Count(&s.perAddress, 0, 1, most), "connections-per-address",

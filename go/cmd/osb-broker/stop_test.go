@@ -279,7 +279,8 @@ func TestHungCommandsDontHoldUpOthers(t *testing.T) {
 	folder := t.TempDir()
 	program := filepath.Join(folder, "backend")
 	check(t, os.WriteFile(program, []byte(hanging), 0o700))
-	s := start(t, []string{password}, "--state", folder, "--backend", "command:"+program, "--stop-seconds", "0.1")
+	s := start(t, []string{password}, "--state", folder, "--backend", "command:"+program, "--stop-seconds", "0.1",
+		"--workers", "4")
 	create := func(name, parameters string) string {
 		path := "/v2/service_instances/" + name
 		s.expect(202, "PUT", path+async, strings.Replace(asyncOrder, "{", `{"parameters":`+parameters+`,`, 1))
