@@ -12,12 +12,15 @@ LONGEST = 150
 CALLS = {
     "broker": {
         r"\bs\.(tryLock|lock|change)\(|\bcalls\.(look|settle|create|delete)\(": {"executor.go"},
+        r"\bdriver\.(Locked|Looked|Synced|Called)\(|\btransaction\.Unsure\(": {"executor.go"},
         r"\bstore\.Change\(|\blocks\.Lock\(": {"service.go"},
         r"\b(gate\.tryLock|locks\.TryLock)\(": {"locks.go", "service.go"},
         r"\bbackend\.(Look|Create|Delete|Sync|Credentials)\w*\(": {"worker.go"},
     },
     "platform": {
         r"\be\.(ask|fetch)\(|\.transaction\.(Committed|Unsure)\(\)": {"executor.go"},
+        r"(?<!\.)\btransaction\.Unsure\(": {"answer.go"},
+        r"\bdriver\.(Lost|Answered|Fetched)\(": {"exchange.go"},
         r"\bstore\.(Claim|Change)\(": {"executor.go", "orders.go"},
         r"\bclient\.Exchange\(": {"exchange.go"},
     },
@@ -25,7 +28,11 @@ CALLS = {
 """The calls of an executor, and those that reach the locks, the transactions, the backend and the brokers: where each
 stands."""
 
-KNOWS = r"\.(Holding|Record|State|Phase|Row|Attempt|Kind|Removal|Number)\b|\bosb\.(State|Phase|Work|Kind|Body|Mode)\w*"
+MEMBERS = (
+    "Holding|Record|State|Phase|Row|Attempt|Kind|Removal|Number|Worker|Lease|Due|InFlight"
+    "|IsUnfinished|IsHeld|HasTombstone|IsSent|IsGone"
+)
+KNOWS = rf"\.({MEMBERS})\b|\bosb\.(State|Phase|Work|Kind|Body|Mode)\w*"
 """What an executor doesn't look at."""
 
 
@@ -55,6 +62,8 @@ def test_executor(package: str) -> None:
     [
         "if snapshot.Entry.Record.InFlight() != osb.KindNone {",
         "if entry.State == Ready {",
+        "if c.isEnded = entry.IsUnfinished(); c.isEnded {",
+        "if snapshot.Worker != number {",
     ],
 )
 def test_finds_what_is_known(line: str) -> None:
@@ -69,6 +78,8 @@ def test_finds_what_is_known(line: str) -> None:
         ("broker", "err = s.worker.backend.DeleteBinding(ctx, request)", {"worker.go"}),
         ("platform", "err := r.store.Change(ctx, key, step)", {"executor.go", "orders.go"}),
         ("platform", "in := e.client.Exchange(ctx, out)", {"exchange.go"}),
+        ("platform", "s.driver = transaction.Unsure()", {"answer.go"}),
+        ("platform", "s.driver, err = s.driver.Answered(answer, false)", {"exchange.go"}),
     ],
 )
 def test_finds_calls(package: str, line: str, where: set[str]) -> None:
