@@ -12,7 +12,7 @@ import (
 )
 
 const (
-	atATime   = 1                     // so many transactions of changes of instances run at once: with more, each has fewer changes
+	atATime   = 1                     // so many transactions run at once: with more, each has fewer changes
 	mostOfOne = 64                    // so many changes are in one of them at most
 	enough    = 32                    // so many changes that wait don't wait for more
 	apart     = 20 * time.Millisecond // between the beginnings of two transactions, unless enough changes wait
