@@ -10,7 +10,7 @@ use Rattle.osb_instance.specs.declared.work.Begun.TheVariants.{Answered}
 use Rattle.osb_instance.specs.Begin.{busy, is_operating, worked}
 use Rattle.osb_instance.specs.Held.{Held}
 use Rattle.osb_network.specs.Cell.{Cell}
-use Rattle.osb_network.specs.Steps.{arrive, arrived, cell_steps, sent_as}
+use Rattle.osb_network.specs.Steps.{arrived, cell_steps, sent_as}
 use Rattle.osb_network.specs.declared.event.Event.{Event}
 use Rattle.osb_driver.specs.Driver.{end, finish, finish_by, first, first_by as first_tx, resume}
 use Rattle.osb_driver.specs.declared.driver.Driver.{Driver}

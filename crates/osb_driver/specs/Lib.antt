@@ -1,3 +1,4 @@
+pub mod Backend
 pub mod Driver
 pub mod World
 pub mod Worker

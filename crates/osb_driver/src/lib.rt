@@ -3,11 +3,13 @@
 //! proved that whatever happens is a run of the network of `osb_network`.
 #![tactic(auto)]
 
+mod backend;
 mod driver;
 mod laws;
 mod worker;
 mod world;
 
+pub use backend::{BackendEvent, ends_truly};
 pub use driver::{Driver, Effect, Permit, Stage, Task, Transaction};
 pub use laws::refines;
 pub use worker::{Call, Look, Worker, WorkerStage};
