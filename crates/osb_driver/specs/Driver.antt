@@ -16,6 +16,14 @@ use Rattle.osb_driver.specs.declared.driver.Stage.{Stage}
 use Rattle.osb_driver.specs.declared.driver.Task.{Task}
 use Rattle.osb_driver.specs.declared.driver.Transaction.{Transaction}
 
+abbrev pub works : Stage → Bool
+works (Stage.Work task) = true
+works stage = false
+
+abbrev pub is_answer : Stage → Bool
+is_answer (Stage.Answer answer) = true
+is_answer stage = false
+
 -- a transaction that writes nothing
 abbrev pub nothing : Held → Stage → Transaction
 nothing row stage = record { row = row; takes_over = false; stage = stage; effect = Effect.Nothing }

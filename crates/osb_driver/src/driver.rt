@@ -1,7 +1,7 @@
 //! What a driver does next: pure decisions over the row that its transaction reads.
-ghost use Rattle.std.specs.Prelude.{◌≡◌, ◌&&◌, not};
+ghost use Rattle.std.specs.Prelude.{◌≡◌, ◌&&◌, false, not};
 ghost use Rattle.osb_driver.specs.Driver as spec;
-ghost use Rattle.osb_driver.specs.Driver.{at_stage};
+ghost use Rattle.osb_driver.specs.Driver.{at_stage, is_answer, works};
 ghost use Rattle.osb_instance.specs.Begin.{begins, begun_if};
 
 use osb_instance::{Begun, Digest, Holding, WorkOutcome};
@@ -214,7 +214,8 @@ impl Driver {
     }
 
     /// Returns the first transaction of a request, by the row that it reads. If work is due, its request is pending
-    /// under the driver's number then; without the lock, nothing is written, since the lock comes first.
+    /// under the driver's number then; without the lock, no number is written and no work begins, since the lock comes
+    /// first.
     ///
     /// `is_owner` is whether the row has the driver's number. No row has it before the driver has written it, so the
     /// driver is done if it has. The rest is as in [`Holding::begin_if`]: unless something may begin (`may_begin`), a
@@ -231,6 +232,7 @@ impl Driver {
     ) -> Transaction
         ensures tx { result ≡ spec.first locked is_owner (not may_begin && begins mode row request.now attributes) row
             request.now (begun_if may_begin mode first_poll row request.now attributes) }
+        ensures unlocked { locked ≡ false → (result.takes_over ≡ false) × (works result.stage ≡ false) }
     {
         let put_off = !may_begin && row.begins(mode, request, attributes);
         let begun = row.begin_if(mode, first_poll, request, attributes, may_begin);
@@ -249,6 +251,7 @@ impl Driver {
         begun: (Holding, Begun),
     ) -> Transaction
         ensures tx { result ≡ spec.first locked is_owner put_off row request.now begun }
+        ensures unlocked { locked ≡ false → (result.takes_over ≡ false) × (works result.stage ≡ false) }
     {
         if is_owner {
             return nothing(row, Stage::Done);
@@ -413,9 +416,11 @@ impl Driver {
     }
 
     /// Returns the stage of this driver if nobody knows whether `transaction` was committed. A request's driver reads
-    /// the row again, and goes on. A take-up is done, since nobody waits for its answer.
+    /// the row again, and goes on. A take-up is done, since nobody waits for its answer. None works or answers before it
+    /// has read the row.
     pub fn unsure(&self, transaction: &Transaction) -> Stage
         ensures stage { result ≡ spec.unsure self.now.attempt self.now.stage transaction.now }
+        ensures silent { (works result ≡ false) × (is_answer result ≡ false) }
     {
         if self.attempt.is_none() {
             return Stage::Done;
