@@ -339,6 +339,9 @@ func (r *runner) watched(step Step, hasWritten *bool) Step {
 		r.saw(snapshot)
 		change, err := step(now, snapshot)
 		*hasWritten = *hasWritten || change != nil
+		if rejected := (*Rejection)(nil); err != nil && !errors.As(err, &rejected) {
+			r.Fail("%d can't step a row: %v", r.Number, err)
+		}
 		return change, err
 	}
 }

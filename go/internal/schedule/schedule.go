@@ -316,7 +316,7 @@ func (s *Scheduler) RunUntil(r *Runner, call string) {
 		case n == mostSteps || len(choices) == 0:
 			s.Fail("%d never ends", r.Number)
 			s.kill(r)
-		case r.Call.Name == call:
+		case s.Wrong != "" || r.Call.Name == call:
 			s.kill(r)
 		default:
 			s.take(choices[0])
