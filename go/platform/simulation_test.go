@@ -40,6 +40,8 @@ type runner struct {
 	out    *Outgoing // what is about to be sent, or nil
 	ids    int       // that it has made up
 	heard  map[osb.ID]hearing
+
+	isInTransaction bool // and so has the lock of the store
 }
 
 // A hearing is what a worker has got of its request of a number.
@@ -316,15 +318,25 @@ func (s simulatedStore) transact(name string, do func(t *transaction, hasWritten
 		s.of.Saw(how)
 		return ErrAway
 	}
-	s.mu.Lock()
-	t, hasWritten := s.begin(), false
-	err := do(t, &hasWritten)
-	t.end()
-	s.mu.Unlock()
+	t, hasWritten, err := s.run(do)
 	if err != nil {
 		return err
 	}
 	return s.of.commit(t, hasWritten)
+}
+
+// run is a transaction up to its commit. If its process dies in it, the others go on.
+func (s simulatedStore) run(do func(t *transaction, hasWritten *bool) error) (t *transaction, hasWritten bool, err error) {
+	s.mu.Lock()
+	s.of.isInTransaction = true
+	defer func() {
+		s.of.isInTransaction = false
+		s.mu.Unlock()
+	}()
+	t = s.begin()
+	defer t.end()
+	err = do(t, &hasWritten)
+	return t, hasWritten, err
 }
 
 func (s simulatedStore) Read(ctx context.Context, key Key) (Entry, error) {
@@ -418,7 +430,10 @@ func (s *simulation) isLate(out Outgoing) bool { return !s.now().Add(ahead).Befo
 // Exchange sends a request, and waits for its answer. Each is a call of its own.
 func (c simulatedClient) Exchange(_ context.Context, out Outgoing) Incoming {
 	r := c.of
-	if r.out = &out; r.isLate(out) {
+	switch r.out = &out; {
+	case r.isInTransaction:
+		r.Fail("%d sends a request before the transaction of its claim is over", r.Number)
+	case r.isLate(out):
 		r.Fail("%d sends a request after its time", r.Number)
 	}
 	how := r.At("send", delayed, repeated, hangs, rejects, schedule.Fails)
