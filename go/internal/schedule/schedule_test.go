@@ -106,3 +106,18 @@ func TestAtomicAdditions(t *testing.T) {
 		diff.Check(t, ends, want, "the ends with %d faults", most)
 	}
 }
+
+// Once something is wrong, a runner doesn't go on.
+func TestRunUntilSomethingIsWrong(t *testing.T) {
+	c := &counter{}
+	c.Scheduler = New(c)
+	steps := 0
+	r := c.Start(func(r *Runner) {
+		for ; steps < mostSteps; steps++ {
+			r.At("read")
+			c.Fail("%d is wrong", c.number)
+		}
+	})
+	c.RunUntil(r, "")
+	diff.Equal(t, fmt.Sprint(steps, " ", r.IsOver, " ", c.Wrong), "1 true 0 is wrong", "the steps, and what is wrong")
+}
