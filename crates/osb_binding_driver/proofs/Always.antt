@@ -30,11 +30,11 @@ use Rattle.osb_binding_network.specs.Service.{life_order, new_service, ordered}
 use Rattle.osb_binding_network.proofs.Ended.{tombstone_stays}
 use Rattle.osb_binding_network.proofs.Kept.{kept_instance}
 use Rattle.osb_binding_network.proofs.Many.{binding_agrees, each_after, fresh_of, one_more}
-use Rattle.osb_driver.proofs.Always.{CanBe, can_begin, can_step}
+use Rattle.osb_driver.proofs.Always.{CanBe, answers_given, can_begin, can_step}
 use Rattle.osb_driver.specs.declared.world.Happening.{Happening}
 use Rattle.osb_driver.specs.World.{IsSound, WorldState}
 use Rattle.osb_binding_driver.specs.declared.world.ServiceHappening.{ServiceHappening}
-use Rattle.osb_binding_driver.specs.ServiceWorld.{AlwaysAgree, IsAgreed, IsBindingSound, IsServiceRun, IsServiceSound, Place}
+use Rattle.osb_binding_driver.specs.ServiceWorld.{AlwaysAgree, AreGivenTo, IsAgreed, IsBindingSound, IsServiceRun, IsServiceSound, Place}
 use Rattle.osb_binding_driver.specs.ServiceWorld.{ServiceWorld, at_instance, binding_at, binding_stepped, empty_place}
 use Rattle.osb_binding_driver.specs.ServiceWorld.{empty_service, event_at, events, instance_step, let_binding, lived_all}
 use Rattle.osb_binding_driver.specs.ServiceWorld.{order_at, place_of, service_step, service_steps, stepped, with_binding}
@@ -439,6 +439,12 @@ sound_at (Some b) (Some k) fit = fit.0.sound
 sound_at None (Some k) fit = fit
 sound_at (Some b) None fit = fit
 
+given_at : (o : Option BindingCell) (l : Option Place) → IsFit o l → AreGivenTo o l
+given_at None None fit = tt
+given_at (Some b) (Some k) fit = answers_given (world_of b.life k) fit.0
+given_at None (Some k) fit = tt
+given_at (Some b) None fit = tt
+
 agree_at : (r : Rules) (i : Cell) (o : Option BindingCell) → IsPossible i → IfSome o (IsOf r i)
     → IfSome o (BindingAgrees r i)
 agree_at r i None possible of = tt
@@ -455,6 +461,10 @@ always_agree r order hs =
         bindings = λ id. sound_at (map.get s.service.bindings id) (map.get s.bindings id) (can.bindings id);
       };
       run = all.1;
+      given = record {
+        instance = answers_given (world_of s.service.instance s.instance) can.instance;
+        bindings = λ id. given_at (map.get s.service.bindings id) (map.get s.bindings id) (can.bindings id);
+      };
       agrees = record {
         instance = agrees s.service.instance can.service.possible;
         bindings = λ id. agree_at s.service.rules s.service.instance (map.get s.service.bindings id) can.service.possible

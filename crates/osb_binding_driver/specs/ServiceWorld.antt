@@ -22,7 +22,7 @@ use Rattle.osb_binding_network.specs.Service.{ServiceCells, AreStepped, each_of,
 use Rattle.osb_driver.specs.declared.driver.Driver.{Driver}
 use Rattle.osb_driver.specs.declared.driver.Permit.{Permit}
 use Rattle.osb_driver.specs.declared.world.Happening.{Happening}
-use Rattle.osb_driver.specs.World.{IsSound, WorldState, happened, world_step}
+use Rattle.osb_driver.specs.World.{AreGivenIn, IsSound, WorldState, happened, world_step}
 use Rattle.osb_binding_driver.specs.declared.world.ServiceHappening.{ServiceHappening}
 
 -- what the database, the backend, the locks and the drivers of a broker have of an instance, or of a binding
@@ -195,15 +195,25 @@ pub record IsServiceSound (s : ServiceWorld) : Type 0 where
   pub instance : IsSound (world_of s.service.instance s.instance)
   pub bindings : (id : ℕ) → IsBindingSound (map.get s.service.bindings id) (map.get s.bindings id)
 
+-- each answer that a driver comes to is the one that the network has given to its request
+abbrev pub AreGivenTo : Option BindingCell → Option Place → Type 0
+AreGivenTo (Some binding) (Some place) = AreGivenIn (world_of binding.life place)
+AreGivenTo binding place = ⊤
+
+pub record AreServiceGiven (s : ServiceWorld) : Type 0 where
+  pub instance : AreGivenIn (world_of s.service.instance s.instance)
+  pub bindings : (id : ℕ) → AreGivenTo (map.get s.service.bindings id) (map.get s.bindings id)
+
 -- what happens is a run of the network
 abbrev pub IsServiceRun : ServiceCells → ServiceCells → Type 0
 IsServiceRun before after = (events : List ServiceEvent) × AreStepped before events after
 
--- whatever has happened, the rows and the resources are those of the network, which has come by its events; so instance
--- and bindings agree
+-- whatever has happened, the rows and the resources are those of the network, which has come by its events, and whose
+-- answers the drivers give; so instance and bindings agree
 pub record IsAgreed (rules : Rules) (order : Order) (s : ServiceWorld) : Type 0 where
   pub sound : IsServiceSound s
   pub run : IsServiceRun (new_service rules order) s.service
+  pub given : AreServiceGiven s
   pub agrees : ServiceAgrees s.service
 
 abbrev pub AlwaysAgree : Type 0

@@ -275,6 +275,7 @@ always_agree r o hs =
       platform = platform;
       one = is.one;
       run = broker.run;
+      given = broker.given;
       agrees = broker.agrees;
       instance = subst Agrees (sym instance) broker.agrees.instance;
       bindings = λ id. bound_at w.broker.service.rules i (as_kept i w.broker.instance w.platform.instance)

@@ -145,12 +145,14 @@ AreBoundAt rules instance (Some binding) (Some broker) (Some platform) =
 AreBoundAt rules instance binding broker platform = ⊥
 
 -- whatever has happened, both sides are those of one instance with its bindings of the network, which has come about by
--- events of the network; so these agree, and so do the records, the rows, the resources and the credentials
+-- events of the network, and whose answers the broker's drivers give; so these agree, and so do the records, the rows, the
+-- resources and the credentials
 pub record IsAgreed (rules : Rules) (order : Order) (world : WorldState) : Type 0 where
   pub broker : broker_side.IsServiceSound world.broker
   pub platform : platform_side.IsServiceSound world.platform
   pub one : world.broker.service ≡ world.platform.service
   pub run : broker_side.IsServiceRun (new_service rules order) world.broker.service
+  pub given : broker_side.AreServiceGiven world.broker
   pub agrees : ServiceAgrees world.broker.service
   pub instance : Agrees (as_kept world.broker.service.instance world.broker.instance world.platform.instance)
   pub bindings : (id : ℕ)

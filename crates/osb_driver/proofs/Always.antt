@@ -16,9 +16,10 @@ use Rattle.osb_network.proofs.Agreements.{agrees}
 use Rattle.osb_network.proofs.Kept.{kept_steps, possible_empty}
 use Rattle.osb_network.proofs.Numbers.{sent_numbered}
 use Rattle.osb_driver.specs.declared.world.Happening.{Happening}
-use Rattle.osb_driver.specs.World.{AlwaysAgrees, IsRun, IsSound, IsTidy, WorldState, empty_world, happened, world_step, world_steps}
+use Rattle.osb_driver.specs.World.{AlwaysAgrees, AreGivenIn, IsRun, IsSound, IsTidy, WorldState, empty_world, happened, world_step, world_steps}
 use Rattle.osb_driver.proofs.Kept.{stays_sound}
 use Rattle.osb_driver.proofs.Runs.{are_runs}
+use Rattle.osb_driver.proofs.Told.{are_given}
 
 tidy_tombstone : (o : Order) (b : Option BrokerRow) (w : Option Request) (x v : Bool) (t : Resource)
     → IsKeptAs o b w x v t → x ≡ true → b ≡ None
@@ -95,6 +96,9 @@ runs_through c s [] run = run
 runs_through c s (h ∷ hs) run =
     runs_through c (world_step s h) hs (joined c s.cell (world_step s h).cell run (run_of s h))
 
+pub answers_given : (s : WorldState) → CanBe s → AreGivenIn s
+answers_given s can = are_given s (sent_numbered s.cell can.possible) can.sound
+
 agrees_in : (s : WorldState) → CanBe s → Agrees (record s.cell { held = s.row; resource = s.resource })
 agrees_in s can =
     subst (λ (x : Held). Agrees (record s.cell { held = x; resource = s.resource })) (sym can.sound.row)
@@ -108,5 +112,6 @@ always_agrees o hs =
     record {
       sound = can.sound;
       run = runs_through (empty_cell o) (empty_world o) hs ([], refl);
+      given = answers_given s can;
       agrees = agrees_in s can;
     }

@@ -127,6 +127,6 @@ abbrev IsGivenAt : WorldState → ℕ → Permit → Driver → Type 0
 IsGivenAt s at may d = IfSome (transaction_of s at may d.attempt d.stage) (IsGivenBy s.cell d.attempt)
 
 pub are_given : AreGiven
-are_given s at may d is num sound =
+are_given s num sound at may d is =
     subst (λ (x : WorldState). IsGivenAt x at may d) (is_normal s sound.row sound.resource)
     (transaction_given s at may d d.stage is refl num sound.goes)

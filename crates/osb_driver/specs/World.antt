@@ -396,17 +396,20 @@ abbrev pub IsGivenBy : Cell → Option ℕ → Transaction → Type 0
 IsGivenBy cell attempt tx = IsGiven cell (cell_steps cell (events_of tx.effect attempt)) attempt tx.stage
 
 -- by each transaction of each driver
-abbrev pub AreGiven : Type 0
-AreGiven =
-    (world : WorldState) (at : ℕ) (permit : Permit) (driver : Driver) → slice_get world.drivers at ≡ Some driver
-    → AreNumbered world.cell → IsSound world
+abbrev pub AreGivenIn : WorldState → Type 0
+AreGivenIn world =
+    (at : ℕ) (permit : Permit) (driver : Driver) → slice_get world.drivers at ≡ Some driver
     → IfSome (transaction_of world at permit driver.attempt driver.stage) (IsGivenBy world.cell driver.attempt)
 
--- whatever has happened to an instance, the world is the network's instance, which has come by events of the network; so
--- platform, row and resource agree
+abbrev pub AreGiven : Type 0
+AreGiven = (world : WorldState) → AreNumbered world.cell → IsSound world → AreGivenIn world
+
+-- whatever has happened to an instance, the world is the network's instance, which has come by events of the network, and
+-- whose answers the drivers give; so platform, row and resource agree
 pub record IsAgreed (order : Order) (world : WorldState) : Type 0 where
   pub sound : IsSound world
   pub run : IsRun (empty_cell order) world.cell
+  pub given : AreGivenIn world
   pub agrees : Agrees (record world.cell { held = world.row; resource = world.resource })
 
 abbrev pub AlwaysAgrees : Type 0

@@ -142,8 +142,8 @@ given_normal s can at permit d is =
     let v = view s m a in
     given_by s (is_owner s.owner at) m a d.attempt d.stage (transaction_of v at permit d.attempt d.stage)
     (driver_good s at permit d is can)
-    (are_given v at permit d is (are_numbered (normal s) m a)
-    (record { row = refl; resource = refl; goes = mode_free (normal s) s.cell.held.work x refl can.goes }))
+    (are_given v (are_numbered (normal s) m a)
+    (record { row = refl; resource = refl; goes = mode_free (normal s) s.cell.held.work x refl can.goes }) at permit d is)
 
 all_given : (s : WorldState) → CanBe s → AreGiven s
 all_given s can =

@@ -13,7 +13,7 @@ use Rattle.osb_network.proofs.Agreements.{agrees}
 use Rattle.osb_network.proofs.Kept.{possible_empty}
 use Rattle.osb_driver.specs.World as broker_side
 use Rattle.osb_driver.specs.declared.world.Happening.{Happening as BrokerHappening}
-use Rattle.osb_driver.proofs.Always.{CanBe, can_begin, can_step}
+use Rattle.osb_driver.proofs.Always.{CanBe, answers_given, can_begin, can_step}
 use Rattle.osb_driver.proofs.Runs.{are_runs as broker_runs}
 use Rattle.osb_platform_driver.specs.World as platform_side
 use Rattle.osb_platform_driver.specs.declared.world.Happening.{Happening as PlatformHappening}
@@ -140,6 +140,7 @@ always_agrees o hs =
       platform = is.platform;
       one = is.one;
       run = is.run;
+      given = answers_given s.broker is.broker;
       agrees = agrees_in s.broker.cell s.platform.row s.broker.row s.broker.resource
           (is.platform.row ∙ ap (λ (x : Cell). x.recorded) (sym is.one)) is.broker.sound.row is.broker.sound.resource
           (agrees s.broker.cell is.broker.possible);

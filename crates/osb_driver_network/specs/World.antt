@@ -64,12 +64,13 @@ world_steps world (happening ∷ more) = world_steps (world_step world happening
 -- ---- what is proved of them
 
 -- whatever has happened to an instance, both sides are those of one instance of the network, which has come about by events
--- of the network; so record, row and resource agree
+-- of the network, and whose answers the broker's drivers give; so record, row and resource agree
 pub record IsAgreed (order : Order) (world : WorldState) : Type 0 where
   pub broker : broker_side.IsSound world.broker
   pub platform : platform_side.IsSound world.platform
   pub one : world.broker.cell ≡ world.platform.cell
   pub run : broker_side.IsRun (empty_cell order) world.broker.cell
+  pub given : broker_side.AreGivenIn world.broker
   pub agrees : Agrees (record world.broker.cell {
     recorded = world.platform.row;
     held = world.broker.row;
