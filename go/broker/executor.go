@@ -31,7 +31,7 @@ func (s *Service) drive(ctx context.Context, c *course) error {
 		}
 	}()
 	c.isLocked = lock != nil
-	driver := newDriver(c.visit != nil, c.isLocked)
+	driver := s.newDriver(c.visit != nil, c.isLocked)
 	for {
 		var err error
 		switch driver.Stage() {

@@ -28,6 +28,7 @@ type Service struct {
 	options   ServiceOptions
 	stay      time.Duration // how long a request is kept, if ids return
 	poller    osb.Driver    // of a Poll that needs no transaction: it hasn't the lock, so it takes nothing over
+	numbers   *numbers
 }
 
 // ServiceOptions are this project's choice (docs/instance.md).
@@ -54,17 +55,19 @@ type ServiceOptions struct {
 func NewService(
 	catalogue *Catalogue, store Store, backend Backend, locks Locks, options ServiceOptions, observer Observer,
 ) *Service {
-	return &Service{
+	s := &Service{
 		catalogue: catalogue, store: store, locks: locks, observer: observer, options: options, stay: longestStay,
-		gate:   newGate(locks, options.LocksAtOnce),
-		worker: worker{backend: backend, observer: observer},
-		poller: newDriver(true, false),
+		gate:    newGate(locks, options.LocksAtOnce),
+		worker:  worker{backend: backend, observer: observer},
+		numbers: newNumbers(),
 	}
+	s.poller = s.newDriver(true, false)
+	return s
 }
 
 // newDriver returns the driver of a request or of a take-up, with a number of its own, that has the lock or hasn't.
-func newDriver(isRequest, hasLock bool) osb.Driver {
-	driver, err := osb.NewDriver(newNumber(), isRequest, hasLock)
+func (s *Service) newDriver(isRequest, hasLock bool) osb.Driver {
+	driver, err := osb.NewDriver(s.numbers.next(), isRequest, hasLock)
 	if err != nil {
 		panic(err) // the number is zero
 	}

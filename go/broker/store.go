@@ -2,7 +2,6 @@ package broker
 
 import (
 	"context"
-	"crypto/rand"
 	"encoding/json"
 	"errors"
 	"fmt"
@@ -237,15 +236,7 @@ func newName(isTied bool) string {
 	if !isTied {
 		return Untied
 	}
-	return newNumber().String()
-}
-
-// newNumber returns a number that nothing else has: 128 random bits.
-func newNumber() (number osb.ID) {
-	if _, err := rand.Read(number[:]); err != nil {
-		panic(err) // the kernel has no random bytes
-	}
-	return number
+	return newNumbers().next().String()
 }
 
 func tieTo(ctx context.Context, backend TiedBackend, name string, isUsed bool) error {
