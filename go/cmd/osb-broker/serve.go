@@ -50,7 +50,7 @@ func serve(ctx context.Context, s *settings, stderr io.Writer) error {
 	if err := crash.Check(crash.Points()); err != nil {
 		return cli.Unusable(err)
 	}
-	debug.SetGCPercent(250) // it has little in memory, and makes much that is short-lived
+	debug.SetGCPercent(400) // it has little in memory, and makes much that is short-lived
 	syscall.Umask(0o077)
 	queue := logs.NewQueue(stderr)
 	defer func() {
