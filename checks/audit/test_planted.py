@@ -39,7 +39,7 @@ class Slip(NamedTuple):
     journal: str
 
 
-TRANSACT = "\t\tdefault:\n\t\t\tif c.isEnded {\n"
+TRANSACT = "\t\tdefault:\n\t\t\tdriver, err = s.transact(ctx, driver, c)\n"
 STEP = "\t\ttransaction, next, err = s.step(driver, snapshot, c)\n"
 SLIPS = {
     "an answer before the commit": Slip(

@@ -14,7 +14,6 @@ type course struct {
 	done     result        // of the work that has ended
 	response Response      // to the visit
 	went     backendResult // of a take-up
-	isEnded  bool          // whether a take-up has ended its work, and nothing is left
 	after    []func()      // what is reported once the transaction is committed
 	doubtful []func()      // what was to be reported of the latest commit of which nobody knew
 	doubts   int           // how many commits there were of which nobody knew

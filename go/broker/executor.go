@@ -48,9 +48,6 @@ func (s *Service) drive(ctx context.Context, c *course) error {
 		case osb.StageDone:
 			return c.over(either(away, c.doubt))
 		default:
-			if c.isEnded {
-				return nil
-			}
 			driver, err = s.transact(ctx, driver, c)
 		}
 		if err != nil {

@@ -147,28 +147,3 @@ func TestReturnAfterADoubt(t *testing.T) {
 		})
 	}
 }
-
-// A readOnceStore is read once. After that, its reads fail.
-type readOnceStore struct {
-	broker.Store
-	reads int
-}
-
-func (r *readOnceStore) Read(ctx context.Context, key broker.Key) (broker.Snapshot, error) {
-	if r.reads++; r.reads > 1 {
-		return broker.Snapshot{}, errScripted
-	}
-	return r.Store.Read(ctx, key)
-}
-
-// A take-up that has ended its work, with nothing left to do, reads nothing more.
-func TestTakeUpReadsOnce(t *testing.T) {
-	backend := &blind{shelf: newShelf(calm)}
-	b := newBench(t, backend, newMemoryLocks())
-	key := b.leave(t, backend, "i")
-	store := &readOnceStore{Store: b.store}
-	service := broker.NewService(
-		catalogueFor(t, catalogue), store, backend, newMemoryLocks(), broker.ServiceOptions{}, b.observed)
-	diff.NoError(t, service.TakeUp(context.Background(), key), "the take-up")
-	diff.Equal(t, b.isPending(t, key), false, "the work is pending")
-}

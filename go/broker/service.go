@@ -379,7 +379,6 @@ func (s *Service) tellEnd(entry Entry, transaction osb.Transaction, c *course) (
 	if c.visit == nil {
 		c.after = append(c.after, func() { c.went = done.went(isUnfinished) })
 		if !isUnfinished {
-			c.isEnded = true
 			c.after = append(c.after, func() { s.observer.OnEnd(c.key, done.isDone) })
 		}
 	}
