@@ -126,6 +126,8 @@ class Journal:
     requests: dict[tuple[str, str], str] = field(default_factory=dict)
     named: dict[str, str] = field(default_factory=dict)
     """What the line that is being added names in another way."""
+    names_events: bool = False
+    """Whether the lines `started` say that drivers name each event. Those of version 0.3 don't."""
 
     def tell(self, story: str) -> Journal:
         """Adds the lines of a story, one in each line of the text, or parted by semicolons."""
@@ -168,7 +170,8 @@ class Journal:
         head = {"process": f"{(ord(who[0]) << 8) + int(who[1:] or 1):016x}", "side": side}
         lines = self.lines.setdefault(who, [])
         if not lines and event != "started":
-            self.write(who, "started", self.of_broker if side == "broker" else {"version": "test", "worker": "one"})
+            begun = self.of_broker if side == "broker" else {"version": "test", "worker": "one"}
+            self.write(who, "started", {**begun, **({"names_events": True} if self.names_events else {})})
         self.time += 1000
         lines.append(json.dumps({"time": self.time, **head, "event": event, **members}, separators=(",", ":")))
 

@@ -15,6 +15,7 @@ from audit.conftest import TOP, Audit, Ran
 from audit.running import ENVIRONMENT, Platform, serving
 from building import SHIPPED, building
 from osb_audit.calls import TOGETHER
+from osb_audit.walk import UNNAMED
 from ports import free_address
 
 pytestmark = pytest.mark.slow
@@ -106,10 +107,10 @@ SLIPS = {
         """
         + TRANSACT,
         {"side": "broker", "event": "changed", "after": ""},
-        "arrive I 1",
-        "after the event, the model has something else than the journal",
-        "phase ready, answer 200",
-        "phase none, answer 201",
+        "",
+        UNNAMED,
+        "arrive",
+        "-",
     ),
 }
 

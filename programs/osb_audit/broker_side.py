@@ -7,7 +7,7 @@ from osb_audit.events import ANSWER, CREDENTIALS, PHASE, TOMBSTONE, WORK, Wanted
 from osb_audit.lines import Line
 from osb_audit.lives import Life, Visit
 from osb_audit.rules import Asked, Held, Said
-from osb_audit.walk import Known, differs, named, unjudged
+from osb_audit.walk import Known, differs, unjudged
 
 FAILED = "requests that a broker answered 5xx and didn't carry out: judged as lost, and as answered by a gateway"
 FOREIGN = "requests that no journal of a platform has: judged by the tables alone"
@@ -81,7 +81,9 @@ class BrokerSide:
         after, said = self._begun(visit, life)
         if after == life.held and said == visit.said:
             assert visit.answered is not None
-            named(visit.answered, ["put-off" if self._is_put_off(visit, life) else "arrive"])
+            name = "put-off" if self._is_put_off(visit, life) else "arrive"
+            if "saw" in visit.answered.of and not visit.is_failed or "effect" in visit.answered.of:
+                self.known.named(visit.answered, [name])
             if self.known.attempt(visit) and self._meets_others(visit, life):
                 raise unjudged(line, BOUND_BY_OTHERS)
             self._close(visit)
@@ -247,7 +249,7 @@ class BrokerSide:
         else:
             how = rules.finished(before, after) if visit is None else None
             found = [f"finish {how}" if how is not None else "arrive"]
-        return named(line, found)
+        return self.known.named(line, found)
 
     def _ends(self, life: Life, visit: Visit | None, after: Held) -> dict[str, Said]:
         """The outcomes that leave this, with their answers. The first one has the answer that was given."""

@@ -52,6 +52,8 @@ class Bucket(NamedTuple):
     program: Program
     settings: Mapping[str, Settings]
     gaps: tuple[Gap, ...]
+    naming: frozenset[str]
+    """The processes whose drivers name each event."""
     doubts: Doubts = {}
 
 
@@ -204,7 +206,7 @@ class _Judge:
         kept, why = _before_gaps(lines, self.bucket.gaps)
         found = Story(instance, [], None, [], {})
         if kept:
-            found = story(instance, kept, self.bucket.settings, self.bucket.doubts, without)
+            found = story(instance, kept, self.bucket.settings, self.bucket.doubts, without, self.bucket.naming)
         if len(kept) < len(lines) and (found.stop is None or not found.stop.is_difference):
             first = min((line for line in lines if line not in set(kept)), key=lambda it: it.time)
             found = found._replace(stop=Stop(first.position, False, why), disagreements=[])

@@ -138,6 +138,8 @@ MEMBERS: Mapping[tuple[str, str], Mapping[str, _Value]] = {
 NEEDED = {event: tuple(re.findall(r"(\w+)!", names)) for event, names in _EVENTS.items()}
 OF_LOST = {"count": _NUMBER}
 """The members of the line `lost`."""
+NAMES_EVENTS = {"names_events": _TRUTH}
+"""The member of the line `started` of either side that version 0.3 doesn't have."""
 OF_STARTED = {"first_poll": _TRUTH, "locks_can_be_lost": _TRUTH, "plans": _Value(list, None, "a list")}
 """Those of the line `started` of a broker, as far as an audit needs them."""
 OF_SOLD = {

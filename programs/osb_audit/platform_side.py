@@ -8,7 +8,7 @@ from osb_audit.events import ATTEMPT, OUT, RECORDED, STATE, Wanted, shown
 from osb_audit.lines import Line
 from osb_audit.lives import Life, plan_of
 from osb_audit.rules import Recorded, Said
-from osb_audit.walk import NAMED, Known, differs, named, unjudged
+from osb_audit.walk import NAMED, Known, differs, unjudged
 
 DROPPED = "answers that came and that the platform took for none"
 BRIDGED = "changes of a record that no journal has, and that a platform may have made"
@@ -92,7 +92,7 @@ class PlatformSide:
             if line.of["cause"] == "take" and before.out != "-":
                 self._take(line, life, after)
             else:
-                self._step(line, life, after, _steps(line, before, after))
+                self._step(line, life, after, self._steps(line, before, after))
             life.come(after)
             life.recorded = line.of.get("credentials", life.recorded)
         elif not life.is_ordered:
@@ -120,6 +120,21 @@ class PlatformSide:
         if life.is_binding and after.state == "ready":
             wanted += ((RECORDED, str(life.number_of(line.of.get("credentials", life.recorded)))),)
         return wanted
+
+    def _steps(self, line: Line, before: Recorded, after: Recorded) -> Sequence[str] | None:
+        """The events of the platform itself that lead to a record: those that the driver names, or else the shortest
+        list. None if no events lead there.
+        """
+        shortest = rules.steps(before, after)
+        names: Sequence[str] = line.of.get("effect", "").split()
+        if shortest is None:
+            return None
+        if not names:
+            self.known.check_unnamed(line, [" ".join(shortest)])
+            return shortest
+        if rules.led(before, names) != after:
+            raise differs(line, NAMED, " ".join(shortest), " ".join(names))
+        return names
 
     def _step(self, line: Line, life: Life, after: Recorded, events: Sequence[str] | None) -> None:
         """The platform goes on by itself."""
@@ -156,7 +171,7 @@ class PlatformSide:
         effects = {"take": self._effect(life, said), "timeout": rules.stepped(life.record, "timeout")}
         found = [name for name, record in effects.items() if record == after]
         event = self._event(line, life, attempt, said, after)
-        if found and named(line, found) == "timeout" != event:
+        if found and self.known.named(line, found) == "timeout" != event:
             self.known.notes[DROPPED] += 1
             event = "timeout"
         self.known.emit(line, life, event, *self._after(line, life, after))
@@ -234,19 +249,6 @@ class PlatformSide:
         raise differs(
             line, "the platform took an answer that no broker has given", ", ".join(given) or "-", shown(said)
         )
-
-
-def _steps(line: Line, before: Recorded, after: Recorded) -> Sequence[str] | None:
-    """The events of the platform itself that lead to a record: those that the driver names, or else the shortest list.
-    None if no events lead there.
-    """
-    shortest = rules.steps(before, after)
-    names: Sequence[str] = line.of.get("effect", "").split()
-    if shortest is None or not names:
-        return shortest
-    if rules.led(before, names) != after:
-        raise differs(line, NAMED, " ".join(shortest), " ".join(names))
-    return names
 
 
 def _check_state(line: Line) -> None:

@@ -3,7 +3,7 @@ from __future__ import annotations
 
 from typing import Mapping, NamedTuple
 
-from osb_audit.lines import OF_SOLD, OF_STARTED, BadLine, check, members_of
+from osb_audit.lines import NAMES_EVENTS, OF_SOLD, OF_STARTED, BadLine, check, members_of
 from osb_audit.rules import Plan
 
 
@@ -26,6 +26,15 @@ class Settings(NamedTuple):
     def sold(self, plan: Plan | None) -> Sold:
         """How the plan is sold, if it is."""
         return self.plans.get(plan, Sold()) if plan else Sold()
+
+
+def names_events(text: bytes, side: str) -> bool:
+    """Whether the line `started` of a process says that its drivers name each event. Version 0.3 says nothing. Raises
+    `BadLine`.
+    """
+    members = members_of(text)
+    check(members, NAMES_EVENTS, f"started of a {side}")
+    return bool(members.get("names_events"))
 
 
 def settings_in(text: bytes) -> Settings:

@@ -1,7 +1,7 @@
 """What the lines of one instance have come to."""
 from __future__ import annotations
 
-from typing import Collection, Mapping, Sequence
+from typing import Collection, Container, Mapping, Sequence
 
 from osb_audit.broker_side import BrokerSide
 from osb_audit.events import Stop, Story
@@ -20,15 +20,17 @@ def story(
     settings: Mapping[str, Settings],
     doubts: Doubts,
     without: Collection[Change] = (),
+    naming: Container[str] = (),
 ) -> Story:
     """Goes through the lines of an instance. Settings are those of each process of a broker. `without`: the changes
-    that don't count, among those of which nothing shows whether they were committed.
+    that don't count, among those of which nothing shows whether they were committed. `naming`: the processes whose
+    drivers name each event.
     """
     found, unshown = ordered(lines, doubts, without)
     of_broker = settings_of(found, settings)
     if isinstance(of_broker, str):
         return Story(instance, [], Stop(lines[0].position, False, of_broker), [], {})
-    known = Known(instance, found, of_broker)
+    known = Known(instance, found, of_broker, naming)
     broker, platform = BrokerSide(known), PlatformSide(known)
     stop = None
     for line in found:

@@ -5,7 +5,7 @@ broker_side and platform_side have the tables: which line is which event. This m
 from __future__ import annotations
 
 from collections import Counter
-from typing import Mapping, Sequence
+from typing import Container, Mapping, Sequence
 
 from osb_audit.events import STEP, Event, Stop, Story
 from osb_audit.lines import Line
@@ -14,6 +14,7 @@ from osb_audit.rules import Plan
 from osb_audit.settings import Settings, Sold
 
 NAMED = "the driver says that it is another event than the tables"
+UNNAMED = "the line doesn't say which event its driver says that it is"
 
 
 class Stopped(Exception):
@@ -34,21 +35,11 @@ def unjudged(line: Line, why: str) -> Stopped:
     return Stopped(Stop(line.position, False, why))
 
 
-def named(line: Line, found: Sequence[str]) -> str:
-    """The event that a driver names in a line, among those that the tables find. A journal of version 0.3 names none:
-    then the first one counts.
-    """
-    name: str = line.of.get("effect", found[0])
-    if name not in found:
-        raise differs(line, NAMED, " or ".join(found), name)
-    return name
-
-
 class Known:
     """What there is of an instance: its lives, the requests, and the events so far."""
 
-    def __init__(self, instance: str, lines: Sequence[Line], settings: Settings) -> None:
-        self.instance, self.lines, self.settings = instance, lines, settings
+    def __init__(self, instance: str, lines: Sequence[Line], settings: Settings, naming: Container[str]) -> None:
+        self.instance, self.lines, self.settings, self.naming = instance, lines, settings, naming
         self.lives: dict[str, Life] = {"": Life("", instance)}
         self.events: list[Event] = []
         self.notes: Counter[str] = Counter()
@@ -87,6 +78,25 @@ class Known:
         any(other is line for other in behind)
         row = "platform", "changed", line.key
         return next((other for other in behind if (other.side, other.event, other.key) == row), None)
+
+    # ---- what a driver names
+
+    def named(self, line: Line, found: Sequence[str]) -> str:
+        """The event that a driver names in a line, among those that the tables find. If its process names none, because
+        it is of version 0.3, the first one counts.
+        """
+        name: str = line.of.get("effect", "")
+        if not name:
+            self.check_unnamed(line, found)
+            return found[0]
+        if name not in found:
+            raise differs(line, NAMED, " or ".join(found), name)
+        return name
+
+    def check_unnamed(self, line: Line, found: Sequence[str]) -> None:
+        """A line of which a driver has to say the event names none."""
+        if line.process in self.naming:
+            raise differs(line, UNNAMED, " or ".join(found), "-")
 
     # ---- requests
 

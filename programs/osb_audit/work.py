@@ -11,7 +11,7 @@ from zlib import crc32
 from osb_audit import tails
 from osb_audit.judging import LOST, NEVER, RECENT, Bucket, Difference, Gap, Judged, Looking, judge, look
 from osb_audit.lines import BadLine, Position
-from osb_audit.settings import Settings, settings_in
+from osb_audit.settings import Settings, names_events, settings_in
 from osb_audit.splitting import Heading, Split, Splitting, split
 from osb_audit.words import PROGRAM
 from osb_replay_log.engines import Engine
@@ -132,10 +132,10 @@ def audit(work: Work, engine: Engine) -> Audited:
     _check(body, splits, positions)
     _check_copies(splits, positions)
     headings = [heading for split_ in splits for heading in split_.headings]
-    settings = _settings(splits, positions)
+    settings, naming = _settings(splits, positions)
     gaps = tuple(_gaps(headings, work.until))
     counts = tuple(split_.pieces for split_ in splits)
-    buckets = [Bucket(work.room, number, counts, work.program, settings, gaps) for number in range(many)]
+    buckets = [Bucket(work.room, number, counts, work.program, settings, gaps, naming) for number in range(many)]
     doubts = _doubts(engine, splits, buckets)
     given = (bucket._replace(doubts=doubts) for bucket in buckets)
     judged = _judge(work, engine, given, sum(split_.events for split_ in splits), positions)
@@ -203,16 +203,22 @@ def unusable(positions: Positions, position: Position, why: str) -> Unreplayed:
     return Unreplayed(UNUSABLE, f"{path}: line {line}: {why}")
 
 
-def _settings(splits: Sequence[Split], positions: Positions) -> dict[str, Settings]:
+def _settings(splits: Sequence[Split], positions: Positions) -> tuple[dict[str, Settings], frozenset[str]]:
+    """Those of the processes of brokers, and which processes name each event."""
     settings: dict[str, Settings] = {}
+    naming = set()
     for split_ in splits:
         for heading in split_.headings:
-            if (heading.side, heading.event) == ("broker", "started"):
-                try:
+            if heading.event != "started":
+                continue
+            try:
+                if names_events(heading.text, heading.side):
+                    naming.add(heading.process)
+                if heading.side == "broker":
                     settings[heading.process] = settings_in(heading.text)
-                except BadLine as error:
-                    raise unusable(positions, Position(split_.number, heading.line), str(error)) from error
-    return settings
+            except BadLine as error:
+                raise unusable(positions, Position(split_.number, heading.line), str(error)) from error
+    return settings, frozenset(naming)
 
 
 def _processes(headings: Sequence[Heading]) -> Counter[str]:

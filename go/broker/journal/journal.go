@@ -205,6 +205,7 @@ type startLine struct {
 	WaitForPoll    float64     `json:"wait_for_poll"`    // in seconds
 	IDsReturnAfter float64     `json:"ids_return_after"` // in seconds, or 0 for never
 	LocksCanBeLost bool        `json:"locks_can_be_lost"`
+	NamesEvents    bool        `json:"names_events"` // by Effect, in each line whose event a driver names
 	Plans          []startPlan `json:"plans"`
 }
 
@@ -230,7 +231,8 @@ func StartMembers(version string, document []byte, options broker.ServiceOptions
 	}
 	return startLine{
 		Version: version, FirstPoll: options.FirstPoll, WaitForPoll: options.WaitForPoll.Seconds(),
-		IDsReturnAfter: options.IDsReturnAfter.Seconds(), LocksCanBeLost: locksCanBeLost, Plans: plans,
+		IDsReturnAfter: options.IDsReturnAfter.Seconds(), LocksCanBeLost: locksCanBeLost, NamesEvents: true,
+		Plans: plans,
 	}, nil
 }
 

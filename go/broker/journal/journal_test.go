@@ -459,7 +459,7 @@ func TestStarted(t *testing.T) {
 	text := diff.Value(json.Marshal(made))(t)
 	var got line
 	check(t, json.Unmarshal(text, &got))
-	diff.Equal(t, got.LocksCanBeLost, true, "%s", text)
+	diff.Equal(t, got.LocksCanBeLost && got.NamesEvents, true, "%s", text)
 	if got.Version != "1.2" || !got.FirstPoll || got.WaitForPoll != 90 || got.IDsReturnAfter != 3600 || len(got.Plans) != 4 {
 		t.Fatalf("got %s, want the version, the rules and four plans", text)
 	}

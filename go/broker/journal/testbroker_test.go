@@ -175,6 +175,7 @@ type line struct {
 	WaitForPoll                  float64 `json:"wait_for_poll"`
 	IDsReturnAfter               float64 `json:"ids_return_after"`
 	LocksCanBeLost               bool    `json:"locks_can_be_lost"`
+	NamesEvents                  bool    `json:"names_events"`
 	Plans                        []map[string]any
 }
 

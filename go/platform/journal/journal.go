@@ -51,9 +51,10 @@ func New(to *Writer, vault platform.Vault, isDoubtful func(error) bool) *Journal
 // StartMembers returns the members of the line started of a platform: of this version, whose worker has this name, or none.
 func StartMembers(version, worker string) any {
 	return struct {
-		Version string `json:"version"`
-		Worker  string `json:"worker,omitempty"`
-	}{version, worker}
+		Version     string `json:"version"`
+		Worker      string `json:"worker,omitempty"`
+		NamesEvents bool   `json:"names_events"` // by Effect, in each line whose events a driver names
+	}{version, worker, true}
 }
 
 // A subject is the instance or the binding that a line is about.

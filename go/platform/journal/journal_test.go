@@ -55,8 +55,8 @@ func TestMembers(t *testing.T) {
 	for at, line := range s.lines() {
 		switch {
 		case at == 0:
-			if line.Event != "started" || line.Version != "1.2" || line.Worker != "one" {
-				t.Errorf("got %+v, want the start of the worker one, version 1.2", line)
+			if line.Event != "started" || line.Version != "1.2" || line.Worker != "one" || !line.NamesEvents {
+				t.Errorf("got %+v, want the start of the worker one, version 1.2, which names events", line)
 			}
 			continue
 		case line.Instance != key.Instance.String() || line.InstanceID != "my first" || line.Binding != "" || line.Broker != "shop":
@@ -591,6 +591,7 @@ type line struct {
 	Doubtful, Accepts                   bool
 	Request, Kind, Body, Lost           string
 	Status, Count                       int
+	NamesEvents                         bool `json:"names_events"`
 	Version, Worker                     string
 }
 
