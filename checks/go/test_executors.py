@@ -18,7 +18,7 @@ CALLS = {
         r"\bbackend\.(Look|Create|Delete|Sync|Credentials)\w*\(": {"worker.go"},
     },
     "platform": {
-        r"\be\.(ask|fetch)\(|\.transaction\.(Committed|Unsure)\(\)": {"executor.go"},
+        r"\be\.(ask|fetch)\(|\.transaction\.(Committed|Unsure|Failed)\(\)": {"executor.go"},
         r"(?<!\.)\btransaction\.Unsure\(": {"answer.go"},
         r"\bdriver\.(Lost|Answered|Fetched)\(": {"exchange.go"},
         r"\bstore\.(Claim|Change)\(": {"executor.go", "orders.go"},

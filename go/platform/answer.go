@@ -38,7 +38,8 @@ func (s *sending) takeAnswer(now time.Time, snapshot Snapshot) (*Change, error) 
 		return nil, err
 	}
 	s.transaction, s.driver = transaction, transaction.Unsure() // until the commit has returned
-	if !transaction.Writes() || e.State == Abandoned {
+	s.isDropped = transaction.Writes() && e.State == Abandoned
+	if s.isDropped || !transaction.Writes() {
 		return nil, nil
 	}
 	read, result := e.State, s.result

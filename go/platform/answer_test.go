@@ -578,7 +578,7 @@ func TestTakenInDoubtOfTheSameMillisecond(t *testing.T) {
 }
 
 // An answer that failed to be written, and whose row somebody else has changed since, isn't reported as written. One
-// that was written though the commit failed is.
+// that was written though the commit failed is. What an abandoned row doesn't get counts as not committed.
 func TestAnswerInDoubt(t *testing.T) {
 	abandon := func(e *Entry) { e.State, e.Lease = Abandoned, Lease{} }
 	takeOver := func(e *Entry) { *e = decide(at(101), Snapshot{Entry: *e}, true, plain()).Entry }
@@ -586,8 +586,11 @@ func TestAnswerInDoubt(t *testing.T) {
 		isWritten bool
 		then      func(*Entry) // what somebody else does with the row
 		want      State        // or empty if nothing is reported
+		stage     osb.PlatformStage
 	}{
-		"written": {true, abandon, Ready}, "not written": {false, abandon, ""}, "taken over": {false, takeOver, ""},
+		"written":     {true, abandon, Ready, osb.PlatformStageDone},
+		"not written": {false, abandon, "", osb.PlatformStageTake},
+		"taken over":  {false, takeOver, "", osb.PlatformStageDone},
 	} {
 		t.Run(name, func(t *testing.T) {
 			p := newPlant(t, Options{})
@@ -615,6 +618,7 @@ func TestAnswerInDoubt(t *testing.T) {
 			if got := entry != nil; got != test.isWritten || got && entry.State != test.want || tries.Load() != 2 {
 				t.Errorf("got %+v after %d tries, want %s after 2", entry, tries.Load(), test.want)
 			}
+			diff.Equal(t, try.sent.driver.Stage(), test.stage, "the stage of the driver")
 		})
 	}
 }

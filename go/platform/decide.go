@@ -38,6 +38,7 @@ type sending struct {
 	unsure      error                   // why nobody knows whether the row was written, or nil
 	result      exchangeResult          // of what was sent
 	transaction osb.PlatformTransaction // the latest
+	isDropped   bool                    // whether what it would write isn't written, since the row is abandoned
 	entry       *Entry                  // as the latest transaction has left the row, or nil if that wasn't the request's
 	read        time.Time               // the time of the latest transaction
 }
@@ -192,7 +193,8 @@ func decideRecord(now time.Time, snapshot Snapshot, allGone bool, t terms) decis
 	return made
 }
 
-// claim is the first transaction of a driver of a row: what is wished for is by the terms.
+// claim is the first transaction of a driver of a row: what is wished for is by the terms. If it would send a deletion
+// before the hold is over, its reading is dropped.
 func (t terms) claim(now time.Time, snapshot Snapshot, allGone bool) (osb.PlatformTransaction, error) {
 	e := &snapshot.Entry
 	driver, err := newDriver(e.Key)
