@@ -27,8 +27,10 @@ type Service struct {
 	observer  Observer
 	options   ServiceOptions
 	stay      time.Duration // how long a request is kept, if ids return
-	poller    osb.Driver    // of a Poll that needs no transaction: it hasn't the lock, so it takes nothing over
-	numbers   *numbers
+	// poller is the driver of all Polls that need no transaction. It hasn't the lock, so it takes nothing over, and its
+	// number is in no row.
+	poller  osb.Driver
+	numbers *numbers
 }
 
 // ServiceOptions are this project's choice (docs/instance.md).
@@ -129,7 +131,8 @@ func (s *Service) answer(ctx context.Context, c *course) error {
 }
 
 // peek has a driver read what is committed. If nothing is to be written, and there is nothing more to do than to answer,
-// that is all, and it needs no transaction.
+// that counts as a transaction. Otherwise the reading is dropped, as if it had not been: a driver is a value, and reads
+// again in a transaction (docs/agreement.md).
 func (s *Service) peek(ctx context.Context, driver osb.Driver, c *course) (after osb.Driver, isOver bool, err error) {
 	snapshot, err := s.read(ctx, c.key)
 	if err != nil {
@@ -342,7 +345,8 @@ func (s *Service) begin(driver osb.Driver, snapshot *Snapshot, c *course) (
 }
 
 // beginHolding has the driver of a request read its row. Nothing of an instance begins while one of its bindings is
-// held: then isBound is true.
+// held: then isBound is true, and the first reading is dropped. Both readings are of one snapshot, in which a binding is
+// held or isn't.
 func (s *Service) beginHolding(driver osb.Driver, snapshot *Snapshot, visit *Visit) (
 	transaction osb.Transaction, isBound bool, err error,
 ) {
