@@ -6,6 +6,7 @@ import (
 	"bufio"
 	"fmt"
 	"math/rand"
+	"os"
 	"sort"
 	"strconv"
 	"strings"
@@ -51,6 +52,15 @@ var beginnings = map[string]string{
 	"two-bound":  "provision poll take-up bind poll-1 take-up-1 bind-2 poll-2 take-up-2",
 }
 
+// everyBeginning returns the words of all beginnings, in order.
+func everyBeginning() (words []string) {
+	for word := range beginnings {
+		words = append(words, word)
+	}
+	sort.Strings(words)
+	return words
+}
+
 // pairs are the scenarios of two drivers.
 var pairs = []string{
 	"sync from nothing: provision + provision",
@@ -82,6 +92,27 @@ var pairs = []string{
 	"binds-async from ready: bind + deprovision",
 	"makes-async from ready: bind + deprovision",
 	"async from ready: bind + deprovision",
+}
+
+// tasks are all that a driver carries out of an instance and its first binding.
+var tasks = []string{"provision", "poll", "deprovision", "take-up", "bind", "poll-1", "unbind", "take-up-1"}
+
+// everyPair returns the scenarios of any two drivers of an instance and its binding.
+func everyPair(from string) (texts []string) {
+	for n, first := range tasks {
+		for _, second := range tasks[n:] {
+			texts = append(texts, from+": "+first+" + "+second)
+		}
+	}
+	return texts
+}
+
+// plansOr returns the plans that PLANS names, or these.
+func plansOr(plans string) []string {
+	if given := os.Getenv("PLANS"); given != "" {
+		plans = given
+	}
+	return strings.Split(plans, ",")
 }
 
 // taskWords are what a driver carries out, of the instance; those of a binding end in its number.
@@ -212,11 +243,19 @@ func (s scenario) schedules(walk *simulatedWalk) schedule.Scenario {
 }
 
 // TestEverySchedule runs all schedules of two drivers with one fault at most, of the first pair and of those with power
-// cuts with two, or with as many as FAULTS says. Each kind of fault happens once at most.
+// cuts with two, or with as many as FAULTS says. Each kind of fault happens once at most. Beside the pairs, it runs any
+// two tasks of an instance and its binding from each beginning, with the plans that PLANS names, such as
+// "async first-poll,binds-async".
 func TestEverySchedule(t *testing.T) {
 	schedule.WithoutCrashes(t)
 	catalogue := catalogueFor(t, catalogue)
-	for n, text := range pairs {
+	texts := pairs
+	for _, beginning := range everyBeginning() {
+		for _, plan := range plansOr("sync,async") {
+			texts = append(texts, everyPair(plan+" from "+beginning)...)
+		}
+	}
+	for n, text := range texts {
 		count := 1
 		if n == 0 || strings.Contains(text, "power-cuts") {
 			count = 2
@@ -248,17 +287,12 @@ func anyScenario(chance *rand.Rand) string {
 	one := func(of ...string) string { return of[chance.Intn(len(of))] }
 	text := one("sync", "async", "binds-async", "makes-async") + one(" first-poll", "", "") + one(" knowing", "") +
 		one(" power-cuts", "", "")
-	var all []string
-	for beginning := range beginnings {
-		all = append(all, beginning)
-	}
-	sort.Strings(all)
 	tasks := make([]string, 3+chance.Intn(4))
 	for n := range tasks {
 		tasks[n] = one("provision", "deprovision", "poll", "take-up", "take-up", "bind", "unbind", "poll-1",
 			"take-up-1", "bind-2", "unbind-2", "take-up-2")
 	}
-	return text + " from " + one(all...) + ": " + strings.Join(tasks, " + ")
+	return text + " from " + one(everyBeginning()...) + ": " + strings.Join(tasks, " + ")
 }
 
 // TestSchedule runs the schedule that SCHEDULE has, and logs all of its steps. Without the variable it runs a few: a

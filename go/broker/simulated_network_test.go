@@ -46,12 +46,13 @@ func (r *runner) arrival(held osb.Holding) (osb.Holding, osb.Begun) {
 }
 
 // noteReading is called when a runner has read a row. If its request is answered at once by that, and nothing changes,
-// that is an event.
+// that is an event: the request arrives, or arrives again if another runner has taken its work over.
 func (r *runner) noteReading(key broker.Key) {
-	if r.task.Asked.Kind == osb.KindNone || key != r.task.Key || r.workers[key] == r.Number {
+	entry := r.rows[key]
+	isOwn := r.workers[key] == r.Number && r.numbers[entry.Worker] == r.Number
+	if r.task.Asked.Kind == osb.KindNone || key != r.task.Key || isOwn {
 		return
 	}
-	entry := r.rows[key]
 	after, begun := r.arrival(entry.Holding)
 	if r.answered, r.object = (osb.Answer{}), nil; begun.Work == osb.WorkNone && after == entry.Holding {
 		r.answered, r.object = begun.Answer, entry.Binding
