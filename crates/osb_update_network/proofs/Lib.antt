@@ -1,0 +1,11 @@
+pub mod Available
+pub mod Bodies
+pub mod Ends
+pub mod Kept
+pub mod Promised
+pub mod Reports
+pub mod Requests
+pub mod RuleD
+pub mod Says
+pub mod Steps
+pub mod Updates

@@ -1,0 +1,3 @@
+pub mod AnyPlatform
+pub mod Promises
+pub mod Reported
