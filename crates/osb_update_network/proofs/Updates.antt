@@ -27,7 +27,7 @@ use Rattle.osb_update.proofs.Same.{same_settings}
 use Rattle.osb_update_network.specs.AnyPlatform.{UpdatedCell, is_at, may_end_update, pending_to, update}
 use Rattle.osb_update_network.specs.AnyPlatform.{update_by, update_end_by, update_end_of, update_finish_by, update_work, with_change_after}
 use Rattle.osb_update_network.specs.Promises.{IsUpdated}
-use Rattle.osb_update_network.specs.Reported.{by_fetch}
+use Rattle.osb_update_network.specs.Reported.{accepts, by_fetch, has_settings, taken_back}
 use Rattle.osb_update_network.specs.declared.reported.Reported.{Reported}
 use Rattle.osb_update_network.proofs.Available.{clash}
 use Rattle.osb_update_network.proofs.Ends.{at_is}
@@ -99,11 +99,11 @@ reports i s n r b t to on same h = record {
 }
 
 -- an operation that runs is accepted
-accepts : (i : AnyCell) (s : Settings) (n : ℕ) (goal : Settings) (r b : Option Settings) (t : Reported) (to : Settings)
+accepted : (i : AnyCell) (s : Settings) (n : ℕ) (goal : Settings) (r b : Option Settings) (t : Reported) (to : Settings)
     → is_same_settings goal to ≡ true → IsUpdated (cell i s n (UpdatePhase.Updating goal) r b t)
     → IsUpdated (cell i s n (UpdatePhase.Updating goal) r b
     (record { settings = t.settings; accepted = Some to; before = t.before }))
-accepts i s n goal r b t to same h = record {
+accepted i s n goal r b t to same h = record {
   alone = h.alone;
   there = h.there;
   row = h.row;
@@ -123,7 +123,7 @@ again_updating : (x : Bool) (i : AnyCell) (s : Settings) (n : ℕ) (goal : Setti
     (to : Settings) → x ≡ is_same_settings goal to → IsUpdated (cell i s n (UpdatePhase.Updating goal) r b t)
     → IsLeft (cell i s n (UpdatePhase.Updating goal) r b t) to
     (held_of s n (UpdatePhase.Updating goal), UpdateBegun.Answered (if x then empty 202 else error 500 Other))
-again_updating true i s n goal r b t to e h = accepts i s n goal r b t to (sym e) h
+again_updating true i s n goal r b t to e h = accepted i s n goal r b t to (sym e) h
 again_updating false i s n goal r b t to e h = h
 
 again_left : (p : UpdatePhase) (i : AnyCell) (s : Settings) (n : ℕ) (r b : Option Settings) (t : Reported) (to : Settings)
@@ -141,7 +141,7 @@ while_updating : (x y : Bool) (i : AnyCell) (s : Settings) (n : ℕ) (goal : Set
     (to : Settings) → y ≡ is_same_settings goal to → IsUpdated (cell i s n (UpdatePhase.Updating goal) r b t)
     → IsLeft (cell i s n (UpdatePhase.Updating goal) r b t) to
     (held_of s n (UpdatePhase.Updating goal), UpdateBegun.Answered (if x && y then empty 202 else busy))
-while_updating true true i s n goal r b t to e h = accepts i s n goal r b t to (sym e) h
+while_updating true true i s n goal r b t to e h = accepted i s n goal r b t to (sym e) h
 while_updating true false i s n goal r b t to e h = h
 while_updating false y i s n goal r b t to e h = h
 
@@ -286,67 +286,53 @@ update_kept c allowed asked h = update_as (unavailable c.instance.held asked.ser
 
 -- ---- the work ends
 
-pending_ends : (oc : UpdateOutcome) (mode : Mode) (to : Settings) (i : AnyCell) (s : Settings) (n : ℕ)
-    (r b : Option Settings) (t : Reported) → IsUpdated (cell i s n (UpdatePhase.Pending to) r b t)
-    → may_end_update false to mode oc (cell i s n (UpdatePhase.Pending to) r b t) ≡ true
-    → IsUpdated (update_end_of false to mode oc (cell i s n (UpdatePhase.Pending to) r b t))
-pending_ends UpdateOutcome.Done Sync to i s n r b t h e = record {
+-- it is done, and the resource has its settings; or it has started. Nothing was reported or accepted before
+settles : (i : AnyCell) (s : Settings) (n : ℕ) (p : UpdatePhase) (r b : Option Settings) (t : Reported) (to : Settings)
+    → is_under_way p ≡ true → t.accepted ≡ None → is_at r to ≡ true → IsUpdated (cell i s n p r b t)
+    → IsUpdated (cell i to n UpdatePhase.Settled r b t)
+settles i s n p r b t to u none e h = record {
   alone = h.alone;
-  there = λ u. cc;
-  row = λ z p. at_is r to e;
-  told = λ x w. (h.there refl, (refl, at_is r to e ∙ w));
-  accepted = λ x w. absurd (none_some x (sym h.accepted ∙ w));
+  there = λ w. cc;
+  row = λ z w. at_is r to e;
+  told = λ x w. absurd (silent (cell i s n p r b t) x h u w);
+  accepted = λ x w. absurd (none_some x (sym none ∙ w));
   aside = tt;
 }
-pending_ends UpdateOutcome.Done Async to i s n r b t h e = record {
+
+settles_told : (i : AnyCell) (s : Settings) (n : ℕ) (p : UpdatePhase) (r b : Option Settings) (t : Reported)
+    (to : Settings) → is_under_way p ≡ true → t.accepted ≡ None → is_at r to ≡ true → IsUpdated (cell i s n p r b t)
+    → IsUpdated (cell i to n UpdatePhase.Settled r b (has_settings to t))
+settles_told i s n p r b t to u none e h =
+    reports i to n r b t to (h.there u) ((same_settings to to).1 refl) (settles i s n p r b t to u none e h)
+
+starts : (i : AnyCell) (s : Settings) (n : ℕ) (p : UpdatePhase) (r b : Option Settings) (t : Reported) (to : Settings)
+    → is_under_way p ≡ true → t.accepted ≡ None → IsUpdated (cell i s n p r b t)
+    → IsUpdated (cell i s n (UpdatePhase.Updating to) r b t)
+starts i s n p r b t to u none h = record {
   alone = h.alone;
-  there = λ u. h.there refl;
-  row = λ z p. absurd (updating_not to p);
-  told = λ x w. absurd (silent (cell i s n (UpdatePhase.Pending to) r b t) x h refl w);
-  accepted = λ x w. sym (some_same to x w);
+  there = λ w. h.there u;
+  row = λ z w. absurd (updating_not to w);
+  told = λ x w. absurd (silent (cell i s n p r b t) x h u w);
+  accepted = λ x w. absurd (none_some x (sym none ∙ w));
   aside = tt;
 }
-pending_ends UpdateOutcome.After Sync to i s n r b t h e = record {
-  alone = h.alone;
-  there = λ u. cc;
-  row = λ z p. at_is r to e;
-  told = λ x w. absurd (silent (cell i s n (UpdatePhase.Pending to) r b t) x h refl w);
-  accepted = λ x w. absurd (none_some x (sym h.accepted ∙ w));
-  aside = tt;
-}
-pending_ends UpdateOutcome.After Async to i s n r b t h e = record {
-  alone = h.alone;
-  there = λ u. h.there refl;
-  row = λ z p. absurd (updating_not to p);
-  told = λ x w. absurd (silent (cell i s n (UpdatePhase.Pending to) r b t) x h refl w);
-  accepted = λ x w. absurd (none_some x (sym h.accepted ∙ w));
-  aside = tt;
-}
-pending_ends UpdateOutcome.Before mode to i s n r b t h e = record {
-  alone = h.alone;
-  there = λ u. cc;
-  row = λ z p. at_is r s e;
-  told = λ x w. absurd (silent (cell i s n (UpdatePhase.Pending to) r b t) x h refl w);
-  accepted = λ x w. absurd (none_some x (sym h.accepted ∙ w));
-  aside = tt;
-}
-pending_ends UpdateOutcome.Failed mode to i s n r b t h e = record {
-  alone = h.alone;
-  there = λ u. cc;
-  row = λ z p. absurd (failed_not p);
-  told = λ x w. absurd (silent (cell i s n (UpdatePhase.Pending to) r b t) x h refl w);
-  accepted = tt;
-  aside = tt;
-}
-pending_ends (UpdateOutcome.Refused Rejection.BadRequest) mode to i s n r b t h e = record {
-  alone = h.alone;
-  there = λ u. cc;
-  row = λ z p. at_is r s e;
-  told = λ x w. (h.there refl, (refl, at_is r s e ∙ ap (λ (z : Settings). Some z) (sym (h.aside.1 x w))));
-  accepted = λ x w. absurd (none_some x (sym h.accepted ∙ w));
-  aside = tt;
-}
-pending_ends (UpdateOutcome.Refused Rejection.UnprocessableEntity) mode to i s n r b t h e = record {
+
+starts_told : (i : AnyCell) (s : Settings) (n : ℕ) (p : UpdatePhase) (r b : Option Settings) (t : Reported)
+    (to : Settings) → is_under_way p ≡ true → t.accepted ≡ None → IsUpdated (cell i s n p r b t)
+    → IsUpdated (cell i s n (UpdatePhase.Updating to) r b (accepts to t))
+starts_told i s n p r b t to u none h =
+    accepted i s n to r b t to ((same_settings to to).1 refl) (starts i s n p r b t to u none h)
+
+-- it has changed nothing
+undone : (i : AnyCell) (s : Settings) (n : ℕ) (r b : Option Settings) (t : Reported) (to : Settings)
+    → is_at r s ≡ true → IsUpdated (cell i s n (UpdatePhase.Pending to) r b t)
+    → IsUpdated (cell i s n UpdatePhase.Settled r b t)
+undone i s n r b t to e h = settles i s n (UpdatePhase.Pending to) r b t s refl h.accepted e h
+
+refused : (i : AnyCell) (s : Settings) (n : ℕ) (r b : Option Settings) (t : Reported) (to : Settings)
+    → is_at r s ≡ true → IsUpdated (cell i s n (UpdatePhase.Pending to) r b t)
+    → IsUpdated (cell i s n UpdatePhase.Settled r b (taken_back t))
+refused i s n r b t to e h = record {
   alone = h.alone;
   there = λ u. cc;
   row = λ z p. at_is r s e;
@@ -355,7 +341,7 @@ pending_ends (UpdateOutcome.Refused Rejection.UnprocessableEntity) mode to i s n
   aside = tt;
 }
 
--- over a row that had failed, nothing is known unless it is done
+-- nobody knows what it has left
 fails : (i : AnyCell) (s : Settings) (n : ℕ) (p : UpdatePhase) (r b : Option Settings) (t : Reported)
     → is_under_way p ≡ true → IsUpdated (cell i s n p r b t) → IsUpdated (cell i s n UpdatePhase.Failed r b t)
 fails i s n p r b t u h = record {
@@ -367,42 +353,37 @@ fails i s n p r b t u h = record {
   aside = tt;
 }
 
+pending_ends : (oc : UpdateOutcome) (mode : Mode) (to : Settings) (i : AnyCell) (s : Settings) (n : ℕ)
+    (r b : Option Settings) (t : Reported) → IsUpdated (cell i s n (UpdatePhase.Pending to) r b t)
+    → may_end_update false to mode oc (cell i s n (UpdatePhase.Pending to) r b t) ≡ true
+    → IsUpdated (update_end_of false to mode oc (cell i s n (UpdatePhase.Pending to) r b t))
+pending_ends UpdateOutcome.Done Sync to i s n r b t h e =
+    settles_told i s n (UpdatePhase.Pending to) r b t to refl h.accepted e h
+pending_ends UpdateOutcome.Done Async to i s n r b t h e =
+    starts_told i s n (UpdatePhase.Pending to) r b t to refl h.accepted h
+pending_ends UpdateOutcome.After Sync to i s n r b t h e =
+    settles i s n (UpdatePhase.Pending to) r b t to refl h.accepted e h
+pending_ends UpdateOutcome.After Async to i s n r b t h e =
+    starts i s n (UpdatePhase.Pending to) r b t to refl h.accepted h
+pending_ends UpdateOutcome.Before mode to i s n r b t h e = undone i s n r b t to e h
+pending_ends UpdateOutcome.Failed mode to i s n r b t h e = fails i s n (UpdatePhase.Pending to) r b t refl h
+pending_ends (UpdateOutcome.Refused Rejection.BadRequest) mode to i s n r b t h e = refused i s n r b t to e h
+pending_ends (UpdateOutcome.Refused Rejection.UnprocessableEntity) mode to i s n r b t h e =
+    refused i s n r b t to e h
+
+-- over a row that had failed, nothing is known unless it is done
 mending_ends : (oc : UpdateOutcome) (mode : Mode) (to : Settings) (i : AnyCell) (s : Settings) (n : ℕ)
     (r b : Option Settings) (t : Reported) → IsUpdated (cell i s n (UpdatePhase.Mending to) r b t)
     → may_end_update true to mode oc (cell i s n (UpdatePhase.Mending to) r b t) ≡ true
     → IsUpdated (update_end_of true to mode oc (cell i s n (UpdatePhase.Mending to) r b t))
-mending_ends UpdateOutcome.Done Sync to i s n r b t h e = record {
-  alone = h.alone;
-  there = λ u. cc;
-  row = λ z p. at_is r to e;
-  told = λ x w. (h.there refl, (refl, at_is r to e ∙ w));
-  accepted = λ x w. absurd (none_some x (sym h.accepted ∙ w));
-  aside = tt;
-}
-mending_ends UpdateOutcome.Done Async to i s n r b t h e = record {
-  alone = h.alone;
-  there = λ u. h.there refl;
-  row = λ z p. absurd (updating_not to p);
-  told = λ x w. absurd (silent (cell i s n (UpdatePhase.Mending to) r b t) x h refl w);
-  accepted = λ x w. sym (some_same to x w);
-  aside = tt;
-}
-mending_ends UpdateOutcome.After Sync to i s n r b t h e = record {
-  alone = h.alone;
-  there = λ u. cc;
-  row = λ z p. at_is r to e;
-  told = λ x w. absurd (silent (cell i s n (UpdatePhase.Mending to) r b t) x h refl w);
-  accepted = λ x w. absurd (none_some x (sym h.accepted ∙ w));
-  aside = tt;
-}
-mending_ends UpdateOutcome.After Async to i s n r b t h e = record {
-  alone = h.alone;
-  there = λ u. h.there refl;
-  row = λ z p. absurd (updating_not to p);
-  told = λ x w. absurd (silent (cell i s n (UpdatePhase.Mending to) r b t) x h refl w);
-  accepted = λ x w. absurd (none_some x (sym h.accepted ∙ w));
-  aside = tt;
-}
+mending_ends UpdateOutcome.Done Sync to i s n r b t h e =
+    settles_told i s n (UpdatePhase.Mending to) r b t to refl h.accepted e h
+mending_ends UpdateOutcome.Done Async to i s n r b t h e =
+    starts_told i s n (UpdatePhase.Mending to) r b t to refl h.accepted h
+mending_ends UpdateOutcome.After Sync to i s n r b t h e =
+    settles i s n (UpdatePhase.Mending to) r b t to refl h.accepted e h
+mending_ends UpdateOutcome.After Async to i s n r b t h e =
+    starts i s n (UpdatePhase.Mending to) r b t to refl h.accepted h
 mending_ends UpdateOutcome.Before mode to i s n r b t h e = fails i s n (UpdatePhase.Mending to) r b t refl h
 mending_ends UpdateOutcome.Failed mode to i s n r b t h e = fails i s n (UpdatePhase.Mending to) r b t refl h
 mending_ends (UpdateOutcome.Refused rejection) mode to i s n r b t h e =
