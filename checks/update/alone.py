@@ -1,7 +1,9 @@
 """Updates at a broker that keeps the rules u and d, and any platform at all.
 
 A platform may send any request at any time, number its Updates or not, and believe every answer. Of workers is assumed
-what docs/premises.md assumes for the promises of a broker alone, and that an update creates and deletes nothing.
+what docs/premises.md assumes for the promises of a broker alone, that an update creates and deletes nothing, that a
+creation that is reported complete has the settings that were asked for, and that a deletion that is reported to have
+changed nothing has left those of before.
 """
 
 from __future__ import annotations
@@ -27,6 +29,8 @@ PARTS = {
     "work": "a crash of the broker forgets the pending work",
     "provision": "a Provision is compared with the settings of the first one",
     "poll": "a Poll is answered by the instance's table",
+    "made": "a creation is reported complete, and the resource has other settings than were asked for",
+    "unchanged": "a deletion is reported to have changed nothing, and the resource has other settings than before",
 }
 KEPT = 2
 # An Update without a number, and one whose number is higher than the kept one, the same, or lower.
@@ -221,24 +225,33 @@ def is_true(cell: Cell, outcome: str) -> bool:
     return cell.resource == "whole" or cell.row_phase != "ready" and cell.resource != "absent"
 
 
-def of_instance(plan: Plan, cell: Cell) -> Steps:
-    """What the instance's own work and operations do, and how they end."""
+def is_right(design: Design, cell: Cell, after: Held, made: bool | None) -> bool:
+    """Whether the resource may have these settings, if the instance is available after a creation or a deletion."""
+    if not model.is_available(after) or not design.has("made" if made else "unchanged"):
+        return True
+    return cell.thing == cell.holding.settings or not made and cell.holding.phase == "failed"
+
+
+def of_instance(design: Design, plan: Plan, cell: Cell) -> Steps:
+    """What the instance's own work and operations do, and how they end. They may leave any settings."""
     instance = cell.instance
     made = life.is_made(instance)
     if made or made is False and cell.resource != "absent":
-        changes = ("absent", "part", "whole") if made else ("absent", "part")
+        changes = ("absent", "part", "whole") if made else ("absent", "part", cell.resource)
         for to in changes[1:] if made and instance.work else changes:
-            yield f"work: {to}", cell._replace(resource=to, thing=cell.holding.settings if made else cell.thing)
+            for thing in sorted({cell.holding.settings, cell.thing, UNKNOWN}):
+                yield f"work: {to}, {thing}", cell._replace(resource=to, thing=thing)
     if instance.work:
         for outcome in ("done", "before", "after", "refused 400"):
             ended = life.end(plan.mode, instance, outcome)
             true = life.can_have_ended(plan.mode, instance, outcome, cell.resource) and is_true(cell, outcome)
-            if ended and true:
+            if ended and true and is_right(design, cell, ended[0], made):
                 after = without_row(cell._replace(instance=ended[0]))
                 yield f"end {outcome}", reports(after, instance.work.kind, ended[1], cell.holding.settings)
     for ok in (True, False):
         finished = life.finish(instance, ok)
-        if finished and (not ok or cell.resource == ("whole" if made else "absent")):
+        true = not ok or cell.resource == ("whole" if made else "absent")
+        if finished and true and is_right(design, cell, finished, made):
             yield f"finish {'ok' if ok else 'failed'}", without_row(cell._replace(instance=finished))
     waited = life.give_up_waiting(instance)
     if waited:
@@ -265,7 +278,7 @@ def steps(design: Design, plan: Plan, cell: Cell) -> Steps:
             yield f"update to {to} arrives, {order}: {how}", after
     if cell.held is not None and isinstance(model.fetch(cell.instance, cell.held), model.Found):
         yield "fetch arrives: 200", cell._replace(told=cell.held.settings)
-    yield from of_instance(plan, cell)
+    yield from of_instance(design, plan, cell)
     if cell.is_under_way:
         yield from of_update(design, cell)
 
@@ -284,8 +297,11 @@ def broken(design: Design, plan: Plan, cell: Cell) -> str | None:
     if cell.available and cell.holding.phase == "settled" and cell.thing != cell.holding.settings:
         return "the row has settings that the resource hasn't"
     there = cell.available and cell.resource == "whole"
-    if cell.is_under_way and not there and design.has("u") and design.has("d"):
-        return "an update is under way of an instance that isn't available"
+    if cell.is_under_way and design.has("u") and design.has("d"):
+        if cell.instance.work or life.is_made(cell.instance) is not None:
+            return "work of the instance and of an update are there together"
+        if not there:
+            return "an update is under way of an instance that isn't available"
     return None
 
 

@@ -123,7 +123,7 @@ def test_what_agrees_without_numbers(plain: tuple[str, ...]) -> None:
 
 @pytest.mark.slow
 def test_any_platform() -> None:
-    assert alone.explore_all() == (8_410, 120_482, None)
+    assert alone.explore_all() == (9_151, 135_728, None)
 
 
 @pytest.mark.parametrize("part", alone.PARTS)
