@@ -1,7 +1,6 @@
 -- What can come about goes on, and it keeps the promises.
-use Rattle.std.proofs.Common.{◌≡◌, Bool, true, false, refl, sym, subst}
+use Rattle.std.proofs.Common.{◌≡◌, Bool, true, false, refl}
 use Rattle.std.specs.Prelude.{Option, Some, None, ◌&&◌, ◌||◌, List, [], ◌∷◌, is_some}
-use Rattle.std.specs.Prelude.{Result, Ok, Err, OnOk, OnErr}
 use Rattle.osb_message.specs.Plans.{Catalogue}
 use Rattle.osb_message.specs.declared.messages.Request.{Request}
 use Rattle.osb_instance.specs.Begin.{is_operating}
@@ -72,11 +71,6 @@ promised c h = record {
       (λ u. let e = h.there u in
       busy_not c.instance.held (rests c.instance.held e) (operates_not c.instance.held e) (is_still c.instance h.alone e));
 }
-
-pub after : (T E : Type 0) (r : Result T E) (c n : UpdatedCell) (e : UpdateEvent) → OnOk r (n ≡ updated_step c e)
-    → OnErr r (n ≡ c) → IsUpdated c → IsUpdated n
-after T E (Ok x) c n e ok err h = subst IsUpdated (sym ok) (kept c e h)
-after T E (Err x) c n e ok err h = subst IsUpdated (sym err) h
 
 pub promised_always : (cat : Catalogue) (fp : Bool) (s : Settings) (events : List UpdateEvent)
     → IsPromised (updated_steps (updated_empty cat fp s) events)

@@ -1,24 +1,29 @@
--- What an event makes of the instance itself: one event of its own, or nothing.
-use Rattle.std.proofs.Common.{◌≡◌, Bool, true, false, refl, sym, subst, inl, inr, ap}
+-- What an event makes of the instance itself: one event of its own, or nothing. What doesn't apply changes nothing.
+use Rattle.std.proofs.Common.{◌≡◌, Bool, true, false, refl, sym, subst, inl, inr, ap, ◌∙◌}
 use Rattle.std.specs.Prelude.{Option, Some, None, if◌then◌else◌, ⊤}
-use Rattle.std.specs.Prelude.{Result, Ok, Err, OnOk, OnErr}
+use Rattle.std.specs.Prelude.{Ok}
 use Rattle.osb_message.specs.declared.catalogue.Mode.{Mode}
 use Rattle.osb_message.specs.declared.messages.Answer.{Answer}
+use Rattle.osb_message.specs.declared.messages.Kind.TheVariants.{Provision}
 use Rattle.osb_message.specs.declared.messages.Request.{Request}
 use Rattle.osb_broker.specs.Answers.{mode_of}
-use Rattle.osb_instance.specs.Begin.{finished_held, given_up}
+use Rattle.osb_instance.specs.Begin.{finished_held, given_up, worked}
 use Rattle.osb_instance.specs.declared.digest.Digest.{Digest}
 use Rattle.osb_instance.specs.declared.outcome.WorkOutcome.{WorkOutcome}
 use Rattle.osb_network.specs.AnyPlatform.{AnyCell, StaysGone, any_end, any_end_of, any_step, may_become, may_finish}
+use Rattle.osb_network.specs.Steps.{step_of}
 use Rattle.osb_network.specs.declared.any_platform.BrokerEvent.{BrokerEvent}
+use Rattle.osb_network.specs.declared.step.Step.{Step}
 use Rattle.osb_network.proofs.Gone.{gone_after}
-use Rattle.osb_update.specs.Begun.{is_under_way}
+use Rattle.osb_update.specs.Begun.{is_available, is_under_way}
 use Rattle.osb_update.specs.declared.phase.UpdateOutcome.{UpdateOutcome}
 use Rattle.osb_update.specs.declared.phase.UpdatePhase.{UpdatePhase}
 use Rattle.osb_update.specs.declared.settings.Settings.{Settings}
 use Rattle.osb_update_network.specs.AnyPlatform.{UpdatedCell, arrive_by, asked_by, handled, in_place, is_new, let_in, made_with}
-use Rattle.osb_update_network.specs.AnyPlatform.{pending_to}
-use Rattle.osb_update_network.specs.AnyPlatform.{end_by, update_end_by, update_finish_by, updated_step}
+use Rattle.osb_update_network.specs.AnyPlatform.{end_by, ended_with, finished_to, may_end, may_end_update, may_finish_in}
+use Rattle.osb_update_network.specs.AnyPlatform.{may_finish_to, may_go_on, may_update_end, pending_to, update_end_by}
+use Rattle.osb_update_network.specs.AnyPlatform.{update_end_of, update_finish_by, update_work, updated_applies, updated_step}
+use Rattle.osb_update_network.specs.AnyPlatform.{with_instance}
 use Rattle.osb_update_network.specs.Promises.{IsStepOf}
 use Rattle.osb_update_network.specs.declared.event.UpdateEvent.{UpdateEvent}
 
@@ -124,16 +129,70 @@ sells_alike : (before after : AnyCell) → IsStepOf before after → SellsAlike 
 sells_alike before after (inl same) = subst (λ (i : AnyCell). SellsAlike before i) (sym same) (sells before)
 sells_alike before after (inr step) = subst (λ (i : AnyCell). SellsAlike before i) (sym step.1) (sells_step before step.0)
 
--- ---- after a step, or where it is rejected for lack of memory
-
-pub one_event_after : (T E : Type 0) (r : Result T E) (c n : UpdatedCell) (e : UpdateEvent)
-    → OnOk r (n ≡ updated_step c e) → OnErr r (n ≡ c) → IsStepOf c.instance n.instance
-one_event_after T E (Ok x) c n e ok err =
-    subst (λ (u : UpdatedCell). IsStepOf c.instance u.instance) (sym ok) (one_event c e)
-one_event_after T E (Err x) c n e ok err = inl (ap (λ (u : UpdatedCell). u.instance) err)
-
 pub same_plans : (before after : AnyCell) → IsStepOf before after → before.catalogue ≡ after.catalogue
 same_plans before after step = sym (sells_alike before after step).plans
 
 pub same_rule : (before after : AnyCell) → IsStepOf before after → before.first_poll ≡ after.first_poll
 same_rule before after step = sym (sells_alike before after step).first
+
+-- ---- an event that doesn't apply changes nothing
+
+same_cell : (x : Bool) (a c : UpdatedCell) → x ≡ false → (if x then a else c) ≡ c
+same_cell true a c e = cc
+same_cell false a c e = refl
+
+same_any : (x : Bool) (a i : AnyCell) → x ≡ false → (if x then a else i) ≡ i
+same_any true a i e = cc
+same_any false a i e = refl
+
+end_skipped : (w : Option Request) (c : UpdatedCell) (oc : WorkOutcome) → may_end w c oc ≡ false → end_by w c oc ≡ c
+end_skipped None c oc e = refl
+end_skipped (Some q) c oc e =
+    let g = worked (mode_of c.instance.catalogue q) c.instance.held q oc in
+    same_cell (may_go_on (is_available g.0) q.kind c (BrokerEvent.End oc)) (ended_with g.1 q.kind c oc) c e
+
+update_end_skipped : (w : Option (Settings × Bool)) (c : UpdatedCell) (mode : Mode) (oc : UpdateOutcome)
+    → may_update_end w mode oc c ≡ false → update_end_by w mode oc c ≡ c
+update_end_skipped None c mode oc e = refl
+update_end_skipped (Some w) c mode oc e =
+    same_cell (may_end_update w.1 w.0 mode oc c) (update_end_of w.1 w.0 mode oc c) c e
+
+update_finish_skipped : (p : UpdatePhase) (c : UpdatedCell) (ok : Bool) → may_finish_in p ok c ≡ false
+    → update_finish_by p ok c ≡ c
+update_finish_skipped (UpdatePhase.Updating to) c ok e = same_cell (may_finish_to to ok c) (finished_to to ok c) c e
+update_finish_skipped UpdatePhase.Settled c ok e = refl
+update_finish_skipped UpdatePhase.Failed c ok e = refl
+update_finish_skipped (UpdatePhase.Pending to) c ok e = refl
+update_finish_skipped (UpdatePhase.Mending to) c ok e = refl
+
+pub skipped : (c : UpdatedCell) (e : UpdateEvent) → updated_applies c e ≡ false → updated_step c e ≡ c
+skipped c (UpdateEvent.Arrive r d parameters version) e = cc
+skipped c (UpdateEvent.PutOff k) e = cc
+skipped c (UpdateEvent.End oc) e = end_skipped c.instance.held.work c oc e
+skipped c (UpdateEvent.Finish ok) e =
+    same_cell (may_go_on (is_available (finished_held c.instance.held ok)) Provision c (BrokerEvent.Finish ok))
+    (with_instance c (BrokerEvent.Finish ok) c.settings) c e
+skipped c UpdateEvent.GiveUpWaiting e =
+    ap (λ (i : AnyCell). record {
+      instance = i;
+      change = c.change;
+      settings = c.settings;
+      before = c.before;
+      reported = c.reported;
+    }) (same_any c.instance.held.waiting (record c.instance { held = given_up c.instance.held }) c.instance e)
+skipped c (UpdateEvent.Work t r) e =
+    same_cell (may_become c.instance t) (with_instance c (BrokerEvent.Work t) r) c e
+skipped c UpdateEvent.Crash e = cc
+skipped c (UpdateEvent.Update allowed asked) e = cc
+skipped c (UpdateEvent.UpdateEnd mode oc) e = update_end_skipped (pending_to c.change.phase) c mode oc e
+skipped c (UpdateEvent.UpdateFinish ok) e = update_finish_skipped c.change.phase c ok e
+skipped c (UpdateEvent.UpdateWork r) e = same_cell (is_under_way c.change.phase) (update_work c r) c e
+skipped c UpdateEvent.Fetch e = cc
+
+not_skipped : (x : Bool) → Step.Skipped ≡ step_of x → x ≡ false
+not_skipped false e = refl
+not_skipped true e = cc
+
+pub skipped_step : (s : Step) (c : UpdatedCell) (e : UpdateEvent) → s ≡ step_of (updated_applies c e) → s ≡ Step.Skipped
+    → updated_step c e ≡ c
+skipped_step s c e is skip = skipped c e (not_skipped (updated_applies c e) (sym skip ∙ is))

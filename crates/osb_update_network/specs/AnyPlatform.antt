@@ -372,8 +372,3 @@ updated_applies cell (UpdateEvent.UpdateEnd mode outcome) =
 updated_applies cell (UpdateEvent.UpdateFinish ok) = may_finish_in cell.change.phase ok cell
 updated_applies cell (UpdateEvent.UpdateWork settings) = is_under_way cell.change.phase
 updated_applies cell event = true
-
--- whether the event may ask for memory: only a crash does, for the text of the holding
-abbrev pub updated_takes_memory : UpdateEvent → Bool
-updated_takes_memory UpdateEvent.Crash = true
-updated_takes_memory event = false

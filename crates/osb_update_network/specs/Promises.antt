@@ -23,8 +23,8 @@ use Rattle.osb_update_network.specs.declared.event.UpdateEvent.{UpdateEvent}
 -- ---- 1. settings that were reported
 
 -- the resource is complete, and has the settings that were reported
-abbrev pub IsTrue : UpdatedCell → Type 0
-IsTrue cell =
+abbrev pub IsAsReported : UpdatedCell → Type 0
+IsAsReported cell =
     (settings : Settings) → cell.reported.settings ≡ Some settings
     → (cell.instance.resource ≡ Whole) × (cell.settings ≡ Some settings)
 
@@ -112,7 +112,7 @@ IsOneAtATime cell = (is_under_way cell.change.phase && is_busy cell.instance.hel
 
 -- all that is so at any moment
 pub record IsPromised (cell : UpdatedCell) : Type 0 where
-  pub settings : IsTrue cell
+  pub settings : IsAsReported cell
   pub whole : IsWhole cell
   pub there : IsThere cell
   pub one : IsOneAtATime cell

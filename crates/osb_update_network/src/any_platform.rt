@@ -1,15 +1,15 @@
 //! A broker alone whose instance can be updated, and any platform.
-ghost use Rattle.std.specs.Prelude.{◌≡◌, All, true, false, IfOk, IsOk, OnOk, OnErr};
+ghost use Rattle.std.specs.Prelude.{◌≡◌, true};
 ghost use Rattle.osb_network.specs.AnyPlatform.{StaysGone};
 ghost use Rattle.osb_network.specs.Steps.{step_of};
+ghost use Rattle.osb_network.specs.declared.step.Step.{Step};
 ghost use Rattle.osb_update_network.specs.AnyPlatform as spec;
 ghost use Rattle.osb_update_network.specs.AnyPlatform.{updated_applies, updated_empty, updated_step, updated_steps};
-ghost use Rattle.osb_update_network.specs.AnyPlatform.{updated_takes_memory};
 ghost use Rattle.osb_update_network.specs.Promises.{is_of_update, AnswersInPlace, IsPromised, IsStepOf, KeepsRuleD, RejectsTruly, StaysReported};
 
 use crate::parts::{Parts, Terms};
 use crate::{Reported, UpdateEvent};
-use osb_message::{Catalogue, Memory, Mode};
+use osb_message::{Catalogue, Mode};
 use osb_network::{AnyPlatform as AnyInstance, Step};
 use osb_update::{Settings, UpdateHolding};
 use std::alloc::Global;
@@ -85,16 +85,11 @@ impl AnyPlatform {
     }
 
     /// Lets an event happen: [`Step::Applied`] exactly if it applies, and the instance is then one step further.
-    /// [`Step::Skipped`] has changed nothing. Only a crash takes memory, from `alloc`.
-    ///
-    /// # Errors
-    ///
-    /// [`Memory`] if an allocation failed. The instance is then as before.
-    pub fn step(&mut self, alloc: Global, event: &UpdateEvent) -> Result<Step, Memory>
-        ensures cell { OnOk result (self.new ≡ updated_step self.old event.now) }
-        ensures applied { IfOk result (λ s. s ≡ step_of (updated_applies self.old event.now)) }
-        ensures err { OnErr result (self.new ≡ self.old) }
-        ensures no_memory { updated_takes_memory event.now ≡ false → IsOk result }
+    /// [`Step::Skipped`] has changed nothing. It takes no memory.
+    pub fn step(&mut self, alloc: Global, event: &UpdateEvent) -> Step
+        ensures cell { self.new ≡ updated_step self.old event.now }
+        ensures applied { result ≡ step_of (updated_applies self.old event.now) }
+        ensures skipped { result ≡ Step.Skipped → self.new ≡ self.old }
         ensures promised { IsPromised self.new }
         ensures stays_reported { StaysReported self.old event.now }
         ensures rejected { RejectsTruly self.old event.now }
@@ -148,12 +143,8 @@ impl AnyPlatform {
 }
 
 /// What becomes of an instance and its updates at a broker once these events have happened, one after another. For every
-/// list of events the promises hold, also if memory runs out. `again` and `settings` are as at [`AnyPlatform::new`] (this
-/// project's choice).
-///
-/// # Errors
-///
-/// [`Memory`] if an allocation failed. Only crashes ask for memory.
+/// list of events the promises hold. `again` and `settings` are as at [`AnyPlatform::new`] (this project's choice). It
+/// takes no memory.
 pub fn run_any(
     alloc: Global,
     catalogue: Catalogue,
@@ -161,16 +152,14 @@ pub fn run_any(
     first_poll: bool,
     settings: &Settings,
     events: &[UpdateEvent],
-) -> Result<AnyPlatform, Memory>
+) -> AnyPlatform
     requires same { again ≡ catalogue }
-    ensures cell { IfOk result (λ any. any
-        ≡ updated_steps (updated_empty catalogue first_poll settings.now) events.now) }
-    ensures no_memory { All (λ event. updated_takes_memory event ≡ false) events.now → IsOk result }
+    ensures cell { result ≡ updated_steps (updated_empty catalogue first_poll settings.now) events.now }
     ensures always { IsPromised (updated_steps (updated_empty catalogue first_poll settings.now) events.now) }
 {
     let mut any = AnyPlatform::new(catalogue, again, first_poll, settings);
     for event in events {
-        any.step(alloc, event)?;
+        any.step(alloc, event);
     }
-    Ok(any)
+    any
 }

@@ -35,16 +35,16 @@ pub enum UpdateEvent {
         kind: Kind,
     },
     /// The pending work of the instance ends so, and its request is answered. It applies as
-    /// [`BrokerEvent::End`](osb_network::BrokerEvent::End), and if the instance is available then, it has these settings:
-    /// after a Provision those that it asked for, and after a Deprovision that has changed nothing those of before, unless
-    /// an update had failed (an assumption).
+    /// [`BrokerEvent::End`](osb_network::BrokerEvent::End). If the instance is available afterwards, it applies only if the
+    /// resource has the right settings (an assumption): after a creation those that were asked for, and after a deletion
+    /// that has changed nothing those of the row, unless an update had failed.
     End {
         /// How it ends.
         outcome: WorkOutcome,
     },
     /// The operation of the instance that runs ends. It applies as
-    /// [`BrokerEvent::Finish`](osb_network::BrokerEvent::Finish), and a creation that succeeds has brought about the
-    /// settings that its Provision asked for (an assumption).
+    /// [`BrokerEvent::Finish`](osb_network::BrokerEvent::Finish). A creation that succeeds has brought about the settings
+    /// that its Provision asked for (an assumption).
     Finish {
         /// Whether it succeeds.
         ok: bool,
@@ -59,7 +59,7 @@ pub enum UpdateEvent {
         /// Its settings, or none while they are between.
         settings: Option<Settings>,
     },
-    /// The broker crashes and starts again. What it holds is as before. It always applies.
+    /// The broker crashes and starts again. What it holds is in its database, and is as before. It always applies.
     Crash,
     /// An Update arrives, any one, for the first time or again, in time or late. It always applies.
     Update {
@@ -69,9 +69,9 @@ pub enum UpdateEvent {
         update: Update,
     },
     /// The pending work of an Update ends so, and the Update is answered. It applies if work of an Update is pending, and
-    /// may have left these settings: a synchronous update that is reported as done has brought about its settings, and
-    /// work that is reported to have changed nothing, or is refused, has left those of before, unless an update before it
-    /// had failed.
+    /// may have left the settings that the resource has (an assumption). A synchronous update that is reported as done has
+    /// brought about its settings. Work that is reported to have changed nothing, or is refused, has left those of before,
+    /// unless an update before it had failed.
     UpdateEnd {
         /// How the update is done.
         mode: Mode,

@@ -9,7 +9,7 @@
 //! Whatever happens, a broker keeps these promises to any platform (`specs/Promises.antt`):
 //!
 //! 1. If the broker has reported that an instance has some settings, the resource is complete and has exactly these
-//!    settings, until a Deprovision arrives or the work of another Update begins (`IsTrue` and `StaysReported`). The broker
+//!    settings, until a Deprovision arrives or the work of another Update begins (`IsAsReported` and `StaysReported`). The broker
 //!    reports settings by 200 to an Update, by 200 or 201 to a Provision, by `succeeded` to a Poll after a 202 to either, and
 //!    by 200 to a Fetch. The resource of an available instance has the settings of the row, unless the row says that an
 //!    update is under way or has failed (`IsWhole`).

@@ -1,5 +1,5 @@
 //! What an instance with its updates is made of: one method for each event, by the calls of `osb_instance` and `osb_update`.
-ghost use Rattle.std.specs.Prelude.{◌≡◌, false, Some, IfOk, IsOk, OnOk, OnErr};
+ghost use Rattle.std.specs.Prelude.{◌≡◌, false, Some};
 ghost use Rattle.osb_message.specs.declared.messages.ErrorCode.TheVariants.{Other};
 ghost use Rattle.osb_broker.specs.Answers.{error, mode_of};
 ghost use Rattle.osb_network.specs.AnyPlatform.{any_step, any_takes_memory, may_become};
@@ -14,7 +14,7 @@ ghost use Rattle.osb_update_network.specs.declared.event.UpdateEvent.{UpdateEven
 use crate::truth::{is_at, is_failed, is_true_end, is_unchanged};
 use crate::{Reported, UpdateEvent};
 use osb_instance::{Digest, Holding, HoldingPhase, WorkOutcome, busy};
-use osb_message::{Answer, Body, ErrorCode, Kind, Memory, Mode, Request};
+use osb_message::{Answer, Body, ErrorCode, Kind, Mode, Request};
 use osb_network::{AnyPlatform, BrokerEvent, Resource, Step};
 use osb_update::{
     Allowed, Settings, Update, UpdateBegun, UpdateHolding, UpdateOutcome, UpdatePhase,
@@ -492,26 +492,20 @@ impl Parts {
 
     // ---- any event
 
-    fn crash(&mut self, alloc: Global) -> Result<Step, Memory>
-        ensures cell { OnOk result (self.new ≡ spec.updated_step self.old UpdateEvent.Crash) }
-        ensures step { IfOk result (λ s. s ≡ Step.Applied) }
-        ensures err { OnErr result (self.new ≡ self.old) }
+    // Does nothing: what is held is in the database.
+    fn crash(&mut self) -> Step
+        ensures cell { self.new ≡ spec.updated_step self.old UpdateEvent.Crash }
+        ensures step { result ≡ Step.Applied }
     {
-        self.instance.step(alloc, BrokerEvent::Crash)
+        let _ = &self.change;
+        Step::Applied
     }
 
-    pub(crate) fn step(
-        &mut self,
-        alloc: Global,
-        terms: Terms,
-        event: &UpdateEvent,
-    ) -> Result<Step, Memory>
+    pub(crate) fn step(&mut self, alloc: Global, terms: Terms, event: &UpdateEvent) -> Step
         requires mode { terms.mode ≡ spec.mode_for self.old event.now }
         requires first { terms.first_poll ≡ self.old.instance.first_poll }
-        ensures cell { OnOk result (self.new ≡ spec.updated_step self.old event.now) }
-        ensures step { IfOk result (λ s. s ≡ step_of (spec.updated_applies self.old event.now)) }
-        ensures err { OnErr result (self.new ≡ self.old) }
-        ensures no_memory { spec.updated_takes_memory event.now ≡ false → IsOk result }
+        ensures cell { self.new ≡ spec.updated_step self.old event.now }
+        ensures step { result ≡ step_of (spec.updated_applies self.old event.now) }
     {
         match event {
             UpdateEvent::Arrive {
@@ -522,27 +516,27 @@ impl Parts {
             } => {
                 let asked = asked_by(request, *parameters, *version);
                 self.arrive(alloc, terms, request, *attributes, &asked);
-                Ok(Step::Applied)
+                Step::Applied
             }
             UpdateEvent::PutOff { kind } => {
                 self.put_off(alloc, *kind);
-                Ok(Step::Applied)
+                Step::Applied
             }
-            UpdateEvent::End { outcome } => Ok(self.end(alloc, terms.mode, *outcome)),
-            UpdateEvent::Finish { ok } => Ok(self.finish(alloc, *ok)),
-            UpdateEvent::GiveUpWaiting => Ok(self.give_up_waiting(alloc)),
-            UpdateEvent::Work { resource, settings } => Ok(self.work(alloc, *resource, settings)),
-            UpdateEvent::Crash => self.crash(alloc),
+            UpdateEvent::End { outcome } => self.end(alloc, terms.mode, *outcome),
+            UpdateEvent::Finish { ok } => self.finish(alloc, *ok),
+            UpdateEvent::GiveUpWaiting => self.give_up_waiting(alloc),
+            UpdateEvent::Work { resource, settings } => self.work(alloc, *resource, settings),
+            UpdateEvent::Crash => self.crash(),
             UpdateEvent::Update { allowed, update } => {
                 self.update(*allowed, update);
-                Ok(Step::Applied)
+                Step::Applied
             }
-            UpdateEvent::UpdateEnd { mode, outcome } => Ok(self.update_end(*mode, *outcome)),
-            UpdateEvent::UpdateFinish { ok } => Ok(self.update_finish(*ok)),
-            UpdateEvent::UpdateWork { settings } => Ok(self.update_work(settings)),
+            UpdateEvent::UpdateEnd { mode, outcome } => self.update_end(*mode, *outcome),
+            UpdateEvent::UpdateFinish { ok } => self.update_finish(*ok),
+            UpdateEvent::UpdateWork { settings } => self.update_work(settings),
             UpdateEvent::Fetch => {
                 self.fetch();
-                Ok(Step::Applied)
+                Step::Applied
             }
         }
     }

@@ -15,7 +15,7 @@ pub struct Reported {
     /// has arrived, and no work of another Update has begun.
     pub settings: Option<Settings>,
     /// These settings were accepted: the last Provision or Update that was answered with 202 asked for them. And since
-    /// then no Deprovision has arrived, and no work of another Update has begun.
+    /// then no Deprovision has arrived, no work of another Update has begun, and no Provision has found nothing.
     pub accepted: Option<Settings>,
     /// What was reported as the work of the latest Update began. It counts again if that Update is rejected.
     pub before: Option<Settings>,
