@@ -5,6 +5,7 @@ use Rattle.osb_message.specs.Plans.{Catalogue}
 use Rattle.osb_message.specs.declared.messages.Request.{Request}
 use Rattle.osb_instance.specs.Begin.{is_operating}
 use Rattle.osb_instance.specs.Held.{Held}
+use Rattle.osb_network.proofs.Alone as alone
 use Rattle.osb_network.proofs.Alone.{alone_empty}
 use Rattle.osb_update.specs.Begun.{is_under_way}
 use Rattle.osb_update.specs.declared.settings.Settings.{Settings}
@@ -64,6 +65,7 @@ not_both false y f = refl
 
 pub promised : (c : UpdatedCell) → IsUpdated c → IsPromised c
 promised c h = record {
+  instance = alone.promised c.instance h.alone;
   settings = λ s e. let t = h.told s e in (is_whole c.instance h.alone t.0, t.1.1);
   whole = λ e p. (is_whole c.instance h.alone e, h.row e p);
   there = λ u. (h.there u, is_whole c.instance h.alone (h.there u));

@@ -110,8 +110,10 @@ is_busy held = is_some held.work || (is_operating held || held.waiting)
 abbrev pub IsOneAtATime : UpdatedCell → Type 0
 IsOneAtATime cell = (is_under_way cell.change.phase && is_busy cell.instance.held) ≡ false
 
--- all that is so at any moment
+-- all that is so at any moment; of the instance itself, what `osb_network` promises: the promises about *ready*, *gone* and
+-- the first Poll stand
 pub record IsPromised (cell : UpdatedCell) : Type 0 where
+  pub instance : network.IsPromised cell.instance
   pub settings : IsAsReported cell
   pub whole : IsWhole cell
   pub there : IsThere cell
