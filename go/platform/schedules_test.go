@@ -54,6 +54,29 @@ var beginnings = map[string]string{
 	"bind-answered": "order settle bind step@change",
 }
 
+// everyBeginning returns the words of all beginnings, in order.
+func everyBeginning() (words []string) {
+	for word := range beginnings {
+		words = append(words, word)
+	}
+	sort.Strings(words)
+	return words
+}
+
+// commands are those of an operator.
+var commands = []string{
+	"bind", "remove", "remove-binding", "remove-all", "retry", "retry-binding", "abandon", "abandon-binding",
+}
+
+// everyPair returns the scenarios of a worker beside another one or beside any command.
+func everyPair(from string) []string {
+	texts := []string{from + ": step + step"}
+	for _, command := range commands {
+		texts = append(texts, from+": step + "+command)
+	}
+	return texts
+}
+
 // pairs are the scenarios of which all schedules are run.
 var pairs = []string{
 	"now from ordered: step + step",
@@ -159,10 +182,19 @@ func (s scenario) schedules() schedule.Scenario {
 }
 
 // TestEverySchedule runs all schedules of a pair with one fault at most, or with as many as FAULTS says. Each kind of
-// fault happens once at most. Two minutes pass at most.
+// fault happens once at most. Two minutes pass at most. If PLANS names plans, such as "now,later hold", it also runs a
+// worker beside another one or beside any command, from each beginning.
 func TestEverySchedule(t *testing.T) {
 	schedule.WithoutCrashes(t)
-	for _, text := range pairs {
+	texts := pairs
+	if plans := os.Getenv("PLANS"); plans != "" {
+		for _, plan := range strings.Split(plans, ",") {
+			for _, beginning := range everyBeginning() {
+				texts = append(texts, everyPair(plan+" from "+beginning)...)
+			}
+		}
+	}
+	for _, text := range texts {
 		t.Run(text, func(t *testing.T) { scenarioOf(t, text, 2*time.Minute).schedules().Check(t, 1) })
 	}
 }
@@ -186,17 +218,11 @@ func anyScenario(chance *rand.Rand) string {
 		return pairs[chance.Intn(len(pairs))]
 	}
 	one := func(of ...string) string { return of[chance.Intn(len(of))] }
-	var all []string
-	for beginning := range beginnings {
-		all = append(all, beginning)
-	}
-	sort.Strings(all)
 	tasks := make([]string, 3+chance.Intn(4))
 	for n := range tasks {
-		tasks[n] = one("step", "step", "steps", "steps", "bind", "remove", "remove-binding", "remove-all", "retry", "retry-binding",
-			"abandon", "abandon-binding")
+		tasks[n] = one(append([]string{"step", "step", "steps", "steps"}, commands...)...)
 	}
-	return one(planNames...) + one(" slowly", "") + one(" hold", "", "") + one(" tries", "") + " from " + one(all...) +
+	return one(planNames...) + one(" slowly", "") + one(" hold", "", "") + one(" tries", "") + " from " + one(everyBeginning()...) +
 		": " + strings.Join(tasks, " + ")
 }
 
