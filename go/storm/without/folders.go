@@ -12,7 +12,6 @@ import (
 	"path/filepath"
 	"strings"
 	"sync"
-	"syscall"
 	"time"
 
 	"pippinterm/broker"
@@ -90,16 +89,18 @@ func (s *slowFolders) DeleteBinding(ctx context.Context, request broker.Request)
 // work pauses before and after a call, and sees whether somebody else works at the key meanwhile.
 func (s *slowFolders) work(ctx context.Context, key broker.Key, call func() error) error {
 	name := strings.ReplaceAll(key.String(), "/", "-")
-	file, err := os.Create(filepath.Join(s.state, "alone", name))
+	file, err := os.OpenFile(filepath.Join(s.state, "alone", name), os.O_RDWR|os.O_CREATE, 0o600)
 	if err != nil {
 		return err
 	}
-	defer file.Close() // which ends the lock, as the end of the process does
-	err = syscall.Flock(int(file.Fd()), syscall.LOCK_EX|syscall.LOCK_NB)
-	if errors.Is(err, syscall.EWOULDBLOCK) {
-		err = s.writeDown(key)
-	}
+	defer file.Close() // which ends the lock in any case
+	isAlone, err := enter(file)
 	if err != nil {
+		return err
+	}
+	if isAlone {
+		defer func() { _ = leave(file) }()
+	} else if err := s.writeDown(key); err != nil {
 		return err
 	}
 	if err := s.pause(ctx); err != nil {
