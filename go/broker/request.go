@@ -56,7 +56,6 @@ func (r Request) Member(name string) json.RawMessage {
 // bytes for each < of it.
 func (r *Request) text() (json.RawMessage, error) {
 	text := bytes.Buffer{}
-	text.Grow(len(r.Body) + 512) // more than most requests have
 	encoder := json.NewEncoder(&text)
 	encoder.SetEscapeHTML(false)
 	err := encoder.Encode(r)
