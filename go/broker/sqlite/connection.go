@@ -21,6 +21,7 @@ type connection struct {
 	readBinding, putBinding   *sqlitefile.Statement
 	anyBinding                *sqlitefile.Statement
 	texts                     texts.Memory // of the holdings
+	known                     knownRows
 }
 
 // The columns of an entry. The driver makes a text of the declared type of each column, for each row: what has a + before
@@ -52,6 +53,9 @@ func prepare(ctx context.Context, conn *sqlitefile.Conn) (*connection, error) {
 			return nil, err
 		}
 	}
+	if err := c.known.Prepare(ctx, conn); err != nil {
+		return nil, err
+	}
 	return c, sqlitefile.Patiently(ctx, func() error { _, err := c.snapshot(broker.Key{}); return err })
 }
 
@@ -67,6 +71,10 @@ func (c *connection) snapshot(key broker.Key) (snapshot broker.Snapshot, err err
 	}
 	if snapshot.Instance, _, err = c.instance(key.Instance); err != nil {
 		return snapshot, err
+	}
+	if known := c.known.Of(key); known != nil {
+		snapshot.Entry = *known
+		return snapshot, nil
 	}
 	row, err := one(c.readBinding, key.Instance.String(), key.Binding.String())
 	if err != nil || row == nil {
@@ -87,6 +95,9 @@ func (u unreadable) Unwrap() error { return u.error }
 
 // instance reads what is kept of an instance, and how long ago it has ended.
 func (c *connection) instance(id osb.ID) (entry broker.Entry, endedAgo time.Duration, err error) {
+	if known := c.known.Of(osb.InstanceKey(id)); known != nil {
+		return *known, 0, nil
+	}
 	row, err := one(c.readInstance, id.String())
 	if err != nil || row == nil {
 		return entry, 0, err
@@ -127,10 +138,15 @@ func (c *connection) entry(row []driver.Value, isBinding bool) (entry broker.Ent
 		entry.Since = time.UnixMilli(since).UTC()
 	}
 	entry.Life, _ = row[4].(int64)
-	if row[6] != nil {
-		err = entry.Worker.Scan(row[6])
+	if row[6] == nil {
+		return entry, nil
 	}
-	return entry, err
+	number, ok := row[6].([]byte)
+	if !ok || len(number) != len(entry.Worker) {
+		return entry, fmt.Errorf("the column worker has no BLOB of %d bytes", len(entry.Worker))
+	}
+	copy(entry.Worker[:], number)
+	return entry, nil
 }
 
 // optional is the JSON of a column that is read as a BLOB, or nil if it is NULL.
@@ -144,10 +160,12 @@ func (c *connection) put(key broker.Key, entry broker.Entry) error {
 	if !c.InTransaction() {
 		return fmt.Errorf("sqlite: %w", sqlitefile.ErrBroken)
 	}
+	c.known.Forget(key)
 	text, err := c.texts.Text(key.IsBinding, entry.Holding)
 	if err != nil {
 		return err
 	}
+	isUnfinished := entry.IsUnfinished()
 	var description, since, ended, worker driver.Value
 	if entry.Description != "" {
 		description = entry.Description
@@ -158,15 +176,15 @@ func (c *connection) put(key broker.Key, entry broker.Entry) error {
 	if entry.Holding.HasTombstone() {
 		ended = time.Now().UnixMilli()
 	}
-	if entry.Worker != (osb.ID{}) {
-		worker = entry.Worker.String()
+	if number := entry.Worker; number != (osb.ID{}) {
+		worker = number[:]
 	}
 	values := append(make([]driver.Value, 0, 12), key.Instance.String())
 	if key.IsBinding {
 		values = append(values, key.Binding.String())
 	}
 	values = append(values,
-		text, entry.IsUnfinished(), []byte(entry.Request), description, since, entry.Life, ended, worker)
+		text, isUnfinished, []byte(entry.Request), description, since, entry.Life, ended, worker)
 	if key.IsBinding {
 		_, err = c.putBinding.Run(append(values, []byte(entry.Binding), entry.Holding.IsHeld())...)
 	} else {
@@ -174,6 +192,9 @@ func (c *connection) put(key broker.Key, entry broker.Entry) error {
 	}
 	if err != nil {
 		return fmt.Errorf("sqlite: %w", err)
+	}
+	if isUnfinished && ended == nil {
+		c.known.keep(key, entry)
 	}
 	return nil
 }

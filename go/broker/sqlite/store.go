@@ -48,6 +48,8 @@ func openBy(ctx context.Context, path string, observer broker.Observer, by drive
 		Driver:    by,
 		Migrate:   makeTables,
 		Prepare:   prepare,
+		Begun:     func(c *connection) error { return c.known.Begin() },
+		Undone:    func(c *connection) { c.known.ForgetAll() },
 		Committed: observer.OnCommit,
 	})
 	if err != nil {
@@ -345,7 +347,7 @@ var columns = map[string][][2]string{
 var (
 	life   = [2]string{"life", "INTEGER NOT NULL DEFAULT 0"}
 	ended  = [2]string{"ended", "INTEGER"}
-	worker = [2]string{"worker", "TEXT"}
+	worker = [2]string{"worker", "BLOB"}
 )
 
 // Texts of holdings have no spaces: docs/instance.md. Before 0.3.0 a tombstone was written as marked.

@@ -261,10 +261,13 @@ func TestListsWithAnUnreadableID(t *testing.T) {
 	diff.Error(t, diff.Err(s.UnfinishedKeys(context.Background())), "Unfinished")
 }
 
-// alter executes a statement in the file of a store.
+// alter executes a statement in the file of a store, as another program does.
 func alter(t *testing.T, s *Store, statement string) {
 	t.Helper()
-	check(t, s.file.Write(context.Background(), func(c *connection) error { return c.exec(statement) }))
+	file := diff.Value((&sqlite3.SQLiteDriver{}).Open("file:" + s.file.Path()))(t).(*sqlite3.SQLiteConn)
+	_, err := file.Exec(statement, nil)
+	diff.NoError(t, err, "%s", statement)
+	check(t, file.Close())
 }
 
 // Of a row that can't be read nothing is known: a Change ends with the error, without its step, and the row stays.
@@ -326,14 +329,18 @@ func TestWorkersOf03(t *testing.T) {
 
 // A row whose worker has no number is changed by nobody.
 func TestChangeOfARowWithAWrongWorker(t *testing.T) {
-	s := open(t, filepath.Join(t.TempDir(), "store"), broker.Silent{})
-	check(t, s.Change(context.Background(), keyOf(1), provision(keyOf(1))))
-	alter(t, s, "UPDATE holdings SET worker = 'unreadable'")
-	err := s.Change(context.Background(), keyOf(1), func(snapshot broker.Snapshot) (*broker.Entry, error) {
-		t.Errorf("the step: got a call with %+v, want none", snapshot)
-		return nil, nil
-	})
-	diff.ErrorContains(t, err, keyOf(1).String(), "")
+	for _, number := range []string{"'0123456789abcdef'", "x'00'", "0"} {
+		t.Run(number, func(t *testing.T) {
+			s := open(t, filepath.Join(t.TempDir(), "store"), broker.Silent{})
+			check(t, s.Change(context.Background(), keyOf(1), provision(keyOf(1))))
+			alter(t, s, "UPDATE holdings SET worker = "+number)
+			err := s.Change(context.Background(), keyOf(1), func(snapshot broker.Snapshot) (*broker.Entry, error) {
+				t.Errorf("the step: got a call with %+v, want none", snapshot)
+				return nil, nil
+			})
+			diff.ErrorContains(t, err, keyOf(1).String(), "")
+		})
+	}
 }
 
 // Ready writes, so that a full disk shows.

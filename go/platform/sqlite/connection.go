@@ -111,7 +111,7 @@ func prepare(ctx context.Context, conn *sqlitefile.Conn) (*connection, error) {
 			}
 		}
 	}
-	return c, nil
+	return c, c.known.Prepare(ctx, conn)
 }
 
 // ofRows are the statements of one row.
@@ -165,7 +165,6 @@ func (c *connection) ofOthers() map[**sqlitefile.Statement]string {
 		&c.putFingerprint: "INSERT INTO osb_store VALUES (1, ?) ON CONFLICT (one) DO UPDATE " +
 			"SET fingerprint = excluded.fingerprint WHERE fingerprint IS NULL",
 		&c.replaceFingerprint: "UPDATE osb_store SET fingerprint = ? WHERE fingerprint = ?",
-		&c.known.read:         "PRAGMA data_version",
 		&c.ready:              "INSERT INTO osb_readiness VALUES (1, ?) ON CONFLICT (one) DO UPDATE SET asked = excluded.asked",
 	}
 }

@@ -1,7 +1,6 @@
 package sqlite
 
 import (
-	"database/sql/driver"
 	"time"
 	"unicode/utf8"
 
@@ -10,38 +9,25 @@ import (
 	"pippinterm/platform"
 )
 
-// KnownRows are rows as the file has them, because they were written last by the connection that writes. So a step of a
-// worker reads no row that the step before it has written. They are forgotten if another connection has written to the
-// file, and if anything was undone.
-type knownRows struct {
-	read    *sqlitefile.Statement // what changes as soon as another connection has written
-	version driver.Value          // what it was when these rows were written
-	rows    map[platform.Key]*platform.Entry
-	ahead   map[platform.Key]*platform.Entry // of any length, which this transaction has read
-}
+// longestKnown is how long the texts of any length of a row are together at most, in bytes, if it is known.
+const longestKnown = 1 << 10
 
-const (
-	mostKnown    = 10_000  // so many rows are known at most
-	longestKnown = 1 << 10 // so long its texts of any length are together at most, in bytes, if a row is known
-)
+// knownRows are the rows that a step of a worker needn't read: those that the step before it has written, and those that
+// the transaction has read ahead.
+type knownRows struct {
+	sqlitefile.KnownRows[platform.Key, platform.Entry]
+	ahead map[platform.Key]*platform.Entry // of any length
+}
 
 // begin is called in each transaction of the connection that writes, before anything is read or written.
 func (k *knownRows) begin() error {
-	row, err := k.read.One()
-	if err != nil {
-		return err
-	}
-	if k.rows == nil || len(row) != 1 || row[0] != k.version {
-		k.forgetAll()
-		k.version = row[0]
-	}
 	k.ahead = map[platform.Key]*platform.Entry{}
-	return nil
+	return k.Begin()
 }
 
 // of is the row of a key, or nil if it isn't known.
 func (k *knownRows) of(key platform.Key) *platform.Entry {
-	if entry := k.rows[key]; entry != nil {
+	if entry := k.Of(key); entry != nil {
 		return entry
 	}
 	return k.ahead[key]
@@ -49,13 +35,14 @@ func (k *knownRows) of(key platform.Key) *platform.Entry {
 
 // forget has a row read again.
 func (k *knownRows) forget(key platform.Key) {
-	delete(k.rows, key)
+	k.Forget(key)
 	delete(k.ahead, key)
 }
 
 // forgetAll has all rows read again.
 func (k *knownRows) forgetAll() {
-	k.rows, k.ahead = map[platform.Key]*platform.Entry{}, map[platform.Key]*platform.Entry{}
+	k.ForgetAll()
+	k.ahead = map[platform.Key]*platform.Entry{}
 }
 
 // keep notes a row that was written, and changes it to what is read. One that rests is forgotten: nothing is to be done
@@ -63,16 +50,9 @@ func (k *knownRows) forgetAll() {
 func (k *knownRows) keep(entry *platform.Entry) {
 	length := len(entry.Body) + len(entry.Metadata) + len(entry.Credentials) + len(entry.Dashboard)
 	k.forget(entry.Key)
-	if k.rows == nil || entry.Rests() || length > longestKnown || !asRead(entry) {
-		return
+	if !entry.Rests() && length <= longestKnown && asRead(entry) {
+		k.Keep(entry.Key, entry)
 	}
-	if len(k.rows) >= mostKnown {
-		for other := range k.rows {
-			delete(k.rows, other)
-			break
-		}
-	}
-	k.rows[entry.Key] = entry
 }
 
 // asRead changes an entry, whose order was read and whose rest was written, to what entryOf reads then. It returns false

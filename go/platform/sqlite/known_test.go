@@ -55,7 +55,7 @@ func TestKnownRowsAreThoseThatAreRead(t *testing.T) {
 			write(t, s, key, test.entry)
 			var known, read platform.Entry
 			check(t, s.write(background, func(c *connection) (err error) {
-				if it := c.known.rows[key]; it != nil {
+				if it := c.known.Of(key); it != nil {
 					known = *it
 				}
 				read, err = readBy(c.of(key).read, entryOf, key)
@@ -98,7 +98,7 @@ func TestRowsThatAreNotKnown(t *testing.T) {
 func knows(t *testing.T, s *Store, key platform.Key) (isKnown bool) {
 	t.Helper()
 	check(t, s.write(background, func(c *connection) error {
-		_, isKnown = c.known.rows[key]
+		isKnown = c.known.Of(key) != nil
 		return nil
 	}))
 	return isKnown
@@ -291,19 +291,17 @@ func TestReadingThatRollsBack(t *testing.T) {
 	diff.Equal(t, diff.Value(s.Read(background, instance))(t).Because, "", "")
 }
 
-// No more rows are known than a limit.
-func TestFewRowsAreKnown(t *testing.T) {
-	known := knownRows{rows: map[platform.Key]*platform.Entry{}}
-	full := fullEntry(t, keyOf(0))
-	for n := 0; n < mostKnown+2; n++ {
-		entry := full
-		entry.Key = keyOf(n)
-		known.ahead = map[platform.Key]*platform.Entry{entry.Key: {}}
-		known.keep(&entry)
-		diff.Equal(t, known.of(entry.Key) == &entry, true, "the row that was written last")
-		diff.Equal(t, len(known.ahead), 0, "rows as they were read before")
-	}
-	diff.Equal(t, len(known.rows), mostKnown, "rows")
+// A row that is kept stands before one that was read ahead.
+func TestKnownRowIsTheOneWrittenLast(t *testing.T) {
+	s := withBroker(t, open(t, filepath.Join(t.TempDir(), "store")))
+	check(t, s.write(background, func(c *connection) error {
+		entry := fullEntry(t, keyOf(0))
+		c.known.ahead[entry.Key] = &platform.Entry{}
+		c.known.keep(&entry)
+		diff.Equal(t, c.known.of(entry.Key) == &entry, true, "the row that was written last")
+		diff.Equal(t, len(c.known.ahead), 0, "rows as they were read before")
+		return nil
+	}))
 }
 
 // A table has few statements that set columns. Once it has all, the next set of columns is written with all others.
