@@ -174,24 +174,30 @@ func TestTransactionFails(t *testing.T) {
 }
 
 // A call whose transaction was rolled back returns ErrBroken, and not that the commit is unknown, also if it has no error
-// of its own. Nothing is written, and neither is what it would write after that, without a transaction.
+// of its own. Nothing is written, and neither is what it would write after that, without a transaction. Undone is
+// called for a transaction of Write.
 func TestRolledBack(t *testing.T) {
 	ends := func(n *notes) error { return first(note("lost")(n), n.Exec("ROLLBACK")) }
 	knows := func(n *notes) error { return first(ends(n), ErrBroken) }
 	transaction := func(n *notes) error { return n.Transaction(background, func() error { return ends(n) }) }
 	for _, test := range []struct {
-		name string
-		call func(*File[*notes]) error
+		name   string
+		undone int64
+		call   func(*File[*notes]) error
 	}{
-		{"Write", func(file *File[*notes]) error { return file.Write(background, ends) }},
-		{"Write that returns it", func(file *File[*notes]) error { return file.Write(background, knows) }},
-		{"Transaction", func(file *File[*notes]) error { return file.Read(background, transaction) }},
+		{"Write", 1, func(file *File[*notes]) error { return file.Write(background, ends) }},
+		{"Write that returns it", 1, func(file *File[*notes]) error { return file.Write(background, knows) }},
+		{"Transaction", 0, func(file *File[*notes]) error { return file.Read(background, transaction) }},
 	} {
 		t.Run(test.name, func(t *testing.T) {
-			file := open(t, filepath.Join(t.TempDir(), "file"), options())
+			var undone atomic.Int64
+			with := options()
+			with.Undone = func(*notes) { undone.Add(1) }
+			file := open(t, filepath.Join(t.TempDir(), "file"), with)
 			if err := test.call(file); !errors.Is(err, ErrBroken) || errors.Is(err, ErrUnknownCommit) {
 				t.Errorf("got %v, want %v alone", err, ErrBroken)
 			}
+			diff.Equal(t, undone.Load(), test.undone, "transactions that are undone")
 			wantNotes(t, file)
 			diff.NoError(t, file.Write(background, note("next")), "the next write")
 			wantNotes(t, file, "next")
@@ -342,8 +348,15 @@ func TestReportsAfterCommit(t *testing.T) {
 	}
 }
 
+// An ended context has ended, and whoever waits for its end isn't woken yet.
+type ended struct{ context.Context }
+
+func (ended) Err() error { return context.Canceled }
+
+func (ended) Done() <-chan struct{} { return nil }
+
 // A caller who goes before its job has begun gets its context's error at once, and the job isn't done. The job may wait
-// among others, or for room among them.
+// among others, or for room among them, or be the next one.
 func TestCancelled(t *testing.T) {
 	one := options()
 	one.Together = 1
@@ -352,6 +365,7 @@ func TestCancelled(t *testing.T) {
 	cancel()
 	diff.ErrorIs(t, file.Write(gone, note("gone")), context.Canceled, "Write")
 	diff.ErrorIs(t, file.Read(gone, func(*notes) error { return errWrong }), context.Canceled, "Read")
+	diff.ErrorIs(t, file.Write(ended{background}, note("ended")), context.Canceled, "Write of a job that is the next one")
 	release, all := holdWriter(t, file)
 	for n := 0; n < 2; n++ {
 		going, cancel := context.WithCancel(background)

@@ -1,6 +1,7 @@
 package sqlite
 
 import (
+	"context"
 	"errors"
 	"path/filepath"
 	"reflect"
@@ -10,6 +11,7 @@ import (
 	"pippinterm/internal/diff"
 	"pippinterm/internal/sqlitefile"
 	"pippinterm/internal/storefaults"
+	"pippinterm/internal/waits"
 	"pippinterm/osb"
 	"pippinterm/platform"
 	"pippinterm/platform/storetest"
@@ -116,6 +118,16 @@ func TestKnownRowsAreForgotten(t *testing.T) {
 	check(t, s.Insert(background, order(0), nil))
 	check(t, s.Insert(background, bound, nil))
 	entries := map[platform.Key]platform.Entry{keyOf(0): fullEntry(t, keyOf(0)), binding: fullEntry(t, binding)}
+	for key, entry := range entries {
+		entry.Due, entry.Lease.Until = at(1e12), at(1e12) // so that it is claimed
+		entries[key] = entry
+	}
+	change := func(c *connection) error {
+		before := entries[keyOf(0)]
+		changed := before
+		changed.Because = "lost"
+		return c.write(now(), &before, &platform.Change{Entry: changed})
+	}
 	for name, test := range map[string]struct {
 		key  platform.Key
 		call func()
@@ -123,13 +135,17 @@ func TestKnownRowsAreForgotten(t *testing.T) {
 		"another connection": {keyOf(0), func() { executeIn(t, path, "UPDATE osb_instances SET because = 'x'") }},
 		"Free":               {keyOf(0), func() { check(t, s.Free(background, "w")) }},
 		"a job that fails": {keyOf(0), func() {
-			err := s.write(background, func(c *connection) error {
-				before := entries[keyOf(0)]
-				changed := before
-				changed.Because = "lost"
-				return either(c.write(now(), &before, &platform.Change{Entry: changed}), errWrong)
-			})
+			err := s.write(background, func(c *connection) error { return either(change(c), errWrong) })
 			diff.ErrorIs(t, err, errWrong, "")
+		}},
+		"SQLite has rolled back": {keyOf(0), func() {
+			err := s.write(background, func(c *connection) error { return either(change(c), c.Exec("ROLLBACK")) })
+			diff.ErrorIs(t, err, sqlitefile.ErrBroken, "")
+		}},
+		"its step fails": {keyOf(0), func() {
+			fail := func(time.Time, platform.Snapshot) (*platform.Change, error) { return nil, errWrong }
+			claimed := diff.Value(s.Claim(background, []string{"one"}, 2, fail))(t)
+			diff.Len(t, claimed, 2, "claimed")
 		}},
 		"its bindings are removed": {binding, func() {
 			check(t, s.Change(background, keyOf(0), func(time.Time, platform.Snapshot) (*platform.Change, error) {
@@ -203,6 +219,59 @@ func TestStepsOfOneClaim(t *testing.T) {
 			diff.Check(t, seen, []platform.Key{instance, binding}, "stepped")
 		})
 	}
+}
+
+// A queued context has its channel closed once a job of the context waits among others: Write looks at the end of the
+// context before that and after it.
+type queued struct {
+	context.Context
+	calls int
+	is    chan struct{}
+}
+
+func (q *queued) Done() <-chan struct{} {
+	if q.calls++; q.calls == 2 {
+		close(q.is)
+	}
+	return nil
+}
+
+// A claim that is done again, because another job of its transaction has failed after it had written, returns each row
+// once.
+func TestClaimThatIsDoneAgain(t *testing.T) {
+	s := withBroker(t, open(t, filepath.Join(t.TempDir(), "store")))
+	instance, binding := insertBound(t, s)
+	begun, gate := make(chan struct{}), make(chan struct{})
+	holding := waits.Begin(func() error {
+		return s.write(background, func(*connection) error {
+			close(begun)
+			<-gate
+			return nil
+		})
+	})
+	<-begun
+	steps, claimed := 0, []platform.ClaimedRow(nil)
+	step := storetest.Edit(func(*platform.Entry, time.Time) { steps++ })
+	first := &queued{Context: background, is: make(chan struct{})}
+	second := &queued{Context: background, is: make(chan struct{})}
+	claiming := waits.Begin(func() (err error) {
+		claimed, err = s.Claim(first, []string{"one"}, 2, step)
+		return err
+	})
+	waits.For(t, first.is, "the claim waits")
+	failing := waits.Begin(func() error {
+		return s.write(second, func(c *connection) error {
+			_, err := c.ready.Run(int64(1))
+			return either(err, errWrong)
+		})
+	})
+	waits.For(t, second.is, "the job that fails waits")
+	close(gate)
+	diff.NoError(t, <-holding, "the job before them")
+	diff.ErrorIs(t, <-failing, errWrong, "the job that fails")
+	diff.NoError(t, <-claiming, "the claim")
+	diff.Equal(t, steps, 4, "steps of two rows, done twice")
+	diff.Check(t, claimed, []platform.ClaimedRow{{Key: instance}, {Key: binding}}, "claimed")
 }
 
 // A row that was read for a claim is read again once a step has woken it, and in the next transaction.
