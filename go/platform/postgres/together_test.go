@@ -2,9 +2,11 @@ package postgres
 
 import (
 	"context"
+	"database/sql"
 	"errors"
 	"fmt"
 	"runtime"
+	"sync"
 	"testing"
 	"time"
 
@@ -143,6 +145,60 @@ func TestChangesTogetherThatFail(t *testing.T) {
 		diff.Equal(t, it.isDone, false, "change %d is done", n)
 		diff.Equal(t, diff.Value(store.Read(background, it.key))(t).Unchanged, 0, "changes of row %d", n)
 	}
+}
+
+// A locking context has another session lock a row once a statement over that row has failed. Each try to run a
+// transaction looks at its context before it begins.
+type locking struct {
+	context.Context
+	turn     sync.Mutex
+	other    *sql.Tx
+	key      platform.Key
+	isLocked bool
+	err      error
+}
+
+func (l *locking) Done() <-chan struct{} {
+	l.turn.Lock()
+	defer l.turn.Unlock()
+	var hasFailed bool
+	if l.err == nil && !l.isLocked {
+		l.err = l.other.QueryRow("SELECT is_called FROM tries").Scan(&hasFailed)
+	}
+	if l.err == nil && hasFailed {
+		_, l.err = l.other.Exec("SELECT FROM osb_instances WHERE id = $1 FOR UPDATE", l.key.Instance.String())
+		l.isLocked = l.err == nil
+	}
+	return nil
+}
+
+// A change counts by the last try of its transaction: if the first one is undone by a deadlock, and in the next one the
+// row is locked, the change isn't done.
+func TestChangesTogetherThatAreTriedAgain(t *testing.T) {
+	background := context.Background()
+	url := pgtest.Schema(t, pgtest.URL(t), "osb_platform_together_again")
+	store, db := diff.Value(Open(background, url, 8))(t), pgtest.DB(t, url)
+	defer store.Close()
+	it, calls := newChange(togetherKey(0)), 0
+	insertOrder(t, store, it.key)
+	pgtest.Exec(t, db, "CREATE SEQUENCE tries", `CREATE FUNCTION undo() RETURNS trigger LANGUAGE plpgsql AS $$ BEGIN
+		IF nextval('tries') = 1 THEN RAISE EXCEPTION USING ERRCODE = '40P01'; END IF; RETURN NEW; END $$`,
+		"CREATE TRIGGER undo BEFORE UPDATE ON osb_instances FOR EACH ROW EXECUTE FUNCTION undo()")
+	other := diff.Value(db.Begin())(t)
+	defer func() { _ = other.Rollback() }()
+	ctx := &locking{Context: background, other: other, key: it.key}
+	it.ctx = ctx
+	it.step = func(now time.Time, snapshot platform.Snapshot) (*platform.Change, error) {
+		calls++
+		return counted(now, snapshot)
+	}
+	store.changeTogether([]*oneChange{it})
+	diff.NoError(t, ctx.err, "the other session")
+	diff.Equal(t, ctx.isLocked, true, "the other session has locked the row")
+	diff.Equal(t, calls, 1, "steps: the next try passes the row over")
+	diff.NoError(t, it.err, "the change")
+	diff.Equal(t, it.isDone, false, "the change is done")
+	diff.Equal(t, diff.Value(store.Read(background, it.key))(t).Unchanged, 0, "changes of the row")
 }
 
 // A step that ends its goroutine fails, and the changes that wait for its transaction are done.
