@@ -209,14 +209,22 @@ func TestTakenByAnother(t *testing.T) {
 	}
 }
 
-// A request that was perhaps never recorded is given up. If it wasn't, another worker may have sent one of the same
-// number, and nothing is written.
+// doubt has a trial's claim fail, so that nobody knows whether it was committed. It returns the result of the request.
+func (it *trial) doubt() exchangeResult {
+	it.sent = *inDoubt(map[Key]*decision{it.row.Key: {send: &it.sent}}, 1, ErrAway)[0]
+	return it.sent.result
+}
+
+// A request that was perhaps never recorded is given up, for a reason that passes, so another try follows. If it
+// wasn't, another worker may have sent one of the same number, and nothing is written.
 func TestTakenInDoubt(t *testing.T) {
 	try := newTrial(t, rowIn(anInstance, Ordered), plain())
-	try.sent.driver = try.sent.transaction.Unsure()
-	lost := exchangeResult{kind: "provision", Incoming: Incoming{Lost: errUnsure}}
+	lost := try.doubt()
 	e := try.take(t, lost).Entry
 	diff.Equal(t, e.State, Cleaning, "the state")
+	diff.Equal(t, e.Passing, true, "whether it passes")
+	diff.Contains(t, e.Failure.Lost, errUnsure.Error(), "why it has failed")
+	diff.Equal(t, e.Failure.Kind, "provision", "what has failed")
 	diff.Equal(t, e.Lease, Lease{}, "the lease")
 	for _, number := range []osb.ID{{}, id("99")} {
 		t.Run(fmt.Sprintf("with the number %v", number), func(t *testing.T) {
@@ -559,7 +567,6 @@ var errFull = errors.New("the disk is full")
 // A claim that failed isn't taken for the next claim of the same row in the same millisecond: nothing is written of its
 // request while that of the next one is in flight.
 func TestTakenInDoubtOfTheSameMillisecond(t *testing.T) {
-	lost := exchangeResult{kind: "provision", Incoming: Incoming{Lost: errUnsure}}
 	gone := with(rowIn(anInstance, Gone), func(e *Entry) { e.HasLast, e.Due = true, at(9) })
 	for _, row := range []Entry{rowIn(anInstance, Ordered), rowIn(aBinding, Ordered), gone} {
 		terms := plain()
@@ -569,7 +576,7 @@ func TestTakenInDoubtOfTheSameMillisecond(t *testing.T) {
 			row.SentUntil = at(-1000)
 		}
 		first, second := newTrial(t, row, terms), newTrial(t, row, terms)
-		first.sent.driver = first.sent.transaction.Unsure()
+		lost := first.doubt()
 		change := first.takeAt(t, 12, Snapshot{Entry: second.row}, lost)
 		diff.Equal(t, change, nil, "%s: a change of the next claim", row.State)
 		change = first.takeAt(t, 12, Snapshot{Entry: first.row}, lost)
