@@ -1,0 +1,3 @@
+pub mod HoldingText
+pub mod RecordText
+pub mod SettingsText
