@@ -12,7 +12,7 @@ CASES = "checks/large/test_cases.py::"
 WORDS = "checks/replay/test_command_line.py::"
 
 LARGE: dict[str, str] = {
-    # The texts of an instance and of a binding.
+    # The texts of an instance, of a binding and of updates.
     f"{LIBRARY}test_the_largest_numbers_are_written": """
         osb_record_to_text osb_holding_to_text osb_binding_record_to_text osb_binding_holding_to_text
         osb_instance::Record::to_text osb_instance::Record::to_text_with_version
@@ -25,6 +25,10 @@ LARGE: dict[str, str] = {
         osb_instance::Holding::from_text osb_instance::Holding::from_text_with_version
         osb_binding::BindingRecord::from_text osb_binding::BindingHolding::from_text
         osb_json::read_value
+    """,
+    f"{CASES}test_texts_of_updates": """
+        osb_update_text::write_holding osb_update_text::read_holding
+        osb_update_text::write_record osb_update_text::read_record
     """,
     # Answers.
     f"{LIBRARY}test_a_string_of_two_megabytes_is_read": """

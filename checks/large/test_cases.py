@@ -19,6 +19,7 @@ from crate_programs import told_by
 from network.cases import in_a_line, teller
 from network.walks import Tally
 from network.walks import Walk as Life
+from update.texts import compact
 
 pytestmark = pytest.mark.slow
 
@@ -136,6 +137,23 @@ def test_many_instances_of_a_platform() -> None:
 def test_texts_that_nest_without_an_end(text: str) -> None:
     """`load` needs no deeper stack for them."""
     assert after(f"load {text}", told_by("library_cases")([f"load {text}"])) == "NotJson"
+
+
+# ---- texts of updates
+
+BLANKS = " " * 2_000_000
+LAST = 2**64 - 1
+LARGEST = {"parameters": "f" * 64, "plan": "ffffffff-ffff-ffff-ffff-ffffffffffff", "version": "f" * 64}
+
+
+def test_texts_of_updates() -> None:
+    """`read_holding` and `read_record` of many blanks, `write_holding` and `write_record` of the largest numbers."""
+    settings = {"number": LAST, "settings": LARGEST, "to": LARGEST, "version": 1}
+    holding = compact({**settings, "phase": "mending"})
+    record = compact({**settings, "attempt": LAST, "mixed": True, "out": "update", "state": "updating"})
+    for call, text in (("update holding", holding), ("update record", record)):
+        line = f"{call} {BLANKS}{text}{BLANKS}"
+        assert after(line, told_by("library_cases")([line])) == text
 
 
 # ---- requests

@@ -219,10 +219,18 @@ LAST = 2**64 - 1
 Refused = str
 
 
+OUTS: dict[str, tuple[str, ...]] = {
+    "settled": (),
+    "updating": ("update", "fetch"),
+    "polling": ("poll",),
+    "unsure": ("fetch",),
+}
+"""The requests that can be out in each state."""
+
+
 def can_be(record: Record) -> bool:
     """Whether the request that is out can be out."""
-    outs = {"updating": ("update", "fetch"), "polling": ("poll",), "unsure": ("fetch",), "settled": ()}
-    return record.out is None or record.out in outs[record.state] and record.attempt >= 1
+    return record.out is None or record.out in OUTS[record.state] and record.attempt >= 1
 
 
 def sends(record: Record, kind: str, names: str | None = None) -> tuple[Record, Sent]:
@@ -303,7 +311,7 @@ def answer(record: Record, attempt: int, given: Answer) -> Record | Refused:
     if record.out not in ("update", "poll") or attempt != record.attempt:
         return "NotOut"
     after = after_update if record.out == "update" else after_poll
-    return after(record, given)._replace(out=None) if can_be(record) else record._replace(out=None)
+    return (after(record, given) if record.out in OUTS[record.state] else record)._replace(out=None)
 
 
 def timeout(record: Record, attempt: int) -> Record | Refused:

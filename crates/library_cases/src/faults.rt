@@ -11,6 +11,7 @@ use osb_instance::{
 use osb_language::{LineFault, ScheduleFault};
 use osb_message::{AddFault, IdFault, Memory};
 use osb_platform::{CreateFault, ExpireFault, LoadFault, RemoveFault, SaveFault, SendFault};
+use osb_update::{NothingPending, NothingUpdating, StopRefused, UpdateRefused};
 use osb_wire::{CatalogueFault, DocumentFault, NameFault, Refusal, RuleFault};
 use osb_words::WordsFault;
 use std::alloc::Global;
@@ -49,6 +50,7 @@ pub(crate) fn tell_of(rt: &impl Print, alloc: Global, of: &str) -> Result<()> {
         "osb_words" => words(rt, alloc),
         "osb_instance" => instance(rt),
         "osb_binding" => binding(rt),
+        "osb_update" => update(rt),
         "osb_wire" => wire(rt),
         "osb_binding_wire" => binding_wire(rt),
         _ => anyhow::bail!("no such faults: {of}"),
@@ -106,6 +108,15 @@ fn instance(rt: &impl Print) -> Result<()> {
 fn binding(rt: &impl Print) -> Result<()> {
     tell_each(rt, &[NotReady])?;
     tell!(rt, BindingRemoveFault: Busy NotRemovable Bound);
+    Ok(())
+}
+
+// Why nothing of an update ends, why no Update is sent, and why none is stopped.
+fn update(rt: &impl Print) -> Result<()> {
+    tell_each(rt, &[NothingPending])?;
+    tell_each(rt, &[NothingUpdating])?;
+    tell!(rt, UpdateRefused: Busy NotReady NotNow AttemptsUsedUp);
+    tell!(rt, StopRefused: Busy NothingDue);
     Ok(())
 }
 

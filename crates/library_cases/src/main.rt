@@ -8,6 +8,12 @@ mod broker;
 mod faults;
 mod message;
 mod platform;
+mod update_broker;
+mod update_instances;
+mod update_platform;
+mod update_texts;
+mod update_values;
+mod updates;
 mod wire;
 mod world;
 
@@ -33,6 +39,7 @@ fn tell(rt: &impl Print, alloc: Global, platform: &mut Platform, line: &str) -> 
         "provision" => wire::provision(rt, alloc, rest),
         "constants" => wire::constants(rt),
         "faults" => faults::tell_of(rt, alloc, rest),
+        "update" => updates::tell(rt, alloc, rest),
         _ => platform::tell(rt, alloc, platform, call, rest),
     }
 }
