@@ -12,6 +12,7 @@ mod platform;
 mod replays;
 mod schedules;
 mod telling;
+mod updates;
 mod world;
 
 use anyhow::{Result, bail};
@@ -19,13 +20,14 @@ use std::alloc::Global;
 use std::env;
 
 // The parts, in the order in which they are told.
-const PARTS: [&str; 6] = [
+const PARTS: [&str; 7] = [
     "load-format-1",
     "world",
     "read-schedule",
     "replay",
     "network-steps",
     "network-calls",
+    "update-texts",
 ];
 
 fn tell(rt: &impl Print, alloc: Global, part: &str) -> Result<()> {
@@ -37,6 +39,7 @@ fn tell(rt: &impl Print, alloc: Global, part: &str) -> Result<()> {
         "replay" => replays::tell_all(rt, alloc),
         "network-steps" => network::steps(rt, alloc),
         "network-calls" => network::calls(rt, alloc),
+        "update-texts" => updates::calls(rt, alloc),
         _ => bail!("no part has this name"),
     }
 }
