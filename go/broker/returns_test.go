@@ -4,7 +4,9 @@ import (
 	"context"
 	"errors"
 	"fmt"
+	"io"
 	"net/http"
+	"net/http/httptest"
 	"strings"
 	"sync"
 	"testing"
@@ -413,6 +415,71 @@ func TestALateRequestOfTheOldLife(t *testing.T) {
 	l.expect(t, 503, "GET", instances+"i/last_operation", "")
 }
 
+// If a broker is stopped right before the transaction of a request, and its id has returned when the broker goes on, the
+// request is late too.
+func TestARequestStoppedBeforeItsTransaction(t *testing.T) {
+	one, key := instances+"i", keyOf("i")
+	for name, late := range map[string]broker.Visit{"creation": provision(now), "deletion": deprovision(now)} {
+		t.Run(name, func(t *testing.T) {
+			l := newLives(t, newShelf(calm), anHour)
+			l.expect(t, 201, "PUT", one, bodyOf(now, ""))
+			stopped := l.service(t, newShelf(calm), losableLocks{newMemoryLocks()}, anHour)
+			l.clock.once = func(broker.Key) {
+				l.expect(t, 200, "DELETE", one+names(now), "")
+				l.clock.set(time.Hour)
+				l.expect(t, 201, "PUT", one, bodyOf(now, ""))
+				stopped.SetStay(-1)
+			}
+			late.Arrived, late.Names.Instance = time.Now(), "i"
+			given, err := stopped.Handle(context.Background(), late)
+			diff.ErrorIs(t, err, broker.ErrAway, "got %+v", given)
+			if entry := l.entry(t, key); !entry.Holding.IsHeld() || entry.Life != 1 {
+				t.Errorf("got %+v, want an instance that is held in life 1", entry)
+			}
+		})
+	}
+}
+
+// An arrivalJournal keeps when the latest request has arrived.
+type arrivalJournal struct {
+	scribe
+	arrived time.Time
+}
+
+func (a *arrivalJournal) OnArrival(ctx context.Context, _ *http.Request, _ string, visit broker.Visit) context.Context {
+	a.arrived = visit.Arrived
+	return ctx
+}
+
+// A timedBody notes when it is read first.
+type timedBody struct {
+	io.Reader
+	read time.Time
+}
+
+func (b *timedBody) Read(into []byte) (int, error) {
+	if b.read.IsZero() {
+		b.read = time.Now()
+	}
+	return b.Reader.Read(into)
+}
+
+// A request has arrived before its body, which may take long.
+func TestArrivalBeforeTheBody(t *testing.T) {
+	l, journal := newLives(t, newShelf(calm), anHour), &arrivalJournal{}
+	handler := handlerFor(t, l.Service)
+	handler.Journal = journal
+	body := &timedBody{Reader: strings.NewReader(bodyOf(now, ""))}
+	request := httptest.NewRequest("PUT", instances+"i", body)
+	request.SetBasicAuth("u", "p")
+	request.Header.Set(osb.VersionHeader, osb.VersionSent)
+	given := httptest.NewRecorder()
+	handler.ServeHTTP(given, request)
+	if given.Code != http.StatusCreated || journal.arrived.IsZero() || journal.arrived.After(body.read) {
+		t.Errorf("got %d to a request that has arrived at %v, want 201, and before %v", given.Code, journal.arrived, body.read)
+	}
+}
+
 // A broker that gives up waiting for the first Poll does so only in the life that has waited for long.
 func TestALateEndOfWaiting(t *testing.T) {
 	ctx, one, key := context.Background(), instances+"i", keyOf("i")
@@ -431,7 +498,31 @@ func TestALateEndOfWaiting(t *testing.T) {
 	}
 }
 
-// An Unbind of the broker's own, of a binding whose creation has failed, isn't begun late either.
+// A pausedStore has something happen after a read. In each transaction, a request is late that has arrived before the
+// latest read, and no other one.
+type pausedStore struct {
+	broker.Store
+	meanwhile func()
+	setStay   func(time.Duration)
+	began     time.Time
+}
+
+func (p *pausedStore) Read(ctx context.Context, key broker.Key) (broker.Snapshot, error) {
+	p.began = time.Now()
+	snapshot, err := p.Store.Read(ctx, key)
+	p.meanwhile()
+	return snapshot, err
+}
+
+func (p *pausedStore) Change(ctx context.Context, key broker.Key, step broker.Step) error {
+	return p.Store.Change(ctx, key, func(snapshot broker.Snapshot) (*broker.Entry, error) {
+		p.setStay(time.Since(p.began))
+		return step(snapshot)
+	})
+}
+
+// An Unbind of the broker's own, of a binding whose creation has failed, isn't begun late either. Its time begins before
+// the binding is read.
 func TestALateUnbindOfAFailedBinding(t *testing.T) {
 	ctx, one, mood := context.Background(), instances+"i", 9
 	bound := one + "/service_bindings/b"
@@ -442,13 +533,29 @@ func TestALateUnbindOfAFailedBinding(t *testing.T) {
 	mood = 0
 	l.expect(t, 202, "PUT", bound+query, bodyOf(later, ""))
 	check(t, l.TakeUp(ctx, key))
-	l.SetStay(-1)
-	if begun, err := l.UnbindFailed(ctx, key.Instance); !errors.Is(err, broker.ErrAway) || len(begun) > 0 {
-		t.Errorf("got %v begun, %v, want none and %v", begun, err, broker.ErrAway)
+	isPutOff := func(t *testing.T, service *broker.Service) {
+		t.Helper()
+		if begun, err := service.UnbindFailed(ctx, key.Instance); !errors.Is(err, broker.ErrAway) || len(begun) > 0 {
+			t.Errorf("got %v begun, %v, want none and %v", begun, err, broker.ErrAway)
+		}
+		if row, _ := l.holding(t, key).Row(); row.Phase != osb.PhaseFailed {
+			t.Errorf("got %+v held, want a failed row", l.entry(t, key))
+		}
 	}
-	if row, _ := l.holding(t, key).Row(); row.Phase != osb.PhaseFailed {
-		t.Errorf("got %+v held, want a failed row", l.entry(t, key))
-	}
+	t.Run("paused after the read", func(t *testing.T) {
+		paused := &pausedStore{Store: l.clock, meanwhile: func() {
+			l.expect(t, 202, "PUT", instances+"j"+query, bodyOf(later, "")) // others go on
+			l.expect(t, 200, "GET", instances+"j/last_operation", "")
+		}}
+		service := broker.NewService(
+			catalogueFor(t, catalogue), paused, newShelf(calm), newMemoryLocks(), anHour, l.seen)
+		paused.setStay = service.SetStay
+		isPutOff(t, service)
+	})
+	t.Run("late", func(t *testing.T) {
+		l.SetStay(-1)
+		isPutOff(t, l.Service)
+	})
 }
 
 // The catalogue of a broker whose ids return doesn't say that none ever does.
