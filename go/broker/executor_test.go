@@ -102,6 +102,29 @@ func TestDoubtfulTakeUp(t *testing.T) {
 	}
 	diff.Equal(t, b.isPending(t, key), false, "the work is pending")
 	diff.Equal(t, made, 1, "how many were created")
+	diff.Check(t, b.observed.finished, []operationEnd{{key, true}}, "the ends that are reported")
+}
+
+// A repeatingStore calls each step twice, as a store does whose first transaction was undone.
+type repeatingStore struct{ broker.Store }
+
+func (r repeatingStore) Change(ctx context.Context, key broker.Key, step broker.Step) error {
+	return r.Store.Change(ctx, key, func(snapshot broker.Snapshot) (*broker.Entry, error) {
+		_, _ = step(snapshot)
+		return step(snapshot)
+	})
+}
+
+// What a transaction brings about is reported once, also if its step is called twice.
+func TestReportsOfStepsThatAreCalledTwice(t *testing.T) {
+	l, one := newLives(t, newShelf(calm), anHour), instances+"i"
+	l.clock.Store = repeatingStore{l.clock.Store}
+	l.ends(t)
+	l.clock.set(time.Hour)
+	l.expect(t, 202, "PUT", one+query, bodyOf(later, ""))
+	diff.Equal(t, len(l.seen.returns), 1, "the returns")
+	check(t, l.TakeUp(context.Background(), keyOf("i")))
+	diff.Check(t, l.observed.finished, []operationEnd{{keyOf("i"), true}}, "the ends that are reported")
 }
 
 // A warningStore writes each change, and doesn't know whether it is on disk. A transaction that writes nothing has no

@@ -21,6 +21,9 @@ func (h *Handler) SetPatience(patience time.Duration) { h.patience = patience }
 // SetStay sets how long a request is kept, if ids return.
 func (s *Service) SetStay(stay time.Duration) { s.stay = stay }
 
+// SetWait sets how long a request waits for the lock of its key.
+func (s *Service) SetWait(wait time.Duration) { s.wait = wait }
+
 // TakeUp goes on with a key as a Sweeper does.
 func (s *Service) TakeUp(ctx context.Context, key Key) error {
 	_, err := s.takeUp(ctx, key)

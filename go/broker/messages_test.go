@@ -9,6 +9,7 @@ import (
 	"testing"
 
 	"pippinterm/broker"
+	"pippinterm/internal/diff"
 )
 
 // descriptionIn returns the description and the code of an error.
@@ -152,7 +153,8 @@ func TestSentencesOfTheBackend(t *testing.T) {
 	}
 }
 
-// The creation of what has failed says why the creation has failed, and not why a deletion has failed since.
+// The creation of what has failed says why the creation has failed, also if a part of it was deleted, and not why a
+// deletion has failed since. A Poll doesn't say why an earlier operation has failed.
 func TestSentencesOfWhatHasFailed(t *testing.T) {
 	l, one := newLoneBroker(t), instances+"i"
 	says := func(wanted string) {
@@ -166,7 +168,7 @@ func TestSentencesOfWhatHasFailed(t *testing.T) {
 		t.Helper()
 		check(t, l.TakeUp(context.Background(), keyOf("i")))
 	}
-	*l.backend = scriptedBackend{failure: broker.Public(errScripted, "no space")}
+	*l.backend = scriptedBackend{made: part, failure: broker.Public(errScripted, "no space"), deletes: true}
 	l.expect(t, 202, "PUT", one+query, bodyOf(later, ""))
 	takeUp()
 	says("no space")
@@ -179,4 +181,10 @@ func TestSentencesOfWhatHasFailed(t *testing.T) {
 	l.expect(t, 202, "DELETE", one+names(later)+"&accepts_incomplete=true", "")
 	takeUp()
 	says("The backend failed. The broker's log has the reason.")
+	l.backend.failure = errScripted
+	l.expect(t, 202, "DELETE", one+names(later)+"&accepts_incomplete=true", "")
+	takeUp()
+	poll := string(l.ask("GET", one+"/last_operation", "").body)
+	diff.Contains(t, poll, `"failed"`, "the Poll of a deletion that says nothing")
+	diff.Lacks(t, poll, "in use", "the Poll of a deletion that says nothing")
 }

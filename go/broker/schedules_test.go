@@ -296,14 +296,16 @@ func anyScenario(chance *rand.Rand) string {
 }
 
 // TestSchedule runs the schedule that SCHEDULE has, and logs all of its steps. Without the variable it runs a few: a
-// process that dies at its work, a tombstone of which nobody knows, a power cut once the work was taken over, and a worker
-// that doesn't know whether it has written the end, while another one has its lock and has begun a deletion.
+// process that dies at its work, a tombstone of which nobody knows, a power cut once the work was taken over, a worker
+// that doesn't know whether it has written the end, while another one has its lock and has begun a deletion, and a
+// deletion that ends the work of a creation before its own.
 func TestSchedule(t *testing.T) {
 	texts := []string{
 		"sync from nothing: provision + provision | 1 1 1 1-dies",
 		"async first-poll from waiting: poll + deprovision | 2 2 2-is-unsure",
 		"sync power-cuts from unsynced: provision + take-up | 2 2 2 2 2 2 2 2 2 power-cut",
 		"sync from nothing: provision + deprovision | 1 1 1 1 1 1 1 1 1 1-is-unsure 2 written-1 2 2 1-loses-its-lock 2 2",
+		"sync from part: deprovision + take-up | 1 1-loses-its-lock 2 2 2 2 2 2 2 2 2 2",
 	}
 	schedule.WithoutCrashes(t)
 	catalogue := catalogueFor(t, catalogue)

@@ -27,6 +27,7 @@ type Service struct {
 	observer  Observer
 	options   ServiceOptions
 	stay      time.Duration // how long a request is kept, if ids return
+	wait      time.Duration // how long a request waits for the lock of its key
 	// poller is the driver of all Polls that need no transaction. It hasn't the lock, so it takes nothing over, and its
 	// number is in no row.
 	poller  osb.Driver
@@ -59,6 +60,7 @@ func NewService(
 ) *Service {
 	s := &Service{
 		catalogue: catalogue, store: store, locks: locks, observer: observer, options: options, stay: longestStay,
+		wait:    longestWait,
 		gate:    newGate(locks, options.LocksAtOnce),
 		worker:  worker{backend: backend, observer: observer},
 		numbers: newNumbers(),
@@ -158,7 +160,7 @@ const longestWait = 10 * time.Second
 
 // lock waits for the lock of a key, and not for too long. If the locks fail, the observer gets the failure.
 func (s *Service) lock(ctx context.Context, key Key) (Lock, error) {
-	within, cancel := context.WithTimeout(ctx, longestWait)
+	within, cancel := context.WithTimeout(ctx, s.wait)
 	defer cancel()
 	lock, err := s.locks.Lock(within, key)
 	switch {

@@ -451,6 +451,17 @@ func TestTakeUpReportsALockThatStaysTaken(t *testing.T) {
 	diff.NoError(t, b.TakeUp(ctx, key), "nothing is unfinished")
 }
 
+// A key that waits for its first Poll for long isn't reported: nobody else has its lock.
+func TestTakeUpOfALongWaitForAPoll(t *testing.T) {
+	ctx, key := context.Background(), keyOf("i")
+	l := newLives(t, newShelf(calm), firstPoll)
+	l.expect(t, 202, "PUT", instances+"i"+query, bodyOf(later, ""))
+	l.since(t, key, time.Hour)
+	diff.NoError(t, l.TakeUp(ctx, key), "the take-up")
+	row, _ := l.holding(t, key).Row()
+	diff.Equal(t, row.Phase, osb.PhaseWaiting, "the phase")
+}
+
 // Pending work that a dead worker has left is reported once it has ended, and once.
 func TestTakeUpReportsTheEndOfPendingWork(t *testing.T) {
 	backend := &blind{shelf: newShelf(calm)}
@@ -593,6 +604,27 @@ func TestARequestWaitsTenSecondsForALock(t *testing.T) {
 		t.Errorf("got %v there, want nothing", there)
 	}
 	diff.Check(t, b.entry(t, create.Key), broker.Entry{}, "what is held")
+}
+
+// lateLocks are taken at first. A wait gets the lock at the moment at which its time is over.
+type lateLocks struct{ *memoryLocks }
+
+func (lateLocks) TryLock(context.Context, broker.Key) (broker.Lock, error) { return nil, nil }
+
+func (l lateLocks) Lock(ctx context.Context, key broker.Key) (broker.Lock, error) {
+	<-ctx.Done()
+	return l.memoryLocks.Lock(context.Background(), key)
+}
+
+// A lock that a request gets as its wait ends is given back once the work is done.
+func TestALockThatComesAsTheWaitEnds(t *testing.T) {
+	locks := newMemoryLocks()
+	b, create := newBench(t, newShelf(calm), lateLocks{locks}), provision(now)
+	b.SetWait(0)
+	given, err := b.Handle(context.Background(), create)
+	if err != nil || given.Status != 201 || len(locks.taken) > 0 {
+		t.Errorf("got %+v, the error %v and %d locks that stay taken, want 201 and none", given, err, len(locks.taken))
+	}
 }
 
 // Locks that are left are taken at first, and free for whoever waits.

@@ -18,7 +18,7 @@ import (
 //     the end of an operation, or a creation that has waited too long. The end is true of what exists.
 //   - Each answer is one that an event has given to this request, and the commit of that event is known.
 //   - The backend is called only by the runner that has the lock, and only of a key whose work is pending or whose
-//     operation runs. It creates only if that creates.
+//     operation runs. It creates only if that creates. It gets the request of the pending work.
 //   - Whenever nothing goes on, the row says what exists. The row of a binding has the credentials that work, and its
 //     instance is ready.
 //   - Without a fault each driver ends without an error.
@@ -167,6 +167,15 @@ func (s *simulation) judgeCall(key broker.Key, name string) {
 	isDeletion := work.Kind == osb.KindDeprovision || !isPending && row.Phase == osb.PhaseDeleting
 	if !isCreation && (!isDeletion || name == "create") {
 		s.Fail("%s is called, and the row has %q", name, heldWords(held))
+	}
+}
+
+// judgeRequest is called when the backend creates or deletes by a request. If work is pending, it is the request of that
+// work, and not that of work which has ended. The request of a deletion says that it is one.
+func (r *runner) judgeRequest(of broker.Request) {
+	work, isPending := r.rows[of.Key].Holding.Work()
+	if isPending && (work.Kind == osb.KindDeprovision) != (of.Deletion != nil) {
+		r.Fail("%d does pending work by the request of other work", r.Number)
 	}
 }
 

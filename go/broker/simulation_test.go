@@ -398,8 +398,9 @@ var (
 )
 
 // change is a creation or a deletion, by what exists in the end. Each may end in the middle.
-func (simulatedBackend) change(ctx context.Context, key broker.Key, name string, end broker.There) error {
-	r := runnerIn(ctx)
+func (simulatedBackend) change(ctx context.Context, of broker.Request, name string, end broker.There) error {
+	r, key := runnerIn(ctx), of.Key
+	r.judgeRequest(of)
 	faults := []schedule.Fault{lies, rejects}
 	if end == broker.None {
 		faults = faults[:1]
@@ -426,11 +427,11 @@ func (simulatedBackend) change(ctx context.Context, key broker.Key, name string,
 }
 
 func (b simulatedBackend) Create(ctx context.Context, of broker.Request) error {
-	return b.change(ctx, of.Key, "create", broker.Whole)
+	return b.change(ctx, of, "create", broker.Whole)
 }
 
 func (b simulatedBackend) Delete(ctx context.Context, of broker.Request) error {
-	return b.change(ctx, of.Key, "delete", broker.None)
+	return b.change(ctx, of, "delete", broker.None)
 }
 
 func (b simulatedBackend) LookBinding(ctx context.Context, of broker.Request) (broker.There, error) {

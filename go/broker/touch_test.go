@@ -3,6 +3,7 @@ package broker_test
 import (
 	"context"
 	"testing"
+	"time"
 
 	"pippinterm/broker"
 	"pippinterm/internal/diff"
@@ -16,9 +17,11 @@ type toucher struct {
 	touched []broker.Key
 }
 
-func newToucher(t *testing.T, backend broker.Backend) *toucher {
+func newToucher(t *testing.T, backend broker.Backend, options broker.ServiceOptions) *toucher {
 	t.Helper()
 	it := &toucher{bench: newBench(t, backend, newMemoryLocks())}
+	it.Service = broker.NewService(
+		catalogueFor(t, catalogue), it.store, backend, newMemoryLocks(), options, it.observed)
 	users, err := broker.NewUsers(map[string][]string{"u": {"p"}})
 	check(t, err)
 	it.handler, err = broker.NewHandler(context.Background(), it.Service, broker.HandlerOptions{
@@ -59,9 +62,12 @@ func (u *toucher) takeUp(t *testing.T, key broker.Key) {
 
 const query = "?accepts_incomplete=true"
 
+// firstPoll has a creation wait for its first Poll, for a day at most.
+var firstPoll = broker.ServiceOptions{FirstPoll: true, WaitForPoll: 24 * time.Hour}
+
 // The operations of an instance: its key is touched while one runs, and not before nor afterwards.
 func TestTouchOfOperations(t *testing.T) {
-	u, one, key := newToucher(t, newShelf(calm)), instances+"i", keyOf("i")
+	u, one, key := newToucher(t, newShelf(calm), broker.ServiceOptions{}), instances+"i", keyOf("i")
 	order, poll, deletion := bodyOf(later, ""), one+"/last_operation", one+names(later)
 	u.check(t, key, []touchCase{
 		{"GET", "/v2/catalog", "", 200, false},
@@ -90,10 +96,19 @@ func TestTouchOfOperations(t *testing.T) {
 	})
 }
 
+// An instance that waits for its first Poll is touched until it is deleted.
+func TestTouchOfAWait(t *testing.T) {
+	u, one, key := newToucher(t, newShelf(calm), firstPoll), instances+"i", keyOf("i")
+	u.check(t, key, []touchCase{
+		{"PUT", one + query, bodyOf(later, ""), 202, true},
+		{"DELETE", one + names(later) + "&accepts_incomplete=true", "", 200, false},
+	})
+}
+
 // Work that is pending because its worker failed: whoever asks has it gone on with.
 func TestTouchOfPendingWork(t *testing.T) {
 	backend := &blind{shelf: newShelf(calm)}
-	u, one, key := newToucher(t, backend), instances+"i", keyOf("i")
+	u, one, key := newToucher(t, backend, broker.ServiceOptions{}), instances+"i", keyOf("i")
 	order, poll, deletion := bodyOf(now, ""), one+"/last_operation", one+names(now)
 	backend.because("the backend is away")
 	u.check(t, key, []touchCase{
@@ -114,7 +129,7 @@ func TestTouchOfPendingWork(t *testing.T) {
 
 // The same of a binding, under its own key.
 func TestTouchOfBindings(t *testing.T) {
-	u, one := newToucher(t, newShelf(calm)), instances+"i"
+	u, one := newToucher(t, newShelf(calm), broker.ServiceOptions{}), instances+"i"
 	key := osb.BindingKey(keyOf("i").Instance, keyOf("b").Instance)
 	bound, poll := one+"/service_bindings/b", one+"/service_bindings/b/last_operation"
 	u.check(t, key, []touchCase{
@@ -137,7 +152,7 @@ func TestTouchOfBindings(t *testing.T) {
 // The deletions that the broker begins itself, of bindings whose creation has failed, are gone on with at once.
 func TestTouchOfFailedBindings(t *testing.T) {
 	backend := &failingBackend{shelf: newShelf(calm), name: "create-binding", err: errScripted}
-	u, one := newToucher(t, backend), instances+"i"
+	u, one := newToucher(t, backend, broker.ServiceOptions{}), instances+"i"
 	key := osb.BindingKey(keyOf("i").Instance, keyOf("b").Instance)
 	u.check(t, key, []touchCase{
 		{"PUT", one, bodyOf(bindLater, ""), 201, false},

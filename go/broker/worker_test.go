@@ -21,6 +21,7 @@ type scriptedBackend struct {
 	there         broker.There
 	made, deleted broker.There // what exists after such a call
 	failure       error        // of such a call
+	deletes       bool         // whether a deletion doesn't fail, whatever the failure
 	blindness     error        // of each Look
 	blinded       error        // of each Look after such a call
 	calls         []string
@@ -41,6 +42,9 @@ func (s *scriptedBackend) Create(context.Context, broker.Request) error {
 
 func (s *scriptedBackend) Delete(context.Context, broker.Request) error {
 	s.calls, s.there, s.blindness = append(s.calls, "delete"), s.deleted, s.blinded
+	if s.deletes {
+		return nil
+	}
 	return s.failure
 }
 
