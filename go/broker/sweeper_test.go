@@ -82,6 +82,7 @@ type blind struct {
 	*shelf
 	turn   sync.Mutex
 	reason string
+	hidden broker.Key      // no Look at it succeeds
 	looked chan broker.Key // each Look waits until somebody takes its key, if there is a channel
 }
 
@@ -89,6 +90,12 @@ func (b *blind) because(reason string) {
 	b.turn.Lock()
 	defer b.turn.Unlock()
 	b.reason = reason
+}
+
+func (b *blind) hide(key broker.Key) {
+	b.turn.Lock()
+	defer b.turn.Unlock()
+	b.hidden = key
 }
 
 func (b *blind) Look(ctx context.Context, request broker.Request) (broker.There, error) {
@@ -100,20 +107,24 @@ func (b *blind) Look(ctx context.Context, request broker.Request) (broker.There,
 	if b.reason != "" {
 		return broker.None, errors.New(b.reason)
 	}
+	if request.Key == b.hidden {
+		return broker.None, errors.New("the backend is away")
+	}
 	return b.shelf.Look(ctx, request)
 }
 
-// leave leaves the creation of an instance pending.
+// leave leaves the creation of an instance pending. Meanwhile the backend works on other keys.
 func (b *bench) leave(t *testing.T, backend *blind, name string) broker.Key {
 	t.Helper()
-	backend.because("the backend is away")
-	defer backend.because("")
+	key := keyOf(name)
+	backend.hide(key)
+	defer backend.hide(broker.Key{})
 	creation := message{method: "PUT", target: instances + name, body: []byte(bodyOf(now, ""))}
 	given := creation.serve(handlerFor(t, b.Service))
-	if key := keyOf(name); given.status != 500 || !b.isPending(t, key) {
+	if given.status != 500 || !b.isPending(t, key) {
 		t.Fatalf("the creation of %s: got %d %s, want it pending with 500", name, given.status, given.body)
 	}
-	return keyOf(name)
+	return key
 }
 
 // A key whose lock somebody else has is passed over: the only worker goes on with another, and tries it again later.
