@@ -116,7 +116,7 @@ func (d Digest) c() (to [32]C.uint8_t) {
 // IsHeld reports whether there is a row, or work is pending. It is true also of a holding that no call gives, so that
 // nothing begins then. While a binding is held, the deletion of its instance doesn't begin.
 func (h Holding) IsHeld() bool {
-	return bool(C.is_held(h.c()))
+	return h.hasRow || h.hasWork || bool(C.is_held(h.c())) // what is there needs no call
 }
 
 // IsThere reports whether the row is ready, with this service and plan, and no work is pending. BeginBinding asks this
