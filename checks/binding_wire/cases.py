@@ -7,8 +7,9 @@ from pathlib import Path
 
 from binding_wire import model
 from osb import Id, Request, binding_wire, wire
-from wire.cases import METHODS, Call, asked, form, kind_of, plans, read_answer, rejection, shown, spaceless
+from wire.cases import Call, asked, kind_of, plans, read_answer, shown
 from wire.model import Refused, answer, guid, member
+from wire.written import METHODS, form, rejection, spaceless
 
 TEXT = Path(__file__).resolve().with_name("lines.txt")
 APP = "This Service supports generation of credentials through binding an application only."

@@ -45,6 +45,10 @@ LARGE: dict[str, str] = {
         osb_write_binding osb_read_binding
         osb_binding_wire::write_binding osb_binding_wire::read_binding_answer osb_binding_wire::read_fetched
     """,
+    f"{CASES}test_long_answers_to_an_update_and_a_fetch": """
+        osb_update_wire::read_update_answer osb_update_wire::write_success osb_update_wire::write_failure
+        osb_update_wire::write_fetched osb_update_wire::read_fetched
+    """,
     # Requests that are written.
     f"{LIBRARY}test_long_texts_go_into_a_target": """
         osb_write_named_target osb_write_binding_target
@@ -61,6 +65,10 @@ LARGE: dict[str, str] = {
         osb_wire::write_request osb_binding_wire::write_binding_request
     """,
     f"{CASES}test_a_long_request_of_guids": "osb_wire::write_target osb_wire::asked_operation osb_wire::write_body",
+    f"{CASES}test_a_long_update_and_a_long_fetch": """
+        osb_update_wire::write_update osb_update_wire::write_fetch
+        osb_update_wire::read_update_request osb_update_wire::update_parts
+    """,
     # Requests that are read.
     f"{LIBRARY}test_a_long_provision_is_read": """
         osb_receive_request osb_maintenance_conflict
@@ -89,6 +97,10 @@ LARGE: dict[str, str] = {
         osb_wire::catalogue_plans osb_wire::catalogue_document osb_wire::served_catalogue osb_wire::plan_version
         osb_wire::catalogue_reading::list_at osb_wire::catalogue_reading::own_id
         osb_binding_wire::binding_modes osb_binding_wire::bindings_retrievable
+    """,
+    f"{CASES}test_updates_of_a_catalogue_of_2000_plans": """
+        osb_update_wire::plan_updates osb_update_wire::numbers_updates osb_update_wire::update_flags_are_sound
+        osb_update_wire::served_updates
     """,
     # The two sides, and schedules.
     f"{PROGRAM}test_33000_instances": """

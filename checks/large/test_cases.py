@@ -20,6 +20,7 @@ from network.cases import in_a_line, teller
 from network.walks import Tally
 from network.walks import Walk as Life
 from update.texts import compact
+from update_wire.cases import of_line, told, word
 
 pytestmark = pytest.mark.slow
 
@@ -198,3 +199,53 @@ def test_a_deep_request(depth: int, what: str) -> None:
     line = f"bind {depth} 1"
     wanted = f"{what} {body_of(parameters_of(depth, 1), 's', 'p', {})}"
     assert after(line, told_by("library_cases")([line])) == wanted
+
+
+# ---- updates and Fetches on the wire
+
+LETTERS = "a" * LENGTH
+OBJECT = f'{{"a":"{LETTERS}"}}'
+
+
+def compare_updates(*lines: str) -> None:
+    """The program writes behind each line of a call what the model says."""
+    for line in lines:
+        assert told_by("library_cases")([f"update-wire {line}"]) == f"{told(of_line(f'update-wire {line}'))}\n"
+
+
+def test_a_long_update_and_a_long_fetch() -> None:
+    """`write_update` and `write_fetch`, `read_update_request` and `update_parts`."""
+    texts = f'"parameters":{OBJECT},"context":{OBJECT},"previous_values":{OBJECT}'
+    body = word(f'{{"service_id":"s","plan_id":"p",{texts},"maintenance_info":{{"version":"{LETTERS}"}}}}')
+    query = word(f"service_id={'s' * 255}&plan_id={'p' * 255}{'&x=1' * 100_000}")
+    compare_updates(
+        f"update {word(LETTERS)} accepts 5 i s p {word(OBJECT)} {word(LETTERS)} {word(OBJECT)}",
+        f"fetch {word(LETTERS)} {'i' * 255} {'s' * 255} {'p' * 255}",
+        f"request PATCH {5 * LENGTH} '' /v2/service_instances/i {body}",
+        f"request GET 0 '' /v2/service_instances/i?{query} ''",
+        f"parts 5 {body}",
+    )
+
+
+def test_long_answers_to_an_update_and_a_fetch() -> None:
+    """`read_update_answer`, `write_success` and `write_failure`, `write_fetched` and `read_fetched`."""
+    texts = f'"parameters":{OBJECT},"metadata":{OBJECT},"dashboard_url":"{LETTERS}"'
+    body = word(f'{{"service_id":"{LETTERS}","plan_id":"p",{texts},"x-osb-update":5}}')
+    error = word(f'{{"error":"{LETTERS}"}}')
+    compare_updates(
+        f"answer 422 {error}",
+        f"success 202 {'o' * 10_000} {word(LETTERS)} {word(OBJECT)}",
+        f"failure 500 error {word(LETTERS)} true true",
+        f"write-fetched 5 s p {word(OBJECT)} {word(LETTERS)} {word(LETTERS)} {word(OBJECT)}",
+        f"fetched 200 {body}",
+    )
+
+
+def test_updates_of_a_catalogue_of_2000_plans() -> None:
+    """`plan_updates`, `numbers_updates`, `update_flags_are_sound` and `served_updates`."""
+    plans = [
+        {"id": f"p{number}", "maintenance_info": {"version": "v" * 1_000}, "maximum_polling_duration": number}
+        for number in range(2_000)
+    ]
+    document = word(json.dumps({"services": [{"id": "s", "plans": plans}], "x-osb-updates": True}))
+    compare_updates(f"plan s p1999 {document}", *(f"{call} {document}" for call in ("numbers", "sound", "served")))

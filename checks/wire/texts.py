@@ -264,7 +264,7 @@ def requests_at(
     query = draw(st.sampled_from(["?"] * 15 + [""]))
     place = path.format(*(quoted(draw(IDS)) for _ in range(path.count("{}"))))
     target = f"{draw(st.sampled_from(FRONTS))}{place}{end}{query}{draw(queries()) if query else ''}".encode()
-    body = draw(puts) if method == "PUT" else b""
+    body = draw(puts) if method in ("PUT", "PATCH") else b""
     return Asked(method, target, body, draw(st.sampled_from([10_000] * 15 + [200])))
 
 

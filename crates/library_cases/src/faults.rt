@@ -12,6 +12,7 @@ use osb_language::{LineFault, ScheduleFault};
 use osb_message::{AddFault, IdFault, Memory};
 use osb_platform::{CreateFault, ExpireFault, LoadFault, RemoveFault, SaveFault, SendFault};
 use osb_update::{NothingPending, NothingUpdating, StopRefused, UpdateRefused};
+use osb_update_wire::{TextFault as UpdateTextFault, UpdateRefusal};
 use osb_wire::{CatalogueFault, DocumentFault, NameFault, Refusal, RuleFault};
 use osb_words::WordsFault;
 use std::alloc::Global;
@@ -53,6 +54,7 @@ pub(crate) fn tell_of(rt: &impl Print, alloc: Global, of: &str) -> Result<()> {
         "osb_update" => update(rt),
         "osb_wire" => wire(rt),
         "osb_binding_wire" => binding_wire(rt),
+        "osb_update_wire" => update_wire(rt),
         _ => anyhow::bail!("no such faults: {of}"),
     }
 }
@@ -140,4 +142,11 @@ fn binding_wire(rt: &impl Print) -> Result<()> {
     tell!(rt, BindingNameFault: BadInstance BadBinding BadService BadPlan Memory);
     tell!(rt, BindingRefusal: BadBinding);
     tell_each(rt, &[BindingRefusal::Refused(Refusal::TooLong)])
+}
+
+// Why an Update or a Fetch isn't written, and why one is refused.
+fn update_wire(rt: &impl Print) -> Result<()> {
+    tell!(rt, UpdateTextFault: BadInstance BadService BadPlan BadParameters BadContext Memory);
+    tell!(rt, UpdateRefusal: BadNumber);
+    tell_each(rt, &[UpdateRefusal::Refused(Refusal::TooLong)])
 }

@@ -13,6 +13,10 @@ mod update_instances;
 mod update_platform;
 mod update_texts;
 mod update_values;
+mod update_wire;
+mod update_wire_bodies;
+mod update_wire_catalogues;
+mod update_wire_words;
 mod updates;
 mod wire;
 mod world;
@@ -40,6 +44,7 @@ fn tell(rt: &impl Print, alloc: Global, platform: &mut Platform, line: &str) -> 
         "constants" => wire::constants(rt),
         "faults" => faults::tell_of(rt, alloc, rest),
         "update" => updates::tell(rt, alloc, rest),
+        "update-wire" => update_wire::tell(rt, alloc, rest),
         _ => platform::tell(rt, alloc, platform, call, rest),
     }
 }

@@ -12,6 +12,7 @@ mod platform;
 mod replays;
 mod schedules;
 mod telling;
+mod update_wire;
 mod updates;
 mod world;
 
@@ -20,7 +21,7 @@ use std::alloc::Global;
 use std::env;
 
 // The parts, in the order in which they are told.
-const PARTS: [&str; 7] = [
+const PARTS: [&str; 8] = [
     "load-format-1",
     "world",
     "read-schedule",
@@ -28,6 +29,7 @@ const PARTS: [&str; 7] = [
     "network-steps",
     "network-calls",
     "update-texts",
+    "update-wire",
 ];
 
 fn tell(rt: &impl Print, alloc: Global, part: &str) -> Result<()> {
@@ -40,6 +42,7 @@ fn tell(rt: &impl Print, alloc: Global, part: &str) -> Result<()> {
         "network-steps" => network::steps(rt, alloc),
         "network-calls" => network::calls(rt, alloc),
         "update-texts" => updates::calls(rt, alloc),
+        "update-wire" => update_wire::calls(rt, alloc),
         _ => bail!("no part has this name"),
     }
 }

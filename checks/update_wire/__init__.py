@@ -1,0 +1,1 @@
+"""The updates and Fetches on the wire, against Python's json and urllib."""

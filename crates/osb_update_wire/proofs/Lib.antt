@@ -1,0 +1,10 @@
+pub mod AnswerMembers
+pub mod BodyTexts
+pub mod FetchedBack
+pub mod NoMembers
+pub mod RecordedAnswers
+pub mod SaidBack
+pub mod SaidTokens
+pub mod ServedMembers
+pub mod TargetsBack
+pub mod UpdatesBack

@@ -1,0 +1,14 @@
+pub mod Answers
+pub mod Asking
+pub mod Catalogues
+pub mod Fetched
+pub mod Flags
+pub mod Parts
+pub mod Patches
+pub mod Places
+pub mod Refusals
+pub mod Requests
+pub mod Said
+pub mod Targets
+pub mod Texts
+pub mod Versions
