@@ -316,7 +316,7 @@ func (s *Service) begin(driver osb.Driver, snapshot *Snapshot, c *course) (
 		return transaction, nil, errLate
 	}
 	snapshot, returned := s.options.enter(snapshot, visit)
-	transaction, isBound, err := s.beginHolding(driver, snapshot, visit)
+	transaction, err = s.beginHolding(driver, snapshot, visit)
 	if err != nil {
 		return transaction, nil, err
 	}
@@ -330,7 +330,7 @@ func (s *Service) begin(driver osb.Driver, snapshot *Snapshot, c *course) (
 			return transaction, nil, err
 		}
 		c.response.Effect, _, _ = transaction.Effect()
-		if isBound && visit.Asked.Kind == osb.KindDeprovision {
+		if !visit.Key.IsBinding && visit.Asked.Kind == osb.KindDeprovision && c.response.Effect == osb.EffectPutOff {
 			c.response.Description, c.response.IsBound = "The instance has bindings. Delete them first.", true
 		}
 		c.response.IsUnfinished = entry.IsUnfinished()
@@ -346,15 +346,11 @@ func (s *Service) begin(driver osb.Driver, snapshot *Snapshot, c *course) (
 	return transaction, &c.entry, err
 }
 
-// beginHolding has the driver of a request read its row. Nothing of an instance begins while one of its bindings is
-// held: then isBound is true, and the first reading is dropped. Both readings are of one snapshot, in which a binding is
-// held or isn't.
-func (s *Service) beginHolding(driver osb.Driver, snapshot *Snapshot, visit *Visit) (
-	transaction osb.Transaction, isBound bool, err error,
-) {
+// beginHolding has the driver of a request read its row. Nothing of an instance begins while one of its bindings is held.
+func (s *Service) beginHolding(driver osb.Driver, snapshot *Snapshot, visit *Visit) (began osb.Transaction, err error) {
 	request, err := visit.Asked.Request(snapshot.Holding.Row())
 	if err != nil {
-		return transaction, false, err
+		return began, err
 	}
 	row := s.reading(visit.Key, snapshot)
 	row.Request, row.Mode = request, s.modeOf(visit.Key, osb.BrokerRow{Service: request.Service, Plan: request.Plan})
@@ -362,20 +358,18 @@ func (s *Service) beginHolding(driver osb.Driver, snapshot *Snapshot, visit *Vis
 	if visit.Key.IsBinding {
 		instance, err := visit.instance(snapshot)
 		if err == nil {
-			transaction, err = driver.ReadBinding(row, instance)
+			began, err = driver.ReadBinding(row, instance)
 		}
-		return transaction, false, err
+		return began, err
 	}
-	transaction, err = driver.Read(row)
-	begins := transaction.Writes() || transaction.Committed().Stage() == osb.StageAwaitLock
-	if err != nil || !begins || visit.Asked.Kind == osb.KindPoll {
-		return transaction, false, err // as if nothing might begin
+	if visit.Asked.Kind != osb.KindPoll { // which begins nothing that a binding is in the way of
+		isBound, err := snapshot.AnyBinding()
+		if err != nil {
+			return began, err
+		}
+		row.MayBegin = !isBound
 	}
-	if isBound, err = snapshot.AnyBinding(); err == nil && isBound {
-		row.MayBegin = false
-		transaction, err = driver.Read(row)
-	}
-	return transaction, isBound, err
+	return driver.Read(row)
 }
 
 // tellEnd makes the answer of work that ends, or has a take-up's end reported.
