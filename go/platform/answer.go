@@ -29,8 +29,7 @@ type exchangeResult struct {
 }
 
 // takeAnswer is what is written once a request was answered, or wasn't. It is nil if nothing is to be written, because
-// that was done before, another worker has given the request up, an operator has abandoned the row, or the request
-// wasn't recorded.
+// that was done before, another worker or an operator has given the request up, or the request wasn't recorded.
 func (s *sending) takeAnswer(now time.Time, snapshot Snapshot) (*Change, error) {
 	e, t := snapshot.Entry, s.terms
 	transaction, err := s.driver.Read(e.reading(t))
@@ -38,8 +37,7 @@ func (s *sending) takeAnswer(now time.Time, snapshot Snapshot) (*Change, error) 
 		return nil, err
 	}
 	s.transaction, s.driver = transaction, transaction.Unsure() // until the commit has returned
-	s.isDropped = transaction.Writes() && e.State == Abandoned
-	if s.isDropped || !transaction.Writes() {
+	if !transaction.Writes() {
 		return nil, nil
 	}
 	read, result := e.State, s.result
@@ -60,14 +58,14 @@ func (s *sending) takeAnswer(now time.Time, snapshot Snapshot) (*Change, error) 
 	return change, err
 }
 
-// note notes what a transaction does with the row. If an answer is to be written again, and the row has the number of
-// its request and the record that was to be written, that was done before.
+// note notes what a transaction does with the row. If an answer is to be written again, nothing is left to write, and the
+// row still has the number of its request, that was done before.
 func (s *sending) note(now time.Time, snapshot Snapshot, change *Change) {
 	s.read = now
 	switch {
 	case change != nil:
 		s.entry = &change.Entry
-	case s.entry == nil || snapshot.Number != s.number || snapshot.Record != s.entry.Record:
+	case snapshot.Number != s.number:
 		s.entry = nil
 	}
 }

@@ -194,12 +194,18 @@ func TestTakenLost(t *testing.T) {
 	}
 }
 
+// abandon is what an operator does with a row: what is in flight is given up.
+func abandon(e *Entry) {
+	e.Record, _ = e.Record.Timeout(e.Record.Attempt())
+	e.State, e.Lease, e.Number = Abandoned, Lease{}, id("77")
+}
+
 // Nothing is written of a request that another worker has given up, or of a row that was abandoned.
 func TestTakenByAnother(t *testing.T) {
 	try := newTrial(t, rowIn(anInstance, Ordered), plain())
 	result := try.answer(201, `{}`)
 	later := decide(at(101), Snapshot{Entry: try.row}, true, plain()).Entry
-	abandoned := with(try.row, func(e *Entry) { e.State = Abandoned })
+	abandoned := with(try.row, abandon)
 	for name, row := range map[string]Entry{
 		"given up": later, "abandoned": abandoned, "unsent": rowIn(anInstance, Ordered),
 	} {
@@ -585,19 +591,18 @@ func TestTakenInDoubtOfTheSameMillisecond(t *testing.T) {
 }
 
 // An answer that failed to be written, and whose row somebody else has changed since, isn't reported as written. One
-// that was written though the commit failed is. What an abandoned row doesn't get counts as not committed.
+// that was written though the commit failed is, unless an operator has abandoned the row since.
 func TestAnswerInDoubt(t *testing.T) {
-	abandon := func(e *Entry) { e.State, e.Lease = Abandoned, Lease{} }
 	takeOver := func(e *Entry) { *e = decide(at(101), Snapshot{Entry: *e}, true, plain()).Entry }
 	for name, test := range map[string]struct {
 		isWritten bool
 		then      func(*Entry) // what somebody else does with the row
 		want      State        // or empty if nothing is reported
-		stage     osb.PlatformStage
 	}{
-		"written":     {true, abandon, Ready, osb.PlatformStageDone},
-		"not written": {false, abandon, "", osb.PlatformStageTake},
-		"taken over":  {false, takeOver, "", osb.PlatformStageDone},
+		"written":     {true, func(e *Entry) { e.Due = at(200) }, Ready},
+		"abandoned":   {true, abandon, ""},
+		"not written": {false, abandon, ""},
+		"taken over":  {false, takeOver, ""},
 	} {
 		t.Run(name, func(t *testing.T) {
 			p := newPlant(t, Options{})
@@ -622,10 +627,10 @@ func TestAnswerInDoubt(t *testing.T) {
 			p.exchange = func(context.Context, Outgoing) Incoming { return try.answer(201, `{}`).Incoming }
 			check(t, p.engine.drive(background, &try.sent, func() {}))
 			entry := try.sent.entry
-			if got := entry != nil; got != test.isWritten || got && entry.State != test.want || tries.Load() != 2 {
+			if got := entry != nil; got != (test.want != "") || got && entry.State != test.want || tries.Load() != 2 {
 				t.Errorf("got %+v after %d tries, want %s after 2", entry, tries.Load(), test.want)
 			}
-			diff.Equal(t, try.sent.driver.Stage(), test.stage, "the stage of the driver")
+			diff.Equal(t, try.sent.driver.Stage(), osb.PlatformStageDone, "the stage of the driver")
 		})
 	}
 }

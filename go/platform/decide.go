@@ -38,7 +38,6 @@ type sending struct {
 	unsure      error                   // why nobody knows whether the row was written, or nil
 	result      exchangeResult          // of what was sent
 	transaction osb.PlatformTransaction // the latest
-	isDropped   bool                    // whether what it would write isn't written, since the row is abandoned
 	entry       *Entry                  // as the latest transaction has left the row, or nil if that wasn't the request's
 	read        time.Time               // the time of the latest transaction
 }
@@ -80,8 +79,6 @@ func decide(now time.Time, snapshot Snapshot, allGone bool, t terms) decision {
 	case !e.IsSent && (e.Removal != NotRemoved || e.Key.IsBinding && !mayBeReady(snapshot.Instance)):
 		e.State, e.Since = Withdrawn, now
 		return restUntilAsked(e, Ordered)
-	case !e.IsSent && e.Key.IsBinding && snapshot.Instance.State != Ready:
-		return waitForOther(now, e, Ordered, t)
 	}
 	return decideRecord(now, snapshot, allGone, t)
 }
@@ -167,6 +164,9 @@ func decideRecord(now time.Time, snapshot Snapshot, allGone bool, t terms) decis
 		return restStuck(now, read, err, t)
 	}
 	e, sent := read, sentBy(transaction)
+	if !transaction.HasRecord() { // it is a binding whose instance isn't ready yet
+		return waitForOther(now, read, read.State, t)
+	}
 	e.follow(now, transaction, t)
 	if hasProgressed(read.State, e.State) {
 		e.Unchanged = 0

@@ -90,12 +90,7 @@ func (e *Engine) drive(ctx context.Context, s *sending, answered func()) (err er
 			return nil
 		default:
 			answered()
-			err = e.write(ctx, s, s.takeAnswer)
-			switch {
-			case err == nil && s.isDropped: // to the driver it is as if the commit had failed, and its process had ended
-				s.driver = s.transaction.Failed()
-				return nil
-			case err == nil:
+			if err = e.write(ctx, s, s.takeAnswer); err == nil {
 				s.driver = s.transaction.Committed()
 			}
 		}

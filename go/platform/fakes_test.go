@@ -39,12 +39,15 @@ type seller struct {
 	things   map[Key]string      // what exists, with its credentials
 	objects  map[Key][]byte      // the object of a binding that is ready
 	made     int
+	// note gets each event of the network, by its words, and whether it gives an answer.
+	note func(key Key, event string, isAnswered bool)
 }
 
 func newSeller() *seller {
 	return &seller{
 		mood: func() int { return 9 }, isSlow: func() bool { return false }, holdings: map[Key]osb.Holding{},
 		requests: map[Key]osb.Request{}, things: map[Key]string{}, objects: map[Key][]byte{},
+		note: func(Key, string, bool) {},
 	}
 }
 
@@ -81,6 +84,7 @@ func (s *seller) handle(out Outgoing) *reply {
 	}
 	must(err)
 	s.holdings[key] = held
+	s.note(key, "arrive", begun.Work == osb.WorkNone)
 	if begun.Work == osb.WorkNone {
 		return s.write(key, out.Request.Kind, begun.Answer)
 	}
@@ -104,20 +108,21 @@ func (s *seller) anyHeld(instance osb.ID) bool {
 func (s *seller) work(key Key) *reply {
 	request := s.requests[key]
 	delete(s.requests, key)
-	mode, outcome := s.modeOf(key, request.Plan), osb.OutcomeDone
+	mode, outcome, word := s.modeOf(key, request.Plan), osb.OutcomeDone, "done"
 	switch mood := s.mood(); {
 	case mood == 0 && request.Kind == osb.KindProvision:
-		outcome = osb.OutcomeRefused400
+		outcome, word = osb.OutcomeRefused400, "refused 400"
 	case mood == 1:
-		outcome = osb.OutcomeBefore
+		outcome, word = osb.OutcomeBefore, "before"
 	case mood == 2 && request.Kind == osb.KindProvision:
-		outcome = osb.OutcomeRefused422
+		outcome, word = osb.OutcomeRefused422, "refused 422"
 	case mode == osb.ModeSync:
 		s.change(key, request.Kind == osb.KindProvision)
 	}
 	held, answer, err := s.holdings[key].End(mode, outcome)
 	must(err)
 	s.holdings[key] = held
+	s.note(key, "end "+word, true)
 	return s.write(key, request.Kind, answer)
 }
 
@@ -133,11 +138,17 @@ func (s *seller) change(key Key, exists bool) {
 	delete(s.things, key)
 	delete(s.objects, key)
 	if !exists {
+		s.note(key, "work absent", false)
 		return
 	}
 	s.made++
 	s.things[key] = fmt.Sprintf("token %d", s.made)
 	s.objects[key] = []byte(fmt.Sprintf(`{"credentials": {"token": "%s"}}`, s.things[key]))
+	event := "work whole"
+	if key.IsBinding {
+		event += fmt.Sprint(" ", s.made)
+	}
+	s.note(key, event, false)
 }
 
 // goOn does what is pending, and ends the operations that run. One in so many fails.
@@ -160,6 +171,7 @@ func (s *seller) goOn() {
 		held, err := it.Finish(ok)
 		must(err)
 		s.holdings[key] = held
+		s.note(key, map[bool]string{true: "finish ok", false: "finish failed"}[ok], false)
 	}
 }
 
@@ -177,6 +189,7 @@ func (s *seller) fetch(key Key) *reply {
 	answer, err := s.holdings[key].Fetch()
 	must(err)
 	if answer.Status == 200 {
+		s.note(key, "fetch", true)
 		return &reply{200, s.objects[key]}
 	}
 	return &reply{int(answer.Status), []byte(`{}`)}

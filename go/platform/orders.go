@@ -521,7 +521,7 @@ func (o *Orders) Retry(ctx context.Context, key Key) (Entry, error) {
 				describe(e))
 		case e.Rests():
 			return nil, reject(Conflict, "%s is %s: nothing is to be done for it", describe(e), e.State)
-		case e.IsSent && e.Record.InFlight() != osb.KindNone && now.Before(e.Lease.Until):
+		case now.Before(e.Lease.Until): // a last deletion is in no record
 			return nil, reject(Conflict, "a request of %s is in flight: try again later", describe(e))
 		}
 		transaction, err := e.retry(now)
@@ -538,28 +538,40 @@ func (o *Orders) Retry(ctx context.Context, key Key) (Entry, error) {
 //
 // Errors: a Rejection if the record doesn't allow that; osb.ErrBadRecord, which isn't the fault of whoever asks.
 func (e *Entry) retry(now time.Time) (transaction osb.PlatformTransaction, err error) {
-	driver, err := newDriver(e.Key)
-	if err != nil {
-		return transaction, err
-	}
-	reading := e.reading(terms{})
-	reading.CleanUp = osb.CleanUpRetry
-	transaction, err = driver.Read(reading)
+	transaction, number, err := e.giveUp(osb.CleanUpRetry)
 	switch {
 	case err != nil:
 		return transaction, fmt.Errorf("%s: %w", describe(*e), err)
 	case e.State == CleaningPolling && transaction.CleansUp() != osb.CleanUpRetry:
 		return transaction, reject(Conflict, "%s can't be retried: its record is %s", describe(*e), StateOf(e.Record))
 	}
-	e.follow(now, transaction, terms{})
+	if e.follow(now, transaction, terms{}); transaction.HasRecord() {
+		e.Number = number
+	}
 	return transaction, nil
 }
 
-// Abandon ends the record as abandoned, for a reason that an operator gives. No further request is claimed. One that a
-// worker has claimed before may still be sent, within the time of its exchange. Nobody knows whether the resource
-// exists. If a binding of an instance may exist, the instance can't be abandoned. An instance
-// whose bindings are gone or abandoned can be removed, and it can be abandoned. Bindings of it that were ordered and
-// never sent are withdrawn.
+// giveUp has a driver give up what is in flight, and clean the record up in this way if it allows that. Nothing is sent.
+// Besides the driver's transaction it returns a number that no driver has, for the row.
+func (e *Entry) giveUp(cleanUp osb.CleanUp) (transaction osb.PlatformTransaction, number osb.ID, err error) {
+	driver, err := newDriver(e.Key)
+	if err != nil {
+		return transaction, number, err
+	}
+	if number, err = newID(); err != nil {
+		return transaction, number, err
+	}
+	reading := e.reading(terms{})
+	reading.CleanUp = cleanUp
+	transaction, err = driver.Read(reading)
+	return transaction, number, err
+}
+
+// Abandon ends the record as abandoned, for a reason that an operator gives. What is in flight is given up, and no
+// further request is claimed. One that a worker has claimed before may still be sent, within the time of its exchange,
+// and its answer isn't written. Nobody knows whether the resource exists. If a binding of an instance may exist, the
+// instance can't be abandoned. An instance whose bindings are gone or abandoned can be removed, and it can be abandoned.
+// Bindings of it that were ordered and never sent are withdrawn.
 //
 // Errors: a Rejection; those of the Store.
 func (o *Orders) Abandon(ctx context.Context, key Key, because string) (Entry, error) {
@@ -583,13 +595,23 @@ func (o *Orders) Abandon(ctx context.Context, key Key, because string) (Entry, e
 				return nil, reject(Conflict, "a binding of %s may exist: remove its bindings first", describe(e))
 			}
 		}
+		transaction, number, err := e.giveUp(osb.CleanUpNone)
+		if err != nil {
+			return nil, fmt.Errorf("%s: %w", describe(e), err)
+		}
+		e.Record, _ = transaction.Row()
+		e.Number = number
 		e.Because = because
 		e.Due, e.DueSince, e.Lease, e.HasLast = time.Time{}, time.Time{}, Lease{}, false
 		e.Credentials, e.Operation = nil, nil
 		if e.State != Gone { // of what is gone, only the last deletion is abandoned
 			e.State, e.Since = Abandoned, now
 		}
-		return &Change{Entry: e, WakeInstance: key.IsBinding, RemoveBindings: !key.IsBinding}, nil
+		change := &Change{Entry: e, WakeInstance: key.IsBinding, RemoveBindings: !key.IsBinding}
+		if transaction.Writes() {
+			change.Transaction = &transaction
+		}
+		return change, nil
 	})
 }
 

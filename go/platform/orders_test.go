@@ -383,10 +383,11 @@ func TestAbandon(t *testing.T) {
 					wantRejection(t, err, Conflict, describe(before))
 					return
 				}
+				record, _ := before.Record.Timeout(before.Record.Attempt()) // unless nothing is in flight
 				if err != nil || after.State != Abandoned || !after.Rests() || after.Because != "the broker was closed" ||
-					after.Record != before.Record || after.Lease != (Lease{}) || after.Credentials != nil ||
+					after.Record != record || after.Number == before.Number || after.Lease != (Lease{}) || after.Credentials != nil ||
 					!after.Since.Equal(d.dial.time()) {
-					t.Errorf("%s: got %+v, %v, want it abandoned with its record", state, after, err)
+					t.Errorf("%s: got %+v, %v, want it abandoned with nothing in flight", state, after, err)
 				}
 				if key.IsBinding && !d.store.rows[anInstance].Due.Equal(d.dial.time()) {
 					t.Errorf("%s: got an instance that isn't woken, want it due now", state)

@@ -255,7 +255,7 @@ func (t *transaction) change(
 	it := pending{of: of, number: t.journal.changes.Add(1), subject: subjectOf(after.Key, after.Names)}
 	t.lines = append(t.lines, it)
 	line := changeLine{
-		Change: it.number, subject: it.subject, Broker: after.Broker, Cause: cause, Effect: effectOf(before, made),
+		Change: it.number, subject: it.subject, Broker: after.Broker, Cause: cause, Effect: effectOf(made),
 		State: string(after.State), Service: after.Service.String(), Plan: after.Plan.String(),
 	}
 	var err error
@@ -277,7 +277,7 @@ func (t *transaction) change(
 
 // effectOf are the events of the network that the transaction of a driver is (docs/network-schedule.md), in their order,
 // or empty if no driver has made the change.
-func effectOf(before platform.Entry, made *osb.PlatformTransaction) string {
+func effectOf(made *osb.PlatformTransaction) string {
 	if made == nil {
 		return ""
 	}
@@ -292,10 +292,10 @@ func effectOf(before platform.Entry, made *osb.PlatformTransaction) string {
 		events = append(events, made.CleansUp().String())
 	}
 	switch {
-	case made.Sends() && before.IsSent:
-		events = append(events, "send")
-	case made.Sends():
+	case made.Sends() && made.Committed().Sent().Attempt == 1:
 		events = append(events, "create")
+	case made.Sends():
+		events = append(events, "send")
 	case len(events) == 0:
 		return "nothing"
 	}
