@@ -24,6 +24,9 @@ FEW_SEEDS = 16
 RACE_SEEDS = 60
 """So many runs with the race detector."""
 
+MANY_SEEDS = 40_000
+"""So many schedules by chance of each side, in some minutes."""
+
 FURTHER: dict[str, list[str]] = {"plain": [], "both": ["crashpoints", "storm"], "pages": ["pages"]}
 """Combinations of the build tags that change the packages. Each source is in one of them. The tests of crash points and
 of the storm build the packages with each tag alone. With `pages` a program writes its manual pages.
@@ -76,6 +79,12 @@ def test_format() -> None:
 
 
 BROKER = "pippinterm/broker"
+
+SIDES = "broker", "platform"
+"""The packages that have an executor, and schedules of it."""
+
+SCHEDULES = "TestEverySchedule", "TestRandomSchedules"
+"""Their tests whose schedules are stepped in the proved model."""
 
 CRASHES = "crashpoints"
 """The build tag of a program that can be killed at each crash point."""
@@ -146,14 +155,29 @@ def but_osb(packages: Packages) -> list[str]:
 
 @pytest.mark.long(120)
 def test_crashes(packages: Packages, tmp_path: Path) -> None:
-    """The broker is killed at each crash point, over a network that does its worst. After each event the platform's
-    records, the broker's holdings and the resources are what the proved model says. The other packages that have tests
-    of their crash points run these too.
+    """The broker is killed at each crash point, over a network that does its worst, and both executors go through every
+    schedule. After each event the platform's records, the broker's holdings and the resources are what the proved model
+    says. The other packages that have tests of their crash points run these too.
     """
-    walks = tmp_path / "walks"
     these = packages_with("*_test.go", CRASHES)
-    packages.test(*these, tags=CRASHES, WALKS=str(walks), SEEDS=str(SEEDS), OSB_TEST_POSTGRESQL="")
-    assert compared(walks) > 20 * SEEDS
+    packages.test(*these, tags=CRASHES, WALKS=str(tmp_path), SEEDS=str(SEEDS), OSB_TEST_POSTGRESQL="")
+    counts = compared(tmp_path)
+    assert set(counts) == {"broker.TestAnyNetwork", *(f"{side}.{test}" for side in SIDES for test in SCHEDULES)}
+    assert counts["broker.TestAnyNetwork"] > 20 * SEEDS
+    assert all(counts[f"{side}.TestEverySchedule"] > 10_000 for side in SIDES)
+    assert all(counts[f"{side}.TestRandomSchedules"] > 5 * SEEDS for side in SIDES)
+
+
+@pytest.mark.whole
+@pytest.mark.skipif(not WHOLE, reason="OSB_WHOLE isn't set")
+@pytest.mark.long(200)
+def test_random_schedules(packages: Packages, tmp_path: Path) -> None:
+    """Schedules of both executors by chance, for some minutes, with the comparison of test_crashes."""
+    random = ("-run", "^TestRandomSchedules$")
+    these = [f"pippinterm/{side}" for side in SIDES]
+    packages.test(*these, tags=CRASHES, options=random, WALKS=str(tmp_path), SEEDS=str(MANY_SEEDS))
+    counts = compared(tmp_path)
+    assert all(counts[f"{side}.TestRandomSchedules"] > 5 * MANY_SEEDS for side in SIDES)
 
 
 @pytest.mark.whole
@@ -168,17 +192,20 @@ def test_crashes_with_the_race_detector(packages: Packages) -> None:
 @pytest.mark.postgres
 def test_crashes_over_postgresql(packages: Packages, tmp_path: Path) -> None:
     """The same, of a broker whose store and locks are PostgreSQL's."""
-    walks = tmp_path / "walks"
     network = ("-run", "TestAnyNetworkOverPostgreSQL")
-    packages.test(BROKER, tags=CRASHES, options=network, WALKS=str(walks), SEEDS=str(FEW_SEEDS))
-    assert compared(walks) > 20 * FEW_SEEDS
+    packages.test(BROKER, tags=CRASHES, options=network, WALKS=str(tmp_path), SEEDS=str(FEW_SEEDS))
+    assert compared(tmp_path)["broker.TestAnyNetworkOverPostgreSQL"] > 20 * FEW_SEEDS
 
 
-def compared(walks: Path) -> int:
-    """How many events of a run there are. After each, all is as the proved model says."""
-    steps = [line.partition("  ") for line in walks.read_text(encoding="ascii").splitlines()]
+def compared(walks: Path) -> dict[str, int]:
+    """How many events each file in the folder has. After each, all is as the proved model says."""
+    return {walk.name: events_of(walk) for walk in walks.iterdir()}
+
+
+def events_of(walk: Path) -> int:
+    steps = [line.partition("  ") for line in walk.read_text(encoding="ascii").splitlines()]
     told = told_by("service_cases")([event for event, _, _ in steps]).splitlines()
     assert len(told) == len(steps)
     for told_line, (event, _, wanted) in zip(told, steps):
-        assert told_line.partition(" # ")[0] == f"{event}  {wanted}"
+        assert told_line.partition(" # ")[0] == f"{event}  {wanted}", walk.name
     return len(steps)

@@ -3,7 +3,6 @@
 package broker_test
 
 import (
-	"bufio"
 	"bytes"
 	"context"
 	"encoding/json"
@@ -22,6 +21,7 @@ import (
 	"pippinterm/broker/sqlite"
 	"pippinterm/internal/crash"
 	"pippinterm/internal/pg/pgtest"
+	"pippinterm/internal/walks"
 	"pippinterm/osb"
 )
 
@@ -70,7 +70,7 @@ type tally struct {
 	waits  int // requests that had to wait for their lock, and then went on
 }
 
-func newWorld(t *testing.T, seed int64, open opener, seen *tally, walks *bufio.Writer) *world {
+func newWorld(t *testing.T, seed int64, open opener, seen *tally, to *walks.Writer) *world {
 	w := &world{t: t, seed: seed, chance: rand.New(rand.NewSource(seed)), open: open, tally: seen}
 	w.options = broker.ServiceOptions{FirstPoll: seed%3 != 0, WaitForPoll: time.Hour}
 	if seed%6 == 1 {
@@ -86,7 +86,7 @@ func newWorld(t *testing.T, seed int64, open opener, seen *tally, walks *bufio.W
 	crash.Hook = w.passPoint
 	w.platform = newPlatform(w, sold[seed%int64(len(sold))])
 	w.isUnruly = seed%7 == 3
-	w.walk = newWalk(w, walks)
+	w.walk = newWalk(w, to)
 	w.shelf.worked = w.walk.noteWork
 	for count := 1 + seed/4%2; count > 0; count-- {
 		it := &process{world: w}
@@ -338,11 +338,11 @@ func (w *world) settle() {
 const enough = 150
 
 func TestAnyNetwork(t *testing.T) {
-	seen, walks := &tally{kills: map[string]int{}}, walksTo(t)
+	seen, to := &tally{kills: map[string]int{}}, walks.NewWriter(t)
 	settled := map[osb.State]int{}
 	count := seedsOr(enough)
 	for seed := int64(0); seed < count; seed++ {
-		w := newWorld(t, seed, inFolder(t.TempDir()), seen, walks)
+		w := newWorld(t, seed, inFolder(t.TempDir()), seen, to)
 		w.run()
 		for _, life := range w.all() {
 			settled[life.state()]++
@@ -413,6 +413,7 @@ func (w *world) removeAll() {
 	for _, process := range w.processes {
 		w.check(process.close())
 	}
+	w.walk.end()
 }
 
 // end is that everything that was removed is gone.
@@ -652,11 +653,11 @@ func TestCrashAt(t *testing.T) {
 
 // TestAnyNetworkOverPostgreSQL has the store in PostgreSQL. The locks are those of sessions, which can be lost.
 func TestAnyNetworkOverPostgreSQL(t *testing.T) {
-	url, seen, walks := pgtest.URL(t), &tally{kills: map[string]int{}}, walksTo(t)
+	url, seen, to := pgtest.URL(t), &tally{kills: map[string]int{}}, walks.NewWriter(t)
 	for seed := int64(0); seed < seedsOr(12); seed++ {
 		name := fmt.Sprintf("osb_network_%d", seed)
 		t.Run(name, func(t *testing.T) {
-			w := newWorld(t, seed, inPostgreSQL(pgtest.Schema(t, url, name)), seen, walks)
+			w := newWorld(t, seed, inPostgreSQL(pgtest.Schema(t, url, name)), seen, to)
 			w.run()
 			w.removeAll()
 		})

@@ -3,7 +3,6 @@
 package broker_test
 
 import (
-	"bufio"
 	"fmt"
 	"math/rand"
 	"os"
@@ -16,6 +15,7 @@ import (
 	"pippinterm/broker"
 	"pippinterm/internal/diff"
 	"pippinterm/internal/schedule"
+	"pippinterm/internal/walks"
 	"pippinterm/osb"
 )
 
@@ -27,7 +27,9 @@ type scenario struct {
 	firstPoll    bool
 	hasPowerCuts bool
 	tasks        []broker.Visit
-	begun        *simulation // in which it has come about, once it has
+	begun        *simulation    // in which it has come about, once it has
+	walk         *simulatedWalk // of what happened until then, or nil
+	to           *walks.Writer
 }
 
 // simulatedKeys are those of the instance and its bindings.
@@ -121,15 +123,15 @@ var taskWords = map[string]osb.Kind{
 	"deprovision": osb.KindDeprovision, "unbind": osb.KindDeprovision,
 }
 
-// scenarioOf reads the text of a scenario, such as `async first-poll from waiting: poll + take-up`. The walk, or nil,
-// gets what happens until then.
-func scenarioOf(t *testing.T, catalogue *broker.Catalogue, text string, walk *simulatedWalk) scenario {
+// scenarioOf reads the text of a scenario, such as `async first-poll from waiting: poll + take-up`. Its walks are
+// written by a Writer, or by nil.
+func scenarioOf(t *testing.T, catalogue *broker.Catalogue, text string, to *walks.Writer) scenario {
 	t.Helper()
 	head, tasks, _ := strings.Cut(text, ": ")
 	words, from, _ := strings.Cut(head, " from ")
 	plan := map[string]string{"sync": now, "async": later, "binds-async": bindLater, "makes-async": "c4"}
 	s := scenario{
-		text:      text,
+		text: text, to: to,
 		plan:      osb.Plan{Service: id("a0"), Plan: id(plan[strings.Fields(words)[0]])},
 		firstPoll: strings.Contains(words, "first-poll"), hasPowerCuts: strings.Contains(words, "power-cuts"),
 	}
@@ -142,12 +144,15 @@ func scenarioOf(t *testing.T, catalogue *broker.Catalogue, text string, walk *si
 	for _, word := range strings.Split(tasks, " + ") {
 		s.tasks = append(s.tasks, s.task(t, word))
 	}
+	if to != nil {
+		s.walk = newSimulatedWalk(s)
+	}
 	begun := newSimulation(s)
-	walk.begin(begun)
+	s.walk.follow(begun)
 	for _, word := range strings.Fields(beginnings[from]) {
 		name, until, _ := strings.Cut(word, "@")
 		task := s.task(t, name)
-		walk.send(task)
+		s.walk.send(task)
 		begun.runUntil(task, until)
 	}
 	diff.Equal(t, begun.Wrong, "", "the beginning of %q", text)
@@ -203,7 +208,7 @@ func (s *simulation) entryWords(as *runner, entry broker.Entry) string {
 	if as != nil && worker != as.Number || worker > 0 && s.runners[worker-1].IsOver {
 		worker = 0
 	}
-	return fmt.Sprint(heldWords(entry.Holding), worker, string(entry.Binding), entry.Description, entry.Since.IsZero())
+	return fmt.Sprint(walks.HoldingWords(entry.Holding), worker, string(entry.Binding), entry.Description, entry.Since.IsZero())
 }
 
 // State is what exists and is locked, and what the drivers are answered.
@@ -230,14 +235,15 @@ func (s *simulation) State() string {
 
 // ---- the tests
 
-// schedules are those of the scenario. The walk, or nil, gets what happens.
-func (s scenario) schedules(walk *simulatedWalk) schedule.Scenario {
+// schedules are those of the scenario.
+func (s scenario) schedules() schedule.Scenario {
 	return schedule.Scenario{Text: s.text, Package: "./broker", Begin: func() *schedule.Scheduler {
-		begun := newSimulation(s)
-		walk.begin(begun)
+		begun, walk := newSimulation(s), s.walk.copied()
+		walk.follow(begun)
 		for _, task := range s.tasks {
 			walk.send(task)
 		}
+		begun.Ended = func() { walk.write(s.to) }
 		return begun.Scheduler
 	}}
 }
@@ -248,7 +254,7 @@ func (s scenario) schedules(walk *simulatedWalk) schedule.Scenario {
 // "async first-poll,binds-async".
 func TestEverySchedule(t *testing.T) {
 	schedule.WithoutCrashes(t)
-	catalogue := catalogueFor(t, catalogue)
+	catalogue, to := catalogueFor(t, catalogue), walks.NewWriter(t)
 	texts := pairs
 	for _, beginning := range everyBeginning() {
 		for _, plan := range plansOr("sync,async") {
@@ -261,7 +267,7 @@ func TestEverySchedule(t *testing.T) {
 			count = 2
 		}
 		t.Run(text, func(t *testing.T) {
-			scenarioOf(t, catalogue, text, nil).schedules(nil).Check(t, count)
+			scenarioOf(t, catalogue, text, to).schedules().Check(t, count)
 		})
 	}
 }
@@ -270,12 +276,10 @@ func TestEverySchedule(t *testing.T) {
 // are written to the file that WALKS names, and compared with the proved model.
 func TestRandomSchedules(t *testing.T) {
 	schedule.WithoutCrashes(t)
-	catalogue, most, walks := catalogueFor(t, catalogue), schedule.MostOf(3, 6), walksTo(t)
+	catalogue, most, to := catalogueFor(t, catalogue), schedule.MostOf(3, 6), walks.NewWriter(t)
 	for seed := int64(0); seed < seedsOr(400) && !t.Failed(); seed++ {
 		chance := rand.New(rand.NewSource(seed))
-		walk := &simulatedWalk{}
-		scenarioOf(t, catalogue, anyScenario(chance), walk).schedules(walk).CheckAny(t, most, chance)
-		walk.write(walks)
+		scenarioOf(t, catalogue, anyScenario(chance), to).schedules().CheckAny(t, most, chance)
 	}
 }
 
@@ -310,14 +314,15 @@ func TestSchedule(t *testing.T) {
 	schedule.WithoutCrashes(t)
 	catalogue := catalogueFor(t, catalogue)
 	schedule.CheckEach(t, texts, func(t *testing.T, text string) schedule.Scenario {
-		return scenarioOf(t, catalogue, text, nil).schedules(nil)
+		return scenarioOf(t, catalogue, text, nil).schedules()
 	})
 }
 
 // ---- the walks
 
 // A simulatedWalk is a walk of a simulation, in the lines of a walk. Its platform sends what the drivers carry out, and
-// takes no answer but a 202, so that it can poll. If no platform sends it, the walk isn't written.
+// takes no answer but a 202, so that it can poll. If a request changes something that no platform sends, the walk isn't
+// written.
 type simulatedWalk struct {
 	*platform
 	of       *simulation
@@ -325,17 +330,37 @@ type simulatedWalk struct {
 	isBroken bool
 }
 
-// begin begins the walk of a simulation, or goes on with it in another one.
-func (w *simulatedWalk) begin(of *simulation) {
+func newSimulatedWalk(of scenario) *simulatedWalk {
+	w := &simulatedWalk{}
+	w.platform = newPlatform(w, of.plan)
+	w.isUnruly = true
+	return w
+}
+
+// copied is a walk that goes on by itself.
+func (w *simulatedWalk) copied() *simulatedWalk {
+	if w == nil {
+		return nil
+	}
+	platform, instance := *w.platform, *w.instance
+	it := &simulatedWalk{platform: &platform, lines: append([]string(nil), w.lines...), isBroken: w.isBroken}
+	platform.network, platform.instance, platform.bindings = it, &instance, nil
+	for _, binding := range w.bindings {
+		life := *binding
+		platform.bindings = append(platform.bindings, &life)
+	}
+	platform.sent = append([]outgoingRequest(nil), w.sent...)
+	return it
+}
+
+// follow has the walk get what happens in a simulation from now on.
+func (w *simulatedWalk) follow(of *simulation) {
 	if w == nil {
 		return
 	}
-	w.of, of.note = of, w.happened
-	if w.platform != nil {
+	if w.of, of.note = of, w.happened; len(w.lines) > 0 {
 		return
 	}
-	w.platform = newPlatform(w, of.scenario.plan)
-	w.isUnruly = true
 	var orders []string
 	for _, key := range simulatedKeys {
 		order := modeOf(of.scenario.plan, key.IsBinding).String() + " accepts -"
@@ -351,7 +376,8 @@ func (w *simulatedWalk) deliver(outgoingRequest) *numberedAnswer { return nil }
 
 func (w *simulatedWalk) note(it *life, event string) { w.happened(it.key, event, nil) }
 
-// happened is called after an event, with the runner whose request it may be.
+// happened is called after an event, with the runner whose request it may be. The model hasn't the arrival of a request
+// that no platform sends. If that changes nothing, the walk goes on without it.
 func (w *simulatedWalk) happened(key broker.Key, event string, of *runner) {
 	if event == "arrive" {
 		kind := of.task.Asked.Kind
@@ -359,7 +385,12 @@ func (w *simulatedWalk) happened(key broker.Key, event string, of *runner) {
 		if kind == osb.KindDeprovision && isNothing && w.of.rows[simulatedKeys[0]].Holding.HasTombstone() {
 			return // the broker writes nothing; the model writes a tombstone, and forgets it
 		}
-		event += fmt.Sprint(" ", w.attempt(key, kind))
+		number := w.attempt(key, kind)
+		if number == 0 {
+			w.isBroken = w.isBroken || !strings.HasSuffix(w.lines[len(w.lines)-1], ": "+w.lives())
+			return
+		}
+		event += fmt.Sprint(" ", number)
 	}
 	name := "instance"
 	for n, it := range simulatedKeys {
@@ -371,6 +402,11 @@ func (w *simulatedWalk) happened(key broker.Key, event string, of *runner) {
 }
 
 func (w *simulatedWalk) line(event, what string) {
+	w.lines = append(w.lines, walks.Line(event, what, w.lives()))
+}
+
+// lives are what is recorded, held and there.
+func (w *simulatedWalk) lives() string {
 	var lives []string
 	for _, key := range simulatedKeys {
 		thing, made := w.of.things[key], ""
@@ -379,7 +415,7 @@ func (w *simulatedWalk) line(event, what string) {
 		}
 		lives = append(lives, lifeWords(w.lifeOf(key), w.of.rows[key].Holding, thing.there, made))
 	}
-	w.lines = append(w.lines, fmt.Sprintf("%s  %s: %s", event, what, strings.Join(lives, " | ")))
+	return strings.Join(lives, " | ")
 }
 
 // attempt is the number of the latest request of a kind, or 0.
@@ -394,14 +430,14 @@ func (w *simulatedWalk) attempt(key broker.Key, kind osb.Kind) (number uint64) {
 	return number
 }
 
-// send has the platform send what a driver carries out, unless it has.
+// send has the platform send what a driver carries out, unless it has, or wouldn't.
 func (w *simulatedWalk) send(task broker.Visit) {
 	kind := task.Asked.Kind
 	if w == nil || kind == osb.KindNone {
 		return
 	}
 	it := w.lifeOf(task.Key)
-	for n := 0; w.attempt(task.Key, kind) == 0 && !w.isBroken; n++ {
+	for n := 0; n < 4 && w.attempt(task.Key, kind) == 0; n++ {
 		isPolled := it.record.State() == osb.StatePolling && it.record.InFlight() == osb.KindNone
 		row, isHeld := w.of.rows[task.Key].Holding.Row()
 		isAnswered := isHeld && (row.Phase == osb.PhaseWaiting || row.Phase == osb.PhaseMaking)
@@ -414,12 +450,11 @@ func (w *simulatedWalk) send(task broker.Visit) {
 		default:
 			w.step(it)
 		}
-		w.isBroken = n == 4
 	}
 }
 
-func (w *simulatedWalk) write(to *bufio.Writer) {
-	if to != nil && !w.isBroken {
-		fmt.Fprintln(to, strings.Join(w.lines, "\n"))
+func (w *simulatedWalk) write(to *walks.Writer) {
+	if w != nil && !w.isBroken {
+		to.Write(w.lines)
 	}
 }

@@ -8,6 +8,7 @@ import (
 	"fmt"
 
 	"pippinterm/broker"
+	"pippinterm/internal/walks"
 	"pippinterm/osb"
 )
 
@@ -72,7 +73,7 @@ func (s *simulation) judgeCommit(of *runner, key broker.Key, before, after broke
 		event := s.eventOf(of, key, before.Holding, after)
 		if event == "" {
 			s.Fail("%d writes %q over %q while what exists is %v, which is no event", of.Number,
-				heldWords(after.Holding), heldWords(before.Holding), s.things[key].there)
+				walks.HoldingWords(after.Holding), walks.HoldingWords(before.Holding), s.things[key].there)
 		}
 		s.event(key, event, of)
 	}
@@ -166,7 +167,7 @@ func (s *simulation) judgeCall(key broker.Key, name string) {
 	isCreation := work.Kind == osb.KindProvision || !isPending && row.Phase == osb.PhaseMaking
 	isDeletion := work.Kind == osb.KindDeprovision || !isPending && row.Phase == osb.PhaseDeleting
 	if !isCreation && (!isDeletion || name == "create") {
-		s.Fail("%s is called, and the row has %q", name, heldWords(held))
+		s.Fail("%s is called, and the row has %q", name, walks.HoldingWords(held))
 	}
 }
 
@@ -187,7 +188,7 @@ func (s *simulation) judgeState() {
 		if _, isPending := entry.Holding.Work(); key.IsBinding && entry.Holding.IsHeld() {
 			row, _ := entry.Holding.Row()
 			if !isPending && !instance.IsThere(row.Service, row.Plan) {
-				s.Fail("a binding is held, and its instance has %q", heldWords(instance))
+				s.Fail("a binding is held, and its instance has %q", walks.HoldingWords(instance))
 			}
 		}
 		if entry.IsUnfinished() {
@@ -199,7 +200,7 @@ func (s *simulation) judgeState() {
 			want = broker.Whole
 		}
 		if there != want {
-			s.Fail("a row has %q, and what exists is %v", heldWords(entry.Holding), there)
+			s.Fail("a row has %q, and what exists is %v", walks.HoldingWords(entry.Holding), there)
 		}
 		if key.IsBinding && row.Phase == osb.PhaseReady {
 			if object := `{"credentials":` + string(s.credentials(key)) + `}`; string(entry.Binding) != object {
@@ -232,7 +233,7 @@ func (s *simulation) Finish() {
 	s.sweep()
 	for _, key := range simulatedKeys {
 		if row, _ := s.rows[key].Holding.Row(); s.rows[key].IsUnfinished() && row.Phase != osb.PhaseWaiting {
-			s.Fail("after a sweep a row has %q", heldWords(s.rows[key].Holding))
+			s.Fail("after a sweep a row has %q", walks.HoldingWords(s.rows[key].Holding))
 		}
 	}
 	s.note = nil
@@ -244,7 +245,7 @@ func (s *simulation) Finish() {
 		s.runUntil(visitOfKey(key, osb.KindDeprovision, s.scenario.plan), "")
 		s.sweep()
 		if s.rows[key].Holding.IsHeld() || s.things[key].there != broker.None {
-			s.Fail("after its removal a row has %q, and what exists is %v", heldWords(s.rows[key].Holding),
+			s.Fail("after its removal a row has %q, and what exists is %v", walks.HoldingWords(s.rows[key].Holding),
 				s.things[key].there)
 		}
 	}

@@ -3,22 +3,19 @@
 package broker_test
 
 import (
-	"bufio"
 	"fmt"
-	"os"
 	"strings"
-	"testing"
 
 	"pippinterm/broker"
-	"pippinterm/internal/diff"
+	"pippinterm/internal/walks"
 	"pippinterm/osb"
 )
 
-// A walk writes down each event of a run, with what is recorded, held and there after it, in the lines that the proved
-// model reads (the crate service_cases). checks/go compares the two.
+// A walk has each event of a run, with what is recorded, held and there after it.
 type walk struct {
 	world *world
-	to    *bufio.Writer
+	to    *walks.Writer
+	lines []string
 	lives map[broker.Key]*course
 }
 
@@ -37,24 +34,8 @@ type visit struct {
 	at      int  // the number of that answer
 }
 
-// walksTo is where the walks of a test are written: to the end of the file that WALKS names, or nowhere.
-func walksTo(t *testing.T) *bufio.Writer {
-	t.Helper()
-	path := os.Getenv("WALKS")
-	if path == "" {
-		return nil
-	}
-	file := diff.Value(os.OpenFile(path, os.O_APPEND|os.O_CREATE|os.O_WRONLY, 0o600))(t)
-	to := bufio.NewWriter(file)
-	t.Cleanup(func() {
-		diff.NoError(t, to.Flush(), "")
-		diff.NoError(t, file.Close(), "")
-	})
-	return to
-}
-
 // newWalk begins a walk, unless the platform keeps none of its rules: then the broker sends requests of its own.
-func newWalk(w *world, to *bufio.Writer) *walk {
+func newWalk(w *world, to *walks.Writer) *walk {
 	it := &walk{world: w, to: to, lives: map[broker.Key]*course{}}
 	if w.isUnruly {
 		it.to = nil
@@ -101,8 +82,11 @@ func (w *walk) line(event, what string) {
 	for _, life := range w.world.all() {
 		lives = append(lives, w.life(life))
 	}
-	fmt.Fprintf(w.to, "%s  %s: %s\n", event, what, strings.Join(lives, " | "))
+	w.lines = append(w.lines, walks.Line(event, what, strings.Join(lives, " | ")))
 }
+
+// end writes the walk.
+func (w *walk) end() { w.to.Write(w.lines) }
 
 // life is what is recorded, held and there.
 func (w *walk) life(it *life) string {
@@ -112,44 +96,10 @@ func (w *walk) life(it *life) string {
 
 // lifeWords are what is recorded, held and there of a life. The credentials are those of a binding that exists.
 func lifeWords(it *life, held osb.Holding, there broker.There, made string) string {
-	record := "-"
-	if it.isThere {
-		record = fmt.Sprintf("%v %s %d", it.record.State(), kindWord(it.record.InFlight()), it.record.Attempt())
-	}
-	text := fmt.Sprintf("%s; %s; %s", record, heldWords(held), there.String())
-	if it.key.IsBinding {
-		text += "; credentials " + numberOf(credentialsOf(it.object)) + " " + numberOf(made)
-	}
-	return text
-}
-
-func heldWords(held osb.Holding) string {
-	phase, work, tombstone := "-", "-", "-"
-	if row, isHeld := held.Row(); isHeld {
-		phase = row.Phase.String()
-	}
-	if pending, isPending := held.Work(); isPending {
-		work = kindWord(pending.Kind)
-	}
-	if held.HasTombstone() {
-		tombstone = "tombstone"
-	}
-	return phase + " " + work + " " + tombstone
-}
-
-func kindWord(kind osb.Kind) string {
-	if kind == osb.KindNone {
-		return "-"
-	}
-	return kind.String()
-}
-
-// numberOf is the number of credentials, or a dash.
-func numberOf(credentials string) string {
-	if number := strings.TrimPrefix(credentials, "token "); number != "" {
-		return number
-	}
-	return "-"
+	return walks.Life{
+		Record: it.record, IsOrdered: it.isThere, Holding: held, There: there.String(), IsBinding: it.key.IsBinding,
+		Recorded: credentialsOf(it.object), Made: made,
+	}.String()
 }
 
 // ---- what happens at the broker
@@ -265,7 +215,7 @@ func (w *walk) outcome(key broker.Key, before, after osb.Holding) string {
 func (w *walk) noteWork(key broker.Key, there broker.There, credentials string) {
 	word := there.String()
 	if key.IsBinding && there == broker.Whole {
-		word += " " + numberOf(credentials)
+		word += " " + walks.NumberOf(credentials)
 	}
 	w.event(key, "work "+word)
 }

@@ -14,6 +14,7 @@ import (
 
 	"pippinterm/internal/diff"
 	"pippinterm/internal/schedule"
+	"pippinterm/internal/walks"
 	"pippinterm/osb"
 )
 
@@ -28,6 +29,7 @@ type scenario struct {
 	most      time.Duration // that passes
 	tasks     []string
 	begun     *simulation // in which it has come about, once it has
+	to        *walks.Writer
 
 	generation int // of the names of workers and of ids: 1 until it has come about, and 2 from then on
 }
@@ -104,14 +106,15 @@ var pairs = []string{
 	"make-later from removing-all: step + step",
 }
 
-// scenarioOf reads the text of a scenario, such as `later hold from polling: step + remove`.
-func scenarioOf(t *testing.T, text string, most time.Duration) scenario {
+// scenarioOf reads the text of a scenario, such as `later hold from polling: step + remove`. Its walks are written by a
+// Writer, or by nil.
+func scenarioOf(t *testing.T, text string, most time.Duration, to *walks.Writer) scenario {
 	t.Helper()
 	head, tasks, _ := strings.Cut(text, ": ")
 	words, from, _ := strings.Cut(head, " from ")
 	s := scenario{
 		text: text, plan: strings.Fields(words)[0], catalogue: diff.Value(ReadCatalogue([]byte(sold)))(t), tries: 1,
-		tick: time.Minute, most: most, generation: 1,
+		tick: time.Minute, most: most, generation: 1, to: to,
 	}
 	if strings.Contains(words, "slowly") {
 		s.tick = 40 * time.Second
@@ -153,6 +156,7 @@ func newSimulation(of scenario) *simulation {
 	s.store.brokers["shelf"] = Broker{
 		Name: "shelf", URL: "https://broker.example", Catalogue: json.RawMessage(sold), Settings: Settings{Hold: &of.hold},
 	}
+	s.walk = newWalk(s)
 	if begun := of.begun; begun != nil {
 		s.passed, s.network = begun.passed, append([]Outgoing(nil), begun.network...)
 		for key, e := range begun.store.rows {
@@ -164,6 +168,7 @@ func newSimulation(of scenario) *simulation {
 		fill(s.seller.things, begun.seller.things)
 		fill(s.seller.objects, begun.seller.objects)
 		s.most = s.passed + of.most
+		s.walk.goOn(begun.walk)
 	}
 	return s
 }
@@ -177,7 +182,9 @@ func fill[V any](to, from map[Key]V) {
 // schedules are those of the scenario.
 func (s scenario) schedules() schedule.Scenario {
 	return schedule.Scenario{Text: s.text, Package: "./platform", Begin: func() *schedule.Scheduler {
-		return newSimulation(s).Scheduler
+		begun := newSimulation(s)
+		begun.Ended = func() { begun.walk.write(s.to) }
+		return begun.Scheduler
 	}}
 }
 
@@ -186,7 +193,7 @@ func (s scenario) schedules() schedule.Scenario {
 // worker beside another one or beside any command, from each beginning.
 func TestEverySchedule(t *testing.T) {
 	schedule.WithoutCrashes(t)
-	texts := pairs
+	texts, to := pairs, walks.NewWriter(t)
 	if plans := os.Getenv("PLANS"); plans != "" {
 		for _, plan := range strings.Split(plans, ",") {
 			for _, beginning := range everyBeginning() {
@@ -195,20 +202,21 @@ func TestEverySchedule(t *testing.T) {
 		}
 	}
 	for _, text := range texts {
-		t.Run(text, func(t *testing.T) { scenarioOf(t, text, 2*time.Minute).schedules().Check(t, 1) })
+		t.Run(text, func(t *testing.T) { scenarioOf(t, text, 2*time.Minute, to).schedules().Check(t, 1) })
 	}
 }
 
-// TestRandomSchedules runs schedules by chance, as many as SEEDS says, with more runners and more faults.
+// TestRandomSchedules runs schedules by chance, as many as SEEDS says, with more runners and more faults. Like those of
+// TestEverySchedule, their events are written, and compared with the proved model.
 func TestRandomSchedules(t *testing.T) {
 	schedule.WithoutCrashes(t)
-	seeds := 400
+	seeds, to := 400, walks.NewWriter(t)
 	if n, err := strconv.Atoi(os.Getenv("SEEDS")); err == nil {
 		seeds = n
 	}
 	for seed := 0; seed < seeds && !t.Failed(); seed++ {
 		chance := rand.New(rand.NewSource(int64(seed)))
-		scenarioOf(t, anyScenario(chance), 8*time.Minute).schedules().CheckAny(t, schedule.MostOf(3, 6), chance)
+		scenarioOf(t, anyScenario(chance), 8*time.Minute, to).schedules().CheckAny(t, schedule.MostOf(3, 6), chance)
 	}
 }
 
@@ -227,17 +235,20 @@ func anyScenario(chance *rand.Rand) string {
 }
 
 // TestSchedule runs the schedule that SCHEDULE has, and logs all of its steps. Without the variable it runs a few: a
-// worker that dies while it sends, an answer that comes after the lease, a claim that nobody knows of, and an answer that
-// isn't written before an operator gives the request up.
+// worker that dies while it sends, an answer that comes after the lease, a claim that nobody knows of, an answer that
+// isn't written before an operator gives the request up, and a last deletion that an operator wants again, or abandons,
+// before it leaves.
 func TestSchedule(t *testing.T) {
 	texts := []string{
 		"now from ordered: step + step | 1 1-dies",
 		"now from ordered: step + step | 1 1 1 1 time-passes time-passes 2",
 		"now from ordered: step + step | 1 1-is-unsure unwritten-1 2",
 		"now from cleaning: step + retry | 1 1 1 1 1 1-fails time-passes time-passes 2",
+		"now hold from gone: step + retry | 1 1 2",
+		"now hold from gone: step + abandon | 1 1 2 2",
 	}
 	schedule.WithoutCrashes(t)
 	schedule.CheckEach(t, texts, func(t *testing.T, text string) schedule.Scenario {
-		return scenarioOf(t, text, 8*time.Minute).schedules()
+		return scenarioOf(t, text, 8*time.Minute, nil).schedules()
 	})
 }

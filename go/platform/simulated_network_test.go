@@ -6,6 +6,7 @@ import (
 	"context"
 	"errors"
 	"fmt"
+	"strings"
 	"time"
 
 	"pippinterm/osb"
@@ -15,10 +16,11 @@ import (
 // library (osb.Record), called for one event of the network at a time. No driver is asked.
 //
 //   - Each commit that changes a record is a few events of the network: an answer that this worker has got to the request
-//     that is in flight; or a request is given up whose lease is over, then the record is cleaned up, and then a request
-//     gets in flight, with a number that no row has had.
+//     that is in flight; or a request is given up whose lease is over, or whose row an operator abandons, then the record
+//     is cleaned up, and then a request gets in flight, with a number that no row has had.
 //   - What is gone, withdrawn or abandoned stays so, and a removal is never forgotten.
-//   - A request is sent while its row has its number, within its lease, and once for each number. Its time isn't over.
+//   - A request is sent while its row has its number, within its lease, and once for each number, unless an operator has
+//     abandoned the row, or its last deletion, since it was claimed. Its time isn't over.
 //   - A creation is sent before the time that is recorded, that of a binding while its instance is ready, and a deletion
 //     once the hold is over.
 //   - At any time, what is recorded ready, gone or not sent is so at the broker, and the credentials of what is ready are
@@ -30,20 +32,20 @@ import (
 // judgeSending is called when a request is sent.
 func (r *runner) judgeSending(out Outgoing) {
 	e, number, now := r.store.rows[out.Entry.Key], out.Entry.Number, r.now()
-	kind, isFetch, isLast := out.Request.Kind, out.IsFetch, out.Entry.State == Gone
+	kind, isFetch, isLast, isAbandoned := out.Request.Kind, out.IsFetch, out.Entry.State == Gone, e.Because != ""
 	instance := r.store.rows[osb.InstanceKey(e.Key.Instance)]
 	switch {
-	case e.Number != number:
+	case !isAbandoned && e.Number != number:
 		r.Fail("%d sends a %v, and its row has the number of another", r.Number, kind)
-	case !isLast && (!e.IsSent || e.Record.InFlight() != kind):
+	case !isAbandoned && !isLast && (!e.IsSent || e.Record.InFlight() != kind):
 		r.Fail("%d sends a %v, and the record has %v in flight", r.Number, kind, e.Record.InFlight())
-	case e.State != Abandoned && (e.Lease.Worker != r.worker() || !now.Before(e.Lease.Until)):
+	case !isAbandoned && (e.Lease.Worker != r.worker() || !now.Before(e.Lease.Until)):
 		r.Fail("%d sends a %v without the lease of its row", r.Number, kind)
 	case !isFetch && r.sent[number]:
 		r.Fail("%d sends a second request of one number", r.Number)
 	case kind == osb.KindProvision && now.After(e.SentUntil):
 		r.Fail("%d sends a creation after the time that is recorded", r.Number)
-	case kind == osb.KindProvision && e.Key.IsBinding && instance.State != Ready && e.State != Abandoned:
+	case kind == osb.KindProvision && e.Key.IsBinding && instance.State != Ready && !isAbandoned:
 		r.Fail("%d sends a Bind, and its instance is %s", r.Number, instance.State)
 	case kind == osb.KindPoll && !isFetch && now.Sub(e.PolledSince) >= longestPoll+time.Minute:
 		r.Fail("%d sends a Poll of what was polled for too long", r.Number)
@@ -59,6 +61,11 @@ func (s *simulation) judgeCommit(of *runner, before, after Entry) {
 	isNew := after.Record.Attempt() > before.Record.Attempt()
 	isFinal := before.State == Gone || before.State == Withdrawn || before.State == Abandoned
 	isIdle := after.IsSent && after.Record.InFlight() == osb.KindNone && after.State != Gone
+	isEvent := after.IsSent && after.Record != before.Record
+	var events []recorded
+	if isEvent {
+		events = s.eventsOf(of, before, after)
+	}
 	switch {
 	case after.Number != before.Number && isUsed:
 		s.Fail("%d writes the number of %s", of.Number, owner)
@@ -74,44 +81,70 @@ func (s *simulation) judgeCommit(of *runner, before, after Entry) {
 		s.Fail("%d forgets a removal", of.Number)
 	case isIdle && s.now().Before(after.Lease.Until):
 		s.Fail("%d has nothing in flight, and keeps its lease", of.Number)
-	case after.IsSent && after.Record != before.Record && !s.isEvent(of, before, after):
+	case isEvent && events == nil:
 		s.Fail("%d writes %v over %v, which is no event", of.Number, after.Record, before.Record)
 	case after.IsSent && after.State != Abandoned && after.State != StateOf(after.Record):
 		s.Fail("%d writes the state %s beside %v", of.Number, after.State, after.Record)
 	case !isUsed:
 		s.numbers[after.Number] = fmt.Sprintf("%d.%d", of.Number, len(s.numbers))
 	}
+	s.walk.recorded(after, events)
 }
 
-// isEvent reports whether events of the network lead from one record to another one.
-func (s *simulation) isEvent(of *runner, before, after Entry) bool {
+// A recorded is an event of the network at the platform, by its words, and the record after it.
+type recorded struct {
+	event  string
+	record osb.Record
+}
+
+// eventsOf are the events of the network that lead from one record to another one, or none.
+func (s *simulation) eventsOf(of *runner, before, after Entry) (events []recorded) {
 	if !before.IsSent {
-		return s.created(after) == after.Record
+		if s.created(after) != after.Record {
+			return nil
+		}
+		return []recorded{{"create", after.Record}}
 	}
 	record := before.Record
 	if record.InFlight() != osb.KindNone {
 		it, isHeard := of.heard[before.Number]
-		if taken, err := s.taken(before, it); isHeard && err == nil && taken == after.Record {
-			return true
+		if taken, event, err := s.taken(before, it); isHeard && err == nil && taken == after.Record {
+			return []recorded{{event, taken}}
 		}
-		if s.now().Before(before.Lease.Until) && (isHeard || before.Lease.Worker != of.worker()) {
-			return false
+		isLeased := s.now().Before(before.Lease.Until) && after.State != Abandoned
+		if isLeased && (isHeard || before.Lease.Worker != of.worker()) {
+			return nil
 		}
 		record, _ = record.Timeout(record.Attempt())
+		events = append(events, recorded{"timeout", record})
 	}
-	for _, clean := range []func(osb.Record) (osb.Record, error){
-		func(r osb.Record) (osb.Record, error) { return r, nil }, osb.Record.Expire, osb.Record.Retry,
-		func(r osb.Record) (osb.Record, error) {
+	for _, clean := range []struct {
+		event  string
+		record func(osb.Record) (osb.Record, error)
+	}{
+		{"", func(r osb.Record) (osb.Record, error) { return r, nil }},
+		{"expire", osb.Record.Expire},
+		{"retry", osb.Record.Retry},
+		{"remove", func(r osb.Record) (osb.Record, error) {
 			return r.RemoveIf(before.Key.IsBinding || s.allGone(before.Key))
-		},
+		}},
 	} {
-		cleaned, err := clean(record)
-		sent, _, sendErr := cleaned.Send(before.Key.ID())
-		if err == nil && (cleaned == after.Record || sendErr == nil && sent == after.Record) {
-			return true
+		cleaned, err := clean.record(record)
+		if err != nil {
+			continue
+		}
+		found := events[:len(events):len(events)]
+		if clean.event != "" {
+			found = append(found, recorded{clean.event, cleaned})
+		}
+		if cleaned == after.Record {
+			return found
+		}
+		if sent, _, err := cleaned.Send(before.Key.ID()); err == nil && sent == after.Record {
+			return append(found, recorded{"send", sent})
 		}
 	}
-	return false
+	return nil
 }
 
 // created is the record of what is created, or that of nothing.
@@ -124,18 +157,24 @@ func (s *simulation) created(e Entry) osb.Record {
 	return record
 }
 
-// taken is the record once it is written what a worker has heard.
-func (s *simulation) taken(before Entry, it hearing) (osb.Record, error) {
+// taken is the record once it is written what a worker has heard, and the event of that.
+func (s *simulation) taken(before Entry, it hearing) (taken osb.Record, event string, err error) {
 	record := before.Record
 	isEnd := record.State() == osb.StatePolling && record.InFlight() == osb.KindPoll && it.answer.Status == 200
-	isUnread := isEnd && it.answer.Body == osb.BodySucceeded && !it.isFetched
-	switch {
-	case !it.hasAnswer || before.Key.IsBinding && isUnread:
-		return record.Timeout(record.Attempt())
-	case before.Key.IsBinding:
-		return record.AnswerBinding(record.Attempt(), it.answer, true)
+	hasObject := isEnd && it.answer.Body == osb.BodySucceeded
+	switch event = it.event; {
+	case !it.hasAnswer || before.Key.IsBinding && hasObject && !it.isFetched:
+		event = "timeout"
+		taken, err = record.Timeout(record.Attempt())
+	case !before.Key.IsBinding:
+		taken, err = record.Answer(record.Attempt(), it.answer)
+	default:
+		if hasObject {
+			event = strings.Replace(event, "take", "take-fetched", 1) + fmt.Sprint(" ", it.fetched)
+		}
+		taken, err = record.AnswerBinding(record.Attempt(), it.answer, true)
 	}
-	return record.Answer(record.Attempt(), it.answer)
+	return taken, event, err
 }
 
 // allGone reports whether no binding of an instance may exist.

@@ -29,6 +29,7 @@ type simulation struct {
 	numbers  map[osb.ID]string      // the word for each number that a row has had
 	sent     map[osb.ID]bool        // the numbers whose requests were sent
 	had      map[Key]map[State]bool // the states that each row has had
+	walk     *walk                  // that it writes, or nil
 }
 
 // A runner is a process that does something: that of a worker, or that of an operator's command.
@@ -49,6 +50,8 @@ type hearing struct {
 	answer    osb.Answer
 	hasAnswer bool // and no gateway's or an unreadable one
 	isFetched bool
+	event     string // by which the answer arrives, with its place among those of the life
+	fetched   int    // the place of the answer to a Fetch among those
 }
 
 // A doubtfulCommit is one that nobody knows of. It is decided before another runner's transaction. One of its own
@@ -240,6 +243,7 @@ func (s *simulation) arrive(at int) {
 // handle has a request arrive at the broker.
 func (s *simulation) handle(out Outgoing, how string) *reply {
 	s.setMood(how)
+	s.walk.arriving(out)
 	given := s.seller.handle(out)
 	s.judgeState()
 	return given
@@ -454,15 +458,16 @@ func (c simulatedClient) Exchange(_ context.Context, out Outgoing) Incoming {
 
 // hear waits for the answer to a request.
 func (r *runner) hear(out Outgoing, given *reply) Incoming {
+	at := r.walk.latest(out)
 	how := r.At("hear", lost, garbled, replaced)
-	in := given.incoming(out)
+	in, event := given.incoming(out), fmt.Sprint("take ", at)
 	switch {
 	case how == lost.Name || given == nil:
 		in = Incoming{Lost: errors.New("no answer came")}
 	case how == garbled.Name:
-		in = (&reply{given.status, []byte(`{"cut": `)}).incoming(out)
+		in, event = (&reply{given.status, []byte(`{"cut": `)}).incoming(out), fmt.Sprint("garbled ", at)
 	case how == replaced.Name:
-		in = (&reply{502, []byte(`<html>`)}).incoming(out)
+		in, event = (&reply{502, []byte(`<html>`)}).incoming(out), "gateway 502"
 	}
 	if r.isLate(out) {
 		in = Incoming{Lost: errLate}
@@ -470,9 +475,9 @@ func (r *runner) hear(out Outgoing, given *reply) Incoming {
 	r.Saw(how, in.Status, in.Answer, in.Lost, string(in.Binding))
 	it := r.heard[out.Entry.Number]
 	if out.IsFetch {
-		it.isFetched = in.Lost == nil && in.Binding != nil
+		it.isFetched, it.fetched = in.Lost == nil && in.Binding != nil, at
 	} else {
-		it.answer, it.hasAnswer = in.Answer, in.Lost == nil
+		it.answer, it.hasAnswer, it.event = in.Answer, in.Lost == nil, event
 	}
 	r.heard[out.Entry.Number] = it
 	return in

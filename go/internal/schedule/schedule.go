@@ -19,6 +19,7 @@ type Scheduler struct {
 	Doubts  []Doubt // in the order of their commits
 	Used    int     // faults that have happened
 	Wrong   string  // why this can't be, or empty
+	Ended   func()  // is called once a run has ended, or nil
 	world   World
 	left    Faults // that may still happen
 	yields  chan struct{}
@@ -327,6 +328,9 @@ func (s *Scheduler) RunUntil(r *Runner, call string) {
 // Run starts the runners of the World, and has happen what is chosen until all is over, or until the choice is
 // negative. Of nothing, the choice is whether to finish. It returns the words of what was chosen.
 func (s *Scheduler) Run(most Faults, choose func([]Choice) int) (schedule []string) {
+	if s.Ended != nil {
+		defer s.Ended()
+	}
 	defer s.Stop()
 	s.left = most
 	s.world.Begin()
