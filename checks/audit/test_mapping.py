@@ -294,6 +294,11 @@ RULES = {
         "B2 change 0 ready from pending-provision",
         "create I; arrive I 1; work I part; work I whole; timeout I; send I; crash I broker; end I done",
     ),
+    "a kill before a commit, once another request has failed": Rule(
+        f"{PENDING}B create; B change 1 ready; {GIVEN_UP}B arrive 2 r2 deprovision; B answer 2 503 other-error; "
+        "B2 look whole; B2 change 0 ready from pending-provision",
+        "create I; arrive I 1; work I part; work I whole; timeout I; send I; crash I broker; end I done",
+    ),
     "a kill after a commit": Rule(
         f"{PENDING}B create; B change 1 ready; {GIVEN_UP}B2 arrive 1 r2 deprovision; B2 change 1 ready+deprovision",
         "create I; arrive I 1; work I part; work I whole; end I done; timeout I; send I; arrive I 2",

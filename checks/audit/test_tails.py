@@ -89,6 +89,20 @@ TAILS = {
     "a change that is wrong itself": Tail(
         READY + "P claim wanted/1/provision from ready/1", f"{INSTANCE}: no events of the platform lead to this record"
     ),
+    "a change that another broker's request hasn't found, once the instance has ended": Tail(
+        f"{READY}P2 claim cleaning/2/deprovision; P2 send r2 deprovision 2; B arrive 3 r2 deprovision; "
+        "B change 3 ready+deprovision; B look whole; B delete; B arrive 4 x1 deprovision of binding; "
+        "B change 4 tombstone of binding; B2 look absent; B2 change 0 tombstone from ready+deprovision; "
+        "B2 arrive 1 x2 deprovision of binding; B2 answer 1 410 other-error saw=- of binding",
+        unshown=1,
+    ),
+    "a change that is wrong, and that another broker's request hasn't found": Tail(
+        f"{READY}P2 claim cleaning/2/deprovision; P2 send r2 deprovision 2; B arrive 3 r2 deprovision; "
+        "B change 3 ready+deprovision; B look whole; B delete; B look absent; B change 3 tombstone; B answer 3 200; "
+        "B arrive 4 x1 deprovision of binding; B change 4 tombstone of binding; "
+        "B2 arrive 1 x2 deprovision of binding; B2 answer 1 410 other-error saw=- of binding",
+        f"{INSTANCE}: a request changes the row otherwise than the tables",
+    ),
     "several changes of a broker": Tail(
         f"{POLLING}{EXPIRED}B create; B look whole; B arrive 3 r3 deprovision; B change 0 ready; "
         "B change 3 ready+deprovision; B2 look whole; B2 change 0 ready from making",

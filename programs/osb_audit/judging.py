@@ -230,15 +230,25 @@ class _Judge:
             its.disagreements += [(found.instance, disagreement) for disagreement in found.disagreements]
         self.doubtful.clear()
 
+    def _fits(self, instance: str, lines: list[Line]) -> bool:
+        """Whether nothing differs in these lines."""
+        batch = _Batch(self.bucket)
+        batch.add(self._told(instance, lines))
+        ((_, differs),) = batch.judged()
+        return differs is None
+
     def _without(self, found: Story, difference: Difference | None) -> Story | None:
         """The story without some of the changes of which nothing shows that they were committed, if nothing differs
-        then. A change that differs by itself stays: its process has made it, whether it was committed or not.
+        then. A change that differs by itself stays: its process has made it, whether it was committed or not. But one
+        may differ only because it is judged behind a request that hasn't seen it.
         """
         lines = self.doubtful[found.instance]
         end = next(
             (line.time for line in lines if difference is not None and line.position == difference.position), NEVER
         )
-        for without in _choices([change for change, time in found.unshown.items() if time < end]):
+        fits = end < NEVER and self._fits(found.instance, [line for line in lines if line.time <= end])
+        doubtful = [change for change, time in found.unshown.items() if time < end or time == end and fits]
+        for without in _choices(doubtful):
             batch = _Batch(self.bucket)
             batch.add(self._told(found.instance, lines, without))
             ((other, differs),) = batch.judged()

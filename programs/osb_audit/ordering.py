@@ -87,7 +87,7 @@ def _uncommitted(
     """The changes that don't count, though nothing says that they were undone."""
     last: dict[tuple[str, Row], Line] = {}
     for line in lines:
-        if line.event != "arrived":  # a request that has only arrived doesn't show that a change before it is committed
+        if not _is_silent(line, last.get((line.process, row_of(line)))):
             last[line.process, row_of(line)] = line
     seen = {pair for line in lines if line.event == "answered" and "saw" in line.of for pair in _seen(line)}
     changes = [line for line in lines if line.event == "changed"]
@@ -108,6 +108,15 @@ def _uncommitted(
             following[row] = line
     found |= _overtaken([line for line in changes if line not in found], doubts)
     return found | _made_before([line for line in changes if line not in found], unsure)
+
+
+def _is_silent(line: Line, latest: Line | None) -> bool:
+    """Whether a line doesn't show that the change before it is committed: a request has only arrived, or a broker has
+    failed with another request than the one that made the change.
+    """
+    if line.event != "answered" or line.side != "broker" or "saw" in line.of:
+        return line.event == "arrived"
+    return line.of["status"] >= 500 and (latest is None or latest.visit != line.visit)
 
 
 def _overtaken(changes: Sequence[Line], doubts: Doubts) -> set[Line]:

@@ -253,7 +253,7 @@ class PlatformSide:
 
 def _check_state(line: Line) -> None:
     """The state is that of the record. Without a record, an order is new or withdrawn. An operator can abandon what is
-    recorded, and the record stays.
+    recorded.
     """
     state, (record, _) = line.of.get("state"), rules.recorded_in(line.of["after"])
     states = ("ordered", "withdrawn") if record == rules.UNKNOWN else (record.state, "abandoned")
