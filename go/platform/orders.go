@@ -519,7 +519,7 @@ func (o *Orders) Retry(ctx context.Context, key Key) (Entry, error) {
 			return nil, reject(Conflict, "%s is unsettled: its creation has failed, and the broker may hold it. Nothing "+
 				"is sent until somebody decides: ask the broker for its last operation, and then remove it or abandon it",
 				describe(e))
-		case e.Rests():
+		case e.Rests() || e.State == Abandoned: // which a binding that is withdrawn has woken
 			return nil, reject(Conflict, "%s is %s: nothing is to be done for it", describe(e), e.State)
 		case now.Before(e.Lease.Until): // a last deletion is in no record
 			return nil, reject(Conflict, "a request of %s is in flight: try again later", describe(e))

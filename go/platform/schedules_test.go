@@ -236,8 +236,8 @@ func anyScenario(chance *rand.Rand) string {
 
 // TestSchedule runs the schedule that SCHEDULE has, and logs all of its steps. Without the variable it runs a few: a
 // worker that dies while it sends, an answer that comes after the lease, a claim that nobody knows of, an answer that
-// isn't written before an operator gives the request up, and a last deletion that an operator wants again, or abandons,
-// before it leaves.
+// isn't written before an operator gives the request up, a last deletion that an operator wants again, or abandons,
+// before it leaves, and an abandoned instance that its binding has woken.
 func TestSchedule(t *testing.T) {
 	texts := []string{
 		"now from ordered: step + step | 1 1-dies",
@@ -246,6 +246,7 @@ func TestSchedule(t *testing.T) {
 		"now from cleaning: step + retry | 1 1 1 1 1 1-fails time-passes time-passes 2",
 		"now hold from gone: step + retry | 1 1 2",
 		"now hold from gone: step + abandon | 1 1 2 2",
+		"now from bind-ordered: remove + abandon + step + retry | 1 1 2 2 3 3",
 	}
 	schedule.WithoutCrashes(t)
 	schedule.CheckEach(t, texts, func(t *testing.T, text string) schedule.Scenario {
