@@ -177,7 +177,7 @@ def test_random_schedules(packages: Packages, tmp_path: Path) -> None:
     these = [f"pippinterm/{side}" for side in SIDES]
     packages.test(*these, tags=CRASHES, options=random, WALKS=str(tmp_path), SEEDS=str(MANY_SEEDS))
     counts = compared(tmp_path)
-    assert all(counts[f"{side}.TestRandomSchedules"] > 5 * MANY_SEEDS for side in SIDES)
+    assert all(counts[f"{side}.TestRandomSchedules"] > 2 * MANY_SEEDS for side in SIDES)
 
 
 @pytest.mark.whole
