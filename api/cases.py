@@ -110,6 +110,27 @@ class PlatformDriver(NamedTuple):
     has_credentials: bool
 
 
+class Settings(NamedTuple):
+    plan: Optional[bytes]
+    parameters: Optional[bytes]
+    version: Optional[bytes]
+
+
+class Update(NamedTuple):
+    number: int
+    change: Settings
+    """What it doesn't name is None."""
+    accepts_incomplete: bool
+    service: bytes
+
+
+class UpdateHolding(NamedTuple):
+    phase: str
+    number: int
+    settings: Settings
+    to: Optional[Settings]
+
+
 class Wishes(NamedTuple):
     create: bool
     clean_up: str
@@ -148,6 +169,28 @@ def holding(cell: bytes) -> Holding:
         elif word != b"none":
             found = found._replace(work=request(word))
     return found
+
+
+def settings(cell: bytes) -> Settings:
+    """The settings that a cell stands for, or the change, whose settings that it doesn't name are None."""
+    plan, *digests = cell.decode().split(":")
+    parameters, version = (None if word == "-" else digest(word.encode()) for word in digests)
+    return Settings(PLANS.get(plan), parameters, version)
+
+
+def update(cell: bytes) -> Update:
+    """The Update that a cell stands for."""
+    number, change, *words = cell.split()
+    service = _SYNC if b"elsewhere" in words else SERVICE
+    return Update(int(number), settings(change), b"refuses" not in words, service)
+
+
+def update_holding(cell: bytes) -> UpdateHolding:
+    """The holding of updates that a cell stands for."""
+    phase, number, *both = cell.split()
+    held, to = (*map(settings, both), None)[:2]
+    assert held is not None
+    return UpdateHolding(phase.decode(), int(number), held, to)
 
 
 def driver(cell: bytes) -> Driver:

@@ -139,6 +139,10 @@ STATUS = Enum(
     Value(84, "WRONG_STAGE", "the driver is at a stage that asks for no such report"),
     Value(85, "BAD_THERE", "the number stands for nothing that a look finds"),
     Value(86, "MISFIT", "the row doesn't fit its plan, or its pending work is of another id"),
+    Value(87, "BAD_ALLOWED", "the number stands for nothing that a catalogue allows of an Update"),
+    Value(88, "NOTHING_UPDATING", "no operation of an Update runs"),
+    Value(89, "NOT_AVAILABLE", "the instance has no row that is ready, or work of it is pending"),
+    Value(90, "REFUSED_NUMBER", "refused with 400: x-osb-update isn't an integer from 1 to 2^64 - 1"),
 )
 
 EXACTLY = {
@@ -154,7 +158,7 @@ EXACTLY = {
     "BAD_RECORD": "the record can't come about ([which can](instance.md#what-a-platform-keeps-record)), or a number "
     "in it stands for nothing",
     "BAD_HOLDING": "the holding can't come about ([which can](instance.md#what-a-broker-keeps-holding)), or a number "
-    "in it that counts stands for nothing",
+    "in it that counts stands for nothing; of a holding of updates, the phase stands for nothing",
     "BAD_DRIVER": "the driver can't come about, its number is zeroes, or a number in it that counts stands for "
     "nothing; for `osb_driver_new` and `osb_platform_driver_new`, the number is zeroes",
     "BAD_ROW": "the row isn't `wanted` with its Provision in flight, nor any other state with nothing in flight or "
@@ -200,7 +204,8 @@ INTERFACE: list[Part] = [
         If several of them fit, the call returns the first. But if an allocation failed, OSB_MEMORY may come in place of
         every status that the text or the list itself decides: OSB_PLAN_TWICE, OSB_TOO_SMALL, OSB_NOT_JSON to
         OSB_BAD_MEMBER, OSB_IMPOSSIBLE, OSB_NO_ANSWER, OSB_UNAUTHORIZED, OSB_REFUSED_REPEATED to OSB_BAD_PLAN_MODE,
-        OSB_NO_MEMBER to OSB_SAME_NUMBER, OSB_REFUSED_APP, OSB_NO_BINDING and OSB_NOT_RETRIEVABLE."""
+        OSB_NO_MEMBER to OSB_SAME_NUMBER, OSB_REFUSED_APP, OSB_NO_BINDING, OSB_NOT_RETRIEVABLE and
+        OSB_REFUSED_NUMBER."""
     ),
     STATUS,
     Section(
@@ -622,6 +627,199 @@ INTERFACE: list[Part] = [
         """The answer to a Fetch of this binding: 200 if the row is ready and no work is pending, and else 404. Send a
         200 with the credentials that are stored beside the holding.""",
         "OSB_DONE, OSB_BAD_HOLDING.",
+    ),
+    Section(
+        """The updates of an instance, at its broker. A broker keeps a struct osb_update_holding of each instance beside
+        the holding of the instance, from the first Update on. It owns nothing, and may be copied and compared. Any
+        settings, number and phase make one. No call but the two of the texts takes memory.
+
+        An instance has settings: its plan, the digest of its parameters and that of the version of its maintenance.
+        What goes into the digests is the broker's choice. An Update names some of them, and what it doesn't name stays.
+        An Update of a platform of this project has a number, and a broker judges no Update that isn't newer than the
+        newest one that it has judged. An Update without a number, whose number is 0 here, is judged as it comes.
+
+        An update is under way if the work of an Update is pending or its operation runs. The instance is available if
+        its row is ready and no work of it is pending. Two rules tie both together: no Update begins unless the instance
+        is available (osb_update_begin), and no deletion of the instance begins while an update is under way
+        (osb_update_begin_instance). Read both holdings, locked, in the transaction that writes one of them."""
+    ),
+    Struct(
+        "settings",
+        Member("struct osb_id plan", "plan_id"),
+        Member("uint8_t parameters[32]", "the digest of the parameters"),
+        Member("uint8_t version[32]", "the digest of maintenance_info"),
+        comment="What an instance is set to.",
+    ),
+    Struct(
+        "change",
+        Member("struct osb_id plan", "it counts if has_plan is true"),
+        Member("uint8_t parameters[32]", "they count if has_parameters is true"),
+        Member("uint8_t version[32]", "it counts if has_version is true"),
+        Member("bool has_plan, has_parameters, has_version"),
+        comment="The settings that an Update names. What it doesn't name stays.",
+    ),
+    Struct(
+        "update",
+        Member("struct osb_id service", "service_id"),
+        Member("struct osb_change change", "the settings that it names"),
+        Member("uint64_t number", "its number among the Updates of the instance, from 1, or 0 if it has none"),
+        Member("bool accepts_incomplete", "whether the operation may be asynchronous"),
+        comment="An Update (PATCH on the instance).",
+    ),
+    Enum(
+        "allowed",
+        "whether the catalogue lets an Update be done",
+        Value(0, "SYNC", "it is done before the answer"),
+        Value(1, "ASYNC", "it is started before the answer, and goes on"),
+        Value(2, "REJECTED_400", "the plan that is asked for isn't on sale: it is answered with 400"),
+        Value(3, "REJECTED_422", "the plan that the instance has can't be changed: it is answered with 422"),
+        Value(4, "MAINTENANCE_CONFLICT", "the catalogue has another maintenance_info.version of the plan"),
+        comment="""Whether the catalogue lets an Update be done, by the settings that the instance has and those that
+        are asked for.""",
+    ),
+    Enum(
+        "update_phase",
+        "how far the latest update of an instance has come",
+        Value(0, "SETTLED", "the resource has the settings that are held"),
+        Value(1, "PENDING", "it has them, and the work of an Update is pending"),
+        Value(2, "UPDATING", "the operation of an Update runs"),
+        Value(3, "FAILED", "the latest update has failed, and nobody knows which settings the resource has"),
+        Value(4, "MENDING", "nobody knows that, and the work of an Update is pending"),
+    ),
+    Enum(
+        "update_outcome",
+        "how the pending work of an Update went",
+        Value(0, "DONE", "it is done, or if the mode is asynchronous started"),
+        Value(1, "BEFORE", "it failed, and the resource is as it was"),
+        Value(2, "AFTER", "it failed, and yet all of it was done, or it was started"),
+        Value(3, "REFUSED_400", "the backend rejects the Update with 400, and the resource is as it was"),
+        Value(4, "REFUSED_422", "the backend rejects the Update with 422, and the resource is as it was"),
+        Value(5, "FAILED", "it failed, and nobody knows which settings the resource has"),
+        comment="""How the pending work of an Update goes. Work that is half done is none of these. Undo it and say
+        BEFORE, finish it and say DONE, or say nothing until it is known.""",
+    ),
+    Struct(
+        "update_holding",
+        Member("struct osb_settings settings", "those of the Provision, or of the last update that has succeeded"),
+        Member("struct osb_settings to", "those to which the work or the operation leads, which count if there is one"),
+        Member("uint64_t number", "the greatest number of an Update that was judged, or 0"),
+        Member("enum osb_update_phase phase", "an enum osb_update_phase"),
+        comment="""What a broker holds of the updates of an instance. In what a call gives, members that don't count are
+        zeroes, here, in struct osb_update_begun and in struct osb_update_fetched: two holdings that calls gave are the
+        same exactly if each member is.""",
+        is_private=True,
+    ),
+    Struct(
+        "update_begun",
+        Member("struct osb_settings to", "the settings to which the work leads, if has_work is true"),
+        Member("struct osb_answer answer", "the answer to send, if both flags are false"),
+        Member("enum osb_mode mode", "an enum osb_mode: how the work is done, if has_work is true"),
+        Member("bool has_work", "whether work is due and pending"),
+        Member("bool is_maintenance_conflict", "whether the answer is 422 with the error MaintenanceInfoConflict"),
+        comment="What comes of an Update at once.",
+    ),
+    Struct(
+        "update_fetched",
+        Member("struct osb_settings settings", "the settings to report, if is_found is true"),
+        Member("uint64_t number", "the number that is held, if is_found is true"),
+        Member("struct osb_answer answer", "the answer to send, if is_found is false"),
+        Member("bool is_found", "whether the answer is 200, with the settings and the number"),
+        comment="What comes of a Fetch of an instance.",
+    ),
+    Call(
+        "void osb_update_asked_for(const struct osb_settings *settings, const struct osb_change *change, "
+        "struct osb_settings *asked)",
+        """The settings that an Update asks for which comes for an instance with these: what the change names, and else
+        what there was.""",
+    ),
+    Call(
+        "void osb_update_new(const struct osb_settings *settings, struct osb_update_holding *holding)",
+        """The holding of an instance of which no Update was judged, with the settings of its Provision. Its phase is
+        OSB_UPDATE_PHASE_SETTLED, and its number is 0.""",
+    ),
+    Call(
+        "bool osb_update_is_under_way(const struct osb_update_holding *holding)",
+        """Whether the work of an Update is pending, or its operation runs. True also if the holding is none that a call
+        gives, so that nothing begins then.""",
+    ),
+    Call(
+        "uint32_t osb_update_begin(struct osb_update_holding *holding, const struct osb_holding *instance, "
+        "uint8_t allowed, const struct osb_update *update, struct osb_update_begun *begun)",
+        """Begins with an Update: answers it, or makes its work pending. `instance` is the holding of the instance.
+        `allowed` is what the catalogue has for the settings that the Update asks for (osb_update_asked_for, with those
+        that the holding has). The first line that fits:
+
+        - The instance has neither a row nor pending work: 404, and nothing changes.
+        - The instance isn't available: 422 ConcurrencyError, and nothing changes.
+        - The row has another service: 400, and nothing changes.
+        - The Update has a number that is lower than the one that is held: 409, and nothing changes.
+        - It has the number that is held: 422 ConcurrencyError if its work is pending, 202 if the operation to the
+          settings that are asked for runs, 200 if the resource has them, else 500; nothing changes.
+        - It has no number, and the operation to the settings that are asked for runs: 202, and nothing changes.
+        - An update is under way: 422 ConcurrencyError, and nothing changes.
+        - The resource has the settings that are asked for: 200.
+        - The catalogue rejects it: 400 or 422, or 422 MaintenanceInfoConflict.
+        - It has to be asynchronous, and doesn't accept that: 422 AsyncRequired.
+        - Its work is due and pending.
+
+        In the last four lines the Update is judged, and its number is held. If the latest update has failed, nobody
+        knows which settings the resource has. Then the first of these four never fits, and what the next two reject is
+        answered with 500, since a rejection says that the resource has the settings of before. If the holding changed,
+        write it to the database before the work begins or the answer is sent.""",
+        "OSB_DONE, OSB_BAD_HOLDING (holding or instance), OSB_BAD_ALLOWED.",
+    ),
+    Call(
+        "uint32_t osb_update_end(struct osb_update_holding *holding, uint8_t mode, uint8_t outcome, "
+        "struct osb_answer *answer)",
+        """Ends the pending work of an Update with this outcome, an enum osb_update_outcome, and returns the answer to
+        the Update. The mode is that of the struct osb_update_begun. The number stays. The holding is written to the
+        database before the answer is sent.""",
+        "OSB_DONE, OSB_BAD_HOLDING, OSB_BAD_MODE (OSB_MODE_NONE too), OSB_BAD_OUTCOME, OSB_NOTHING_BEGUN.",
+    ),
+    Call(
+        "uint32_t osb_update_finish(struct osb_update_holding *holding, bool ok)",
+        """Ends the operation of an Update, which succeeded (ok) or failed. If it succeeded, the holding is settled with
+        the settings of the operation, and else it is failed. The holding is written to the database before a Poll is
+        answered by it.""",
+        "OSB_DONE, OSB_BAD_HOLDING, OSB_NOTHING_UPDATING.",
+    ),
+    Call(
+        "uint32_t osb_update_poll(const struct osb_update_holding *holding, const struct osb_holding *instance, "
+        "struct osb_answer *answer)",
+        """The answer to a Poll of an instance that is available: 200, in progress while an update is under way,
+        succeeded if the holding is settled, failed if the latest update has failed. If the instance isn't available,
+        osb_holding_begin answers.""",
+        "OSB_DONE, OSB_BAD_HOLDING (holding or instance), OSB_NOT_AVAILABLE.",
+    ),
+    Call(
+        "uint32_t osb_update_fetch(const struct osb_update_holding *holding, const struct osb_holding *instance, "
+        "struct osb_update_fetched *fetched)",
+        """What comes of a Fetch of the instance that its service and plan allow: 200 with the settings and the number
+        that is held, if the instance is available and the holding is settled; 422 ConcurrencyError if the instance is
+        available and the holding isn't settled; else 404.""",
+        "OSB_DONE, OSB_BAD_HOLDING (holding or instance).",
+    ),
+    Call(
+        "uint32_t osb_update_begin_instance(const struct osb_update_holding *holding, struct osb_holding *instance, "
+        "uint8_t mode, bool first_poll, const struct osb_request *request, const uint8_t attributes[32], "
+        "bool any_held, struct osb_begun *begun)",
+        """Begins with a request to an instance of which an update may be under way, as osb_holding_begin_if does.
+        any_held is whether osb_holding_is_held is true of a binding of the instance. If it is, or while an update is
+        under way, nothing begins: a Deprovision whose work would be due is answered with 422 ConcurrencyError, and
+        nothing changes. Only `instance` is written.""",
+        "OSB_DONE, OSB_BAD_HOLDING (holding or instance), OSB_BAD_MODE, OSB_BAD_KIND.",
+    ),
+    Call(
+        f"uint32_t osb_update_holding_to_text(const struct osb_update_holding *holding, {BUFFER})",
+        """Writes the text of a holding of updates, for a column of a database that is null until the first Update.""",
+        "OSB_DONE, OSB_BAD_HOLDING, OSB_TOO_SMALL, OSB_MEMORY.",
+    ),
+    Call(
+        "uint32_t osb_update_holding_from_text(const uint8_t *text, size_t length, "
+        "struct osb_update_holding *holding)",
+        "Reads the text of a holding of updates. What osb_update_holding_to_text wrote gives OSB_DONE or OSB_MEMORY.",
+        "OSB_DONE, OSB_NOT_UTF8, OSB_NOT_JSON, OSB_NOT_AN_OBJECT, OSB_BAD_VERSION, OSB_BAD_OUTER, OSB_BAD_MEMBER, "
+        "OSB_MEMORY.",
     ),
     Section(
         """What a broker does next. A driver is the way of one request through a broker, or of one take-up, which goes

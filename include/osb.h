@@ -51,7 +51,8 @@ uint32_t osb_version(void);
  *      If several of them fit, the call returns the first. But if an allocation failed, OSB_MEMORY may come in place of
  *      every status that the text or the list itself decides: OSB_PLAN_TWICE, OSB_TOO_SMALL, OSB_NOT_JSON to
  *      OSB_BAD_MEMBER, OSB_IMPOSSIBLE, OSB_NO_ANSWER, OSB_UNAUTHORIZED, OSB_REFUSED_REPEATED to OSB_BAD_PLAN_MODE,
- *      OSB_NO_MEMBER to OSB_SAME_NUMBER, OSB_REFUSED_APP, OSB_NO_BINDING and OSB_NOT_RETRIEVABLE. */
+ *      OSB_NO_MEMBER to OSB_SAME_NUMBER, OSB_REFUSED_APP, OSB_NO_BINDING, OSB_NOT_RETRIEVABLE and
+ *      OSB_REFUSED_NUMBER. */
 
 enum osb_status {
     OSB_DONE = 0,                        /* it was done */
@@ -132,7 +133,11 @@ enum osb_status {
     OSB_BAD_DRIVER = 83,                 /* the struct is no driver that a call gives */
     OSB_WRONG_STAGE = 84,                /* the driver is at a stage that asks for no such report */
     OSB_BAD_THERE = 85,                  /* the number stands for nothing that a look finds */
-    OSB_MISFIT = 86                      /* the row doesn't fit its plan, or its pending work is of another id */
+    OSB_MISFIT = 86,                     /* the row doesn't fit its plan, or its pending work is of another id */
+    OSB_BAD_ALLOWED = 87,                /* the number stands for nothing that a catalogue allows of an Update */
+    OSB_NOTHING_UPDATING = 88,           /* no operation of an Update runs */
+    OSB_NOT_AVAILABLE = 89,              /* the instance has no row that is ready, or work of it is pending */
+    OSB_REFUSED_NUMBER = 90              /* refused with 400: x-osb-update isn't an integer from 1 to 2^64 - 1 */
 };
 
 /* ---- Ids. The id of an instance, a service or a plan is any text of 1 to 255 bytes of UTF-8, and the calls know it by
@@ -494,6 +499,181 @@ uint32_t osb_binding_begin(struct osb_holding *holding, const struct osb_holding
  * the credentials that are stored beside the holding.
  * OSB_DONE, OSB_BAD_HOLDING. */
 uint32_t osb_binding_fetch(const struct osb_holding *holding, struct osb_answer *answer);
+
+/* ---- The updates of an instance, at its broker. A broker keeps a struct osb_update_holding of each instance beside
+ *      the holding of the instance, from the first Update on. It owns nothing, and may be copied and compared. Any
+ *      settings, number and phase make one. No call but the two of the texts takes memory.
+ *
+ *      An instance has settings: its plan, the digest of its parameters and that of the version of its maintenance.
+ *      What goes into the digests is the broker's choice. An Update names some of them, and what it doesn't name stays.
+ *      An Update of a platform of this project has a number, and a broker judges no Update that isn't newer than the
+ *      newest one that it has judged. An Update without a number, whose number is 0 here, is judged as it comes.
+ *
+ *      An update is under way if the work of an Update is pending or its operation runs. The instance is available if
+ *      its row is ready and no work of it is pending. Two rules tie both together: no Update begins unless the instance
+ *      is available (osb_update_begin), and no deletion of the instance begins while an update is under way
+ *      (osb_update_begin_instance). Read both holdings, locked, in the transaction that writes one of them. */
+
+/* What an instance is set to. */
+struct osb_settings {
+    struct osb_id plan;     /* plan_id */
+    uint8_t parameters[32]; /* the digest of the parameters */
+    uint8_t version[32];    /* the digest of maintenance_info */
+};
+
+/* The settings that an Update names. What it doesn't name stays. */
+struct osb_change {
+    struct osb_id plan;     /* it counts if has_plan is true */
+    uint8_t parameters[32]; /* they count if has_parameters is true */
+    uint8_t version[32];    /* it counts if has_version is true */
+    bool has_plan, has_parameters, has_version;
+};
+
+/* An Update (PATCH on the instance). */
+struct osb_update {
+    struct osb_id service;    /* service_id */
+    struct osb_change change; /* the settings that it names */
+    uint64_t number;          /* its number among the Updates of the instance, from 1, or 0 if it has none */
+    bool accepts_incomplete;  /* whether the operation may be asynchronous */
+};
+
+/* Whether the catalogue lets an Update be done, by the settings that the instance has and those that are asked for. */
+enum osb_allowed {
+    OSB_ALLOWED_SYNC = 0,                /* it is done before the answer */
+    OSB_ALLOWED_ASYNC = 1,               /* it is started before the answer, and goes on */
+    OSB_ALLOWED_REJECTED_400 = 2,        /* the plan that is asked for isn't on sale: it is answered with 400 */
+    OSB_ALLOWED_REJECTED_422 = 3,        /* the plan that the instance has can't be changed: it is answered with 422 */
+    OSB_ALLOWED_MAINTENANCE_CONFLICT = 4 /* the catalogue has another maintenance_info.version of the plan */
+};
+
+enum osb_update_phase {
+    OSB_UPDATE_PHASE_SETTLED = 0,  /* the resource has the settings that are held */
+    OSB_UPDATE_PHASE_PENDING = 1,  /* it has them, and the work of an Update is pending */
+    OSB_UPDATE_PHASE_UPDATING = 2, /* the operation of an Update runs */
+    OSB_UPDATE_PHASE_FAILED = 3,   /* the latest update has failed, and nobody knows which settings the resource has */
+    OSB_UPDATE_PHASE_MENDING = 4   /* nobody knows that, and the work of an Update is pending */
+};
+
+/* How the pending work of an Update goes. Work that is half done is none of these. Undo it and say BEFORE, finish it
+ * and say DONE, or say nothing until it is known. */
+enum osb_update_outcome {
+    OSB_UPDATE_OUTCOME_DONE = 0,        /* it is done, or if the mode is asynchronous started */
+    OSB_UPDATE_OUTCOME_BEFORE = 1,      /* it failed, and the resource is as it was */
+    OSB_UPDATE_OUTCOME_AFTER = 2,       /* it failed, and yet all of it was done, or it was started */
+    OSB_UPDATE_OUTCOME_REFUSED_400 = 3, /* the backend rejects the Update with 400, and the resource is as it was */
+    OSB_UPDATE_OUTCOME_REFUSED_422 = 4, /* the backend rejects the Update with 422, and the resource is as it was */
+    OSB_UPDATE_OUTCOME_FAILED = 5       /* it failed, and nobody knows which settings the resource has */
+};
+
+/* What a broker holds of the updates of an instance. In what a call gives, members that don't count are zeroes, here,
+ * in struct osb_update_begun and in struct osb_update_fetched: two holdings that calls gave are the same exactly if
+ * each member is. */
+struct osb_update_holding {
+    struct osb_settings settings; /* those of the Provision, or of the last update that has succeeded */
+    struct osb_settings to;       /* those to which the work or the operation leads, which count if there is one */
+    uint64_t number;              /* the greatest number of an Update that was judged, or 0 */
+    uint8_t phase;                /* an enum osb_update_phase */
+};
+
+/* What comes of an Update at once. */
+struct osb_update_begun {
+    struct osb_settings to;       /* the settings to which the work leads, if has_work is true */
+    struct osb_answer answer;     /* the answer to send, if both flags are false */
+    uint8_t mode;                 /* an enum osb_mode: how the work is done, if has_work is true */
+    bool has_work;                /* whether work is due and pending */
+    bool is_maintenance_conflict; /* whether the answer is 422 with the error MaintenanceInfoConflict */
+};
+
+/* What comes of a Fetch of an instance. */
+struct osb_update_fetched {
+    struct osb_settings settings; /* the settings to report, if is_found is true */
+    uint64_t number;              /* the number that is held, if is_found is true */
+    struct osb_answer answer;     /* the answer to send, if is_found is false */
+    bool is_found;                /* whether the answer is 200, with the settings and the number */
+};
+
+/* The settings that an Update asks for which comes for an instance with these: what the change names, and else what
+ * there was. */
+void osb_update_asked_for(const struct osb_settings *settings, const struct osb_change *change,
+                          struct osb_settings *asked);
+
+/* The holding of an instance of which no Update was judged, with the settings of its Provision. Its phase is
+ * OSB_UPDATE_PHASE_SETTLED, and its number is 0. */
+void osb_update_new(const struct osb_settings *settings, struct osb_update_holding *holding);
+
+/* Whether the work of an Update is pending, or its operation runs. True also if the holding is none that a call gives,
+ * so that nothing begins then. */
+bool osb_update_is_under_way(const struct osb_update_holding *holding);
+
+/* Begins with an Update: answers it, or makes its work pending. `instance` is the holding of the instance. `allowed` is
+ * what the catalogue has for the settings that the Update asks for (osb_update_asked_for, with those that the holding
+ * has). The first line that fits:
+ *
+ *   - The instance has neither a row nor pending work: 404, and nothing changes.
+ *   - The instance isn't available: 422 ConcurrencyError, and nothing changes.
+ *   - The row has another service: 400, and nothing changes.
+ *   - The Update has a number that is lower than the one that is held: 409, and nothing changes.
+ *   - It has the number that is held: 422 ConcurrencyError if its work is pending, 202 if the operation to the settings
+ *     that are asked for runs, 200 if the resource has them, else 500; nothing changes.
+ *   - It has no number, and the operation to the settings that are asked for runs: 202, and nothing changes.
+ *   - An update is under way: 422 ConcurrencyError, and nothing changes.
+ *   - The resource has the settings that are asked for: 200.
+ *   - The catalogue rejects it: 400 or 422, or 422 MaintenanceInfoConflict.
+ *   - It has to be asynchronous, and doesn't accept that: 422 AsyncRequired.
+ *   - Its work is due and pending.
+ *
+ * In the last four lines the Update is judged, and its number is held. If the latest update has failed, nobody knows
+ * which settings the resource has. Then the first of these four never fits, and what the next two reject is answered
+ * with 500, since a rejection says that the resource has the settings of before. If the holding changed, write it to
+ * the database before the work begins or the answer is sent.
+ * OSB_DONE, OSB_BAD_HOLDING (holding or instance), OSB_BAD_ALLOWED. */
+uint32_t osb_update_begin(struct osb_update_holding *holding, const struct osb_holding *instance, uint8_t allowed,
+                          const struct osb_update *update, struct osb_update_begun *begun);
+
+/* Ends the pending work of an Update with this outcome, an enum osb_update_outcome, and returns the answer to the
+ * Update. The mode is that of the struct osb_update_begun. The number stays. The holding is written to the database
+ * before the answer is sent.
+ * OSB_DONE, OSB_BAD_HOLDING, OSB_BAD_MODE (OSB_MODE_NONE too), OSB_BAD_OUTCOME, OSB_NOTHING_BEGUN. */
+uint32_t osb_update_end(struct osb_update_holding *holding, uint8_t mode, uint8_t outcome, struct osb_answer *answer);
+
+/* Ends the operation of an Update, which succeeded (ok) or failed. If it succeeded, the holding is settled with the
+ * settings of the operation, and else it is failed. The holding is written to the database before a Poll is answered by
+ * it.
+ * OSB_DONE, OSB_BAD_HOLDING, OSB_NOTHING_UPDATING. */
+uint32_t osb_update_finish(struct osb_update_holding *holding, bool ok);
+
+/* The answer to a Poll of an instance that is available: 200, in progress while an update is under way, succeeded if
+ * the holding is settled, failed if the latest update has failed. If the instance isn't available, osb_holding_begin
+ * answers.
+ * OSB_DONE, OSB_BAD_HOLDING (holding or instance), OSB_NOT_AVAILABLE. */
+uint32_t osb_update_poll(const struct osb_update_holding *holding, const struct osb_holding *instance,
+                         struct osb_answer *answer);
+
+/* What comes of a Fetch of the instance that its service and plan allow: 200 with the settings and the number that is
+ * held, if the instance is available and the holding is settled; 422 ConcurrencyError if the instance is available and
+ * the holding isn't settled; else 404.
+ * OSB_DONE, OSB_BAD_HOLDING (holding or instance). */
+uint32_t osb_update_fetch(const struct osb_update_holding *holding, const struct osb_holding *instance,
+                          struct osb_update_fetched *fetched);
+
+/* Begins with a request to an instance of which an update may be under way, as osb_holding_begin_if does. any_held is
+ * whether osb_holding_is_held is true of a binding of the instance. If it is, or while an update is under way, nothing
+ * begins: a Deprovision whose work would be due is answered with 422 ConcurrencyError, and nothing changes. Only
+ * `instance` is written.
+ * OSB_DONE, OSB_BAD_HOLDING (holding or instance), OSB_BAD_MODE, OSB_BAD_KIND. */
+uint32_t osb_update_begin_instance(const struct osb_update_holding *holding, struct osb_holding *instance, uint8_t mode,
+                                   bool first_poll, const struct osb_request *request, const uint8_t attributes[32],
+                                   bool any_held, struct osb_begun *begun);
+
+/* Writes the text of a holding of updates, for a column of a database that is null until the first Update.
+ * OSB_DONE, OSB_BAD_HOLDING, OSB_TOO_SMALL, OSB_MEMORY. */
+uint32_t osb_update_holding_to_text(const struct osb_update_holding *holding, uint8_t *buffer, size_t bytes,
+                                    size_t *needed);
+
+/* Reads the text of a holding of updates. What osb_update_holding_to_text wrote gives OSB_DONE or OSB_MEMORY.
+ * OSB_DONE, OSB_NOT_UTF8, OSB_NOT_JSON, OSB_NOT_AN_OBJECT, OSB_BAD_VERSION, OSB_BAD_OUTER, OSB_BAD_MEMBER,
+ * OSB_MEMORY. */
+uint32_t osb_update_holding_from_text(const uint8_t *text, size_t length, struct osb_update_holding *holding);
 
 /* ---- What a broker does next. A driver is the way of one request through a broker, or of one take-up, which goes on
  *      with what a dead worker has left. A driver says the one action that the program carries out next, and the

@@ -27,6 +27,7 @@ WRITTEN = {"uint64_t": "seconds", "bool": "retrievable"}
 CHANGED = {
     "struct osb_record": "record",
     "struct osb_holding": "holding",
+    "struct osb_update_holding": "update_holding",
     "struct osb_driver": "driver",
     "struct osb_platform_driver": "driver",
 }
@@ -87,6 +88,40 @@ def platform_driver_of(cell: bytes) -> Value:
     }
 
 
+def change_of(of: api.cases.Settings) -> Value:
+    """What doesn't count in it is zeroes."""
+    return {**of._asdict(), **{f"has_{name}": value is not None for name, value in of._asdict().items()}}
+
+
+def update_of(cell: bytes) -> Value:
+    of = api.cases.update(cell)
+    return {**of._asdict(), "change": change_of(of.change)}
+
+
+def update_holding_of(cell: bytes) -> Value:
+    """What doesn't count in it is zeroes."""
+    held = api.cases.update_holding(cell)
+    return {**held._asdict(), "settings": held.settings._asdict(), "to": held.to._asdict() if held.to else {}}
+
+
+def update_begun_of(cell: bytes) -> Value:
+    """What doesn't count in it is zeroes."""
+    if cell == b"conflict":
+        return {"is_maintenance_conflict": True}
+    if cell[:1].isdigit():
+        return {"answer": answer_of(cell)}
+    mode, to = cell.split()
+    return {"mode": mode.decode(), "to": api.cases.settings(to)._asdict(), "has_work": True}
+
+
+def update_fetched_of(cell: bytes) -> Value:
+    """What doesn't count in it is zeroes."""
+    found, *words = cell.split()
+    if found != b"found":
+        return {"answer": answer_of(cell)}
+    return {"number": int(words[0]), "settings": api.cases.settings(words[1])._asdict(), "is_found": True}
+
+
 def some_record_of(name: str, cell: bytes) -> Value:
     """A record as a member of a struct, and whether there is one."""
     return {f"has_{name}": cell != b"none", name: {} if cell == b"none" else record_of(cell)}
@@ -101,6 +136,12 @@ OF_CELLS: dict[str, Callable[[bytes], Value]] = {
     "begun": begun_of,
     "driver": driver_of,
     "platform_driver": platform_driver_of,
+    "settings": lambda cell: api.cases.settings(cell)._asdict(),
+    "change": lambda cell: change_of(api.cases.settings(cell)),
+    "update": update_of,
+    "update_holding": update_holding_of,
+    "update_begun": update_begun_of,
+    "update_fetched": update_fetched_of,
 }
 
 
@@ -142,8 +183,11 @@ def literal(kind: str, value: Any, length: int = 0) -> str:
     """The value of this type, as an initializer."""
     if not length and kind not in STRUCTS:
         return plain(kind, value)
-    parts = [str(number) for number in value] if length else halves(value) if kind == "struct osb_id" else []
-    if not parts:
+    if length:
+        parts = [str(number) for number in value or bytes(length)]
+    elif kind == "struct osb_id":
+        parts = halves(value)
+    else:
         parts = [literal(of.type, (value or {}).get(of.name), of.length) for of in STRUCTS[kind].variables]
     return f"{{{', '.join(parts)}}}"
 
@@ -195,8 +239,8 @@ class CaseText:
 
     def value(self, name: str, kind: str) -> Value:
         """The value of a struct that the call is given for a parameter."""
-        words = name if name in self.given else CHANGED.get(kind, "")
         own = kind.replace("struct osb_", "")
+        words = name if name in self.given and own != "update_holding" else CHANGED.get(kind, "")
         if own in OF_CELLS and words in self.given:
             return OF_CELLS[own](self.cell(words))
         if own == "answer":
@@ -265,8 +309,9 @@ class CaseText:
                 return flag(self.given[param.name])
             counts = {"has_held": "held_service"}.get(param.name, param.name.replace("has_", ""))
             return flag(self.given[counts] is not None)
-        if param.name in ("kind", "state", "mode", "outcome", "there"):
-            return number_in(param.name, self.word(param.name))
+        if param.name in ("kind", "state", "mode", "outcome", "there", "allowed"):
+            enum = "update_outcome" if self.call.name == "osb_update_end" and param.name == "outcome" else param.name
+            return number_in(enum, self.word(param.name))
         if param.type == "uint64_t":
             return f"UINT64_C({self.word(param.name)})"
         return f"OSB_{self.word(param.name)}" if param.name == "refusal" else self.word(param.name)

@@ -77,6 +77,10 @@ static struct out {
     struct osb_transaction transaction;
     struct osb_platform_driver platform_driver;
     struct osb_platform_transaction platform_transaction;
+    struct osb_settings settings;
+    struct osb_update_holding update_holding;
+    struct osb_update_begun update_begun;
+    struct osb_update_fetched update_fetched;
     struct osb_asked asked;
     struct osb_details details;
     struct osb_received received;

@@ -15,12 +15,14 @@ LARGE: dict[str, str] = {
     # The texts of an instance, of a binding and of updates.
     f"{LIBRARY}test_the_largest_numbers_are_written": """
         osb_record_to_text osb_holding_to_text osb_binding_record_to_text osb_binding_holding_to_text
+        osb_update_holding_to_text
         osb_instance::Record::to_text osb_instance::Record::to_text_with_version
         osb_instance::Holding::to_text osb_instance::Holding::to_text_with_version
         osb_binding::BindingRecord::to_text osb_binding::BindingHolding::to_text
     """,
     f"{LIBRARY}test_blanks_around_a_text_of_one_instance_change_nothing": """
         osb_record_from_text osb_holding_from_text osb_binding_record_from_text osb_binding_holding_from_text
+        osb_update_holding_from_text
         osb_instance::Record::from_text osb_instance::Record::from_text_with_version
         osb_instance::Holding::from_text osb_instance::Holding::from_text_with_version
         osb_binding::BindingRecord::from_text osb_binding::BindingHolding::from_text

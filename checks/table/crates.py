@@ -10,6 +10,7 @@ CRATES = (
     "osb_c",
     "osb_c_instance",
     "osb_c_binding",
+    "osb_c_update",
     "osb_c_driver",
     "osb_c_platform_driver",
     "osb_c_wire",
@@ -29,8 +30,17 @@ NAMES = {
     "ErrorCode::Other": "BODY_OTHER_ERROR",
     "Rejection::BadRequest": "OUTCOME_REFUSED_400",
     "Rejection::UnprocessableEntity": "OUTCOME_REFUSED_422",
+    "UpdateOutcome::Refused(Rejection::BadRequest)": "UPDATE_OUTCOME_REFUSED_400",
+    "UpdateOutcome::Refused(Rejection::UnprocessableEntity)": "UPDATE_OUTCOME_REFUSED_422",
+    "Allowed::Mode(Mode::Sync)": "ALLOWED_SYNC",
+    "Allowed::Mode(Mode::Async)": "ALLOWED_ASYNC",
+    "Allowed::Rejected(Rejection::BadRequest)": "ALLOWED_REJECTED_400",
+    "Allowed::Rejected(Rejection::UnprocessableEntity)": "ALLOWED_REJECTED_422",
+    "Allowed::MaintenanceInfoConflict": "ALLOWED_MAINTENANCE_CONFLICT",
 }
-"""Where a name isn't made of the source's by upper case alone. Those of refusals are the names of their statuses."""
+"""Where a name isn't made of the source's by upper case alone: of a whole path, or else of a variant. Those of refusals
+are the names of their statuses.
+"""
 
 # Numbers that have no name in C. No call gives a driver at TryLock, since a driver begins with the report of its lock.
 # A worker's stage has the number of its call.
@@ -118,6 +128,8 @@ def _body(function: str) -> str:
 
 def _name(path: str) -> str:
     """The name of a variant in C: of `Body::State(LastState::Failed)` it is that of the inner one."""
+    if path in NAMES:
+        return NAMES[path]
     inner = re.findall(r"\w+::\w+", path)[-1]
     enum, variant = inner.split("::")
     if enum == "Refusal":

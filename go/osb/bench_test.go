@@ -10,7 +10,8 @@ import (
 func Benchmark(b *testing.B) {
 	s := newSteps(b)
 	steps := append(append(s.ofRecords(), s.ofHoldings()...), append(s.ofTheWire(), s.ofBindings()...)...)
-	for _, step := range append(steps, ofPlatformDrivers(b)...) {
+	steps = append(append(steps, ofPlatformDrivers(b)...), ofUpdates(b)...)
+	for _, step := range steps {
 		b.Run(step.name, func(b *testing.B) { repeat(b, step.call) })
 	}
 }
@@ -132,6 +133,38 @@ func ofPlatformDrivers(b *testing.B) []step {
 		{"NewPlatformDriver", func() error { return second(osb.NewPlatformDriver(osb.ID{1}, false)) }},
 		{"PlatformDriver.Read", func() error { return second(claim.Read(reading)) }},
 		{"PlatformDriver.Answered", func() error { return second(created.Committed().Answered(accepted, false)) }},
+	}
+}
+
+func ofUpdates(b *testing.B) []step {
+	before := osb.Settings{Plan: plan}
+	update := osb.Update{
+		Service: service, Change: osb.Change{Plan: async, HasPlan: true}, Number: 1, AcceptsIncomplete: true,
+	}
+	row := osb.BrokerRow{Service: service, Plan: plan, Phase: osb.PhaseReady}
+	ready := osb.HoldingByHand(&row, nil, false, osb.Digest{})
+	deletion := osb.Request{Kind: osb.KindDeprovision, ID: instance, Service: service, Plan: plan}
+	settled := osb.NewUpdateHolding(before)
+	pending, _, err := settled.Begin(ready, osb.AllowedAsync, update)
+	check(b, err)
+	updating, _, err := pending.End(osb.ModeAsync, osb.UpdateOutcomeDone)
+	check(b, err)
+	text := need(updating.MarshalJSON())(b)
+	return []step{
+		{"Settings.With", func() error { before.With(update.Change); return nil }},
+		{"NewUpdateHolding", func() error { osb.NewUpdateHolding(before); return nil }},
+		{"UpdateHolding.IsUnderWay", func() error { updating.IsUnderWay(); return nil }},
+		{"UpdateHolding.Begin", func() error { _, _, err := settled.Begin(ready, osb.AllowedAsync, update); return err }},
+		{"UpdateHolding.End", func() error { _, _, err := pending.End(osb.ModeAsync, osb.UpdateOutcomeDone); return err }},
+		{"UpdateHolding.Finish", func() error { return second(updating.Finish(true)) }},
+		{"UpdateHolding.Poll", func() error { return second(updating.Poll(ready)) }},
+		{"UpdateHolding.Fetch", func() error { return second(updating.Fetch(ready)) }},
+		{"UpdateHolding.BeginInstance", func() error {
+			_, _, err := updating.BeginInstance(ready, osb.ModeSync, deletion, osb.Rules{}, false)
+			return err
+		}},
+		{"UpdateHolding.MarshalJSON", func() error { return second(updating.MarshalJSON()) }},
+		{"UpdateHolding.UnmarshalJSON", func() error { var read osb.UpdateHolding; return read.UnmarshalJSON(text) }},
 	}
 }
 

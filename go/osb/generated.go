@@ -164,6 +164,14 @@ const (
 	ErrBadThere Status = C.OSB_BAD_THERE
 	// The row doesn't fit its plan, or its pending work is of another id.
 	ErrMisfit Status = C.OSB_MISFIT
+	// The number stands for nothing that a catalogue allows of an Update.
+	ErrBadAllowed Status = C.OSB_BAD_ALLOWED
+	// No operation of an Update runs.
+	ErrNothingUpdating Status = C.OSB_NOTHING_UPDATING
+	// The instance has no row that is ready, or work of it is pending.
+	ErrNotAvailable Status = C.OSB_NOT_AVAILABLE
+	// Refused with 400: x-osb-update isn't an integer from 1 to 2^64 - 1.
+	ErrRefusedNumber Status = C.OSB_REFUSED_NUMBER
 )
 
 var meanings = map[Status]string{
@@ -245,6 +253,10 @@ var meanings = map[Status]string{
 	ErrWrongStage:               "the driver is at a stage that asks for no such report",
 	ErrBadThere:                 "the number stands for nothing that a look finds",
 	ErrMisfit:                   "the row doesn't fit its plan, or its pending work is of another id",
+	ErrBadAllowed:               "the number stands for nothing that a catalogue allows of an Update",
+	ErrNothingUpdating:          "no operation of an Update runs",
+	ErrNotAvailable:             "the instance has no row that is ready, or work of it is pending",
+	ErrRefusedNumber:            "refused with 400: x-osb-update isn't an integer from 1 to 2^64 - 1",
 }
 
 // A Kind is what a request asks for.
@@ -383,6 +395,79 @@ var phaseNames = [...]string{
 
 // String is the name of the number, in lower case.
 func (it Phase) String() string { return name("Phase", uint8(it), phaseNames[:]) }
+
+// An Allowed is whether the catalogue lets an Update be done.
+type Allowed uint8
+
+const (
+	// It is done before the answer.
+	AllowedSync Allowed = C.OSB_ALLOWED_SYNC
+	// It is started before the answer, and goes on.
+	AllowedAsync Allowed = C.OSB_ALLOWED_ASYNC
+	// The plan that is asked for isn't on sale: it is answered with 400.
+	AllowedRejected400 Allowed = C.OSB_ALLOWED_REJECTED_400
+	// The plan that the instance has can't be changed: it is answered with 422.
+	AllowedRejected422 Allowed = C.OSB_ALLOWED_REJECTED_422
+	// The catalogue has another maintenance_info.version of the plan.
+	AllowedMaintenanceConflict Allowed = C.OSB_ALLOWED_MAINTENANCE_CONFLICT
+)
+
+var allowedNames = [...]string{
+	"sync", "async", "rejected-400", "rejected-422", "maintenance-conflict",
+}
+
+// String is the name of the number, in lower case.
+func (it Allowed) String() string { return name("Allowed", uint8(it), allowedNames[:]) }
+
+// An UpdatePhase is how far the latest update of an instance has come.
+type UpdatePhase uint8
+
+const (
+	// The resource has the settings that are held.
+	UpdatePhaseSettled UpdatePhase = C.OSB_UPDATE_PHASE_SETTLED
+	// It has them, and the work of an Update is pending.
+	UpdatePhasePending UpdatePhase = C.OSB_UPDATE_PHASE_PENDING
+	// The operation of an Update runs.
+	UpdatePhaseUpdating UpdatePhase = C.OSB_UPDATE_PHASE_UPDATING
+	// The latest update has failed, and nobody knows which settings the resource has.
+	UpdatePhaseFailed UpdatePhase = C.OSB_UPDATE_PHASE_FAILED
+	// Nobody knows that, and the work of an Update is pending.
+	UpdatePhaseMending UpdatePhase = C.OSB_UPDATE_PHASE_MENDING
+)
+
+var updatePhaseNames = [...]string{
+	"settled", "pending", "updating", "failed", "mending",
+}
+
+// String is the name of the number, in lower case.
+func (it UpdatePhase) String() string { return name("UpdatePhase", uint8(it), updatePhaseNames[:]) }
+
+// An UpdateOutcome is how the pending work of an Update went.
+type UpdateOutcome uint8
+
+const (
+	// It is done, or if the mode is asynchronous started.
+	UpdateOutcomeDone UpdateOutcome = C.OSB_UPDATE_OUTCOME_DONE
+	// It failed, and the resource is as it was.
+	UpdateOutcomeBefore UpdateOutcome = C.OSB_UPDATE_OUTCOME_BEFORE
+	// It failed, and yet all of it was done, or it was started.
+	UpdateOutcomeAfter UpdateOutcome = C.OSB_UPDATE_OUTCOME_AFTER
+	// The backend rejects the Update with 400, and the resource is as it was.
+	UpdateOutcomeRefused400 UpdateOutcome = C.OSB_UPDATE_OUTCOME_REFUSED_400
+	// The backend rejects the Update with 422, and the resource is as it was.
+	UpdateOutcomeRefused422 UpdateOutcome = C.OSB_UPDATE_OUTCOME_REFUSED_422
+	// It failed, and nobody knows which settings the resource has.
+	UpdateOutcomeFailed UpdateOutcome = C.OSB_UPDATE_OUTCOME_FAILED
+)
+
+var updateOutcomeNames = [...]string{
+	"done", "before", "after", "refused-400", "refused-422", "failed",
+}
+
+// String is the name of the number, in lower case.
+func (it UpdateOutcome) String() string {
+	return name("UpdateOutcome", uint8(it), updateOutcomeNames[:])
+}
 
 // A Stage is the action that the program carries out next for a driver.
 type Stage uint8
@@ -593,6 +678,47 @@ func (it Holding) c() (to C.struct_osb_holding) {
 	return to
 }
 
+func (it Settings) c() (to C.struct_osb_settings) {
+	to.plan = it.Plan.c()
+	for at, one := range it.Parameters {
+		to.parameters[at] = C.uint8_t(one)
+	}
+	for at, one := range it.Version {
+		to.version[at] = C.uint8_t(one)
+	}
+	return to
+}
+
+func (it Change) c() (to C.struct_osb_change) {
+	to.plan = it.Plan.c()
+	for at, one := range it.Parameters {
+		to.parameters[at] = C.uint8_t(one)
+	}
+	for at, one := range it.Version {
+		to.version[at] = C.uint8_t(one)
+	}
+	to.has_plan = C.bool(it.HasPlan)
+	to.has_parameters = C.bool(it.HasParameters)
+	to.has_version = C.bool(it.HasVersion)
+	return to
+}
+
+func (it Update) c() (to C.struct_osb_update) {
+	to.service = it.Service.c()
+	to.change = it.Change.c()
+	to.number = C.uint64_t(it.Number)
+	to.accepts_incomplete = C.bool(it.AcceptsIncomplete)
+	return to
+}
+
+func (it UpdateHolding) c() (to C.struct_osb_update_holding) {
+	to.settings = it.settings.c()
+	to.to = it.to.c()
+	to.number = C.uint64_t(it.number)
+	to.phase = C.uint8_t(it.phase)
+	return to
+}
+
 func (it Driver) c() (to C.struct_osb_driver) {
 	for at, one := range it.number {
 		to.number[at] = C.uint8_t(one)
@@ -738,6 +864,42 @@ func holdingOf(from C.struct_osb_holding) (it Holding) {
 func begunOf(from C.struct_osb_begun) (it Begun) {
 	it.Answer = answerOf(from.answer)
 	it.Work = Work(from.work)
+	return it
+}
+
+func settingsOf(from C.struct_osb_settings) (it Settings) {
+	it.Plan = idOf(from.plan)
+	for at, one := range from.parameters {
+		it.Parameters[at] = uint8(one)
+	}
+	for at, one := range from.version {
+		it.Version[at] = uint8(one)
+	}
+	return it
+}
+
+func updateHoldingOf(from C.struct_osb_update_holding) (it UpdateHolding) {
+	it.settings = settingsOf(from.settings)
+	it.to = settingsOf(from.to)
+	it.number = uint64(from.number)
+	it.phase = UpdatePhase(from.phase)
+	return it
+}
+
+func updateBegunOf(from C.struct_osb_update_begun) (it UpdateBegun) {
+	it.To = settingsOf(from.to)
+	it.Answer = answerOf(from.answer)
+	it.Mode = Mode(from.mode)
+	it.HasWork = bool(from.has_work)
+	it.IsMaintenanceConflict = bool(from.is_maintenance_conflict)
+	return it
+}
+
+func updateFetchedOf(from C.struct_osb_update_fetched) (it UpdateFetched) {
+	it.Settings = settingsOf(from.settings)
+	it.Number = uint64(from.number)
+	it.Answer = answerOf(from.answer)
+	it.IsFound = bool(from.is_found)
 	return it
 }
 

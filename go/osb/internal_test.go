@@ -61,6 +61,11 @@ func HoldingByHand(row *BrokerRow, work *Request, hasTombstone bool, attributes 
 	return holding
 }
 
+// UpdateHoldingByHand returns a holding of updates of these parts, which may be one that no call gives.
+func UpdateHoldingByHand(settings, to Settings, number uint64, phase UpdatePhase) UpdateHolding {
+	return UpdateHolding{settings: settings, to: to, number: number, phase: phase}
+}
+
 // DriverParts are the parts of a driver. A Task makes its work pending, and at StageEnd an Answer is an earlier try's.
 type DriverParts struct {
 	Number                           ID

@@ -30,6 +30,10 @@ var (
 	_ json.Unmarshaler         = (*osb.Holding)(nil)
 	_ driver.Valuer            = osb.Holding{}
 	_ sql.Scanner              = (*osb.Holding)(nil)
+	_ json.Marshaler           = osb.UpdateHolding{}
+	_ json.Unmarshaler         = (*osb.UpdateHolding)(nil)
+	_ driver.Valuer            = osb.UpdateHolding{}
+	_ sql.Scanner              = (*osb.UpdateHolding)(nil)
 )
 
 // The text of a record that was just created, from docs/instance.md.
@@ -89,6 +93,8 @@ func TestRoundTrips(t *testing.T) {
 	record, _ := osb.Create(instance, service, plan, false)
 	holding := holdingOf(t, "ready:sync deprovision:sync")
 	held := need(holding.MarshalJSON())(t)
+	updates := updateHoldingOf(t, "updating 5 sync:01:02 async:01:02")
+	updated := need(updates.MarshalJSON())(t)
 	for _, row := range []struct {
 		value driver.Valuer
 		text  string
@@ -104,6 +110,10 @@ func TestRoundTrips(t *testing.T) {
 		}},
 		{holding, string(held), func() (sql.Scanner, func() driver.Valuer) {
 			var read osb.Holding
+			return &read, func() driver.Valuer { return read }
+		}},
+		{updates, string(updated), func() (sql.Scanner, func() driver.Valuer) {
+			var read osb.UpdateHolding
 			return &read, func() driver.Valuer { return read }
 		}},
 	} {

@@ -9,17 +9,24 @@ import osb
 import pytest
 from osb import (
     Answer,
+    Change,
     Driver,
+    Found,
     Holding,
     Id,
     Kind,
+    MaintenanceConflict,
     OsbError,
     PlatformDriver,
     Record,
     Refusal,
     Request,
+    Settings,
     State,
     Status,
+    Update,
+    UpdateHolding,
+    UpdateWork,
     binding_wire,
     wire,
 )
@@ -86,6 +93,9 @@ class Given:
     def holding(self, name: str = "holding") -> Holding:
         return holding_of(self.bytes(name))
 
+    def update_holding(self) -> UpdateHolding:
+        return update_holding_of(self.bytes("update_holding"))
+
     def driver(self) -> Any:
         return driver_of(self.bytes("driver"))
 
@@ -130,6 +140,44 @@ def holding_of(cell: bytes) -> Holding:
     holding = api.cases.holding(cell)
     row = osb.BrokerRow(SERVICE, id_of(holding.row[1]), named(osb.Phase, holding.row[0])) if holding.row else None
     return Holding(row, request_of(holding.work) if holding.work else None, holding.has_tombstone, holding.attributes)
+
+
+def settings_of(of: api.cases.Settings) -> Settings:
+    assert of.plan and of.parameters and of.version
+    return Settings(id_of(of.plan), of.parameters, of.version)
+
+
+def settings_in(cell: bytes) -> Settings:
+    return settings_of(api.cases.settings(cell))
+
+
+def change_of(of: api.cases.Settings) -> Change:
+    return Change(id_of(of.plan) if of.plan else None, of.parameters, of.version)
+
+
+def update_of(cell: bytes) -> Update:
+    of = api.cases.update(cell)
+    return Update(id_of(of.service), change_of(of.change), of.number, of.accepts_incomplete)
+
+
+def update_holding_of(cell: bytes) -> UpdateHolding:
+    of = api.cases.update_holding(cell)
+    phase, to = named(osb.UpdatePhase, of.phase), settings_of(of.to) if of.to else None
+    return UpdateHolding(settings_of(of.settings), of.number, phase, to)
+
+
+def update_begun_of(cell: bytes) -> Answer | UpdateWork | MaintenanceConflict:
+    if cell == b"conflict":
+        return MaintenanceConflict()
+    if cell[:1].isdigit():
+        return answer_of(cell)
+    mode, to = cell.split()
+    return UpdateWork(named(osb.Mode, mode.decode()), settings_in(to))
+
+
+def update_fetched_of(cell: bytes) -> Answer | Found:
+    found, *words = cell.split()
+    return Found(settings_in(words[1]), int(words[0])) if found == b"found" else answer_of(cell)
 
 
 def answer_of(cell: bytes) -> Answer:
@@ -191,6 +239,10 @@ VALUES: dict[str, Callable[[bytes], Any]] = {
     "holding": holding_of,
     "answer": answer_of,
     "begun": lambda cell: answer_of(cell) if b" " in cell else named(osb.Work, cell.decode()),
+    "settings": settings_in,
+    "update_holding": update_holding_of,
+    "update_begun": update_begun_of,
+    "update_fetched": update_fetched_of,
     "driver": driver_of,
     "committed": driver_of,
     "unsure": driver_of,
@@ -326,6 +378,16 @@ def transaction(of: osb.Transaction) -> list[Any]:
     return [of.holding, of.number, of.writes, of.committed, of.unsure, (of.effect, of.outcome, of.ok)]
 
 
+def update_begin(of: Given) -> tuple[UpdateHolding, Any]:
+    allowed = named(osb.Allowed, of.text("allowed"))
+    return of.update_holding().begin(of.holding("instance"), allowed, update_of(of.bytes("update")))
+
+
+def update_begin_instance(of: Given) -> tuple[Holding, Any]:
+    any_held = of.flag("any_held")
+    return of.update_holding().begin_instance(of.holding(), *of.asked(), any_held=any_held, **of.rules())
+
+
 def driver_new(of: Given) -> Driver:
     return Driver.new(number_of(of.bytes("number")), is_request=of.flag("is_request"), has_lock=of.flag("has_lock"))
 
@@ -444,6 +506,19 @@ CALLS: dict[str, Callable[[Given], Any]] = {
     "binding_fetch": lambda of: of.holding().fetch(),
     "binding_holding_to_text": lambda of: of.holding().to_binding_text(),
     "binding_holding_from_text": lambda of: Holding.from_binding_text(of.text("text")),
+    "update_asked_for": lambda of: settings_in(of.bytes("settings")).asked_for(
+        change_of(api.cases.settings(of.bytes("change")))
+    ),
+    "update_new": lambda of: UpdateHolding.new(settings_in(of.bytes("settings"))),
+    "update_is_under_way": lambda of: of.update_holding().is_under_way,
+    "update_begin": update_begin,
+    "update_end": lambda of: of.update_holding().end(of.mode(), named(osb.UpdateOutcome, of.text("outcome"))),
+    "update_finish": lambda of: of.update_holding().finish(of.flag("ok")),
+    "update_poll": lambda of: of.update_holding().poll(of.holding("instance")),
+    "update_fetch": lambda of: of.update_holding().fetch(of.holding("instance")),
+    "update_begin_instance": update_begin_instance,
+    "update_holding_to_text": lambda of: of.update_holding().to_text(),
+    "update_holding_from_text": lambda of: UpdateHolding.from_text(of.text("text")),
     "driver_new": driver_new,
     "driver_locked": lambda of: of.driver().locked(of.flag("has_lock")),
     "driver_looked": lambda of: of.driver().looked(named(osb.There, of.text("there"))),
@@ -459,7 +534,10 @@ CALLS: dict[str, Callable[[Given], Any]] = {
     "platform_driver_read": platform_driver_read,
 }
 # The columns that may have a number instead of a name.
-NUMBERED = ("kind", "state", "mode", "row_mode", "outcome", "there", "record", "request", "wishes", "driver")
+NUMBERED = (
+    *("kind", "state", "mode", "row_mode", "outcome", "there", "record", "request", "wishes", "driver"),
+    *("allowed", "update_holding"),
+)
 NUMBER = re.compile(rb"\d"), re.compile(rb"\d|.* \d+(:| |$)")
 """A number at the front of a cell, and one among the words of a driver."""
 # The status for which a call of this package returns None or False.
@@ -475,7 +553,10 @@ NOTHING = {
 }
 
 
-COMPARED = (bytes, tuple, Record, Holding, Request, Answer, Driver, PlatformDriver, osb.Work)
+COMPARED = (
+    *(bytes, tuple, Record, Holding, Request, Answer, Driver, PlatformDriver, osb.Work),
+    *(Settings, UpdateHolding, UpdateWork, MaintenanceConflict, Found),
+)
 """The types of results that a column has as they are."""
 
 

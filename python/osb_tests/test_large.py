@@ -12,7 +12,22 @@ from typing import Any
 from urllib.parse import parse_qs, quote
 
 import pytest
-from osb import Answer, BrokerRow, Endpoints, Holding, Id, OsbError, Plan, Record, Request, binding_wire, wire
+from osb import (
+    Answer,
+    BrokerRow,
+    Endpoints,
+    Holding,
+    Id,
+    OsbError,
+    Plan,
+    Record,
+    Request,
+    Settings,
+    UpdateHolding,
+    UpdatePhase,
+    binding_wire,
+    wire,
+)
 from osb.enums import Body, Kind, Phase, State, Status
 from osb_tests.support import ASYNC, ONE, SERVICE, SYNC, TWO, authorization, guids, request, status_of
 
@@ -88,6 +103,8 @@ def test_blanks_around_a_text_of_one_instance_change_nothing() -> None:
     holding = Holding(BrokerRow(SERVICE, ASYNC, Phase.READY), None, False)
     assert Holding.from_text(BLANKS + holding.to_text() + BLANKS) == holding
     assert Holding.from_binding_text(BLANKS + holding.to_binding_text() + BLANKS) == holding
+    updates = UpdateHolding(Settings(SYNC), 7, UpdatePhase.UPDATING, Settings(ASYNC))
+    assert UpdateHolding.from_text(BLANKS + updates.to_text() + BLANKS) == updates
 
 
 def test_the_largest_numbers_are_written() -> None:
@@ -109,6 +126,10 @@ def test_the_largest_numbers_are_written() -> None:
     }
     assert holding.to_text() == compact(held | {"version": 2}).decode()
     assert holding.to_binding_text() == compact(held | {"version": 1}).decode()
+    settings = {"parameters": "ff" * 32, "plan": LARGEST_GUID, "version": "ff" * 32}
+    updates = {"number": 2**64 - 1, "phase": "mending", "settings": settings, "to": settings, "version": 1}
+    largest = Settings(LARGEST, b"\xff" * 32, b"\xff" * 32)
+    assert UpdateHolding(largest, 2**64 - 1, UpdatePhase.MENDING, largest).to_text() == compact(updates).decode()
 
 
 def test_17_further_members_of_a_body_are_written() -> None:

@@ -3,12 +3,29 @@ from __future__ import annotations
 
 import osb.holding
 import osb.record
+import osb.update
 import pytest
-from osb import Answer, BrokerRow, Endpoints, Holding, Id, PlatformRow, Record, _crossing
-from osb.enums import Body, Kind, Phase, State, Status
+from osb import (
+    Answer,
+    BrokerRow,
+    Change,
+    Endpoints,
+    Found,
+    Holding,
+    Id,
+    PlatformRow,
+    Record,
+    Settings,
+    Update,
+    UpdateHolding,
+    UpdateWork,
+    _crossing,
+)
+from osb.enums import Allowed, Body, Kind, Mode, Phase, State, Status, UpdateOutcome, UpdatePhase
 from osb_tests.support import ASYNC, ONE, SERVICE, SYNC, TWO, request, status_of
 
 POLL = Kind.POLL
+SET, OTHER = (Settings(plan, byte * 32, byte * 32) for plan, byte in ((SYNC, b"\1"), (ASYNC, b"\2")))
 
 
 def record(state: State, out: Kind | None = None, attempt: int = 1) -> Record:
@@ -66,6 +83,8 @@ def test_each_member_of_a_struct_crosses() -> None:
         _crossing.endpoints_to(Endpoints(True, True, True, True)),
         osb.record.record_to(record(State.POLLING, POLL)),
         osb.holding.holding_to(Holding(held, asked, True, b"\1" * 32)),
+        osb.update.update_to(Update(SERVICE, Change(SYNC, b"\1" * 32, b"\1" * 32), 1)),
+        osb.update.update_holding_to(UpdateHolding(SET, 1, UpdatePhase.UPDATING, OTHER)),
     ):
         for name, _ in made._fields_:
             place = getattr(type(made), name)
@@ -83,8 +102,40 @@ def test_attempt_of_a_record() -> None:
         busy.answer_binding(2**64 + 2, succeeded, retrievable=True)
 
 
-@pytest.mark.parametrize("of", [Record, Holding])
-def test_no_text(of: type[Record] | type[Holding]) -> None:
+@pytest.mark.parametrize("number", [-1, 2**64])
+def test_number_of_an_update(number: int) -> None:
+    """A number that C's uint64_t can't have isn't taken for another one."""
+    with pytest.raises(ValueError):
+        UpdateHolding(SET, number).to_text()
+    with pytest.raises(ValueError):
+        UpdateHolding(SET).begin(Holding.NONE, Allowed.SYNC, Update(SERVICE, Change(), number))
+
+
+@pytest.mark.parametrize(
+    "holding", [UpdateHolding(SET, 1, UpdatePhase.UPDATING), UpdateHolding(SET, 1, UpdatePhase.FAILED, OTHER)]
+)
+def test_settings_to_which_nothing_leads(holding: UpdateHolding) -> None:
+    """A holding of updates without the settings to which it has to lead, and one with settings to which it doesn't."""
+    with pytest.raises(ValueError):
+        holding.to_text()
+
+
+def test_an_update() -> None:
+    """A whole update: it is begun, kept as text over a crash, started, polled, fetched and ended."""
+    instance = Holding(row(Phase.READY))
+    pending, begun = UpdateHolding.new(SET).begin(instance, Allowed.ASYNC, Update(SERVICE, Change(ASYNC), 1))
+    to = SET.asked_for(Change(ASYNC))
+    assert begun == UpdateWork(Mode.ASYNC, to)
+    read = UpdateHolding.from_text(pending.to_text())
+    assert read == pending
+    updating, answer = read.end(Mode.ASYNC, UpdateOutcome.DONE)
+    assert (answer, updating.is_under_way) == (Answer(202, Body.EMPTY), True)
+    assert updating.poll(instance) == Answer(200, Body.IN_PROGRESS)
+    assert updating.finish(True).fetch(instance) == Found(to, 1)
+
+
+@pytest.mark.parametrize("of", [Record, Holding, UpdateHolding])
+def test_no_text(of: type[Record] | type[Holding] | type[UpdateHolding]) -> None:
     assert status_of(lambda: of.from_text("\ud800")) == Status.NOT_UTF8
 
 

@@ -22,6 +22,7 @@ use Rattle.osb_c_types.specs.declared.status.Status.TheVariants.{BindableUnserve
 use Rattle.osb_c_types.specs.declared.status.Status.TheVariants.{BindingsUnserved, SameNumber, NotReady, Bound}
 use Rattle.osb_c_types.specs.declared.status.Status.TheVariants.{RefusedBinding, RefusedApp, NotBindingText, NoBinding}
 use Rattle.osb_c_types.specs.declared.status.Status.TheVariants.{NotRetrievable, BadDriver, WrongStage, BadThere, Misfit}
+use Rattle.osb_c_types.specs.declared.status.Status.TheVariants.{BadAllowed, NothingUpdating, NotAvailable, RefusedNumber}
 
 abbrev pub code : Status → ℕ
 code Done = 0
@@ -103,6 +104,10 @@ code BadDriver = 83
 code WrongStage = 84
 code BadThere = 85
 code Misfit = 86
+code BadAllowed = 87
+code NothingUpdating = 88
+code NotAvailable = 89
+code RefusedNumber = 90
 
 -- whether a number is one of those of the statuses
 abbrev pub is_one_of : List Status → ℕ → Bool

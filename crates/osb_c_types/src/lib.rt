@@ -1,9 +1,10 @@
 //! What crosses to C: enums as numbers, ids as two halves, structs, and the statuses that calls return.
 //!
 //! The static libraries that make up `libosb` stand on it: `osb_c` (ids, the platform's tables and the version),
-//! `osb_c_instance` and `osb_c_binding` (an instance and a binding as values), `osb_c_driver` and `osb_c_platform_driver`
-//! (what a broker and a platform do next), `osb_c_wire` and `osb_c_binding_wire` (HTTP and JSON). Each type here has its
-//! declaration in `include/osb.h`. All of it is this project's choice.
+//! `osb_c_instance`, `osb_c_binding` and `osb_c_update` (an instance, a binding and updates as values), `osb_c_driver`
+//! and `osb_c_platform_driver` (what a broker and a platform do next), `osb_c_wire`, `osb_c_binding_wire` and
+//! `osb_c_update_wire` (HTTP and JSON). Each type here has its declaration in `include/osb.h`. All of it is this
+//! project's choice.
 #![tactic(auto)]
 
 mod answers;

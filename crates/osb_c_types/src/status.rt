@@ -165,6 +165,14 @@ pub enum Status {
     BadThere,
     /// The holding of the row doesn't fit its plan, or its pending work is of another id.
     Misfit,
+    /// The number stands for nothing that a catalogue allows of an Update.
+    BadAllowed,
+    /// No operation of an Update runs.
+    NothingUpdating,
+    /// The instance isn't available: it has no row that is `ready`, or work of it is pending.
+    NotAvailable,
+    /// Refused with 400: `x-osb-update` isn't an integer from 1 to 2^64 - 1.
+    RefusedNumber,
 }
 
 impl Status {
@@ -252,6 +260,10 @@ impl Status {
             Status::WrongStage => 84,
             Status::BadThere => 85,
             Status::Misfit => 86,
+            Status::BadAllowed => 87,
+            Status::NothingUpdating => 88,
+            Status::NotAvailable => 89,
+            Status::RefusedNumber => 90,
         }
     }
 }

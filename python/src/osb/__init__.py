@@ -3,6 +3,7 @@ whose resources are created in Python is a command backend of osb-broker (docs/b
 osb-platform, with an API over HTTP (docs/platform-guide.md).
 
 - `Record` and `Holding`: one instance as a value, as a platform and as a broker keep it in a database, with its text.
+- `UpdateHolding`: the updates of one instance, as a broker keeps them.
 - `Driver`: what a broker does next. `PlatformDriver`: what a platform does next.
 - `osb.wire`: requests and answers as HTTP and JSON have them. `osb.binding_wire`: those of bindings.
 - `osb.tables`: two of the platform's tables.
@@ -17,6 +18,7 @@ from osb._header import VERSION
 from osb._lib import version
 from osb.driver import NO_NUMBER, Driver, Reading, Transaction
 from osb.enums import (
+    Allowed,
     Body,
     Call,
     CleanUp,
@@ -31,6 +33,8 @@ from osb.enums import (
     State,
     Status,
     There,
+    UpdateOutcome,
+    UpdatePhase,
     Work,
 )
 from osb.errors import OsbError, Refusal
@@ -39,23 +43,28 @@ from osb.ids import Id
 from osb.messages import Answer, BrokerRow, Endpoints, Plan, PlatformRow, Request
 from osb.platform_driver import PlatformDriver, PlatformReading, PlatformTransaction
 from osb.record import Record
+from osb.update import Change, Found, MaintenanceConflict, Settings, Update, UpdateHolding, UpdateWork
 
 __version__ = f"{VERSION // 10000}.{VERSION // 100 % 100}.{VERSION % 100}"
 """The version of this package, and of the header that it is written for."""
 
 __all__ = [
+    "Allowed",
     "Answer",
     "Body",
     "BrokerRow",
     "Call",
+    "Change",
     "CleanUp",
     "Driver",
     "Effect",
     "Endpoints",
+    "Found",
     "Holding",
     "Id",
     "Kind",
     "Look",
+    "MaintenanceConflict",
     "Mode",
     "NO_ATTRIBUTES",
     "NO_NUMBER",
@@ -72,11 +81,17 @@ __all__ = [
     "Record",
     "Refusal",
     "Request",
+    "Settings",
     "Stage",
     "State",
     "Status",
     "There",
     "Transaction",
+    "Update",
+    "UpdateHolding",
+    "UpdateOutcome",
+    "UpdatePhase",
+    "UpdateWork",
     "Work",
     "__version__",
     "version",

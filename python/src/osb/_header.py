@@ -64,6 +64,43 @@ class CBegun(c.Structure):
     _fields_ = [("answer", CAnswer), ("work", c.c_uint8)]
 
 
+class CSettings(c.Structure):
+    _fields_ = [("plan", CId), ("parameters", c.c_uint8 * 32), ("version", c.c_uint8 * 32)]
+
+
+class CChange(c.Structure):
+    _fields_ = [
+        ("plan", CId),
+        ("parameters", c.c_uint8 * 32),
+        ("version", c.c_uint8 * 32),
+        ("has_plan", c.c_bool),
+        ("has_parameters", c.c_bool),
+        ("has_version", c.c_bool),
+    ]
+
+
+class CUpdate(c.Structure):
+    _fields_ = [("service", CId), ("change", CChange), ("number", c.c_uint64), ("accepts_incomplete", c.c_bool)]
+
+
+class CUpdateHolding(c.Structure):
+    _fields_ = [("settings", CSettings), ("to", CSettings), ("number", c.c_uint64), ("phase", c.c_uint8)]
+
+
+class CUpdateBegun(c.Structure):
+    _fields_ = [
+        ("to", CSettings),
+        ("answer", CAnswer),
+        ("mode", c.c_uint8),
+        ("has_work", c.c_bool),
+        ("is_maintenance_conflict", c.c_bool),
+    ]
+
+
+class CUpdateFetched(c.Structure):
+    _fields_ = [("settings", CSettings), ("number", c.c_uint64), ("answer", CAnswer), ("is_found", c.c_bool)]
+
+
 class CDriver(c.Structure):
     _fields_ = [
         ("number", c.c_uint8 * 16),
@@ -288,6 +325,21 @@ EXPORTS: list[tuple[str, Any, list[Any]]] = [
         [_AT(CHolding), _AT(CHolding), c.c_uint8, c.c_bool, _AT(CRequest), c.c_char_p, _AT(CBegun)],
     ),
     ("osb_binding_fetch", c.c_uint32, [_AT(CHolding), _AT(CAnswer)]),
+    ("osb_update_asked_for", None, [_AT(CSettings), _AT(CChange), _AT(CSettings)]),
+    ("osb_update_new", None, [_AT(CSettings), _AT(CUpdateHolding)]),
+    ("osb_update_is_under_way", c.c_bool, [_AT(CUpdateHolding)]),
+    ("osb_update_begin", c.c_uint32, [_AT(CUpdateHolding), _AT(CHolding), c.c_uint8, _AT(CUpdate), _AT(CUpdateBegun)]),
+    ("osb_update_end", c.c_uint32, [_AT(CUpdateHolding), c.c_uint8, c.c_uint8, _AT(CAnswer)]),
+    ("osb_update_finish", c.c_uint32, [_AT(CUpdateHolding), c.c_bool]),
+    ("osb_update_poll", c.c_uint32, [_AT(CUpdateHolding), _AT(CHolding), _AT(CAnswer)]),
+    ("osb_update_fetch", c.c_uint32, [_AT(CUpdateHolding), _AT(CHolding), _AT(CUpdateFetched)]),
+    (
+        "osb_update_begin_instance",
+        c.c_uint32,
+        [_AT(CUpdateHolding), _AT(CHolding), c.c_uint8, c.c_bool, _AT(CRequest), c.c_char_p, c.c_bool, _AT(CBegun)],
+    ),
+    ("osb_update_holding_to_text", c.c_uint32, [_AT(CUpdateHolding), *_WRITTEN]),
+    ("osb_update_holding_from_text", c.c_uint32, [*_READ, _AT(CUpdateHolding)]),
     ("osb_driver_new", c.c_uint32, [c.c_char_p, c.c_bool, c.c_bool, _AT(CDriver)]),
     ("osb_driver_locked", c.c_uint32, [_AT(CDriver), c.c_bool]),
     ("osb_driver_looked", c.c_uint32, [_AT(CDriver), c.c_uint8]),

@@ -92,6 +92,10 @@ class Status(Named):
     WRONG_STAGE = 84, "the driver is at a stage that asks for no such report"
     BAD_THERE = 85, "the number stands for nothing that a look finds"
     MISFIT = 86, "the row doesn't fit its plan, or its pending work is of another id"
+    BAD_ALLOWED = 87, "the number stands for nothing that a catalogue allows of an Update"
+    NOTHING_UPDATING = 88, "no operation of an Update runs"
+    NOT_AVAILABLE = 89, "the instance has no row that is ready, or work of it is pending"
+    REFUSED_NUMBER = 90, "refused with 400: x-osb-update isn't an integer from 1 to 2^64 - 1"
 
 
 class Kind(Named):
@@ -162,6 +166,37 @@ class Phase(Named):
     DELETING = 3, "it is being deleted"
     DELETE_FAILED = 4, "it could not be deleted"
     WAITING = 5, "its making begins with the first Poll"
+
+
+class Allowed(Named):
+    """Whether the catalogue lets an Update be done."""
+
+    SYNC = 0, "it is done before the answer"
+    ASYNC = 1, "it is started before the answer, and goes on"
+    REJECTED_400 = 2, "the plan that is asked for isn't on sale: it is answered with 400"
+    REJECTED_422 = 3, "the plan that the instance has can't be changed: it is answered with 422"
+    MAINTENANCE_CONFLICT = 4, "the catalogue has another maintenance_info.version of the plan"
+
+
+class UpdatePhase(Named):
+    """How far the latest update of an instance has come."""
+
+    SETTLED = 0, "the resource has the settings that are held"
+    PENDING = 1, "it has them, and the work of an Update is pending"
+    UPDATING = 2, "the operation of an Update runs"
+    FAILED = 3, "the latest update has failed, and nobody knows which settings the resource has"
+    MENDING = 4, "nobody knows that, and the work of an Update is pending"
+
+
+class UpdateOutcome(Named):
+    """How the pending work of an Update went."""
+
+    DONE = 0, "it is done, or if the mode is asynchronous started"
+    BEFORE = 1, "it failed, and the resource is as it was"
+    AFTER = 2, "it failed, and yet all of it was done, or it was started"
+    REFUSED_400 = 3, "the backend rejects the Update with 400, and the resource is as it was"
+    REFUSED_422 = 4, "the backend rejects the Update with 422, and the resource is as it was"
+    FAILED = 5, "it failed, and nobody knows which settings the resource has"
 
 
 class Stage(Named):

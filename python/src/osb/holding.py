@@ -64,7 +64,7 @@ class Holding:
         holding, begun = holding_to(self), CBegun()
         digest = bytes(digest_to(attributes))
         check(lib.osb_holding_begin(holding, mode_to(mode), first_poll, request_to(request), digest, begun))
-        return holding_from(holding), _due(begun)
+        return holding_from(holding), due(begun)
 
     def begin_if(
         self,
@@ -84,7 +84,7 @@ class Holding:
         holding, begun = holding_to(self), CBegun()
         digest, asked = bytes(digest_to(attributes)), request_to(request)
         check(lib.osb_holding_begin_if(holding, mode_to(mode), first_poll, asked, digest, may_begin, begun))
-        return holding_from(holding), _due(begun)
+        return holding_from(holding), due(begun)
 
     def begin_binding(
         self,
@@ -108,7 +108,7 @@ class Holding:
         holding, begun = holding_to(self), CBegun()
         digest, asked = bytes(digest_to(attributes)), request_to(request)
         check(lib.osb_binding_begin(holding, holding_to(instance), mode_to(mode), first_poll, asked, digest, begun))
-        return holding_from(holding), _due(begun)
+        return holding_from(holding), due(begun)
 
     def fetch(self) -> Answer:
         """The answer to a Fetch of this binding: 200 if the row is `ready` and no work is pending, and else 404. Send a
@@ -190,7 +190,7 @@ def work_of(kind: Kind, mode: Mode | None) -> Work | None:
     return None if work == WORK_NONE else Work(work)
 
 
-def _due(begun: CBegun) -> Answer | Work:
+def due(begun: CBegun) -> Answer | Work:
     """The answer to send, or the work that is due."""
     return answer_from(begun.answer) if begun.work == WORK_NONE else Work(begun.work)
 

@@ -1,0 +1,2 @@
+mod CrossedOf
+mod Faults
