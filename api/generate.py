@@ -276,7 +276,9 @@ def ctypes_of(kind: str) -> str:
 
 
 def python_call(call: Call) -> list[str]:
-    """An export with what it gives and takes. A pointer to bytes is a text."""
+    """An export with what it gives and takes. A pointer to bytes is a text. Without a length beside it, one that is
+    written is a byte.
+    """
     kinds = []
     for parameter in call.parameters:
         is_text = parameter.plain == "uint8_t" and (parameter.pointer or parameter.length > 0)
@@ -284,7 +286,7 @@ def python_call(call: Call) -> list[str]:
         text = "c.c_char_p" if parameter.const or parameter.length else "written"
         kinds += [text if is_text else f"_AT({plain})" if parameter.pointer else plain]
     taken = ", ".join(kinds).replace("written, c.c_size_t, _AT(c.c_size_t)", "*_WRITTEN")
-    taken = taken.replace("c.c_char_p, c.c_size_t", "*_READ")
+    taken = taken.replace("c.c_char_p, c.c_size_t", "*_READ").replace("written", "_AT(c.c_uint8)")
     given = ctypes_of(call.given)
     if len(taken) > 100:
         parts = listed("        [", taken.split(", "), "],")

@@ -1226,6 +1226,140 @@ uint32_t osb_binding_modes(const uint8_t *document, size_t length, struct osb_pl
  * OSB_DONE, OSB_MEMORY; *retrievable is then as before. */
 uint32_t osb_bindings_retrievable(const uint8_t *document, size_t length, struct osb_id service, bool *retrievable);
 
+/* ---- Updates and Fetches of an instance as HTTP and JSON have them (docs/wire.md). These calls serve for updates too:
+ *      osb_read_answer for an Update, as for a Provision (OSB_KIND_PROVISION), osb_read_details, osb_write_told_answer,
+ *      osb_parameters_digest and osb_member_text. A target that osb_read_target takes for an instance is that of an
+ *      Update or a Fetch if the method is PATCH or GET. */
+
+/* What a request asks of an instance that exists: an Update or a Fetch. What doesn't count in it is zeroes, if a call
+ * writes it. */
+struct osb_update_asked {
+    bool is_fetch;               /* whether it is a Fetch, which asks for the instance itself */
+    bool has_service, has_plan;  /* whether it is a Fetch that names them */
+    struct osb_id id;            /* the instance */
+    struct osb_id service, plan; /* those of a Fetch, if it names them */
+    struct osb_update update;    /* the Update, if is_fetch is false: osb_update_begin takes it */
+};
+
+/* The texts of an Update or a Fetch, which stand in a buffer one after the other: those of the ids and of the parts of
+ * an Update's body, in this order. The version is that of maintenance_info, without quotes. A text that isn't there has
+ * the length 0. */
+struct osb_update_received {
+    bool has_service, has_plan;                           /* only a Fetch may lack its service */
+    bool has_parameters, has_version;                     /* whether an Update names them */
+    bool has_context, has_previous_values;                /* whether the body of an Update has them */
+    size_t instance, service, plan;                       /* the length of the text of each id */
+    size_t parameters, version, context, previous_values; /* the length of each part */
+};
+
+/* Reads what an Update (PATCH) or a Fetch (GET) asks of an instance, as osb_receive_request reads other requests. The
+ * number of an Update stands in its body under x-osb-update. Without a number, parameters that are {} or null aren't
+ * named. The parts of an Update's body are the parameters and the version that it names, context and previous_values.
+ * The texts go to the buffer one after the other, in the order of struct osb_update_received, and the length of all to
+ * *needed.
+ * OSB_DONE, OSB_NOT_UTF8 (prefix or method), OSB_REFUSED_TARGET, OSB_REFUSED_METHOD, OSB_REFUSED_INSTANCE,
+ * OSB_REFUSED_LENGTH, and the first of OSB_REFUSED_REPEATED to OSB_REFUSED_BODY and OSB_REFUSED_NUMBER in the order of
+ * docs/wire.md, OSB_TOO_SMALL, OSB_MEMORY. */
+uint32_t osb_receive_update_request(const uint8_t *prefix, size_t prefix_length, size_t longest_body,
+                                    const uint8_t *method, size_t method_length, const uint8_t *target,
+                                    size_t target_length, const uint8_t *body, size_t body_length,
+                                    struct osb_update_asked *asked, struct osb_update_received *received,
+                                    uint8_t *buffer, size_t bytes, size_t *needed);
+
+/* The HTTP status of a refusal of an Update or a Fetch, OSB_REFUSED_TARGET to OSB_REFUSED_SPACE,
+ * OSB_REFUSED_MAINTENANCE and OSB_REFUSED_NUMBER, and 503 of OSB_MEMORY; 0 of every other number. */
+uint16_t osb_update_refusal_status(uint32_t refusal);
+
+/* Writes the body of a refusal of an Update or a Fetch. It takes no memory, so that want of it can be told.
+ * OSB_DONE, OSB_NOT_REFUSED, OSB_TOO_SMALL. */
+uint32_t osb_update_refusal_body(uint32_t refusal, uint8_t *buffer, size_t bytes, size_t *needed);
+
+/* Writes the body of a 200, a 201 or a 202 to an Update or a Provision: an object of operation, dashboard_url and
+ * metadata, each if its has_ is true. The operation is written in a 202 alone, and counts for none if it has more than
+ * 10,000 characters. The metadata is the text of an object, and counts for none if it isn't.
+ * OSB_DONE, OSB_NOT_UTF8 (a text that counts), OSB_TOO_SMALL, OSB_MEMORY. */
+uint32_t osb_write_success(uint16_t status, bool has_operation, const uint8_t *operation, size_t operation_length,
+                           bool has_dashboard_url, const uint8_t *dashboard_url, size_t dashboard_url_length,
+                           bool has_metadata, const uint8_t *metadata, size_t metadata_length, uint8_t *buffer,
+                           size_t bytes, size_t *needed);
+
+/* Writes the body of an answer to an Update that failed, or to a Poll of one: what osb_write_told_answer writes with no
+ * operation, with instance_usable and update_repeatable, each if its has_ is true.
+ * OSB_DONE, OSB_NOT_UTF8 (a description that counts), OSB_TOO_SMALL, OSB_MEMORY. */
+uint32_t osb_write_failure(struct osb_answer answer, bool has_description, const uint8_t *description,
+                           size_t description_length, bool has_usable, bool usable, bool has_repeatable,
+                           bool repeatable, uint8_t *buffer, size_t bytes, size_t *needed);
+
+/* Writes the body of a 200 to a Fetch of an instance: an object of the texts of its ids, and of the parameters, the
+ * version of maintenance_info, dashboard_url and metadata, each if its has_ is true, and of the number that
+ * osb_update_fetch gave, unless it is 0. Parameters and metadata are texts of JSON, and are left out if they aren't.
+ * Without parameters a platform takes no settings from the answer: for none give {}.
+ * OSB_DONE, OSB_NOT_UTF8 (the text of an id, or a text that counts), OSB_TOO_SMALL, OSB_MEMORY. */
+uint32_t osb_write_fetched(const uint8_t *service, size_t service_length, const uint8_t *plan, size_t plan_length,
+                           bool has_parameters, const uint8_t *parameters, size_t parameters_length, bool has_version,
+                           const uint8_t *version, size_t version_length, bool has_dashboard_url,
+                           const uint8_t *dashboard_url, size_t dashboard_url_length, bool has_metadata,
+                           const uint8_t *metadata, size_t metadata_length, uint64_t number, uint8_t *buffer,
+                           size_t bytes, size_t *needed);
+
+/* What a catalogue says of a plan's updates. A member counts if its has_ is true, and is false or 0 otherwise. Of a
+ * plan that isn't sold all are. */
+struct osb_plan_updates {
+    bool is_sold;                        /* whether the catalogue sells the plan */
+    bool updateable;                     /* whether an instance of the plan can be changed to another plan */
+    bool retrievable;                    /* whether instances of the service can be fetched */
+    bool has_asynchronous, asynchronous; /* whether updates to the plan are asynchronous */
+    bool has_version, has_longest_poll;
+    uint64_t longest_poll;               /* maximum_polling_duration, in seconds */
+    size_t version;                      /* the length of maintenance_info.version */
+};
+
+/* Reads what a catalogue's document says of the updates of a plan of a service: plan_updateable of the plan, or else of
+ * its service, instances_retrievable, x-osb-asynchronous-updates, maintenance_info.version and
+ * maximum_polling_duration. The text of the version goes to the buffer, and its length, or 0, to *needed.
+ * OSB_DONE, also if the plan isn't sold, OSB_TOO_SMALL, OSB_MEMORY. */
+uint32_t osb_plan_updates(const uint8_t *document, size_t length, struct osb_id service, struct osb_id plan,
+                          struct osb_plan_updates *updates, uint8_t *buffer, size_t bytes, size_t *needed);
+
+/* Writes to *numbers whether a catalogue's document says by x-osb-updates that its broker orders Updates by their
+ * numbers. To such a broker a platform sends numbers (this project's choice).
+ * OSB_DONE, OSB_MEMORY; *numbers is then as before. */
+uint32_t osb_numbers_updates(const uint8_t *document, size_t length, bool *numbers);
+
+/* Writes to *sound whether what a catalogue's document says of updates has the types that it must have: x-osb-updates,
+ * and of each plan x-osb-asynchronous-updates, is true or false, and maximum_polling_duration of each plan is an
+ * integer from 0 to 2^64 - 1, each if it is there. A broker doesn't start with a document that fails it.
+ * osb_catalogue_check judges plan_updateable and instances_retrievable.
+ * OSB_DONE, OSB_MEMORY; *sound is then as before. */
+uint32_t osb_update_flags_are_sound(const uint8_t *document, size_t length, bool *sound);
+
+/* Writes the document that a broker serves which orders Updates by their numbers: the object that is given, with no
+ * spaces, and with the member x-osb-updates, which is true. Give it what osb_served_catalogue wrote.
+ * OSB_DONE, OSB_NOT_AN_OBJECT, OSB_TOO_SMALL, OSB_MEMORY. */
+uint32_t osb_served_updates(const uint8_t *document, size_t length, uint8_t *buffer, size_t bytes, size_t *needed);
+
+/* Writes to *allowed whether a catalogue's document lets an Update be done, an enum osb_allowed, for osb_update_begin.
+ * `held` is the plan that the instance has, and `asked` the one that the Update asks for, which is the same if it names
+ * none. The version that the Update names counts if has_version is true. `otherwise` is the enum osb_mode of the plan
+ * that is asked for. The first line that fits:
+ *
+ *   - The plan that is asked for isn't sold: OSB_ALLOWED_REJECTED_400.
+ *   - The plan changes, and the one that is held isn't plan_updateable or isn't sold: OSB_ALLOWED_REJECTED_422.
+ *   - The plan that is asked for has a version, and the Update names another: OSB_ALLOWED_MAINTENANCE_CONFLICT. For its
+ *     answer give OSB_REFUSED_MAINTENANCE to osb_update_refusal_status and osb_update_refusal_body.
+ *   - x-osb-asynchronous-updates of the plan that is asked for says how: OSB_ALLOWED_ASYNC or OSB_ALLOWED_SYNC.
+ *   - As `otherwise` says.
+ * OSB_DONE, OSB_NOT_UTF8 (a version that counts), OSB_BAD_MODE (OSB_MODE_NONE too), OSB_MEMORY; *allowed is then as
+ * before. */
+uint32_t osb_update_allowed(const uint8_t *document, size_t length, struct osb_id service, struct osb_id held,
+                            struct osb_id asked, bool has_version, const uint8_t *version, size_t version_length,
+                            uint8_t otherwise, uint8_t *allowed);
+
+/* Writes the digest of a version of maintenance_info, for struct osb_settings and struct osb_change: the SHA-256 of its
+ * text, and 32 zeroes, for none, of an empty text (this project's choice).
+ * OSB_DONE, OSB_NOT_UTF8; the digest is then as before. */
+uint32_t osb_version_digest(const uint8_t *version, size_t length, uint8_t digest[32]);
+
 #ifdef __cplusplus
 }
 #endif

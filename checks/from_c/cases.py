@@ -22,7 +22,7 @@ GUID = re.compile(rb"[0-9a-f]{8}(?:-[0-9a-f]{4}){3}-[0-9a-f]{12}")
 # A longer text is an array: C99 promises string literals of 4,095 bytes, and CALL makes a literal of the whole call.
 LONGEST = 500
 # What a call writes to, by the type that it points to, if the member of `out` hasn't the name of the struct.
-WRITTEN = {"uint64_t": "seconds", "bool": "retrievable"}
+WRITTEN = {"uint64_t": "seconds", "bool": "retrievable", "uint8_t": "allowed"}
 # What a call changes, by the column that has it: it is written before the call, if the case has it.
 CHANGED = {
     "struct osb_record": "record",
@@ -32,7 +32,15 @@ CHANGED = {
     "struct osb_platform_driver": "driver",
 }
 # The struct with the lengths of the texts that a call writes one after the other.
-LENGTHS = {"read_details": "details", "receive_request": "received", "receive_binding_request": "binding_received"}
+LENGTHS = {
+    "read_details": "details",
+    "receive_request": "received",
+    "receive_binding_request": "binding_received",
+    "receive_update_request": "update_received",
+    "plan_updates": "plan_updates",
+}
+# The flags of such structs that don't say whether there is a text.
+FLAGS = "instance_usable update_repeatable is_sold updateable retrievable asynchronous".split()
 
 Value = dict[str, Any]
 
@@ -290,10 +298,10 @@ class CaseText:
             return "out.plans, PLANS, &out.needed"
         if param.name in ("digest", "platform"):
             return f"{'&' * (param.name == 'platform')}out.{param.name}"
-        if param.name in ("attributes", "number"):
+        if param.name in ("attributes", "number") and param.length:
             digest = self.digest(param.name, param.length)
             return self.constant("uint8_t", literal("uint8_t", digest, param.length), f"[{param.length}]")
-        if param.plain == "uint8_t" and param.pointer:
+        if param.plain == "uint8_t" and param.pointer and param.const:
             return self.text(self.cell(param.name))
         if param.pointer and not param.const:
             return f"&out.{WRITTEN.get(param.type) or param.type.replace('struct osb_', '')}"
@@ -309,8 +317,9 @@ class CaseText:
                 return flag(self.given[param.name])
             counts = {"has_held": "held_service"}.get(param.name, param.name.replace("has_", ""))
             return flag(self.given[counts] is not None)
-        if param.name in ("kind", "state", "mode", "outcome", "there", "allowed"):
-            enum = "update_outcome" if self.call.name == "osb_update_end" and param.name == "outcome" else param.name
+        if param.name in ("kind", "state", "mode", "outcome", "there", "allowed", "otherwise"):
+            enum = {"otherwise": "mode"}.get(param.name, param.name)
+            enum = "update_outcome" if self.call.name == "osb_update_end" and enum == "outcome" else enum
             return number_in(enum, self.word(param.name))
         if param.type == "uint64_t":
             return f"UINT64_C({self.word(param.name)})"
@@ -360,15 +369,17 @@ class CaseText:
             return
         if call in LENGTHS:
             lengths = {name: len(text or b"") for name, text in gives.items()}
-            flags = {name: gives.get(name) == b"yes" for name in ("instance_usable", "update_repeatable")}
+            flags = {name: gives.get(name) == b"yes" for name in FLAGS}
             has = {f"has_{name}": text is not None for name, text in gives.items()}
-            yield LENGTHS[call], {**lengths, **flags, **has}
+            yield LENGTHS[call], {**lengths, **flags, **has, "longest_poll": int(gives.get("longest_poll") or 0)}
         if call == "read_answer":
             yield "answer", {"status": self.word("status"), "body": self.word("read")}
         if call == "asked_request":
             ids = {"id": self.cell("id"), "service": gives["service_id"], "plan": gives["plan_id"]}
             yield "request", {"kind": self.word("kind"), "accepts_incomplete": self.given["accepts"] == b"yes", **ids}
-        if call.startswith("receive_"):
+        if call == "receive_update_request":
+            yield "update_asked", self.update_asked()
+        elif call.startswith("receive_"):
             ids = {"id": gives["binding" if "binding" in gives else "instance"]}
             ids |= {"service": gives["service"], "plan": gives["plan"]}
             has = {f"has_{name}": gives[name] is not None for name in ("service", "plan")}
@@ -382,9 +393,22 @@ class CaseText:
             yield "transaction", self.transaction()
             return
         yield from ((name, of(gives[name] or b"")) for name, of in OF_CELLS.items() if name in gives)
-        yield from ((name, gives[name]) for name in ("id", "retrievable") if name in gives)
+        yield from ((name, gives[name]) for name in ("id", "retrievable") if name in gives and call not in LENGTHS)
+        yield from (("retrievable", gives[name]) for name in ("numbers", "sound") if name in gives)
         if "seconds" in gives:
             yield "seconds", self.word("seconds")
+
+    def update_asked(self) -> Value:
+        """What doesn't count in it is zeroes."""
+        gives = self.gives
+        ids = {name: gives[name] for name in ("service", "plan")}
+        if gives["is_fetch"] == b"yes":
+            has = {f"has_{name}": text is not None for name, text in ids.items()}
+            return {"is_fetch": True, "id": gives["instance"], **ids, **has}
+        digests = [gives[name] and bytes.fromhex(self.word(name)) for name in ("parameters_digest", "version_digest")]
+        change = change_of(api.cases.Settings(ids["plan"], *digests))
+        update = {"service": ids["service"], "change": change, "number": self.word("update_number")}
+        return {"id": gives["instance"], "update": {**update, "accepts_incomplete": gives["accepts"]}}
 
     def transaction(self) -> Value:
         effect, *words = self.word("effect").split()
@@ -424,6 +448,8 @@ class CaseText:
             yield from same(f"out.{name}", kind, value)
         if self.case.call == "originating_identity":
             yield f"out.platform == {len(self.gives['platform'] or b'')}"
+        if "allowed" in self.gives:
+            yield f"out.allowed == {number_in('allowed', self.word('allowed'))}"
         if "digest" in self.gives:
             yield from same("out.digest", "uint8_t", bytes.fromhex(self.word("digest")), 32)
         if "error" in self.gives and self.case.call not in LENGTHS:

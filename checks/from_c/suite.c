@@ -86,6 +86,10 @@ static struct out {
     struct osb_received received;
     struct osb_binding_asked binding_asked;
     struct osb_binding_received binding_received;
+    struct osb_update_asked update_asked;
+    struct osb_update_received update_received;
+    struct osb_plan_updates plan_updates;
+    uint8_t allowed;
     bool retrievable;
     struct osb_plan plans[PLANS];
 } out, before;

@@ -51,6 +51,9 @@ LARGE: dict[str, str] = {
         osb_update_wire::read_update_answer osb_update_wire::write_success osb_update_wire::write_failure
         osb_update_wire::write_fetched osb_update_wire::read_fetched
     """,
+    f"{LIBRARY}test_long_answers_to_an_update_and_a_fetch_are_written": """
+        osb_write_success osb_write_failure osb_write_fetched
+    """,
     # Requests that are written.
     f"{LIBRARY}test_long_texts_go_into_a_target": """
         osb_write_named_target osb_write_binding_target
@@ -81,6 +84,7 @@ LARGE: dict[str, str] = {
         osb_receive_binding_request osb_requires_app
         osb_binding_wire::read_binding_request osb_binding_wire::binding_parts osb_binding_wire::requires_app
     """,
+    f"{LIBRARY}test_a_long_update_is_read": "osb_receive_update_request",
     f"{LIBRARY}test_a_query_of_many_parameters_is_read": """
         osb_wire::query_reading::read_value osb_wire::query_reading::read_id osb_wire::query_reading::read_needed_id
         osb_wire::query_reading::read_flag osb_wire::request_reading::read_poll
@@ -95,7 +99,8 @@ LARGE: dict[str, str] = {
     """,
     f"{LIBRARY}test_a_catalogue_of_2000_plans": """
         osb_catalogue_plans osb_catalogue_check osb_served_catalogue osb_plan_version osb_binding_modes
-        osb_bindings_retrievable osb_c_wire::list_plans
+        osb_bindings_retrievable osb_plan_updates osb_numbers_updates osb_update_flags_are_sound osb_served_updates
+        osb_update_allowed osb_c_wire::list_plans
         osb_wire::catalogue_plans osb_wire::catalogue_document osb_wire::served_catalogue osb_wire::plan_version
         osb_wire::catalogue_reading::list_at osb_wire::catalogue_reading::own_id
         osb_binding_wire::binding_modes osb_binding_wire::bindings_retrievable

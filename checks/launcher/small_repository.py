@@ -24,6 +24,7 @@ osb_c_driver: osb_c_binding
 osb_c_platform_driver: osb_c_instance
 osb_c_wire: osb_world
 osb_c_binding_wire: osb_c_wire
+osb_c_update_wire: osb_c_wire
 library_cases: osb_world
 refusal_cases: osb_world
 service_cases: osb_world

@@ -15,6 +15,7 @@ CRATES = (
     "osb_c_platform_driver",
     "osb_c_wire",
     "osb_c_binding_wire",
+    "osb_c_update_wire",
 )
 
 # How the names of an enum's numbers begin in C, if not with the name of the enum.

@@ -878,6 +878,28 @@ func settingsOf(from C.struct_osb_settings) (it Settings) {
 	return it
 }
 
+func changeOf(from C.struct_osb_change) (it Change) {
+	it.Plan = idOf(from.plan)
+	for at, one := range from.parameters {
+		it.Parameters[at] = uint8(one)
+	}
+	for at, one := range from.version {
+		it.Version[at] = uint8(one)
+	}
+	it.HasPlan = bool(from.has_plan)
+	it.HasParameters = bool(from.has_parameters)
+	it.HasVersion = bool(from.has_version)
+	return it
+}
+
+func updateOf(from C.struct_osb_update) (it Update) {
+	it.Service = idOf(from.service)
+	it.Change = changeOf(from.change)
+	it.Number = uint64(from.number)
+	it.AcceptsIncomplete = bool(from.accepts_incomplete)
+	return it
+}
+
 func updateHoldingOf(from C.struct_osb_update_holding) (it UpdateHolding) {
 	it.settings = settingsOf(from.settings)
 	it.to = settingsOf(from.to)
@@ -984,5 +1006,16 @@ func bindingAskedOf(from C.struct_osb_binding_asked) (it BindingAsked) {
 	it.IsFetch = bool(from.is_fetch)
 	it.Instance = idOf(from.instance)
 	it.Asked = askedOf(from.asked)
+	return it
+}
+
+func updateAskedOf(from C.struct_osb_update_asked) (it UpdateAsked) {
+	it.IsFetch = bool(from.is_fetch)
+	it.HasService = bool(from.has_service)
+	it.HasPlan = bool(from.has_plan)
+	it.ID = idOf(from.id)
+	it.Service = idOf(from.service)
+	it.Plan = idOf(from.plan)
+	it.Update = updateOf(from.update)
 	return it
 }

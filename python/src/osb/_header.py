@@ -278,6 +278,50 @@ class CBindingReceived(c.Structure):
     ]
 
 
+class CUpdateAsked(c.Structure):
+    _fields_ = [
+        ("is_fetch", c.c_bool),
+        ("has_service", c.c_bool),
+        ("has_plan", c.c_bool),
+        ("id", CId),
+        ("service", CId),
+        ("plan", CId),
+        ("update", CUpdate),
+    ]
+
+
+class CUpdateReceived(c.Structure):
+    _fields_ = [
+        ("has_service", c.c_bool),
+        ("has_plan", c.c_bool),
+        ("has_parameters", c.c_bool),
+        ("has_version", c.c_bool),
+        ("has_context", c.c_bool),
+        ("has_previous_values", c.c_bool),
+        ("instance", c.c_size_t),
+        ("service", c.c_size_t),
+        ("plan", c.c_size_t),
+        ("parameters", c.c_size_t),
+        ("version", c.c_size_t),
+        ("context", c.c_size_t),
+        ("previous_values", c.c_size_t),
+    ]
+
+
+class CPlanUpdates(c.Structure):
+    _fields_ = [
+        ("is_sold", c.c_bool),
+        ("updateable", c.c_bool),
+        ("retrievable", c.c_bool),
+        ("has_asynchronous", c.c_bool),
+        ("asynchronous", c.c_bool),
+        ("has_version", c.c_bool),
+        ("has_longest_poll", c.c_bool),
+        ("longest_poll", c.c_uint64),
+        ("version", c.c_size_t),
+    ]
+
+
 EXPORTS: list[tuple[str, Any, list[Any]]] = [
     ("osb_version", c.c_uint32, []),
     ("osb_id_of_text", c.c_uint32, [*_READ, _AT(CId)]),
@@ -401,5 +445,25 @@ EXPORTS: list[tuple[str, Any, list[Any]]] = [
     ("osb_read_binding", c.c_uint32, [c.c_bool, c.c_uint8, c.c_uint16, *_READ]),
     ("osb_binding_modes", c.c_uint32, [*_READ, _AT(CPlan), c.c_size_t, _AT(c.c_size_t)]),
     ("osb_bindings_retrievable", c.c_uint32, [*_READ, CId, _AT(c.c_bool)]),
+    (
+        "osb_receive_update_request",
+        c.c_uint32,
+        [*_READ, c.c_size_t, *_READ, *_READ, *_READ, _AT(CUpdateAsked), _AT(CUpdateReceived), *_WRITTEN],
+    ),
+    ("osb_update_refusal_status", c.c_uint16, [c.c_uint32]),
+    ("osb_update_refusal_body", c.c_uint32, [c.c_uint32, *_WRITTEN]),
+    ("osb_write_success", c.c_uint32, [c.c_uint16, c.c_bool, *_READ, c.c_bool, *_READ, c.c_bool, *_READ, *_WRITTEN]),
+    ("osb_write_failure", c.c_uint32, [CAnswer, c.c_bool, *_READ, c.c_bool, c.c_bool, c.c_bool, c.c_bool, *_WRITTEN]),
+    (
+        "osb_write_fetched",
+        c.c_uint32,
+        [*_READ, *_READ, c.c_bool, *_READ, c.c_bool, *_READ, c.c_bool, *_READ, c.c_bool, *_READ, c.c_uint64, *_WRITTEN],
+    ),
+    ("osb_plan_updates", c.c_uint32, [*_READ, CId, CId, _AT(CPlanUpdates), *_WRITTEN]),
+    ("osb_numbers_updates", c.c_uint32, [*_READ, _AT(c.c_bool)]),
+    ("osb_update_flags_are_sound", c.c_uint32, [*_READ, _AT(c.c_bool)]),
+    ("osb_served_updates", c.c_uint32, [*_READ, *_WRITTEN]),
+    ("osb_update_allowed", c.c_uint32, [*_READ, CId, CId, CId, c.c_bool, *_READ, c.c_uint8, _AT(c.c_uint8)]),
+    ("osb_version_digest", c.c_uint32, [*_READ, c.c_char_p]),
 ]
 """Each call, with what it gives and what it takes."""
