@@ -28,6 +28,7 @@ from osb import (
     UpdateHolding,
     UpdateWork,
     binding_wire,
+    update_wire,
     wire,
 )
 from osb._lib import lib
@@ -317,8 +318,8 @@ def refusal_status(of: Given) -> int:
         return 0
 
 
-def binding_refusal_body(of: Given) -> str:
-    status, body = written(lib.osb_binding_refusal_body, of.refusal())
+def refusal_body(call: Callable[..., int], of: Given) -> str:
+    status, body = written(call, of.refusal())
     if status != Status.DONE:
         raise OsbError(status)
     return error(body)
@@ -367,6 +368,45 @@ def read_binding(of: Given) -> list[Any] | None:
     found = binding_wire.read_fetched(status, body) if is_fetch else binding_wire.read_binding(of.kind(), status, body)
     assert found in (None, body)
     return None if found is None else []
+
+
+def receive_update_request(of: Given) -> list[Any]:
+    read = update_wire.receive_update_request(*receiving(of))
+    texts, found = (read.instance, read.service, read.plan), read.asked
+    plan = found.plan if isinstance(found, update_wire.Fetch) else found.change.plan
+    assert [read.id, found.service, plan] == [None if text is None else id_of(text.encode()) for text in texts]
+    if isinstance(found, update_wire.Fetch):
+        return [True, False, 0, None, None, *texts, *vars(read.parts).values()]
+    digests = [digest and digest.hex() for digest in (found.change.parameters, found.change.version)]
+    return [False, found.accepts_incomplete, found.number, *digests, *texts, *vars(read.parts).values()]
+
+
+def write_failure(of: Given) -> bytes:
+    usable, repeatable = (None if of.cells[name] is None else of.flag(name) for name in ("usable", "repeatable"))
+    return update_wire.write_failure(of.answer(), of.optional("description"), usable, repeatable)
+
+
+def write_fetched(of: Given) -> bytes:
+    return update_wire.write_fetched(
+        of.text("service"),
+        of.text("plan"),
+        of.number("number"),
+        parameters=of.optional("parameters"),
+        version=of.optional("version"),
+        dashboard_url=of.optional("dashboard_url"),
+        metadata=of.optional("metadata"),
+    )
+
+
+def plan_updates(of: Given) -> list[Any]:
+    found = update_wire.plan_updates(of.bytes("document"), of.id("service"), of.id("plan"))
+    return [False, False, False, None, None, None] if found is None else [True, *vars(found).values()]
+
+
+def update_allowed(of: Given) -> osb.Allowed:
+    ids = of.id("service"), of.id("held"), of.id("asked")
+    otherwise = named(osb.Mode, of.text("otherwise"))
+    return update_wire.update_allowed(of.bytes("document"), *ids, of.optional("version"), otherwise)
 
 
 def record_from_row(of: Given) -> Record:
@@ -464,7 +504,7 @@ CALLS: dict[str, Callable[[Given], Any]] = {
     "write_binding_body": write_binding_body,
     "receive_binding_request": receive_binding_request,
     "binding_refusal_status": lambda of: int(lib.osb_binding_refusal_status(of.refusal())),
-    "binding_refusal_body": binding_refusal_body,
+    "binding_refusal_body": lambda of: refusal_body(lib.osb_binding_refusal_body, of),
     "requires_app": lambda of: binding_wire.requires_app(of.flag("needs_app"), of.bytes("body")),
     "write_binding": lambda of: binding_wire.check_binding(of.bytes("object")),
     "read_binding": read_binding,
@@ -485,6 +525,20 @@ CALLS: dict[str, Callable[[Given], Any]] = {
     "record_is_gone": lambda of: of.record().is_gone,
     "record_to_text": lambda of: of.record().to_text(),
     "record_from_text": lambda of: Record.from_text(of.text("text")),
+    "receive_update_request": receive_update_request,
+    "update_refusal_status": lambda of: int(lib.osb_update_refusal_status(of.refusal())),
+    "update_refusal_body": lambda of: refusal_body(lib.osb_update_refusal_body, of),
+    "write_success": lambda of: update_wire.write_success(
+        of.number("status"), *(of.optional(name) for name in ("operation", "dashboard_url", "metadata"))
+    ),
+    "write_failure": write_failure,
+    "write_fetched": write_fetched,
+    "plan_updates": plan_updates,
+    "numbers_updates": lambda of: update_wire.numbers_updates(of.bytes("document")),
+    "update_flags_are_sound": lambda of: update_wire.update_flags_are_sound(of.bytes("document")),
+    "served_updates": lambda of: update_wire.served_updates(of.bytes("document")),
+    "update_allowed": update_allowed,
+    "version_digest": lambda of: update_wire.version_digest(of.text("version")).hex(),
     "binding_create": lambda of: of.record().create_binding(of.id("binding"), of.flag("accepts_incomplete")),
     "binding_answer": lambda of: of.record().answer_binding(
         of.number("attempt"), of.answer(), retrievable=of.flag("retrievable")
@@ -536,7 +590,7 @@ CALLS: dict[str, Callable[[Given], Any]] = {
 # The columns that may have a number instead of a name.
 NUMBERED = (
     *("kind", "state", "mode", "row_mode", "outcome", "there", "record", "request", "wishes", "driver"),
-    *("allowed", "update_holding"),
+    *("allowed", "update_holding", "otherwise"),
 )
 NUMBER = re.compile(rb"\d"), re.compile(rb"\d|.* \d+(:| |$)")
 """A number at the front of a cell, and one among the words of a driver."""

@@ -23,12 +23,14 @@ from osb import (
     Record,
     Request,
     Settings,
+    Update,
     UpdateHolding,
     UpdatePhase,
     binding_wire,
+    update_wire,
     wire,
 )
-from osb.enums import Body, Kind, Phase, State, Status
+from osb.enums import Allowed, Body, Kind, Mode, Phase, State, Status
 from osb_tests.support import ASYNC, ONE, SERVICE, SYNC, TWO, authorization, guids, request, status_of
 
 OPERATION = "a" * 10_000
@@ -180,6 +182,21 @@ def test_a_long_object_of_a_binding_is_passed_on() -> None:
     assert binding_wire.read_fetched(200, object) == object
 
 
+def test_long_answers_to_an_update_and_a_fetch_are_written() -> None:
+    metadata, number = {"labels": {"long": LONG}}, 2**64 - 1
+    told = {"dashboard_url": LONG, "metadata": metadata}
+    text = compact(metadata).decode()
+    assert update_wire.write_success(202, OPERATION, LONG, text) == compact({**told, "operation": OPERATION})
+    failure = {"description": LONG[:1_000], "instance_usable": True, "state": "failed", "update_repeatable": False}
+    assert update_wire.write_failure(Answer(200, Body.FAILED), LONG, True, False) == compact(failure)
+    ids = {"service_id": LONGEST_ID, "plan_id": LONGEST_ID}
+    fetched = {**told, **ids, "maintenance_info": {"version": LONG}, "parameters": FURTHER, "x-osb-update": number}
+    parameters = compact(FURTHER).decode()
+    assert compact(fetched) == update_wire.write_fetched(
+        LONGEST_ID, LONGEST_ID, number, parameters=parameters, version=LONG, dashboard_url=LONG, metadata=text
+    )
+
+
 # ---- requests that are written
 
 
@@ -239,6 +256,20 @@ def test_a_long_bind_is_read() -> None:
     assert status_of(lambda: binding_wire.requires_app(True, body)) is None
 
 
+def test_a_long_update_is_read() -> None:
+    parts = {"context": {"long": LONG}, "parameters": {"long": LONG}, "previous_values": {"long": LONG}}
+    named = {"service_id": LONGEST_ID, "plan_id": LONGEST_ID, "maintenance_info": {"version": LONG}}
+    body = compact({**MEMBERS, **parts, **named, "x-osb-update": 2**64 - 1})
+    target = f"/v2/service_instances/{quote(LONGEST_ID, safe='')}?other={quote(LONG)}".encode()
+    received = update_wire.receive_update_request("PATCH", target, body, len(body))
+    assert (received.instance, received.service, received.plan) == (LONGEST_ID, LONGEST_ID, LONGEST_ID)
+    text = compact({"long": LONG}).decode()
+    assert received.parts == update_wire.UpdateParts(text, LONG, text, text)
+    assert isinstance(received.asked, Update) and received.asked.number == 2**64 - 1
+    digests = [hashlib.sha256(value.encode()).digest() for value in (text, LONG)]
+    assert [received.asked.change.parameters, received.asked.change.version] == digests
+
+
 @pytest.mark.parametrize("method, kind", [("GET", Kind.POLL), ("DELETE", Kind.DEPROVISION)])
 def test_a_query_of_many_parameters_is_read(method: str, kind: Kind) -> None:
     """Each parameter that isn't named in the standard is passed over: 10,000 of them, and one of 2 MB."""
@@ -287,3 +318,11 @@ def test_a_catalogue_of_2000_plans() -> None:
     assert json.loads(wire.served_catalogue(CATALOGUE)) == document | {"x-osb-tombstones": True}
     assert binding_wire.binding_modes(CATALOGUE) == [Plan(SERVICE, plan, False) for plan in ids]
     assert binding_wire.bindings_retrievable(CATALOGUE, SERVICE)
+    last = update_wire.PlanUpdates(False, False, None, "1.0.2000", None)
+    assert update_wire.plan_updates(CATALOGUE, SERVICE, ids[-1]) == last
+    assert not update_wire.numbers_updates(CATALOGUE)
+    assert update_wire.update_flags_are_sound(CATALOGUE)
+    assert json.loads(update_wire.served_updates(CATALOGUE)) == document | {"x-osb-updates": True}
+    plans = SERVICE, ids[-1], ids[-1]
+    assert update_wire.update_allowed(CATALOGUE, *plans, "1.0.2000", Mode.ASYNC) == Allowed.ASYNC
+    assert update_wire.update_allowed(CATALOGUE, *plans, LONG, Mode.ASYNC) == Allowed.MAINTENANCE_CONFLICT

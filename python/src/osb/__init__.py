@@ -6,6 +6,7 @@ osb-platform, with an API over HTTP (docs/platform-guide.md).
 - `UpdateHolding`: the updates of one instance, as a broker keeps them.
 - `Driver`: what a broker does next. `PlatformDriver`: what a platform does next.
 - `osb.wire`: requests and answers as HTTP and JSON have them. `osb.binding_wire`: those of bindings.
+  `osb.update_wire`: Updates and Fetches.
 - `osb.tables`: two of the platform's tables.
 
 The environment variable LIBOSB names the library's file. If it isn't set, libosb.so.0 is loaded: in a wheel the file

@@ -24,7 +24,7 @@ class Refusal(OsbError):
     """A request that a broker refuses before it looks at any instance, with the answer to send.
 
     `http_status` and `body` are that answer's. The status is one of REFUSED_TARGET to REFUSED_SPACE,
-    REFUSED_MAINTENANCE, REFUSED_BINDING, REFUSED_APP, or MEMORY for an out-of-memory error.
+    REFUSED_MAINTENANCE, REFUSED_BINDING, REFUSED_APP, REFUSED_NUMBER, or MEMORY for an out-of-memory error.
     """
 
     def __init__(self, status: int) -> None:
@@ -32,6 +32,9 @@ class Refusal(OsbError):
         if self.status in _OF_BINDINGS:
             self.http_status = int(lib.osb_binding_refusal_status(self.status))
             done, self.body = written(lib.osb_binding_refusal_body, self.status)
+        elif self.status == Status.REFUSED_NUMBER:
+            self.http_status = int(lib.osb_update_refusal_status(self.status))
+            done, self.body = written(lib.osb_update_refusal_body, self.status)
         else:
             self.http_status = int(lib.osb_refusal_status(self.status))
             done, self.body = written(lib.osb_refusal_body, self.status)
@@ -44,7 +47,7 @@ def check(status: int) -> None:
     if status == Status.DONE:
         return
     is_refused = Status.REFUSED_TARGET <= status <= Status.REFUSED_SPACE or status == Status.REFUSED_MAINTENANCE
-    if is_refused or status in _OF_BINDINGS:
+    if is_refused or status in _OF_BINDINGS or status == Status.REFUSED_NUMBER:
         raise Refusal(status)
     raise OsbError(status)
 

@@ -212,7 +212,7 @@ class UpdateHolding:
         return _holding_from(holding)
 
 
-def _number_to(number: int) -> int:
+def number_to(number: int) -> int:
     """ctypes would let another number wrap around."""
     if number not in range(2**64):
         raise ValueError("the number of an Update is from 0 to 2^64 - 1")
@@ -229,6 +229,14 @@ def _settings_to(settings: Settings) -> CSettings:
 
 def _settings_from(settings: CSettings) -> Settings:
     return Settings(id_from(settings.plan), bytes(settings.parameters), bytes(settings.version))
+
+
+def _change_from(change: CChange) -> Change:
+    return Change(
+        id_from(change.plan) if change.has_plan else None,
+        bytes(change.parameters) if change.has_parameters else None,
+        bytes(change.version) if change.has_version else None,
+    )
 
 
 def _change_to(change: Change) -> CChange:
@@ -248,7 +256,12 @@ def _change_to(change: Change) -> CChange:
 
 def update_to(update: Update) -> CUpdate:
     service, change = id_to(update.service), _change_to(update.change)
-    return CUpdate(service, change, _number_to(update.number), bool(update.accepts_incomplete))
+    return CUpdate(service, change, number_to(update.number), bool(update.accepts_incomplete))
+
+
+def update_from(update: CUpdate) -> Update:
+    service, change = id_from(update.service), _change_from(update.change)
+    return Update(service, change, update.number, bool(update.accepts_incomplete))
 
 
 def update_holding_to(held: UpdateHolding) -> CUpdateHolding:
@@ -258,7 +271,7 @@ def update_holding_to(held: UpdateHolding) -> CUpdateHolding:
     return CUpdateHolding(
         _settings_to(held.settings),
         goal,
-        _number_to(held.number),
+        number_to(held.number),
         UpdatePhase(held.phase).value,
     )
 
