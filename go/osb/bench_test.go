@@ -10,7 +10,7 @@ import (
 func Benchmark(b *testing.B) {
 	s := newSteps(b)
 	steps := append(append(s.ofRecords(), s.ofHoldings()...), append(s.ofTheWire(), s.ofBindings()...)...)
-	steps = append(append(steps, ofPlatformDrivers(b)...), ofUpdates(b)...)
+	steps = append(append(append(steps, ofPlatformDrivers(b)...), ofUpdates(b)...), ofTheWireOfUpdates()...)
 	for _, step := range steps {
 		b.Run(step.name, func(b *testing.B) { repeat(b, step.call) })
 	}
@@ -226,6 +226,29 @@ func (s steps) ofBindings() []step {
 		{"ReadFetched", func() error { return second(osb.ReadFetched(200, object)) }},
 		{"BindingModes", func() error { return second(osb.BindingModes([]byte(sold))) }},
 		{"BindingsRetrievable", func() error { return second(osb.BindingsRetrievable([]byte(sold), hashID("a0"))) }},
+	}
+}
+
+func ofTheWireOfUpdates() []step {
+	version, usable := "2.1.1+abcdef", true
+	catalogue, of, small := []byte(sold), hashID("a0"), hashID("b1")
+	patch := []byte(`{"service_id":"a0","plan_id":"b1","parameters":{"size":1},"x-osb-update":1}`)
+	texts := osb.InstanceTexts{Service: "a0", Plan: "b1", Parameters: []byte(`{"size":1}`), Version: &version, Number: 1}
+	failed := osb.Answer{Status: 200, Body: osb.BodyFailed}
+	return []step{
+		{"ReceiveUpdateRequest", func() error { return second(osb.ReceiveUpdateRequest("", 1000, "PATCH", target, patch)) }},
+		{"UpdateRefusalBody", func() error { return second(osb.UpdateRefusalBody(osb.ErrRefusedNumber)) }},
+		{"WriteSuccess", func() error { return second(osb.WriteSuccess(202, &version, nil, nil)) }},
+		{"WriteFailure", func() error { return second(osb.WriteFailure(failed, nil, &usable, &usable)) }},
+		{"WriteFetchedInstance", func() error { return second(osb.WriteFetchedInstance(texts)) }},
+		{"ReadPlanUpdates", func() error { return second(osb.ReadPlanUpdates(catalogue, of, small)) }},
+		{"NumbersUpdates", func() error { return second(osb.NumbersUpdates(catalogue)) }},
+		{"UpdateFlagsAreSound", func() error { return second(osb.UpdateFlagsAreSound(catalogue)) }},
+		{"ServedUpdates", func() error { return second(osb.ServedUpdates(catalogue)) }},
+		{"UpdateAllowed", func() error {
+			return second(osb.UpdateAllowed(catalogue, of, small, small, &version, osb.ModeSync))
+		}},
+		{"VersionDigest", func() error { return second(osb.VersionDigest(version)) }},
 	}
 }
 

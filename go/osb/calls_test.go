@@ -51,6 +51,23 @@ func (a arguments) idIf(column string) (osb.ID, bool) {
 	return a.id(column), true
 }
 
+// rawIf is JSON that may be missing.
+func (a arguments) rawIf(column string) json.RawMessage {
+	if a.cells[column] == nil {
+		return nil
+	}
+	return json.RawMessage(a.bytes(column))
+}
+
+// flagIf is a flag that may be missing.
+func (a arguments) flagIf(column string) *bool {
+	if a.cells[column] == nil {
+		return nil
+	}
+	is := a.flag(column)
+	return &is
+}
+
 func (a arguments) kind() osb.Kind { return osb.Kind(a.enum("kind", kindNames)) }
 
 func (a arguments) state() osb.State { return osb.State(a.enum("state", stateNames)) }
@@ -218,6 +235,42 @@ func requestResults(t *testing.T, it osb.Asked, id, service, plan string) result
 	}
 	equal(t, "what is asked", it, wanted)
 	return results{text(it.Kind.String()), word(it.AcceptsIncomplete)}
+}
+
+// updateAskedResults are those of what an Update or a Fetch asks. The ids are the numbers of their texts, and what
+// doesn't count is zero.
+func updateAskedResults(t *testing.T, it osb.UpdateReceived) results {
+	t.Helper()
+	given := it.Asked.Update
+	wanted := osb.UpdateAsked{IsFetch: it.Asked.IsFetch, ID: idOf(it.Names.Instance)}
+	named := osb.Change{HasPlan: it.Names.Plan != ""}
+	if named.HasPlan {
+		named.Plan = idOf(it.Names.Plan)
+	}
+	if wanted.IsFetch {
+		wanted.HasService, wanted.HasPlan, wanted.Plan = it.Names.Service != "", named.HasPlan, named.Plan
+		if wanted.HasService {
+			wanted.Service = idOf(it.Names.Service)
+		}
+	} else {
+		wanted.Update = given
+		wanted.Update.Service = idOf(it.Names.Service)
+		wanted.Update.Change.Plan, wanted.Update.Change.HasPlan = named.Plan, named.HasPlan
+	}
+	equal(t, "what is asked", it.Asked, wanted)
+	return results{
+		word(it.Asked.IsFetch), word(given.AcceptsIncomplete), text(strconv.FormatUint(given.Number, 10)),
+		digestIf(given.Change.HasParameters, given.Change.Parameters),
+		digestIf(given.Change.HasVersion, given.Change.Version),
+	}
+}
+
+// digestIf is a digest that may be missing.
+func digestIf(isThere bool, digest osb.Digest) *string {
+	if !isThere {
+		return nil
+	}
+	return text(hex.EncodeToString(digest[:]))
 }
 
 // calls are those of the cases, by their names.
@@ -408,6 +461,71 @@ var calls = map[string]func(arguments) (results, error){
 	"bindings_retrievable": func(a arguments) (results, error) {
 		is, err := osb.BindingsRetrievable(a.bytes("document"), a.id("service"))
 		return results{word(is)}, err
+	},
+	"receive_update_request": func(a arguments) (results, error) {
+		it, err := osb.ReceiveUpdateRequest(
+			a.text("prefix"), a.number("longest_body"), a.text("method"), a.text("target"), a.bytes("body"))
+		if err != nil {
+			return unset(a.t, it, osb.UpdateReceived{}), err
+		}
+		return append(updateAskedResults(a.t, it), &it.Names.Instance, nonempty(it.Names.Service),
+			nonempty(it.Names.Plan), raw(it.Parts.Parameters), it.Parts.Version, raw(it.Parts.Context),
+			raw(it.Parts.PreviousValues)), nil
+	},
+	"update_refusal_status": func(a arguments) (results, error) {
+		return results{text(strconv.Itoa(int(osb.UpdateRefusalStatus(a.refusal()))))}, nil
+	},
+	"update_refusal_body": func(a arguments) (results, error) {
+		body, err := osb.UpdateRefusalBody(a.refusal())
+		if err != nil {
+			return nil, err
+		}
+		return results{text(errorIn(a.t, body))}, nil
+	},
+	"write_success": func(a arguments) (results, error) {
+		return one(osb.WriteSuccess(
+			uint16(a.number("status")), a.cells["operation"], a.cells["dashboard_url"], a.rawIf("metadata")))
+	},
+	"write_failure": func(a arguments) (results, error) {
+		return one(osb.WriteFailure(a.answer(), a.cells["description"], a.flagIf("usable"), a.flagIf("repeatable")))
+	},
+	"write_fetched": func(a arguments) (results, error) {
+		return one(osb.WriteFetchedInstance(osb.InstanceTexts{
+			Service: a.text("service"), Plan: a.text("plan"), Parameters: a.rawIf("parameters"),
+			Version: a.cells["version"], DashboardURL: a.cells["dashboard_url"], Metadata: a.rawIf("metadata"),
+			Number: unsignedOf(a.t, a.text("number")),
+		}))
+	},
+	"plan_updates": func(a arguments) (results, error) {
+		it, err := osb.ReadPlanUpdates(a.bytes("document"), a.id("service"), a.id("plan"))
+		found := results{
+			word(it.IsSold), word(it.Updateable), word(it.Retrievable), wordIf(it.Asynchronous), it.Version, nil,
+		}
+		if it.LongestPoll != nil {
+			found[5] = text(strconv.FormatUint(*it.LongestPoll, 10))
+		}
+		return found, err
+	},
+	"numbers_updates": func(a arguments) (results, error) {
+		numbers, err := osb.NumbersUpdates(a.bytes("document"))
+		return results{word(numbers)}, err
+	},
+	"update_flags_are_sound": func(a arguments) (results, error) {
+		sound, err := osb.UpdateFlagsAreSound(a.bytes("document"))
+		return results{word(sound)}, err
+	},
+	"served_updates": func(a arguments) (results, error) { return one(osb.ServedUpdates(a.bytes("document"))) },
+	"update_allowed": func(a arguments) (results, error) {
+		allowed, err := osb.UpdateAllowed(a.bytes("document"), a.id("service"), a.id("held"), a.id("asked"),
+			a.cells["version"], osb.Mode(a.enum("otherwise", modeNames)))
+		if err != nil {
+			return unset(a.t, allowed, osb.Allowed(0)), err
+		}
+		return results{text(allowed.String())}, nil
+	},
+	"version_digest": func(a arguments) (results, error) {
+		digest, err := osb.VersionDigest(a.text("version"))
+		return results{text(hex.EncodeToString(digest[:]))}, err
 	},
 }
 
