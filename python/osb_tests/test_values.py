@@ -20,6 +20,7 @@ from osb import (
     UpdateHolding,
     UpdateWork,
     _crossing,
+    update_wire,
 )
 from osb.enums import Allowed, Body, Kind, Mode, Phase, State, Status, UpdateOutcome, UpdatePhase
 from osb_tests.support import ASYNC, ONE, SERVICE, SYNC, TWO, request, status_of
@@ -109,6 +110,8 @@ def test_number_of_an_update(number: int) -> None:
         UpdateHolding(SET, number).to_text()
     with pytest.raises(ValueError):
         UpdateHolding(SET).begin(Holding.NONE, Allowed.SYNC, Update(SERVICE, Change(), number))
+    with pytest.raises(ValueError):
+        update_wire.write_fetched("service", "plan", number, parameters=None)
 
 
 @pytest.mark.parametrize(
