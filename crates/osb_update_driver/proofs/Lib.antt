@@ -1,0 +1,13 @@
+pub mod Always
+pub mod Ends
+pub mod Example
+pub mod Kept
+pub mod Moves
+pub mod Own
+pub mod Owned
+pub mod Owns
+pub mod Places
+pub mod Requests
+pub mod Rows
+pub mod Told
+pub mod Transactions

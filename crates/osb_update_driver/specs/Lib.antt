@@ -1,0 +1,4 @@
+pub mod Driver
+pub mod Rows
+pub mod Worker
+pub mod World
