@@ -509,8 +509,8 @@ func (o *Orders) Remove(ctx context.Context, key Key, withBindings bool) (Entry,
 
 // Retry has a deletion sent again that hangs in cleaning-polling, and every other step that is due later done at once.
 //
-// Errors: a Rejection if the key is unknown, if nothing is to be done for it, or if it is unsettled, so that somebody
-// has to decide; those of the Store.
+// Errors: a Rejection if the key is unknown, if nothing is to be done for it, if a request is in flight, if its record
+// doesn't allow that, or if it is unsettled, so that somebody has to decide; those of the Store.
 func (o *Orders) Retry(ctx context.Context, key Key) (Entry, error) {
 	return o.change(ctx, key, func(now time.Time, snapshot Snapshot) (*Change, error) {
 		e := snapshot.Entry
@@ -519,7 +519,7 @@ func (o *Orders) Retry(ctx context.Context, key Key) (Entry, error) {
 			return nil, reject(Conflict, "%s is unsettled: its creation has failed, and the broker may hold it. Nothing "+
 				"is sent until somebody decides: ask the broker for its last operation, and then remove it or abandon it",
 				describe(e))
-		case e.Rests() || e.State == Abandoned: // which a binding that is withdrawn has woken
+		case e.Rests() || e.isOver(): // a binding that is withdrawn has woken it
 			return nil, reject(Conflict, "%s is %s: nothing is to be done for it", describe(e), e.State)
 		case now.Before(e.Lease.Until): // a last deletion is in no record
 			return nil, reject(Conflict, "a request of %s is in flight: try again later", describe(e))
@@ -581,7 +581,7 @@ func (o *Orders) Abandon(ctx context.Context, key Key, because string) (Entry, e
 	return o.change(ctx, key, func(now time.Time, snapshot Snapshot) (*Change, error) {
 		e := snapshot.Entry
 		switch {
-		case e.State == Gone && !e.HasLast, e.State == Withdrawn, e.State == Abandoned:
+		case e.isOver():
 			return nil, reject(Conflict, "%s is %s already", describe(e), e.State)
 		case !e.IsSent:
 			return nil, reject(Conflict, "%s wasn't sent yet: remove it", describe(e))

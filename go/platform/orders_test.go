@@ -321,6 +321,8 @@ func TestRetry(t *testing.T) {
 		{inFlight(rowIn(anInstance, CleaningPolling)), ""}, {inFlight(rowIn(anInstance, Wanted)), ""},
 		{with(rowIn(anInstance, Ready), func(e *Entry) { e.Due = time.Time{} }), ""},
 		{with(rowIn(anInstance, Unsettled), func(e *Entry) { e.Due = time.Time{} }), ""},
+		{with(rowIn(anInstance, Gone), wake), ""}, {with(rowIn(anInstance, Withdrawn), wake), ""},
+		{with(rowIn(anInstance, Abandoned), wake), ""},
 	} {
 		t.Run(string(test.row.State)+" to "+string(test.want), func(t *testing.T) {
 			d := newDesk(t)
@@ -345,6 +347,9 @@ func TestRetry(t *testing.T) {
 		})
 	}
 }
+
+// wake has a row be due, as that of an instance is whose binding is withdrawn.
+func wake(e *Entry) { e.Due = at(500) }
 
 // A request whose lease has run out is given up by a retry.
 func TestRetryAfterCrash(t *testing.T) {

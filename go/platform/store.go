@@ -333,8 +333,9 @@ type Entry struct {
 	DueSince  time.Time
 	Unchanged int // how many requests in turn have changed nothing
 	Lease     Lease
-	// Number is that of the driver whose request was the latest (osb.PlatformDriver), or that of the latest last
-	// deletion. It is zero before, and if version 0.2 has written the row last.
+	// Number is that of the driver whose request was the latest (osb.PlatformDriver), that of the latest last deletion,
+	// or one that neither has, since an operator has retried or abandoned the row. It is zero before, and if version 0.2
+	// has written the row last.
 	Number osb.ID
 
 	Last    Reason // what was said last
@@ -394,6 +395,11 @@ var (
 
 // Rests reports whether nothing is to be done for a row until somebody asks.
 func (e Entry) Rests() bool { return e.Due.IsZero() }
+
+// isOver reports whether nothing is sent for the row any more.
+func (e Entry) isOver() bool {
+	return e.State == Withdrawn || e.State == Abandoned || e.State == Gone && !e.HasLast
+}
 
 // A Stay is a state that a row was in, and since when.
 type Stay struct {
