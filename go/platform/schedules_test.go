@@ -150,7 +150,7 @@ func (s *simulation) begin(word string) {
 func newSimulation(of scenario) *simulation {
 	s := &simulation{
 		scenario: of, seller: newSeller(), numbers: map[osb.ID]string{}, sent: map[osb.ID]bool{},
-		had: map[Key]map[State]bool{},
+		had: map[Key]map[State]bool{}, abandoned: map[Key]osb.ID{},
 	}
 	s.Scheduler, s.store = schedule.New(s), newMemory(s.now)
 	s.store.brokers["shelf"] = Broker{
@@ -162,6 +162,7 @@ func newSimulation(of scenario) *simulation {
 		for key, e := range begun.store.rows {
 			s.store.rows[key], s.numbers[e.Number] = e, ""
 		}
+		fill(s.sent, begun.sent)
 		s.seller.made = begun.seller.made
 		fill(s.seller.holdings, begun.seller.holdings)
 		fill(s.seller.requests, begun.seller.requests)
@@ -173,7 +174,7 @@ func newSimulation(of scenario) *simulation {
 	return s
 }
 
-func fill[V any](to, from map[Key]V) {
+func fill[K comparable, V any](to, from map[K]V) {
 	for key, value := range from {
 		to[key] = value
 	}

@@ -32,7 +32,8 @@ import (
 // judgeSending is called when a request is sent.
 func (r *runner) judgeSending(out Outgoing) {
 	e, number, now := r.store.rows[out.Entry.Key], out.Entry.Number, r.now()
-	kind, isFetch, isLast, isAbandoned := out.Request.Kind, out.IsFetch, out.Entry.State == Gone, e.Because != ""
+	kind, isFetch, isLast := out.Request.Kind, out.IsFetch, out.Entry.State == Gone
+	isAbandoned := e.Because != "" && number == r.abandoned[e.Key]
 	instance := r.store.rows[osb.InstanceKey(e.Key.Instance)]
 	switch {
 	case !isAbandoned && e.Number != number:
@@ -66,6 +67,9 @@ func (s *simulation) judgeCommit(of *runner, before, after Entry) {
 	if isEvent {
 		events = s.eventsOf(of, before, after)
 	}
+	if before.Because == "" && after.Because != "" {
+		s.abandoned[after.Key] = before.Number
+	}
 	switch {
 	case after.Number != before.Number && isUsed:
 		s.Fail("%d writes the number of %s", of.Number, owner)
@@ -73,6 +77,8 @@ func (s *simulation) judgeCommit(of *runner, before, after Entry) {
 		s.Fail("%d has a request in flight, and doesn't write a number", of.Number)
 	case isNew && after.Lease.Worker != of.worker():
 		s.Fail("%d has a request in flight, and no lease", of.Number)
+	case before.Because != "" && after.Lease.Worker != "":
+		s.Fail("%d claims what is abandoned", of.Number)
 	case isFinal && after.State != before.State:
 		s.Fail("%d writes %s over %s", of.Number, after.State, before.State)
 	case after.State == Gone && !isFinal && s.scenario.hold > 0 && !after.HasLast:

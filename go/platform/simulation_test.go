@@ -30,6 +30,8 @@ type simulation struct {
 	sent     map[osb.ID]bool        // the numbers whose requests were sent
 	had      map[Key]map[State]bool // the states that each row has had
 	walk     *walk                  // that it writes, or nil
+
+	abandoned map[Key]osb.ID // the number that each row had when it was abandoned
 }
 
 // A runner is a process that does something: that of a worker, or that of an operator's command.
@@ -500,7 +502,7 @@ func (s *simulation) words(as *runner, e Entry) string {
 	}
 	return fmt.Sprint(e.Key.IsBinding, e.Key.ID(), e.IsSent, e.Record.State(), e.Record.InFlight(), e.Record.Attempt(),
 		e.State, times, textOf(e.Operation), e.Removal, e.HasLast, e.Unchanged, e.Lease.Worker, number, e.Passing, e.After, e.Try,
-		string(e.Credentials))
+		string(e.Credentials), e.Because != "")
 }
 
 func (s *simulation) rowsWords(rows map[Key]Entry) string {
