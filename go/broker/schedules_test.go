@@ -321,13 +321,13 @@ func TestSchedule(t *testing.T) {
 // ---- the walks
 
 // A simulatedWalk is a walk of a simulation, in the lines of a walk. Its platform sends what the drivers carry out, and
-// takes no answer but a 202, so that it can poll. If a request changes something that no platform sends, the walk isn't
-// written.
+// takes no answer but a 202, so that it can poll. If a request changes something that no platform sends, the walk ends
+// before it.
 type simulatedWalk struct {
 	*platform
-	of       *simulation
-	lines    []string
-	isBroken bool
+	of     *simulation
+	lines  []string
+	isOver bool
 }
 
 func newSimulatedWalk(of scenario) *simulatedWalk {
@@ -343,7 +343,7 @@ func (w *simulatedWalk) copied() *simulatedWalk {
 		return nil
 	}
 	platform, instance := *w.platform, *w.instance
-	it := &simulatedWalk{platform: &platform, lines: append([]string(nil), w.lines...), isBroken: w.isBroken}
+	it := &simulatedWalk{platform: &platform, lines: append([]string(nil), w.lines...), isOver: w.isOver}
 	platform.network, platform.instance, platform.bindings = it, &instance, nil
 	for _, binding := range w.bindings {
 		life := *binding
@@ -387,7 +387,7 @@ func (w *simulatedWalk) happened(key broker.Key, event string, of *runner) {
 		}
 		number := w.attempt(key, kind)
 		if number == 0 {
-			w.isBroken = w.isBroken || !strings.HasSuffix(w.lines[len(w.lines)-1], ": "+w.lives())
+			w.isOver = w.isOver || !strings.HasSuffix(w.lines[len(w.lines)-1], ": "+w.lives())
 			return
 		}
 		event += fmt.Sprint(" ", number)
@@ -402,6 +402,9 @@ func (w *simulatedWalk) happened(key broker.Key, event string, of *runner) {
 }
 
 func (w *simulatedWalk) line(event, what string) {
+	if w.isOver {
+		return
+	}
 	w.lines = append(w.lines, walks.Line(event, what, w.lives()))
 }
 
@@ -454,7 +457,7 @@ func (w *simulatedWalk) send(task broker.Visit) {
 }
 
 func (w *simulatedWalk) write(to *walks.Writer) {
-	if w != nil && !w.isBroken {
+	if w != nil {
 		to.Write(w.lines)
 	}
 }

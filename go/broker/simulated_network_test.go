@@ -25,8 +25,8 @@ import (
 //   - Without a fault each driver ends without an error.
 //   - In the end, one sweep finishes all that is unfinished, and after one removal nothing exists.
 //
-// These are checked in Go after each step. A sample is compared with the model itself: TestRandomSchedules writes down
-// the events, and checks/go has the proved crate service_cases step them. What the platform records isn't checked: it
+// These are checked in Go after each step. Besides, TestEverySchedule and TestRandomSchedules write the events down, and
+// checks/go has the proved crate service_cases step them. What the platform records isn't checked: it
 // follows by the theorem of osb_network.
 
 // arrival is what the network does with the request of a runner that arrives at this holding.
