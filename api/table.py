@@ -93,8 +93,10 @@ STATUS = Enum(
         "refused with 400: the instance's id isn't UTF-8 of 1 to 255 bytes, or no path can carry it",
     ),
     Value(44, "REFUSED_REPEATED", "refused with 400: a parameter of the query stands twice"),
-    Value(45, "REFUSED_SERVICE", "refused with 400: service_id is missing, or isn't a string of 1 to 255 bytes"),
-    Value(46, "REFUSED_PLAN", "refused with 400: plan_id is missing, or isn't a string of 1 to 255 bytes"),
+    Value(
+        45, "REFUSED_SERVICE", "refused with 400: service_id is needed and missing, or isn't a string of 1 to 255 bytes"
+    ),
+    Value(46, "REFUSED_PLAN", "refused with 400: plan_id is needed and missing, or isn't a string of 1 to 255 bytes"),
     Value(47, "REFUSED_ACCEPTS_INCOMPLETE", "refused with 400: accepts_incomplete is neither true nor false"),
     Value(48, "REFUSED_BODY", "refused with 400: the body isn't UTF-8, isn't JSON, or is no object"),
     Value(49, "REFUSED_ORGANIZATION", "refused with 400: organization_guid is missing, no string, or empty"),
@@ -648,7 +650,7 @@ INTERFACE: list[Part] = [
         "settings",
         Member("struct osb_id plan", "plan_id"),
         Member("uint8_t parameters[32]", "the digest of the parameters"),
-        Member("uint8_t version[32]", "the digest of maintenance_info"),
+        Member("uint8_t version[32]", "the digest of maintenance_info.version"),
         comment="What an instance is set to.",
     ),
     Struct(
@@ -807,7 +809,9 @@ INTERFACE: list[Part] = [
         """Begins with a request to an instance of which an update may be under way, as osb_holding_begin_if does.
         any_held is whether osb_holding_is_held is true of a binding of the instance. If it is, or while an update is
         under way, nothing begins: a Deprovision whose work would be due is answered with 422 ConcurrencyError, and
-        nothing changes. Only `instance` is written.""",
+        nothing changes. Only `instance` is written. If the instance has a row, compare the settings that a Provision
+        asks for first, and answer it without this call if docs/c.md says so: the table of the instance doesn't know
+        what an update has left.""",
         "OSB_DONE, OSB_BAD_HOLDING (holding or instance), OSB_BAD_MODE, OSB_BAD_KIND.",
     ),
     Call(
@@ -1458,7 +1462,7 @@ INTERFACE: list[Part] = [
     ),
     Struct(
         "update_received",
-        Member("bool has_service, has_plan", "only a Fetch may lack its service"),
+        Member("bool has_service, has_plan", "either may lack its plan, and a Fetch its service"),
         Member("bool has_parameters, has_version", "whether an Update names them"),
         Member("bool has_context, has_previous_values", "whether the body of an Update has them"),
         Member("size_t instance, service, plan", "the length of the text of each id"),
@@ -1517,7 +1521,7 @@ INTERFACE: list[Part] = [
         """Writes the body of a 200 to a Fetch of an instance: an object of the texts of its ids, and of the parameters,
         the version of maintenance_info, dashboard_url and metadata, each if its has_ is true, and of the number that
         osb_update_fetch gave, unless it is 0. Parameters and metadata are texts of JSON, and are left out if they
-        aren't. Without parameters a platform takes no settings from the answer: for none give {}.""",
+        aren't. If there are none, pass {}: from an answer without parameters a platform takes no settings.""",
         "OSB_DONE, OSB_NOT_UTF8 (the text of an id, or a text that counts), OSB_TOO_SMALL, OSB_MEMORY.",
     ),
     Struct(
@@ -1530,7 +1534,7 @@ INTERFACE: list[Part] = [
         Member("uint64_t longest_poll", "maximum_polling_duration, in seconds"),
         Member("size_t version", "the length of maintenance_info.version"),
         comment="""What a catalogue says of a plan's updates. A member counts if its has_ is true, and is false or 0
-        otherwise. Of a plan that isn't sold all are.""",
+        otherwise. If the plan isn't sold, all members are false or 0.""",
         has_lengths=True,
     ),
     Call(

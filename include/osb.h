@@ -92,8 +92,8 @@ enum osb_status {
     OSB_REFUSED_LENGTH = 42,             /* refused with 413: the body is too long */
     OSB_REFUSED_INSTANCE = 43,           /* refused with 400: the instance's id isn't UTF-8 of 1 to 255 bytes, or no path can carry it */
     OSB_REFUSED_REPEATED = 44,           /* refused with 400: a parameter of the query stands twice */
-    OSB_REFUSED_SERVICE = 45,            /* refused with 400: service_id is missing, or isn't a string of 1 to 255 bytes */
-    OSB_REFUSED_PLAN = 46,               /* refused with 400: plan_id is missing, or isn't a string of 1 to 255 bytes */
+    OSB_REFUSED_SERVICE = 45,            /* refused with 400: service_id is needed and missing, or isn't a string of 1 to 255 bytes */
+    OSB_REFUSED_PLAN = 46,               /* refused with 400: plan_id is needed and missing, or isn't a string of 1 to 255 bytes */
     OSB_REFUSED_ACCEPTS_INCOMPLETE = 47, /* refused with 400: accepts_incomplete is neither true nor false */
     OSB_REFUSED_BODY = 48,               /* refused with 400: the body isn't UTF-8, isn't JSON, or is no object */
     OSB_REFUSED_ORGANIZATION = 49,       /* refused with 400: organization_guid is missing, no string, or empty */
@@ -518,7 +518,7 @@ uint32_t osb_binding_fetch(const struct osb_holding *holding, struct osb_answer 
 struct osb_settings {
     struct osb_id plan;     /* plan_id */
     uint8_t parameters[32]; /* the digest of the parameters */
-    uint8_t version[32];    /* the digest of maintenance_info */
+    uint8_t version[32];    /* the digest of maintenance_info.version */
 };
 
 /* The settings that an Update names. What it doesn't name stays. */
@@ -659,7 +659,8 @@ uint32_t osb_update_fetch(const struct osb_update_holding *holding, const struct
 /* Begins with a request to an instance of which an update may be under way, as osb_holding_begin_if does. any_held is
  * whether osb_holding_is_held is true of a binding of the instance. If it is, or while an update is under way, nothing
  * begins: a Deprovision whose work would be due is answered with 422 ConcurrencyError, and nothing changes. Only
- * `instance` is written.
+ * `instance` is written. If the instance has a row, compare the settings that a Provision asks for first, and answer it
+ * without this call if docs/c.md says so: the table of the instance doesn't know what an update has left.
  * OSB_DONE, OSB_BAD_HOLDING (holding or instance), OSB_BAD_MODE, OSB_BAD_KIND. */
 uint32_t osb_update_begin_instance(const struct osb_update_holding *holding, struct osb_holding *instance, uint8_t mode,
                                    bool first_poll, const struct osb_request *request, const uint8_t attributes[32],
@@ -1245,7 +1246,7 @@ struct osb_update_asked {
  * an Update's body, in this order. The version is that of maintenance_info, without quotes. A text that isn't there has
  * the length 0. */
 struct osb_update_received {
-    bool has_service, has_plan;                           /* only a Fetch may lack its service */
+    bool has_service, has_plan;                           /* either may lack its plan, and a Fetch its service */
     bool has_parameters, has_version;                     /* whether an Update names them */
     bool has_context, has_previous_values;                /* whether the body of an Update has them */
     size_t instance, service, plan;                       /* the length of the text of each id */
@@ -1292,8 +1293,8 @@ uint32_t osb_write_failure(struct osb_answer answer, bool has_description, const
 
 /* Writes the body of a 200 to a Fetch of an instance: an object of the texts of its ids, and of the parameters, the
  * version of maintenance_info, dashboard_url and metadata, each if its has_ is true, and of the number that
- * osb_update_fetch gave, unless it is 0. Parameters and metadata are texts of JSON, and are left out if they aren't.
- * Without parameters a platform takes no settings from the answer: for none give {}.
+ * osb_update_fetch gave, unless it is 0. Parameters and metadata are texts of JSON, and are left out if they aren't. If
+ * there are none, pass {}: from an answer without parameters a platform takes no settings.
  * OSB_DONE, OSB_NOT_UTF8 (the text of an id, or a text that counts), OSB_TOO_SMALL, OSB_MEMORY. */
 uint32_t osb_write_fetched(const uint8_t *service, size_t service_length, const uint8_t *plan, size_t plan_length,
                            bool has_parameters, const uint8_t *parameters, size_t parameters_length, bool has_version,
@@ -1302,8 +1303,8 @@ uint32_t osb_write_fetched(const uint8_t *service, size_t service_length, const 
                            const uint8_t *metadata, size_t metadata_length, uint64_t number, uint8_t *buffer,
                            size_t bytes, size_t *needed);
 
-/* What a catalogue says of a plan's updates. A member counts if its has_ is true, and is false or 0 otherwise. Of a
- * plan that isn't sold all are. */
+/* What a catalogue says of a plan's updates. A member counts if its has_ is true, and is false or 0 otherwise. If the
+ * plan isn't sold, all members are false or 0. */
 struct osb_plan_updates {
     bool is_sold;                        /* whether the catalogue sells the plan */
     bool updateable;                     /* whether an instance of the plan can be changed to another plan */

@@ -80,9 +80,9 @@ const (
 	ErrRefusedInstance Status = C.OSB_REFUSED_INSTANCE
 	// Refused with 400: a parameter of the query stands twice.
 	ErrRefusedRepeated Status = C.OSB_REFUSED_REPEATED
-	// Refused with 400: service_id is missing, or isn't a string of 1 to 255 bytes.
+	// Refused with 400: service_id is needed and missing, or isn't a string of 1 to 255 bytes.
 	ErrRefusedService Status = C.OSB_REFUSED_SERVICE
-	// Refused with 400: plan_id is missing, or isn't a string of 1 to 255 bytes.
+	// Refused with 400: plan_id is needed and missing, or isn't a string of 1 to 255 bytes.
 	ErrRefusedPlan Status = C.OSB_REFUSED_PLAN
 	// Refused with 400: accepts_incomplete is neither true nor false.
 	ErrRefusedAcceptsIncomplete Status = C.OSB_REFUSED_ACCEPTS_INCOMPLETE
@@ -211,8 +211,8 @@ var meanings = map[Status]string{
 	ErrRefusedLength:            "refused with 413: the body is too long",
 	ErrRefusedInstance:          "refused with 400: the instance's id isn't UTF-8 of 1 to 255 bytes, or no path can carry it",
 	ErrRefusedRepeated:          "refused with 400: a parameter of the query stands twice",
-	ErrRefusedService:           "refused with 400: service_id is missing, or isn't a string of 1 to 255 bytes",
-	ErrRefusedPlan:              "refused with 400: plan_id is missing, or isn't a string of 1 to 255 bytes",
+	ErrRefusedService:           "refused with 400: service_id is needed and missing, or isn't a string of 1 to 255 bytes",
+	ErrRefusedPlan:              "refused with 400: plan_id is needed and missing, or isn't a string of 1 to 255 bytes",
 	ErrRefusedAcceptsIncomplete: "refused with 400: accepts_incomplete is neither true nor false",
 	ErrRefusedBody:              "refused with 400: the body isn't UTF-8, isn't JSON, or is no object",
 	ErrRefusedOrganization:      "refused with 400: organization_guid is missing, no string, or empty",

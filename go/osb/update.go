@@ -17,7 +17,7 @@ import "database/sql/driver"
 type Settings struct {
 	Plan       ID     // plan_id
 	Parameters Digest // the digest of the parameters
-	Version    Digest // the digest of maintenance_info
+	Version    Digest // the digest of maintenance_info.version
 }
 
 // A Change is the settings that an Update names. What it doesn't name stays. The zero Change names none.
@@ -193,7 +193,8 @@ func (u UpdateHolding) Fetch(instance Holding) (UpdateFetched, error) {
 // BeginInstance begins with a request to an instance of which an update may be under way, as Holding.BeginIf does.
 // anyHeld is whether IsHeld is true of a binding of the instance. If it is, or while an update is under way, nothing
 // begins: a Deprovision whose work would be due is answered with 422 ConcurrencyError, and nothing changes. The result
-// is the next holding of the instance, or with an error the one as it was.
+// is the next holding of the instance, or with an error the one as it was. If the instance has a row, compare the
+// settings that a Provision asks for first (docs/c.md).
 //
 // Errors: ErrBadHolding, ErrBadMode, ErrBadKind.
 func (u UpdateHolding) BeginInstance(

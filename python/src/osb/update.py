@@ -180,7 +180,8 @@ class UpdateHolding:
         """Begins with a request to an instance of which an update may be under way, as `Holding.begin_if` does.
         `any_held` is whether `is_held` is true of a binding of the instance. If it is, or while an update is under way,
         nothing begins: a Deprovision whose work would be due is answered with 422 `ConcurrencyError`, and nothing
-        changes. Gives the next holding of the instance.
+        changes. Gives the next holding of the instance. If the instance has a row, compare the settings that a
+        Provision asks for first (docs/c.md).
         """
         after, begun = holding_to(instance), CBegun()
         digest, asked = bytes(digest_to(attributes)), request_to(request)

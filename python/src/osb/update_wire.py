@@ -144,8 +144,8 @@ def write_fetched(
     """The body of a 200 to a Fetch of an instance: an object of the texts of its ids, of the number of `osb.Found`,
     unless it is 0, and of what else is given (section Fetching a Service Instance; the number is this project's
     choice). Parameters and metadata are texts of JSON, and are left out if they aren't. Without parameters a platform
-    takes no settings from the answer: for none give `{}`. Raises NOT_UTF8, and ValueError if the number isn't from 0 to
-    2^64 - 1.
+    takes no settings from the answer, so pass `{}` if there are none. Raises NOT_UTF8, and ValueError if the number
+    isn't from 0 to 2^64 - 1.
     """
     given = _given(parameters, version, dashboard_url, metadata)
     return text_of(lib.osb_write_fetched, *with_lengths(service, plan), *given, number_to(number))
