@@ -107,7 +107,7 @@ type Failure struct {
 	//	step_failed         nothing could be decided about a row; it is looked at again
 	//	answer_not_written  a request was sent, and its answer wasn't written: the lease runs out, and it is given up
 	//	lease_lost          another worker had given up the request before its answer arrived, or an operator had
-	//	                    abandoned the row
+	//	                    retried or abandoned the row
 	//	credentials_lost    the credentials of a binding couldn't be sealed; the binding isn't recorded ready
 	//	broker_unreached    the catalogue of a broker couldn't be fetched; reported once for each reason
 	//	other_store         a broker names another store than the one that is recorded: nothing is sent until that ends

@@ -12,7 +12,7 @@ var metricTable = map[string]struct {
 	"osb_platform_request_seconds":          {"A histogram of the time to an answer.", []string{"kind"}},
 	"osb_platform_in_flight":                {"Requests of this worker that aren't answered yet.", nil},
 	"osb_platform_failures_total":           {"Failures, by their event in the log.", []string{"event"}},
-	"osb_platform_leases_lost_total":        {"Requests that ended after another worker had taken the row over, or after you had abandoned the record: the events lease_lost.", nil},
+	"osb_platform_leases_lost_total":        {"Requests that ended after another worker had taken the row over, or after you had retried or abandoned the record: the events lease_lost.", nil},
 	"osb_platform_orphans_total":            {"Answers to last deletions at brokers without tombstones: found or unknown.", []string{"result"}},
 	"osb_platform_log_lines_dropped_total":  {"Lines of the log that were dropped, because nobody has read them.", nil},
 	"osb_platform_journal_lines_lost_total": {"Lines of the journal that couldn't be written.", nil},
