@@ -58,11 +58,6 @@ func (s *Service) drive(ctx context.Context, c *course) error {
 
 // transact is one transaction of a driver.
 func (s *Service) transact(ctx context.Context, driver osb.Driver, c *course) (osb.Driver, error) {
-	if c.visit == nil && driver.Stage() == osb.StageBegin {
-		if after, isOver, err := s.peek(ctx, driver, c); err != nil || isOver {
-			return after, err
-		}
-	}
 	var transaction osb.Transaction
 	var point string
 	isRead := false

@@ -29,9 +29,10 @@ type Service struct {
 	stay      time.Duration // how long a request is kept, if ids return
 	wait      time.Duration // how long a request waits for the lock of its key
 	// poller is the driver of all Polls that need no transaction. It hasn't the lock, so it takes nothing over, and its
-	// number is in no row.
-	poller  osb.Driver
-	numbers *numbers
+	// number is in no row. looker is that of the looks before all take-ups. It is made as if it had the lock, and nothing
+	// of it is written: it only says whether there is anything to do.
+	poller, looker osb.Driver
+	numbers        *numbers
 }
 
 // ServiceOptions are this project's choice (docs/instance.md).
@@ -65,7 +66,7 @@ func NewService(
 		worker:  worker{backend: backend, observer: observer},
 		numbers: newNumbers(),
 	}
-	s.poller = s.newDriver(true, false)
+	s.poller, s.looker = s.newDriver(true, false), s.newDriver(false, true)
 	return s
 }
 
@@ -125,24 +126,24 @@ func (s *Service) Handle(ctx context.Context, visit Visit) (Response, error) {
 // answer answers a request. A Poll that changes nothing waits for nobody, and needs no transaction.
 func (s *Service) answer(ctx context.Context, c *course) error {
 	if c.visit.Asked.Kind == osb.KindPoll {
-		if _, isOver, err := s.peek(ctx, s.poller, c); err != nil || isOver {
+		if isOver, err := s.look(ctx, s.poller, c); err != nil || isOver {
 			return err
 		}
 	}
 	return s.drive(ctx, c)
 }
 
-// peek has a driver read what is committed. If nothing is to be written, and there is nothing more to do than to answer,
-// that counts as a transaction. Otherwise the reading is dropped, as if it had not been: a driver is a value, and reads
-// again in a transaction (docs/agreement.md).
-func (s *Service) peek(ctx context.Context, driver osb.Driver, c *course) (after osb.Driver, isOver bool, err error) {
+// look has a driver read what is committed, and returns whether nothing is to be written, and there is nothing more to do
+// than to answer. Then the reading counts as the transaction of a Poll. Otherwise it is dropped, as if it had not been: a
+// driver is a value, and another one reads again in a transaction (docs/agreement.md).
+func (s *Service) look(ctx context.Context, driver osb.Driver, c *course) (isOver bool, err error) {
 	snapshot, err := s.read(ctx, c.key)
 	if err != nil {
-		return driver, false, err
+		return false, err
 	}
 	transaction, next, err := s.step(driver, snapshot, c)
-	after = transaction.Committed()
-	return after, next == nil && (after.Stage() == osb.StageAnswer || after.Stage() == osb.StageDone), err
+	after := transaction.Committed().Stage()
+	return next == nil && (after == osb.StageAnswer || after == osb.StageDone), err
 }
 
 // tryLock takes the lock of a key if it is free. The observer gets the failure.

@@ -184,10 +184,10 @@ func (t triedLocks) TryLock(_ context.Context, key broker.Key) (broker.Lock, err
 
 // At first all that is unfinished is taken up, and later what was so a sweep ago: newer work has a worker.
 func TestSweeperTakesUpWhatIsOld(t *testing.T) {
-	one, other, third := keyOf("1"), keyOf("2"), keyOf("3")
-	locks, found := make(triedLocks, 20), make(chan []broker.Key)
-	b := newBench(t, newShelf(calm), locks)
-	service := broker.NewService(catalogueFor(t, catalogue), sweptStore{b.store, found}, newShelf(calm), locks,
+	backend, locks, found := &blind{shelf: newShelf(calm)}, make(triedLocks, 20), make(chan []broker.Key)
+	b := newBench(t, backend, newMemoryLocks())
+	one, other, third := b.leave(t, backend, "1"), b.leave(t, backend, "2"), b.leave(t, backend, "3")
+	service := broker.NewService(catalogueFor(t, catalogue), sweptStore{b.store, found}, backend, locks,
 		broker.ServiceOptions{}, b.observed)
 	end := runSweeper(t, broker.NewSweeper(service, b.observed), nil, found)
 	for _, test := range []struct{ found, taken []broker.Key }{

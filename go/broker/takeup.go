@@ -30,9 +30,15 @@ const (
 // takeUp goes on with a key: it does pending work that a dead worker has left, goes on with the operation that runs,
 // and gives up a creation that has waited too long for its first Poll. If somebody else is at the key, it does nothing.
 //
+// It looks first whether there is anything to do, without the lock: what waits for a Poll is unfinished, and each sweep
+// would be a transaction. That says only when a driver is made. What the driver does is decided by its own transaction.
+//
 // Errors: those of the store, the locks and the backend; ErrStillTaken. What isn't done stays as it is, to be taken up
 // again.
 func (s *Service) takeUp(ctx context.Context, key Key) (backendResult, error) {
+	if isOver, err := s.look(ctx, s.looker, &course{key: key}); err != nil || isOver {
+		return backendUnused, err
+	}
 	c := &course{key: key}
 	switch err := s.drive(ctx, c); {
 	case errors.Is(err, ErrNobodyKnows):

@@ -518,19 +518,23 @@ func TestLocksThatFail(t *testing.T) {
 			diff.Equal(t, backend.there(keyOf("one")), broker.None, "")
 		})
 	}
-	w := newWatchedWith(t, newShelf(calm), brokenLocks{newMemoryLocks(), false})
+	locks := &replacedLocks{newMemoryLocks()}
+	w := newWatchedWith(t, &scriptedBackend{made: whole, blindness: errScripted}, locks)
+	diff.Equal(t, w.ask("PUT", instances+"one", bodyOf(now, ""), "a"), http.StatusInternalServerError, "the Provision")
+	w.expect(t, map[string]int{"look": 1})
+	taken := diff.Value(locks.TryLock(context.Background(), keyOf("one")))(t)
+	diff.NoError(t, w.TakeUp(context.Background(), keyOf("one")), "TakeUp of what somebody else works at")
+	taken.Unlock()
+	w.expect(t, map[string]int{})
+	locks.Locks = brokenLocks{newMemoryLocks(), false}
 	for round := 0; round < 2; round++ {
 		diff.ErrorIs(t, w.TakeUp(context.Background(), keyOf("one")), errScripted, "TakeUp")
 	}
 	w.expect(t, map[string]int{"lock": 2})
-
-	locks := newMemoryLocks()
-	w = newWatchedWith(t, newShelf(calm), locks)
-	taken := diff.Value(locks.TryLock(context.Background(), keyOf("one")))(t)
-	defer taken.Unlock()
-	diff.NoError(t, w.TakeUp(context.Background(), keyOf("one")), "TakeUp")
-	w.expect(t, map[string]int{})
 }
+
+// replacedLocks are other locks once a test says so.
+type replacedLocks struct{ broker.Locks }
 
 // pathOf is the path of a key of the tests above.
 func pathOf(key broker.Key) string {
