@@ -33,7 +33,7 @@ from audit.journals import (
 from osb_audit.broker_side import ALTERED, FAILED, FOREIGN, UNCOMPARED, UNRECORDED
 from osb_audit.events import Story
 from osb_audit.lines import Position, read
-from osb_audit.platform_side import BRIDGED, LATE
+from osb_audit.platform_side import BRIDGED, LATE, NOT_COME
 from osb_audit.settings import settings_in
 from osb_audit.story import story
 
@@ -633,6 +633,17 @@ def test_creations_with_other_attributes() -> None:
     asks = "B arrive 2 x provision attributes=5; B answer 2 409 other-error; B arrive 3 r1 provision attributes=6; "
     found = story_of(Journal().tell(f"{CREATED}; {asks}; B answer 3 409 other-error"))
     assert (found.stop, found.notes) == (None, {FOREIGN: 1, ALTERED: 1})
+
+
+def test_fetches_that_differ() -> None:
+    """A Fetch that is answered though the creation has failed, and one that got no answer and is named as an answer."""
+    of_broker = started(False, "async", True, True)
+    failed = ASYNC_BIND.replace("B change 0 ready @c1", "B change 0 failed effect=finish_fail")
+    answered = f"{failed}B arrive 4 b3 fetch of binding; B answer 4 200 of binding"
+    lost = f"{ASYNC_BIND}P lose b3 of binding; P take 2 polling/2 effect=take of binding"
+    for lines, why in ((answered, "the answer isn't the tables'"), (lost, NOT_COME)):
+        stop = story_of(Journal(of_broker=of_broker).tell(lines)).stop
+        assert stop is not None and (stop.is_difference, stop.why) == (True, why), stop
 
 
 def test_another_plan_after_the_first_poll() -> None:

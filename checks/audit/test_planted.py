@@ -109,7 +109,7 @@ SLIPS = {
         {"side": "broker", "event": "changed", "after": ""},
         "",
         UNNAMED,
-        "arrive",
+        "an event",
         "-",
     ),
 }

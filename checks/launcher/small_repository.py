@@ -21,6 +21,7 @@ osb_c_instance: osb_world
 osb_c_binding: osb_c_instance
 osb_c_update: osb_c_instance
 osb_c_driver: osb_c_binding
+osb_c_update_driver: osb_c_driver
 osb_c_platform_driver: osb_c_instance
 osb_c_wire: osb_world
 osb_c_binding_wire: osb_c_wire

@@ -189,7 +189,7 @@ def test_library_is_built_if_its_sources_differ(repository: Repository) -> None:
     assert (run.returncode, run.stdout) == (0, "") and "was built from other sources" in run.stderr
     libraries = """
         osb_c osb_c_binding osb_c_binding_wire osb_c_driver osb_c_instance osb_c_platform_driver osb_c_update
-        osb_c_update_wire osb_c_wire
+        osb_c_update_driver osb_c_update_wire osb_c_wire
     """.split()
     assert sorted(repository.builds()) == [*libraries, "osb_world"]
     assert (repository.folder / "there" / "libosb.so.0").read_text() == "built\n"

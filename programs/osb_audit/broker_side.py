@@ -1,13 +1,13 @@
 """Which events the lines of a broker are."""
 from __future__ import annotations
 
-from osb_audit import naming, rules
+from osb_audit import naming, rules, unnamed
 from osb_audit.calls import Calls
 from osb_audit.events import ANSWER, CREDENTIALS, PHASE, TOMBSTONE, WORK, Wanted, shown
-from osb_audit.lines import Line
+from osb_audit.lines import CHANGES, Line
 from osb_audit.lives import Life, Visit
 from osb_audit.rules import Asked, Held, Said
-from osb_audit.walk import Known, differs, unjudged
+from osb_audit.walk import NAMED, Known, differs, unjudged
 
 FAILED = "requests that a broker answered 5xx and didn't carry out: judged as lost, and as answered by a gateway"
 FOREIGN = "requests that no journal of a platform has: judged by the tables alone"
@@ -83,7 +83,7 @@ class BrokerSide:
             assert visit.answered is not None
             name = "put-off" if self._is_put_off(visit, life) else "arrive"
             if "saw" in visit.answered.of and not visit.is_failed or "effect" in visit.answered.of:
-                self.known.named(visit.answered, [name])
+                self.known.name(visit.answered, name)
             if self.known.attempt(visit) and self._meets_others(visit, life):
                 raise unjudged(line, BOUND_BY_OTHERS)
             self._close(visit)
@@ -175,9 +175,9 @@ class BrokerSide:
         if not visit.has_found:
             why = "the request was decided on a row that there never was while it was carried out"
             raise differs(line, why, life.held_text or "-", line.of["saw"] or "-")
-        attempt, (_, said) = self.known.attempt(visit), self._begun(visit, life)
-        if not attempt or visit.kind == "fetch":
-            said = rules.fetched(life.held) if visit.kind == "fetch" else said
+        attempt, is_fetch = self.known.attempt(visit), visit.kind == "fetch"
+        said = rules.fetched(life.held) if is_fetch else self._begun(visit, life)[1]
+        if not attempt or is_fetch:
             raise differs(line, "the answer isn't the tables'", shown(said) if said else "-", shown(visit.said))
         self.known.emit(line, life, f"arrive {attempt}", (ANSWER, shown(visit.said)))
         life.give(attempt, visit.said)
@@ -238,24 +238,26 @@ class BrokerSide:
             life.worker = None
 
     def _event(self, line: Line, life: Life, visit: Visit | None, after: Held) -> str:
-        """The event that a change is: of those that the tables find, the one that the driver names."""
-        before = life.held
-        if before.work != "-":
-            found = [f"end {outcome}" for outcome in self._ends(life, visit, after)]
-            if not found:
-                raise differs(line, "no end of the pending work leaves this", "another row", self._words(line))
-        elif visit is None and before.phase == "waiting" and after == before._replace(phase="failed"):
-            found = ["give-up-waiting"]
-        else:
-            how = rules.finished(before, after) if visit is None else None
-            found = [f"finish {how}" if how is not None else "arrive"]
-        return self.known.named(line, found)
+        """The event that a change is."""
+        name: str | None = self.known.name(line, *CHANGES)
+        if not name:
+            said, mode = self._said_at_end(life, visit), self.known.mode(life, life.plan)
+            name = unnamed.change(life.held, mode, after, said, visit is not None)
+        if name is None or (life.is_others and name != "arrive" and self._left(life, name) != after):
+            raise differs(line, "no end of the pending work leaves this", "another row", self._words(line))
+        if visit is not None and not name.startswith(("arrive", "end ")):
+            raise differs(line, NAMED, "arrive", name)
+        return name
 
-    def _ends(self, life: Life, visit: Visit | None, after: Held) -> dict[str, Said]:
-        """The outcomes that leave this, with their answers. The first one has the answer that was given."""
-        found = rules.ends(life.held, self.known.mode(life, life.plan), after)
-        said = self._said_at_end(life, visit)
-        return dict(sorted(found, key=lambda end: end[1] != said))
+    def _left(self, life: Life, event: str) -> Held | None:
+        """What an event leaves of a life that the model doesn't have."""
+        verb, _, how = event.partition(" ")
+        if verb == "end":
+            ended = rules.ended(life.held, self.known.mode(life, life.plan), how)
+            return ended and ended[0]
+        if verb == "finish":
+            return rules.finished(life.held, how)
+        return life.held._replace(phase="failed") if life.held.phase == "waiting" else None
 
     @staticmethod
     def _said_at_end(life: Life, visit: Visit | None) -> Said | None:
@@ -333,7 +335,9 @@ class BrokerSide:
     def _end(self, line: Line, life: Life, visit: Visit | None, after: Held, event: str) -> None:
         waits = self.known.visits[life.worker] if life.worker else None
         said, outcome = self._said_at_end(life, visit), event.partition(" ")[2]
-        answer = self._ends(life, visit, after)[outcome]
+        ended = rules.ended(life.held, self.known.mode(life, life.plan), outcome)
+        if ended is None:
+            raise differs(line, "no work is pending that can end so", life.held.work, event)
         wanted = ((ANSWER, shown(said)),) if said is not None else ()
         credentials = self._credentials(line, life, after)
         self.calls.settle(line, life, rules.left(life.held.work, outcome))
@@ -341,7 +345,7 @@ class BrokerSide:
         life.worker = None
         if waits is None:
             return
-        life.give(self.known.attempt(waits), answer)
+        life.give(self.known.attempt(waits), ended[1])
         if waits is visit:
             self._close(waits)
         # Otherwise another process has done its work: it is as if the request arrived again.

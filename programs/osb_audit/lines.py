@@ -99,9 +99,11 @@ _GUID = _Value(str, GUIDS, "a GUID in lower case")
 _NUMBER = _Value(int, range(MOST + 1), "a number from 0 to 2^64 - 1")
 _STATUS = _Value(int, range(100, 1000), "a number from 100 to 999")
 _ENDS = "end done", "end before", "end after", "end refused-400", "end refused-422"
-_OF_BROKERS = "arrive", "put-off", *_ENDS, "finish ok", "finish fail", "give-up-waiting"
+CHANGES = "arrive", *_ENDS, "finish ok", "finish fail", "give-up-waiting"
+"""What a driver of a broker names a change."""
 _STEPS = product(("", "timeout"), ("", "expire", "retry", "remove"), ("", "send"))
-_OF_PLATFORMS = "create", "take", *(" ".join(filter(None, steps)) for steps in _STEPS if any(steps))
+STEPS = "create", *(" ".join(filter(None, steps)) for steps in _STEPS if any(steps))
+"""What a driver of a platform names a change that takes no answer."""
 _TYPES = {
     **dict.fromkeys("time visit change committed life life_before attempt".split(), _NUMBER),
     **dict.fromkeys("instance binding".split(), _GUID),
@@ -115,7 +117,7 @@ _TYPES = {
     "stage": _one_of("begun", "ended"),
     "result": _one_of("done", "failed", "rejected"),
     "found": _one_of("absent", "part", "whole"),
-    "effect": _one_of("nothing", *_OF_BROKERS, *_OF_PLATFORMS),
+    "effect": _one_of("nothing", "put-off", "take", *CHANGES, *STEPS),
 }
 """What each member has to be. All others are texts."""
 _OF_LIFE = " time process instance binding instance_id binding_id"

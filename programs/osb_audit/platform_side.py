@@ -3,12 +3,12 @@ from __future__ import annotations
 
 from typing import Sequence
 
-from osb_audit import naming, rules
+from osb_audit import naming, rules, unnamed
 from osb_audit.events import ATTEMPT, OUT, RECORDED, STATE, Wanted, shown
-from osb_audit.lines import Line
+from osb_audit.lines import STEPS, Line
 from osb_audit.lives import Life, plan_of
 from osb_audit.rules import Recorded, Said
-from osb_audit.walk import NAMED, Known, differs, unjudged
+from osb_audit.walk import Known, differs, unjudged
 
 DROPPED = "answers that came and that the platform took for none"
 BRIDGED = "changes of a record that no journal has, and that a platform may have made"
@@ -122,19 +122,9 @@ class PlatformSide:
         return wanted
 
     def _steps(self, line: Line, before: Recorded, after: Recorded) -> Sequence[str] | None:
-        """The events of the platform itself that lead to a record: those that the driver names, or else the shortest
-        list. None if no events lead there.
-        """
-        shortest = rules.steps(before, after)
-        names: Sequence[str] = line.of.get("effect", "").split()
-        if shortest is None:
-            return None
-        if not names:
-            self.known.check_unnamed(line, [" ".join(shortest)])
-            return shortest
-        if rules.led(before, names) != after:
-            raise differs(line, NAMED, " ".join(shortest), " ".join(names))
-        return names
+        """The events of the platform itself that lead to a record, or None if there are none."""
+        name = self.known.name(line, *STEPS) or unnamed.steps(before, after)
+        return None if name is None else name.split()
 
     def _step(self, line: Line, life: Life, after: Recorded, events: Sequence[str] | None) -> None:
         """The platform goes on by itself."""
@@ -168,10 +158,11 @@ class PlatformSide:
         self._check_heard(line, [*requests, *(fetch for fetch in fetches if self.polls[fetch] == attempt)])
         heard = [self.known.heard[request] for request in requests if request in self.known.heard]
         said = _said(heard[-1]) if heard else None
-        effects = {"take": self._effect(life, said), "timeout": rules.stepped(life.record, "timeout")}
-        found = [name for name, record in effects.items() if record == after]
+        name = self.known.name(line, "take", "timeout")
         event = self._event(line, life, attempt, said, after)
-        if found and self.known.named(line, found) == "timeout" != event:
+        if name == "take" and event == "timeout" and self._effect(life, said) != after:
+            raise differs(line, NOT_COME, event, name)
+        if (name or unnamed.take(life.record, self._effect(life, said), after)) == "timeout" != event:
             self.known.notes[DROPPED] += 1
             event = "timeout"
         self.known.emit(line, life, event, *self._after(line, life, after))

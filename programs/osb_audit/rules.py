@@ -7,7 +7,7 @@ from __future__ import annotations
 
 import json
 from functools import lru_cache
-from typing import NamedTuple, Sequence
+from typing import NamedTuple
 
 from osb.enums import Body, Kind, Mode, Outcome, Phase, State
 from osb.errors import OsbError
@@ -190,29 +190,22 @@ def fetched(held: Held) -> Said:
 
 
 @lru_cache(maxsize=1 << 12)
-def ends(held: Held, mode: str, after: Held) -> tuple[tuple[str, Said], ...]:
-    """The outcomes that lead from what is held to what is held after, each with its answer."""
-    found = []
-    for word, outcome in ENDS.items():
-        try:
-            left, answer = _holding(held).end(_MODES[mode], outcome)
-        except OsbError:
-            continue
-        if _held(left) == after:
-            found.append((word, _said(answer)))
-    return tuple(found)
+def ended(held: Held, mode: str, how: str) -> tuple[Held, Said] | None:
+    """What an end of the pending work leaves, with the answer. None if no work is pending, or none that can end so."""
+    try:
+        left, answer = _holding(held).end(_MODES[mode], ENDS[how])
+    except OsbError:
+        return None
+    return _held(left), _said(answer)
 
 
 @lru_cache(maxsize=1 << 10)
-def finished(held: Held, after: Held) -> str | None:
-    """How the operation has ended that leads from what is held to what is held after: `ok`, `fail`, or None."""
-    for word in ("ok", "fail"):
-        try:
-            if _held(_holding(held).finish(word == "ok")) == after:
-                return word
-        except OsbError:
-            return None
-    return None
+def finished(held: Held, how: str) -> Held | None:
+    """What the end of an operation leaves, `ok` or `fail`. None if no operation runs."""
+    try:
+        return _held(_holding(held).finish(how == "ok"))
+    except OsbError:
+        return None
 
 
 _LEFT = {
@@ -318,14 +311,6 @@ def steps(before: Recorded, after: Recorded) -> tuple[str, ...] | None:
                 seen[there] = (*seen[here], event)
                 todo.append(there)
     return seen.get(after)
-
-
-def led(recorded: Recorded, events: Sequence[str]) -> Recorded | None:
-    """The record after these events of the platform itself, or None if one of them doesn't apply."""
-    here: Recorded | None = recorded
-    for event in events:
-        here = here and stepped(here, event)
-    return here
 
 
 @lru_cache(maxsize=1 << 12)

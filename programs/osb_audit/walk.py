@@ -1,6 +1,7 @@
 """Goes through the lines of an instance, and finds the events of the proved model that they are.
 
-broker_side and platform_side have the tables: which line is which event. This module has what both need.
+broker_side and platform_side say which line is which event: the one that its driver names. This module has what both
+need.
 """
 from __future__ import annotations
 
@@ -81,22 +82,16 @@ class Known:
 
     # ---- what a driver names
 
-    def named(self, line: Line, found: Sequence[str]) -> str:
-        """The event that a driver names in a line, among those that the tables find. If its process names none, because
-        it is of version 0.3, the first one counts.
+    def name(self, line: Line, *allowed: str) -> str:
+        """The event that a driver names in a line, one of those that are allowed there, or "" if its process names
+        none, because it is of version 0.3.
         """
         name: str = line.of.get("effect", "")
-        if not name:
-            self.check_unnamed(line, found)
-            return found[0]
-        if name not in found:
-            raise differs(line, NAMED, " or ".join(found), name)
+        if not name and line.process in self.naming:
+            raise differs(line, UNNAMED, "an event", "-")
+        if name and name not in allowed:
+            raise differs(line, NAMED, " or ".join(allowed) if len(allowed) < 3 else "one that changes it so", name)
         return name
-
-    def check_unnamed(self, line: Line, found: Sequence[str]) -> None:
-        """A line of which a driver has to say the event names none."""
-        if line.process in self.naming:
-            raise differs(line, UNNAMED, " or ".join(found), "-")
 
     # ---- requests
 
