@@ -4,8 +4,9 @@
     PYTHONPATH=checks python3 -m binding.cases stdout
 
 write the two files of crates/service_cases: the first of the ways of binding.ways line by line, each other one in one
-line, a short walk, and some lines without bindings. test_network.py compares all ways line by line, and that of
-checks/network all lines without bindings. The lines are those of network.cases and of binding.walks, and
+line, a short walk, some lines without bindings, and some with updates. test_network.py compares all ways line by line,
+that of checks/network all lines without bindings, and checks/update walks with updates. The lines are those of
+network.cases, of update.sides and of binding.walks, and
 
     run SIDES: ORDER; ORDER ..: EVENT, EVENT ..
 
@@ -27,6 +28,7 @@ from binding.walks import MADE, RULES, Walk, services
 from binding.ways import ALL
 from network.cases import FORMS, in_a_line, of_crate
 from network.walks import Step
+from update import sides
 
 FOLDER = Path(__file__).resolve().parent.parent.parent / "crates" / "service_cases"
 # The walk in the files of the crate: credentials are fetched in it, and taken.
@@ -86,6 +88,12 @@ def begun(words: str) -> Walk:
     return Walk(random.Random(0), rules_of(sides), *map(order_of, orders.split("; ")))
 
 
+def updated(line: str) -> Step:
+    """An instance with its updates, and all that happens to it."""
+    orders, settings, events = line.removeprefix("updated ").rsplit(": ", 2)
+    return sides.in_a_line(line, sides.Updated(begun(orders).tied, settings), events.split(", "))
+
+
 def steps_of(lines: Iterable[str]) -> Iterator[Step]:
     """Each line that isn't a comment, and what there is after it."""
     walk: Walk | None = None
@@ -102,6 +110,8 @@ def steps_of(lines: Iterable[str]) -> Iterator[Step]:
             yield Step(line, f"new: {walk.tied.words()}")
         elif word in FORMS:
             yield in_a_line(line)
+        elif word == "updated":
+            yield updated(line)
         elif word != "#":
             assert walk is not None
             yield walk.happen(line)
@@ -126,7 +136,8 @@ def stdin() -> list[str]:
     told = [first, *([name, lines[-1]] for name, *lines in others), *of_unfetched()]
     walk = islice(services(random.Random(SEED), RULES), STEPS)
     lines = [line for lines in told for line in lines]
-    return [*lines, "# a walk", *(step.line for _, step in walk), "# without bindings", *of_crate()]
+    lines += ["# a walk", *(step.line for _, step in walk), "# without bindings", *of_crate()]
+    return [*lines, *(line for name, way in sides.WAYS.items() for line in (f"# {name}", way))]
 
 
 def main(arguments: list[str]) -> int:

@@ -144,6 +144,10 @@ LARGE: dict[str, str] = {
         osb_network::run osb_network::Network::order osb_network::Network::step
     """,
     f"{CASES}test_a_list_of_many_events": "osb_network::Network::steps",
+    f"{CASES}test_many_requests_and_answers_of_updates": """
+        osb_update_sides::run osb_update_sides::Updates::step
+        osb_update_service::run osb_update_service::UpdatedInstance::step
+    """,
     f"{CASES}test_many_events_at_a_broker_alone": "osb_network::run_any osb_network::AnyPlatform::step",
     # The command line. A table and a help text are always the same.
     f"{WORDS}test_long_words": "osb_words::words_of osb_words::read_words",

@@ -12,13 +12,15 @@ import uuid
 from typing import Any
 
 import pytest
-from binding.cases import begun, written_of
+from binding.cases import begun, updated, written_of
 from binding.model import Order
 from binding.walks import MADE, RULES, Walk
 from crate_programs import told_by
 from network.cases import in_a_line, teller
 from network.walks import Tally
 from network.walks import Walk as Life
+from update.sides import BEGUN
+from update.sides import MADE as AVAILABLE
 from update.texts import compact
 from update_wire.cases import of_line, told, word
 
@@ -111,6 +113,16 @@ def test_many_events_at_a_broker_alone() -> None:
     """`run_any` and `AnyPlatform::step`, also at many crashes."""
     busy = ["put-off provision", "crash-broker"] * LIST
     compare("alone sync - -", ["arrive provision refuses 3 1", *busy, "work whole", "end done", *busy])
+
+
+# ---- an instance with its updates
+
+
+def test_many_requests_and_answers_of_updates() -> None:
+    """`UpdatedInstance::step`, `Updates::step`, and both `run`: many Updates, one of which comes again and again."""
+    events = ["update to qab", "update timeout"] * LIST + ["update arrive 0 sync accepts"] * LIST
+    line = f"{BEGUN}: {AVAILABLE}, {', '.join(events)}"
+    assert after(line, told_by("service_cases")([line])) == updated(line).wanted
 
 
 # ---- instances of one broker and one platform

@@ -47,7 +47,7 @@ fn attempt(word: &str) -> Result<u64> {
 }
 
 // The place of an answer, from 0.
-fn place(word: &str) -> Result<usize> {
+pub(crate) fn place(word: &str) -> Result<usize> {
     word.parse().ok().context("no place")
 }
 

@@ -1,5 +1,6 @@
 //! Tells what osb_binding_network makes of each line on standard input: an instance with its bindings, and what happens
-//! to them. A line that begins with `alone`, `life` or `many` is one of osb_network (`alone.rt`, `network.rt`).
+//! to them. A line that begins with `alone`, `life` or `many` is one of osb_network (`alone.rt`, `network.rt`), and one
+//! that begins with `updated` is one of osb_update_service (`updated.rt`).
 //!
 //! - `service SIDES: ORDER; ORDER ..` begins anew (`orders.rt`).
 //! - `EVENT` happens (`events.rt`).
@@ -10,8 +11,8 @@
 //! - `run SIDES: ORDER; ORDER ..: EVENT, EVENT ..` begins anew, and lets all of these events happen in one call.
 //!
 //! The line is written again. Behind it, after two blanks, stand what became of the event, and all that exists then
-//! (`sides.rt`). Empty lines, and comments, which begin with `#`, are written as they are. `checks/binding` compares
-//! many more such lines with a model.
+//! (`sides.rt`). Empty lines, and comments, which begin with `#`, are written as they are. `checks/binding` and
+//! `checks/update` compare many more such lines with models.
 #![tactic(auto)]
 
 mod alone;
@@ -19,6 +20,9 @@ mod events;
 mod network;
 mod orders;
 mod sides;
+mod update_events;
+mod update_sides;
+mod updated;
 
 use anyhow::{Context, Result};
 use orders::Ordered;
@@ -156,7 +160,7 @@ fn begun_by(alloc: Global, line: &str) -> Result<Option<Service>> {
 fn tell(rt: &impl Print, alloc: Global, begun: Option<Service>, line: &str) -> Result<Service> {
     if let Some(service) = begun_by(alloc, line)? {
         print!(rt; "{line}  new: ")?;
-        sides::tell(rt, &service)?;
+        sides::tell(rt, &service.lives, service.bindings)?;
         println!(rt;)?;
         return Ok(service);
     }
@@ -164,7 +168,7 @@ fn tell(rt: &impl Print, alloc: Global, begun: Option<Service>, line: &str) -> R
     let given = service.lives.instance().given().len();
     let word = happen(alloc, &mut service, line)?;
     print!(rt; "{line}  {word}: ")?;
-    sides::tell(rt, &service)?;
+    sides::tell(rt, &service.lives, service.bindings)?;
     if line.starts_with("instance ") {
         sides::tell_more(rt, service.lives.instance(), given)?;
     }
@@ -172,13 +176,14 @@ fn tell(rt: &impl Print, alloc: Global, begun: Option<Service>, line: &str) -> R
     Ok(service)
 }
 
-// Whether a line is one of osb_network. What it makes is told then.
-fn told_of_network(rt: &impl Print, alloc: Global, line: &str) -> Result<bool> {
+// Whether a line has all that happens. What it makes is told then.
+fn told_at_once(rt: &impl Print, alloc: Global, line: &str) -> Result<bool> {
     let (word, words) = first(line);
     match word {
         "alone" => alone::tell(rt, alloc, words)?,
         "life" => network::life(rt, alloc, words)?,
         "many" => network::many(rt, alloc, words)?,
+        "updated" => updated::tell(rt, alloc, words)?,
         _ => return Ok(false),
     }
     Ok(true)
@@ -191,7 +196,7 @@ fn main(rt: HostRuntime) -> Result<()> {
         let text = line.as_str();
         if text.is_empty() || text.starts_with('#') {
             println!(rt; "{text}")?;
-        } else if !told_of_network(&rt, rt.alloc(), text)? {
+        } else if !told_at_once(&rt, rt.alloc(), text)? {
             begun = Some(tell(&rt, rt.alloc(), begun, text)?);
         }
     }

@@ -5,9 +5,9 @@
 //! A binding has its credentials besides: those that the platform records with `ready`, and those of a resource that is
 //! whole. Behind an event of the instance, after ` # `, stand how many requests were sent and answers given, and each
 //! answer that the event gave, as its attempt, its status and its body.
-use crate::{Service, id_of};
+use crate::id_of;
 use anyhow::{Context, Result};
-use osb_binding_network::ServiceBinding;
+use osb_binding_network::{ServiceBinding, ServiceInstance};
 use osb_instance::{Holding, Record};
 use osb_message::{Body, ErrorCode, Kind, LastState};
 use osb_network::{Instance, Resource};
@@ -24,7 +24,7 @@ pub(crate) fn resource_word(resource: Resource) -> &'static str {
     }
 }
 
-fn body_word(body: Body) -> &'static str {
+pub(crate) fn body_word(body: Body) -> &'static str {
     match body {
         Body::Empty => "empty",
         Body::Malformed => "malformed",
@@ -94,12 +94,12 @@ fn tell_binding(rt: &impl Print, binding: &ServiceBinding) -> Result<()> {
     tell_credentials(rt, existing_credentials(binding))
 }
 
-// All lives.
-pub(crate) fn tell(rt: &impl Print, service: &Service) -> Result<()> {
-    tell_instance(rt, service.lives.instance())?;
-    for number in 1..=service.bindings {
+// All lives: the bindings have the numbers from 1 to `bindings`.
+pub(crate) fn tell(rt: &impl Print, lives: &ServiceInstance, bindings: u64) -> Result<()> {
+    tell_instance(rt, lives.instance())?;
+    for number in 1..=bindings {
         print!(rt; " | ")?;
-        let binding = service.lives.binding(id_of(number));
+        let binding = lives.binding(id_of(number));
         tell_binding(rt, binding.context("no such binding")?)?;
     }
     Ok(())
