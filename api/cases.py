@@ -20,7 +20,8 @@ PLANS = {"sync": _SYNC, "async": _ASYNC}
 OF_A_BINDING = {"bind": "provision", "unbind": "deprovision", "poll-binding": "poll"}
 PHASES = "waiting making ready failed deleting delete-failed".split()
 OUTCOMES = "done before after refused-400 refused-422".split()
-CALLS = "look sync create delete".split()
+UPDATE_OUTCOMES = [*OUTCOMES, "failed"]
+CALLS = "look sync create delete update".split()
 LOOKS = "first again tried undone".split()
 
 
@@ -131,6 +132,17 @@ class UpdateHolding(NamedTuple):
     to: Optional[Settings]
 
 
+class UpdateDriver(NamedTuple):
+    driver: Driver
+    is_update: bool
+    is_pending: bool
+    """Whether the work of an Update is pending."""
+    to: Optional[Settings]
+    before: Optional[Settings]
+    outcome: Optional[str]
+    """Of an Update."""
+
+
 class Wishes(NamedTuple):
     create: bool
     clean_up: str
@@ -214,6 +226,18 @@ def driver(cell: bytes) -> Driver:
         elif word.startswith("rejected-"):
             found = found._replace(rejection=int(word[9:]))
     return found
+
+
+def update_driver(cell: bytes) -> UpdateDriver:
+    """The driver of an instance that can be updated that a cell stands for."""
+    words = cell.decode().split()
+    both = [word for word in words if ":" in word and word.partition(":")[0] in PLANS]
+    is_update = "updates" in words
+    outcomes = [word for word in words[1:] if is_update and (word in UPDATE_OUTCOMES or word.isdigit())]
+    of_instance = [words[0], *(word for word in words[1:] if word not in (*both, *outcomes))]
+    to, before = (*(settings(word.encode()) for word in both), None, None)[:2]
+    of = driver(" ".join(of_instance).encode())
+    return UpdateDriver(of, is_update, "pending" in words, to, before, outcomes[0] if outcomes else None)
 
 
 def platform_driver(cell: bytes) -> PlatformDriver:

@@ -162,7 +162,7 @@ EXACTLY = {
     "BAD_HOLDING": "the holding can't come about ([which can](instance.md#what-a-broker-keeps-holding)), or a number "
     "in it that counts stands for nothing; of a holding of updates, the phase stands for nothing",
     "BAD_DRIVER": "the driver can't come about, its number is zeroes, or a number in it that counts stands for "
-    "nothing; for `osb_driver_new` and `osb_platform_driver_new`, the number is zeroes",
+    "nothing; for `osb_driver_new`, `osb_update_driver_new` and `osb_platform_driver_new`, the number is zeroes",
     "BAD_ROW": "the row isn't `wanted` with its Provision in flight, nor any other state with nothing in flight or "
     "what is due there",
     "BAD_ASKED": "the kind stands for none, or it is a Provision or a Deprovision and service or plan is missing",
@@ -173,7 +173,7 @@ EXACTLY = {
     "REFUSED_INSTANCE": "refused with 400: the id of the instance isn't UTF-8 of 1 to 255 bytes, or is `.` or `..`",
     "NOT_REFUSED": "the status is none of 39 to 50, 64 and `OSB_MEMORY`; for `osb_binding_refusal_body`, none of 39 to "
     "50, 78, 79 and `OSB_MEMORY`; for `osb_update_refusal_body`, none of 39 to 50, 64, 90 and `OSB_MEMORY`; for "
-    "`osb_driver_called`, none of 0, 400 and 422",
+    "`osb_driver_called` and `osb_update_driver_called`, none of 0, 400 and 422",
     "BAD_PLAN_MODE": "`x-osb-asynchronous` of a plan, or `asynchronous` if the plan lacks it, is neither `true` nor "
     "`false`",
     "NOT_INSTANCE_TEXT": "the text of the instance hasn't the number of the request's instance, or is `.` or `..`",
@@ -854,6 +854,7 @@ INTERFACE: list[Part] = [
         Value(2, "SYNC", "write to disk what exists, and report that by osb_driver_synced"),
         Value(3, "CREATE", "create the resource, and report that by osb_driver_called"),
         Value(4, "DELETE", "delete the resource, and report that by osb_driver_called"),
+        Value(5, "UPDATE", "change the settings of the resource, and report that by osb_update_driver_called"),
     ),
     Enum(
         "look",
@@ -879,6 +880,9 @@ INTERFACE: list[Part] = [
         Value(3, "END", "the pending work ends, with the outcome of the struct"),
         Value(4, "FINISH", "the operation ends: it succeeded if ok is true"),
         Value(5, "GIVE_UP_WAITING", "the instance has waited too long for its first Poll"),
+        Value(6, "UPDATE", "the Update arrives"),
+        Value(7, "END_UPDATE", "the pending work of an Update ends, with update_outcome"),
+        Value(8, "FINISH_UPDATE", "an operation of an Update ends: succeeded if ok is true"),
     ),
     Struct(
         "driver",
@@ -979,6 +983,102 @@ INTERFACE: list[Part] = [
         nothing is written.""",
         "OSB_DONE, OSB_BAD_DRIVER, OSB_BAD_HOLDING (instance or reading->holding), OSB_BAD_MODE, OSB_BAD_KIND, "
         "OSB_WRONG_STAGE, OSB_MISFIT.",
+    ),
+    Section(
+        """What a broker does next at an instance that can be updated. One driver serves the requests of the instance
+        and its Updates, so that one lock and one number of the row serve both. It serves every instance, also one that
+        was never updated. The stages and the calls of the backend are those of struct osb_driver, and the program
+        carries them out in the same way. Bindings have struct osb_driver.
+
+        A row that keeps nothing of updates is passed with the holding of updates that osb_update_new gives for the
+        settings of its Provision, or without a row for those that the Provision asks for. If writes_change of the
+        transaction is false, such a row goes on to keep nothing of updates."""
+    ),
+    Struct(
+        "update_driver",
+        Member("struct osb_driver driver", "as a driver of the instance; at an update, the members that fit"),
+        Member("struct osb_settings to", "at WORK of an update: the settings to which it leads"),
+        Member("struct osb_settings before", "at WORK of an update, if has_before is true: the settings of the row"),
+        Member("enum osb_update_outcome outcome", "at END of an update: an enum osb_update_outcome"),
+        Member("bool is_update", "whether the stage is one of an update"),
+        Member("bool has_before", "at WORK of an update: whether somebody knows the settings of the row"),
+        comment="""A driver of an instance that can be updated. In what a call gives, members that don't count are
+        zeroes. If is_update is true, the work of WORK, END and FINISH is that of an Update, and at ANSWER the answer is
+        422 with the error MaintenanceInfoConflict.""",
+        is_private=True,
+    ),
+    Struct(
+        "update_reading",
+        Member("struct osb_reading reading", "of the instance"),
+        Member("struct osb_update_holding change", "of the row"),
+        Member("struct osb_update update", "the Update, which counts only at its first transaction"),
+        Member("uint8_t parameters[32]", "the digest of the parameters that a Provision asks for"),
+        Member("uint8_t version[32]", "the digest of the maintenance_info.version that a Provision asks for"),
+        Member("enum osb_mode update_mode", "an enum osb_mode: of the Update whose work is pending"),
+        Member("enum osb_allowed allowed", "an enum osb_allowed: what the catalogue has for the Update"),
+        Member("bool is_update", "whether an Update is asked for, and not reading.request"),
+        comment="""What a transaction is given. The holding of the instance, that of its updates and the number are
+        those of the row, read and locked in the transaction. update, parameters, version, allowed and is_update count
+        only at the first transaction of a request, and are zeroes for a take-up.""",
+    ),
+    Struct(
+        "update_transaction",
+        Member("struct osb_holding holding", "the row has to have it"),
+        Member("struct osb_update_holding change", "the row has to have it"),
+        Member("uint8_t number[16]", "the row has to have it"),
+        Member("struct osb_update_driver committed", "the driver once the commit has returned"),
+        Member("struct osb_update_driver unsure", "the driver if nobody knows whether the transaction was committed"),
+        Member("enum osb_effect effect", "an enum osb_effect"),
+        Member("enum osb_outcome outcome", "of OSB_EFFECT_END: an enum osb_outcome"),
+        Member("enum osb_update_outcome update_outcome", "of OSB_EFFECT_END_UPDATE: an enum osb_update_outcome"),
+        Member("bool ok", "of both FINISH: whether the operation succeeded"),
+        Member("bool writes", "whether these three have to be written: one changed"),
+        Member("bool writes_change", "whether the holding of the updates changed"),
+        comment="What a transaction comes to.",
+        is_private=True,
+    ),
+    Call(
+        "uint32_t osb_update_driver_new(const uint8_t number[16], bool is_request, bool has_lock, "
+        "struct osb_update_driver *driver)",
+        """Begins a driver, of a request or an Update (is_request) or of a take-up, as osb_driver_new does.""",
+        "OSB_DONE, OSB_BAD_DRIVER.",
+    ),
+    Call(
+        "uint32_t osb_update_driver_locked(struct osb_update_driver *driver, bool has_lock)",
+        """Reports, at OSB_STAGE_AWAIT_LOCK, whether the driver has the lock of its key after it has waited. A lock of
+        which nobody knows isn't had.""",
+        "OSB_DONE, OSB_BAD_DRIVER, OSB_WRONG_STAGE.",
+    ),
+    Call(
+        "uint32_t osb_update_driver_looked(struct osb_update_driver *driver, uint8_t there, "
+        "const struct osb_settings *settings)",
+        """Reports what a look has found (OSB_CALL_LOOK): an enum osb_there, and the settings of the resource, which
+        count only at an update, if the resource is whole. If the settings are between, report OSB_THERE_PART. A look
+        that shows how the work has ended moves the driver on, to OSB_STAGE_END or OSB_STAGE_FINISH. If a look or a sync
+        has failed, nobody knows how the work ended: report nothing, and step the driver no more.""",
+        "OSB_DONE, OSB_BAD_DRIVER, OSB_BAD_THERE, OSB_WRONG_STAGE.",
+    ),
+    Call(
+        "uint32_t osb_update_driver_synced(struct osb_update_driver *driver)",
+        """Reports that what exists is on disk, with its settings (OSB_CALL_SYNC).""",
+        "OSB_DONE, OSB_BAD_DRIVER, OSB_WRONG_STAGE.",
+    ),
+    Call(
+        "uint32_t osb_update_driver_called(struct osb_update_driver *driver, bool ok, uint16_t rejection)",
+        """Reports that the creation, the deletion or the update has returned (OSB_CALL_CREATE, OSB_CALL_DELETE,
+        OSB_CALL_UPDATE), and whether without an error (ok). rejection is 400 or 422 if the backend has rejected the
+        creation or the update with that status, and else 0.""",
+        "OSB_DONE, OSB_BAD_DRIVER, OSB_NOT_REFUSED, OSB_WRONG_STAGE.",
+    ),
+    Call(
+        "uint32_t osb_update_driver_read(const struct osb_update_driver *driver, "
+        "const struct osb_update_reading *reading, struct osb_update_transaction *transaction)",
+        """The transaction of a driver at OSB_STAGE_BEGIN, OSB_STAGE_END, OSB_STAGE_FINISH and OSB_STAGE_UNSURE, as
+        osb_driver_read is that of an instance's driver. If transaction->writes is true, write both holdings and the
+        number to the row. A driver that an Update begins does its work as `allowed` says, and any other one as
+        update_mode says. A row that doesn't fit is left alone (OSB_MISFIT).""",
+        "OSB_DONE, OSB_BAD_DRIVER, OSB_BAD_HOLDING (reading->reading.holding or reading->change), OSB_BAD_MODE "
+        "(OSB_MODE_NONE as update_mode too), OSB_BAD_KIND, OSB_BAD_ALLOWED, OSB_WRONG_STAGE, OSB_MISFIT.",
     ),
     Section(
         """What a platform does next. A driver is the way of one request of a platform, of an instance or of a binding,

@@ -699,7 +699,8 @@ enum osb_call {
     OSB_CALL_LOOK = 1,   /* return what exists, and report it by osb_driver_looked */
     OSB_CALL_SYNC = 2,   /* write to disk what exists, and report that by osb_driver_synced */
     OSB_CALL_CREATE = 3, /* create the resource, and report that by osb_driver_called */
-    OSB_CALL_DELETE = 4  /* delete the resource, and report that by osb_driver_called */
+    OSB_CALL_DELETE = 4, /* delete the resource, and report that by osb_driver_called */
+    OSB_CALL_UPDATE = 5  /* change the settings of the resource, and report that by osb_update_driver_called */
 };
 
 enum osb_look {
@@ -716,12 +717,15 @@ enum osb_there {
 };
 
 enum osb_effect {
-    OSB_EFFECT_NOTHING = 0,        /* no event */
-    OSB_EFFECT_ARRIVE = 1,         /* the request arrives */
-    OSB_EFFECT_PUT_OFF = 2,        /* the request is answered as if work were pending */
-    OSB_EFFECT_END = 3,            /* the pending work ends, with the outcome of the struct */
-    OSB_EFFECT_FINISH = 4,         /* the operation ends: it succeeded if ok is true */
-    OSB_EFFECT_GIVE_UP_WAITING = 5 /* the instance has waited too long for its first Poll */
+    OSB_EFFECT_NOTHING = 0,         /* no event */
+    OSB_EFFECT_ARRIVE = 1,          /* the request arrives */
+    OSB_EFFECT_PUT_OFF = 2,         /* the request is answered as if work were pending */
+    OSB_EFFECT_END = 3,             /* the pending work ends, with the outcome of the struct */
+    OSB_EFFECT_FINISH = 4,          /* the operation ends: it succeeded if ok is true */
+    OSB_EFFECT_GIVE_UP_WAITING = 5, /* the instance has waited too long for its first Poll */
+    OSB_EFFECT_UPDATE = 6,          /* the Update arrives */
+    OSB_EFFECT_END_UPDATE = 7,      /* the pending work of an Update ends, with update_outcome */
+    OSB_EFFECT_FINISH_UPDATE = 8    /* an operation of an Update ends: succeeded if ok is true */
 };
 
 /* A driver. In what a call gives, members that don't count are zeroes. */
@@ -813,6 +817,92 @@ uint32_t osb_driver_read(const struct osb_driver *driver, const struct osb_readi
  * OSB_WRONG_STAGE, OSB_MISFIT. */
 uint32_t osb_binding_driver_read(const struct osb_driver *driver, const struct osb_reading *reading,
                                  const struct osb_holding *instance, struct osb_transaction *transaction);
+
+/* ---- What a broker does next at an instance that can be updated. One driver serves the requests of the instance and
+ *      its Updates, so that one lock and one number of the row serve both. It serves every instance, also one that was
+ *      never updated. The stages and the calls of the backend are those of struct osb_driver, and the program carries
+ *      them out in the same way. Bindings have struct osb_driver.
+ *
+ *      A row that keeps nothing of updates is passed with the holding of updates that osb_update_new gives for the
+ *      settings of its Provision, or without a row for those that the Provision asks for. If writes_change of the
+ *      transaction is false, such a row goes on to keep nothing of updates. */
+
+/* A driver of an instance that can be updated. In what a call gives, members that don't count are zeroes. If is_update
+ * is true, the work of WORK, END and FINISH is that of an Update, and at ANSWER the answer is 422 with the error
+ * MaintenanceInfoConflict. */
+struct osb_update_driver {
+    struct osb_driver driver;   /* as a driver of the instance; at an update, the members that fit */
+    struct osb_settings to;     /* at WORK of an update: the settings to which it leads */
+    struct osb_settings before; /* at WORK of an update, if has_before is true: the settings of the row */
+    uint8_t outcome;            /* at END of an update: an enum osb_update_outcome */
+    bool is_update;             /* whether the stage is one of an update */
+    bool has_before;            /* at WORK of an update: whether somebody knows the settings of the row */
+};
+
+/* What a transaction is given. The holding of the instance, that of its updates and the number are those of the row,
+ * read and locked in the transaction. update, parameters, version, allowed and is_update count only at the first
+ * transaction of a request, and are zeroes for a take-up. */
+struct osb_update_reading {
+    struct osb_reading reading;       /* of the instance */
+    struct osb_update_holding change; /* of the row */
+    struct osb_update update;         /* the Update, which counts only at its first transaction */
+    uint8_t parameters[32];           /* the digest of the parameters that a Provision asks for */
+    uint8_t version[32];              /* the digest of the maintenance_info.version that a Provision asks for */
+    uint8_t update_mode;              /* an enum osb_mode: of the Update whose work is pending */
+    uint8_t allowed;                  /* an enum osb_allowed: what the catalogue has for the Update */
+    bool is_update;                   /* whether an Update is asked for, and not reading.request */
+};
+
+/* What a transaction comes to. */
+struct osb_update_transaction {
+    struct osb_holding holding;         /* the row has to have it */
+    struct osb_update_holding change;   /* the row has to have it */
+    uint8_t number[16];                 /* the row has to have it */
+    struct osb_update_driver committed; /* the driver once the commit has returned */
+    struct osb_update_driver unsure;    /* the driver if nobody knows whether the transaction was committed */
+    uint8_t effect;                     /* an enum osb_effect */
+    uint8_t outcome;                    /* of OSB_EFFECT_END: an enum osb_outcome */
+    uint8_t update_outcome;             /* of OSB_EFFECT_END_UPDATE: an enum osb_update_outcome */
+    bool ok;                            /* of both FINISH: whether the operation succeeded */
+    bool writes;                        /* whether these three have to be written: one changed */
+    bool writes_change;                 /* whether the holding of the updates changed */
+};
+
+/* Begins a driver, of a request or an Update (is_request) or of a take-up, as osb_driver_new does.
+ * OSB_DONE, OSB_BAD_DRIVER. */
+uint32_t osb_update_driver_new(const uint8_t number[16], bool is_request, bool has_lock,
+                               struct osb_update_driver *driver);
+
+/* Reports, at OSB_STAGE_AWAIT_LOCK, whether the driver has the lock of its key after it has waited. A lock of which
+ * nobody knows isn't had.
+ * OSB_DONE, OSB_BAD_DRIVER, OSB_WRONG_STAGE. */
+uint32_t osb_update_driver_locked(struct osb_update_driver *driver, bool has_lock);
+
+/* Reports what a look has found (OSB_CALL_LOOK): an enum osb_there, and the settings of the resource, which count only
+ * at an update, if the resource is whole. If the settings are between, report OSB_THERE_PART. A look that shows how the
+ * work has ended moves the driver on, to OSB_STAGE_END or OSB_STAGE_FINISH. If a look or a sync has failed, nobody
+ * knows how the work ended: report nothing, and step the driver no more.
+ * OSB_DONE, OSB_BAD_DRIVER, OSB_BAD_THERE, OSB_WRONG_STAGE. */
+uint32_t osb_update_driver_looked(struct osb_update_driver *driver, uint8_t there, const struct osb_settings *settings);
+
+/* Reports that what exists is on disk, with its settings (OSB_CALL_SYNC).
+ * OSB_DONE, OSB_BAD_DRIVER, OSB_WRONG_STAGE. */
+uint32_t osb_update_driver_synced(struct osb_update_driver *driver);
+
+/* Reports that the creation, the deletion or the update has returned (OSB_CALL_CREATE, OSB_CALL_DELETE,
+ * OSB_CALL_UPDATE), and whether without an error (ok). rejection is 400 or 422 if the backend has rejected the creation
+ * or the update with that status, and else 0.
+ * OSB_DONE, OSB_BAD_DRIVER, OSB_NOT_REFUSED, OSB_WRONG_STAGE. */
+uint32_t osb_update_driver_called(struct osb_update_driver *driver, bool ok, uint16_t rejection);
+
+/* The transaction of a driver at OSB_STAGE_BEGIN, OSB_STAGE_END, OSB_STAGE_FINISH and OSB_STAGE_UNSURE, as
+ * osb_driver_read is that of an instance's driver. If transaction->writes is true, write both holdings and the number
+ * to the row. A driver that an Update begins does its work as `allowed` says, and any other one as update_mode says. A
+ * row that doesn't fit is left alone (OSB_MISFIT).
+ * OSB_DONE, OSB_BAD_DRIVER, OSB_BAD_HOLDING (reading->reading.holding or reading->change), OSB_BAD_MODE (OSB_MODE_NONE
+ * as update_mode too), OSB_BAD_KIND, OSB_BAD_ALLOWED, OSB_WRONG_STAGE, OSB_MISFIT. */
+uint32_t osb_update_driver_read(const struct osb_update_driver *driver, const struct osb_update_reading *reading,
+                                struct osb_update_transaction *transaction);
 
 /* ---- What a platform does next. A driver is the way of one request of a platform, of an instance or of a binding,
  *      from its record to its answer. A driver says the one action that the program carries out next, and the program

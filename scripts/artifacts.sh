@@ -42,10 +42,11 @@ crates_of() {
     case $1 in
         replay) echo osb_replay ;;
         # Each is a static library of its own, so that they are proved side by side. osb_c_driver stands on
-        # osb_c_binding, which stands on osb_c_instance, as osb_c_update and osb_c_platform_driver do, osb_c_binding_wire on
-        # osb_c_wire, and osb_c_update_wire on osb_c_wire and osb_c_update. These are then libraries too.
+        # osb_c_binding, which stands on osb_c_instance, as osb_c_update and osb_c_platform_driver do, osb_c_update_driver on
+        # osb_c_driver and osb_c_update, osb_c_binding_wire on osb_c_wire, and osb_c_update_wire on osb_c_wire and
+        # osb_c_update. These are then libraries too.
         library)
-            echo osb_c,osb_c_instance,osb_c_binding,osb_c_update,osb_c_driver,osb_c_platform_driver,osb_c_wire,osb_c_binding_wire,osb_c_update_wire
+            echo osb_c,osb_c_instance,osb_c_binding,osb_c_update,osb_c_driver,osb_c_update_driver,osb_c_platform_driver,osb_c_wire,osb_c_binding_wire,osb_c_update_wire
             ;;
         cases) artifacts_of cases | tr ' ' , ;;
     esac

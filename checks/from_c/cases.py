@@ -29,6 +29,7 @@ CHANGED = {
     "struct osb_holding": "holding",
     "struct osb_update_holding": "update_holding",
     "struct osb_driver": "driver",
+    "struct osb_update_driver": "update_driver",
     "struct osb_platform_driver": "driver",
 }
 # The struct with the lengths of the texts that a call writes one after the other.
@@ -73,15 +74,27 @@ def begun_of(cell: bytes) -> Value:
     return {"answer": answer_of(cell), "work": "none"} if b" " in cell else {"work": cell.decode()}
 
 
-def driver_of(cell: bytes) -> Value:
+def driver_of(of: api.cases.Driver) -> Value:
     """What doesn't count in it is zeroes."""
-    of = api.cases.driver(cell)
     return {
         **of._asdict(),
         "task": request_of(of.task) if of.task else {},
         "is_pending": of.task is not None,
         "answer": answer_of(of.answer) if of.answer else {},
         "has_answer": of.stage == "end" and of.answer is not None,
+    }
+
+
+def update_driver_of(cell: bytes) -> Value:
+    """What doesn't count in it is zeroes."""
+    of = api.cases.update_driver(cell)
+    driver = driver_of(of.driver)
+    return {
+        **of._asdict(),
+        "driver": {**driver, "is_pending": of.is_pending} if of.is_update else driver,
+        "to": of.to._asdict() if of.to else {},
+        "before": of.before._asdict() if of.before else {},
+        "has_before": of.before is not None,
     }
 
 
@@ -142,7 +155,8 @@ OF_CELLS: dict[str, Callable[[bytes], Value]] = {
     "request": lambda cell: request_of(api.cases.request(cell)),
     "answer": answer_of,
     "begun": begun_of,
-    "driver": driver_of,
+    "driver": lambda cell: driver_of(api.cases.driver(cell)),
+    "update_driver": update_driver_of,
     "platform_driver": platform_driver_of,
     "settings": lambda cell: api.cases.settings(cell)._asdict(),
     "change": lambda cell: change_of(api.cases.settings(cell)),
@@ -259,6 +273,8 @@ class CaseText:
             return self.platform_reading()
         if own == "reading":
             return self.reading()
+        if own == "update_reading":
+            return self.update_reading()
         if own == "endpoints":
             return dict.fromkeys(self.cell("serves").decode().split(), True)
         accepts = self.given.get("accepts", b"yes") == b"yes"
@@ -273,6 +289,18 @@ class CaseText:
         digests = {"number": self.digest("number", 16), "attributes": self.digest("attributes", 32)}
         holding, request = (OF_CELLS[name](self.cell(name)) for name in ("holding", "request"))
         return {"holding": holding, "request": request, "id": self.cell("id"), **digests, **modes, **flags}
+
+    def update_reading(self) -> Value:
+        """An Update that is missing isn't asked for."""
+        is_update = self.given["update"] is not None
+        return {
+            "reading": self.reading(),
+            "change": update_holding_of(self.cell("update_holding")),
+            "update": update_of(self.cell("update")) if is_update else {},
+            **{name: self.digest(name, 32) for name in ("parameters", "version")},
+            **{name: self.word(name) for name in ("update_mode", "allowed")},
+            "is_update": is_update,
+        }
 
     def platform_reading(self) -> Value:
         """The plan of an instance is the records'. A binding's is its instance's, whatever the reading has."""
@@ -367,6 +395,9 @@ class CaseText:
         if call.startswith("platform_driver_"):
             yield from self.platform_values()
             return
+        if call.startswith("update_driver_"):
+            yield from self.update_driver_values()
+            return
         if call in LENGTHS:
             lengths = {name: len(text or b"") for name, text in gives.items()}
             flags = {name: gives.get(name) == b"yes" for name in FLAGS}
@@ -410,14 +441,31 @@ class CaseText:
         update = {"service": ids["service"], "change": change, "number": self.word("update_number")}
         return {"id": gives["instance"], "update": {**update, "accepts_incomplete": gives["accepts"]}}
 
+    def update_driver_values(self) -> Iterator[tuple[str, Value]]:
+        """The same of a call of a driver of an instance that can be updated."""
+        if "update_driver" in self.gives:
+            yield "update_driver", update_driver_of(self.gives["update_driver"] or b"")
+        if "update_committed" in self.gives:
+            yield "update_transaction", self.update_transaction()
+
     def transaction(self) -> Value:
+        drivers = {name: OF_CELLS["driver"](self.gives[name] or b"") for name in ("committed", "unsure")}
+        return {**self.row_and_event(), **drivers}
+
+    def update_transaction(self) -> Value:
+        drivers = {name: update_driver_of(self.gives[f"update_{name}"] or b"") for name in ("committed", "unsure")}
+        change = update_holding_of(self.gives["update_holding"] or b"")
+        return {**self.row_and_event(), **drivers, "change": change, "writes_change": self.gives["writes_change"]}
+
+    def row_and_event(self) -> Value:
+        """What a transaction of a broker's driver has beside its drivers."""
         effect, *words = self.word("effect").split()
         number = api.cases.digest(self.gives["number"])[:16]
         row = {"holding": holding_of(self.gives["holding"] or b""), "number": number}
-        drivers = {name: driver_of(self.gives[name] or b"") for name in ("committed", "unsure")}
-        outcome = {"outcome": words[0]} if effect == "end" else {}
+        outcomes = {"end": "outcome", "end-update": "update_outcome"}
+        outcome = {outcomes[effect]: words[0]} if effect in outcomes else {}
         flags = {"ok": words == ["ok"], "writes": self.gives["writes"] == b"yes"}
-        return {**row, **drivers, "effect": effect, **outcome, **flags}
+        return {**row, "effect": effect, **outcome, **flags}
 
     def platform_values(self) -> Iterator[tuple[str, Value]]:
         """The same of a call of a platform's driver."""

@@ -75,6 +75,8 @@ static struct out {
     struct osb_begun begun;
     struct osb_driver driver;
     struct osb_transaction transaction;
+    struct osb_update_driver update_driver;
+    struct osb_update_transaction update_transaction;
     struct osb_platform_driver platform_driver;
     struct osb_platform_transaction platform_transaction;
     struct osb_settings settings;

@@ -12,6 +12,7 @@ CRATES = (
     "osb_c_binding",
     "osb_c_update",
     "osb_c_driver",
+    "osb_c_update_driver",
     "osb_c_platform_driver",
     "osb_c_wire",
     "osb_c_binding_wire",
@@ -26,6 +27,8 @@ FRONTS = {
     "HoldingPhase": "PHASE_",
     "WorkOutcome": "OUTCOME_",
     "Resource": "THERE_",
+    "UpdateCall": "CALL_",
+    "UpdateLook": "LOOK_",
 }
 NAMES = {
     "ErrorCode::Other": "BODY_OTHER_ERROR",
@@ -38,6 +41,10 @@ NAMES = {
     "Allowed::Rejected(Rejection::BadRequest)": "ALLOWED_REJECTED_400",
     "Allowed::Rejected(Rejection::UnprocessableEntity)": "ALLOWED_REJECTED_422",
     "Allowed::MaintenanceInfoConflict": "ALLOWED_MAINTENANCE_CONFLICT",
+    "UpdateEffect::Update": "EFFECT_UPDATE",
+    "UpdateEffect::End": "EFFECT_END_UPDATE",
+    "UpdateEffect::Finish": "EFFECT_FINISH_UPDATE",
+    "UpdateStage::Conflict": "STAGE_ANSWER",
 }
 """Where a name isn't made of the source's by upper case alone: of a whole path, or else of a variant. Those of refusals
 are the names of their statuses.
@@ -45,7 +52,10 @@ are the names of their statuses.
 
 # Numbers that have no name in C. No call gives a driver at TryLock, since a driver begins with the report of its lock.
 # A worker's stage has the number of its call.
-UNNAMED = {"STAGE_TRY_LOCK", "WORKER_STAGE_TRY", "WORKER_STAGE_UNKNOWN"}
+UNNAMED = {
+    "STAGE_TRY_LOCK",
+    *(f"{kind}WORKER_STAGE_{stage}" for kind in ("", "UPDATE_") for stage in ("TRY", "UNKNOWN")),
+}
 
 # The numbers for none: the function that gives or takes one, or the constant.
 NONE_IN = {
@@ -147,7 +157,7 @@ def numbers() -> dict[str, int]:
     found: dict[str, int] = {}
     given = [
         (_name(path), number)
-        for path, number in re.findall(rf"(?:Some\()?({PATH})(?: \{{ \.\. \}}|\(_\))?\)? => (\d+),", TEXT)
+        for path, number in re.findall(rf"(?:Some\()?({PATH})(?: \{{ \.\. \}}|\(_(?:, _)*\))?\)? => (\d+),", TEXT)
     ]
     taken = [(_name(path), number) for number, path in re.findall(rf"\b(\d+) => (?:Some\()+({PATH})\)+,", TEXT)]
     variants = [(name, number) for name, number in given + taken if int(number) < 256 and name not in UNNAMED]

@@ -10,7 +10,8 @@ import (
 func Benchmark(b *testing.B) {
 	s := newSteps(b)
 	steps := append(append(s.ofRecords(), s.ofHoldings()...), append(s.ofTheWire(), s.ofBindings()...)...)
-	steps = append(append(append(steps, ofPlatformDrivers(b)...), ofUpdates(b)...), ofTheWireOfUpdates()...)
+	steps = append(append(steps, ofPlatformDrivers(b)...), ofUpdateDrivers(b)...)
+	steps = append(append(steps, ofUpdates(b)...), ofTheWireOfUpdates()...)
 	for _, step := range steps {
 		b.Run(step.name, func(b *testing.B) { repeat(b, step.call) })
 	}
@@ -133,6 +134,28 @@ func ofPlatformDrivers(b *testing.B) []step {
 		{"NewPlatformDriver", func() error { return second(osb.NewPlatformDriver(osb.ID{1}, false)) }},
 		{"PlatformDriver.Read", func() error { return second(claim.Read(reading)) }},
 		{"PlatformDriver.Answered", func() error { return second(created.Committed().Answered(accepted, false)) }},
+	}
+}
+
+func ofUpdateDrivers(b *testing.B) []step {
+	before, after := osb.Settings{Plan: plan}, osb.Settings{Plan: async}
+	row := osb.BrokerRow{Service: service, Plan: plan, Phase: osb.PhaseReady}
+	reading := osb.UpdateReading{
+		Reading:  osb.Reading{Holding: osb.HoldingByHand(&row, nil, false, osb.Digest{}), ID: instance, MayBegin: true},
+		Change:   osb.NewUpdateHolding(before),
+		IsUpdate: true, Update: osb.Update{Service: service, Change: osb.Change{Plan: async, HasPlan: true}},
+	}
+	begin := need(osb.NewUpdateDriver(osb.ID{1}, true, true))(b)
+	look := need(begin.Read(reading))(b).Committed()
+	await := need(need(osb.NewUpdateDriver(osb.ID{1}, true, false))(b).Read(reading))(b).Committed()
+	try, sync := need(look.Looked(osb.ThereWhole, before))(b), need(look.Looked(osb.ThereWhole, after))(b)
+	return []step{
+		{"NewUpdateDriver", func() error { return second(osb.NewUpdateDriver(osb.ID{1}, true, true)) }},
+		{"UpdateDriver.Locked", func() error { return second(await.Locked(true)) }},
+		{"UpdateDriver.Looked", func() error { return second(look.Looked(osb.ThereWhole, before)) }},
+		{"UpdateDriver.Synced", func() error { return second(sync.Synced()) }},
+		{"UpdateDriver.Called", func() error { return second(try.Called(true, 0)) }},
+		{"UpdateDriver.Read", func() error { return second(begin.Read(reading)) }},
 	}
 }
 

@@ -68,17 +68,21 @@ func anyDriverOf(t *testing.T, cell string) any {
 
 // An event is what a transaction is once it is committed.
 type event struct {
-	effect  osb.Effect
-	outcome osb.Outcome
-	ok      bool
+	effect        osb.Effect
+	outcome       osb.Outcome
+	updateOutcome osb.UpdateOutcome
+	ok            bool
 }
 
 func eventOf(t *testing.T, cell string) event {
 	t.Helper()
 	words := append(strings.Fields(cell), "")
 	found := event{effect: osb.Effect(numberOf(t, words[0], effectNames)), ok: words[1] == "ok"}
-	if found.effect == osb.EffectEnd {
+	switch found.effect {
+	case osb.EffectEnd:
 		found.outcome = osb.Outcome(numberOf(t, words[1], outcomeNames))
+	case osb.EffectEndUpdate:
+		found.updateOutcome = osb.UpdateOutcome(numberOf(t, words[1], updateOutcomeNames))
 	}
 	return found
 }
@@ -102,7 +106,7 @@ func (a arguments) resultsOfRead(transaction osb.Transaction, err error) (result
 	return a.resultsOf(nil,
 		output{"holding", holding, nil}, output{"number", number, nil}, output{"writes", transaction.Writes(), nil},
 		output{"committed", transaction.Committed(), nil}, output{"unsure", transaction.Unsure(), nil},
-		output{"effect", event{effect, outcome, ok}, nil})
+		output{"effect", event{effect: effect, outcome: outcome, ok: ok}, nil})
 }
 
 // The calls of drivers.

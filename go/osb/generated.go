@@ -499,10 +499,11 @@ const (
 	CallSync   Call = C.OSB_CALL_SYNC   // write to disk what exists, and report that by osb_driver_synced
 	CallCreate Call = C.OSB_CALL_CREATE // create the resource, and report that by osb_driver_called
 	CallDelete Call = C.OSB_CALL_DELETE // delete the resource, and report that by osb_driver_called
+	CallUpdate Call = C.OSB_CALL_UPDATE // change the settings of the resource, and report that by osb_update_driver_called
 )
 
 var callNames = [...]string{
-	"none", "look", "sync", "create", "delete",
+	"none", "look", "sync", "create", "delete", "update",
 }
 
 // String is the name of the number, in lower case.
@@ -551,10 +552,13 @@ const (
 	EffectEnd           Effect = C.OSB_EFFECT_END             // the pending work ends, with the outcome of the struct
 	EffectFinish        Effect = C.OSB_EFFECT_FINISH          // the operation ends: it succeeded if ok is true
 	EffectGiveUpWaiting Effect = C.OSB_EFFECT_GIVE_UP_WAITING // the instance has waited too long for its first Poll
+	EffectUpdate        Effect = C.OSB_EFFECT_UPDATE          // the Update arrives
+	EffectEndUpdate     Effect = C.OSB_EFFECT_END_UPDATE      // the pending work of an Update ends, with update_outcome
+	EffectFinishUpdate  Effect = C.OSB_EFFECT_FINISH_UPDATE   // an operation of an Update ends: succeeded if ok is true
 )
 
 var effectNames = [...]string{
-	"nothing", "arrive", "put-off", "end", "finish", "give-up-waiting",
+	"nothing", "arrive", "put-off", "end", "finish", "give-up-waiting", "update", "end-update", "finish-update",
 }
 
 // String is the name of the number, in lower case.
@@ -757,6 +761,32 @@ func (it Reading) c() (to C.struct_osb_reading) {
 	return to
 }
 
+func (it UpdateDriver) c() (to C.struct_osb_update_driver) {
+	to.driver = it.driver.c()
+	to.to = it.to.c()
+	to.before = it.before.c()
+	to.outcome = C.uint8_t(it.outcome)
+	to.is_update = C.bool(it.isUpdate)
+	to.has_before = C.bool(it.hasBefore)
+	return to
+}
+
+func (it UpdateReading) c() (to C.struct_osb_update_reading) {
+	to.reading = it.Reading.c()
+	to.change = it.Change.c()
+	to.update = it.Update.c()
+	for at, one := range it.Parameters {
+		to.parameters[at] = C.uint8_t(one)
+	}
+	for at, one := range it.Version {
+		to.version[at] = C.uint8_t(one)
+	}
+	to.update_mode = C.uint8_t(it.UpdateMode)
+	to.allowed = C.uint8_t(it.Allowed)
+	to.is_update = C.bool(it.IsUpdate)
+	return to
+}
+
 func (it PlatformDriver) c() (to C.struct_osb_platform_driver) {
 	for at, one := range it.number {
 		to.number[at] = C.uint8_t(one)
@@ -956,6 +986,33 @@ func transactionOf(from C.struct_osb_transaction) (it Transaction) {
 	it.outcome = Outcome(from.outcome)
 	it.ok = bool(from.ok)
 	it.writes = bool(from.writes)
+	return it
+}
+
+func updateDriverOf(from C.struct_osb_update_driver) (it UpdateDriver) {
+	it.driver = driverOf(from.driver)
+	it.to = settingsOf(from.to)
+	it.before = settingsOf(from.before)
+	it.outcome = UpdateOutcome(from.outcome)
+	it.isUpdate = bool(from.is_update)
+	it.hasBefore = bool(from.has_before)
+	return it
+}
+
+func updateTransactionOf(from C.struct_osb_update_transaction) (it UpdateTransaction) {
+	it.holding = holdingOf(from.holding)
+	it.change = updateHoldingOf(from.change)
+	for at, one := range from.number {
+		it.number[at] = uint8(one)
+	}
+	it.committed = updateDriverOf(from.committed)
+	it.unsure = updateDriverOf(from.unsure)
+	it.effect = Effect(from.effect)
+	it.outcome = Outcome(from.outcome)
+	it.updateOutcome = UpdateOutcome(from.update_outcome)
+	it.ok = bool(from.ok)
+	it.writes = bool(from.writes)
+	it.writesChange = bool(from.writes_change)
 	return it
 }
 

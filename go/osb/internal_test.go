@@ -94,6 +94,29 @@ func DriverByHand(of DriverParts) Driver {
 	return driver
 }
 
+// UpdateDriverParts are the parts of a driver of an instance that can be updated. The Driver has those of the stage.
+type UpdateDriverParts struct {
+	Driver              Driver
+	IsUpdate, IsPending bool
+	To, Before          *Settings
+	Outcome             UpdateOutcome
+}
+
+// UpdateDriverByHand returns a driver of these parts, which may be one that no call gives.
+func UpdateDriverByHand(of UpdateDriverParts) UpdateDriver {
+	driver := UpdateDriver{driver: of.Driver, isUpdate: of.IsUpdate, outcome: of.Outcome, hasBefore: of.Before != nil}
+	if of.IsUpdate {
+		driver.driver.isPending = of.IsPending
+	}
+	if of.To != nil {
+		driver.to = *of.To
+	}
+	if of.Before != nil {
+		driver.before = *of.Before
+	}
+	return driver
+}
+
 // PlatformDriverParts are the parts of a platform's driver. An Answer is none if it is nil.
 type PlatformDriverParts struct {
 	Number                             ID

@@ -25,6 +25,7 @@ from osb import (
     State,
     Status,
     Update,
+    UpdateDriver,
     UpdateHolding,
     UpdateWork,
     binding_wire,
@@ -100,6 +101,9 @@ class Given:
     def driver(self) -> Any:
         return driver_of(self.bytes("driver"))
 
+    def update_driver(self) -> UpdateDriver:
+        return update_driver_of(self.bytes("update_driver"))
+
     def record_if(self, name: str) -> Record | None:
         return record_if(self.bytes(name))
 
@@ -109,6 +113,17 @@ class Given:
         may_begin, may_give_up = self.cells.get("may_begin") == b"yes", self.flag("may_give_up")
         rules = self.flag("first_poll"), digest(self.cells["attributes"])
         return osb.Reading(self.holding(), *row, request, mode, *rules, may_begin, may_give_up)
+
+    def update_reading(self) -> osb.UpdateReading:
+        return osb.UpdateReading(
+            self.reading(),
+            self.update_holding(),
+            named(osb.Mode, self.text("update_mode")),
+            None if self.cells["update"] is None else update_of(self.bytes("update")),
+            named(osb.Allowed, self.text("allowed")),
+            digest(self.cells["parameters"]),
+            digest(self.cells["version"]),
+        )
 
     def asked(self) -> tuple[Any, Request]:
         """The mode and the request that begins."""
@@ -211,7 +226,10 @@ def platform_driver_of(cell: bytes) -> PlatformDriver:
 def driver_of(cell: bytes) -> Driver | PlatformDriver:
     if api.cases.is_of_platform(cell):
         return platform_driver_of(cell)
-    of = api.cases.driver(cell)
+    return instance_driver_of(api.cases.driver(cell))
+
+
+def instance_driver_of(of: api.cases.Driver) -> Driver:
     return Driver(
         number=of.number,
         stage=named(osb.Stage, of.stage),
@@ -228,9 +246,23 @@ def driver_of(cell: bytes) -> Driver | PlatformDriver:
     )
 
 
+def update_driver_of(cell: bytes) -> UpdateDriver:
+    of = api.cases.update_driver(cell)
+    return UpdateDriver(
+        instance_driver_of(of.driver),
+        of.is_update,
+        of.is_pending,
+        settings_of(of.to) if of.to else None,
+        settings_of(of.before) if of.before else None,
+        named(osb.UpdateOutcome, of.outcome) if of.outcome else None,
+    )
+
+
 def effect_of(cell: bytes) -> tuple[Any, Any, bool]:
     effect, *words = cell.decode().split()
-    return named(osb.Effect, effect), named(osb.Outcome, words[0]) if effect == "end" else None, words == ["ok"]
+    outcomes: dict[str, Any] = {"end": osb.Outcome, "end-update": osb.UpdateOutcome}
+    outcome = named(outcomes[effect], words[0]) if effect in outcomes else None
+    return named(osb.Effect, effect), outcome, words == ["ok"]
 
 
 # What the words of a column mean.
@@ -248,6 +280,9 @@ VALUES: dict[str, Callable[[bytes], Any]] = {
     "committed": driver_of,
     "unsure": driver_of,
     "failed": driver_of,
+    "update_driver": update_driver_of,
+    "update_committed": update_driver_of,
+    "update_unsure": update_driver_of,
     "number": number_of,
     "effect": effect_of,
 }
@@ -432,6 +467,13 @@ def driver_new(of: Given) -> Driver:
     return Driver.new(number_of(of.bytes("number")), is_request=of.flag("is_request"), has_lock=of.flag("has_lock"))
 
 
+def update_driver_read(of: Given) -> list[Any]:
+    found = of.update_driver().read(of.update_reading())
+    effect = found.effect, found.outcome if found.update_outcome is None else found.update_outcome, found.ok
+    row = found.holding, found.change, found.number
+    return [*row, found.writes, found.writes_change, found.committed, found.unsure, effect]
+
+
 def binding_driver_read(of: Given) -> list[Any]:
     return transaction(of.driver().read_binding(of.reading(), of.holding("instance")))
 
@@ -580,6 +622,16 @@ CALLS: dict[str, Callable[[Given], Any]] = {
     "driver_called": lambda of: of.driver().called(of.flag("ok"), of.number("rejection")),
     "driver_read": lambda of: transaction(of.driver().read(of.reading())),
     "binding_driver_read": binding_driver_read,
+    "update_driver_new": lambda of: UpdateDriver.new(
+        number_of(of.bytes("number")), is_request=of.flag("is_request"), has_lock=of.flag("has_lock")
+    ),
+    "update_driver_locked": lambda of: of.update_driver().locked(of.flag("has_lock")),
+    "update_driver_looked": lambda of: of.update_driver().looked(
+        named(osb.There, of.text("there")), settings_in(of.bytes("settings"))
+    ),
+    "update_driver_synced": lambda of: of.update_driver().synced(),
+    "update_driver_called": lambda of: of.update_driver().called(of.flag("ok"), of.number("rejection")),
+    "update_driver_read": update_driver_read,
     "platform_driver_new": lambda of: PlatformDriver.new(
         number_of(of.bytes("number")), is_binding=of.flag("is_binding")
     ),
@@ -590,7 +642,7 @@ CALLS: dict[str, Callable[[Given], Any]] = {
 # The columns that may have a number instead of a name.
 NUMBERED = (
     *("kind", "state", "mode", "row_mode", "outcome", "there", "record", "request", "wishes", "driver"),
-    *("allowed", "update_holding", "otherwise"),
+    *("allowed", "update_holding", "otherwise", "update_mode", "update_driver"),
 )
 NUMBER = re.compile(rb"\d"), re.compile(rb"\d|.* \d+(:| |$)")
 """A number at the front of a cell, and one among the words of a driver."""
@@ -608,7 +660,7 @@ NOTHING = {
 
 
 COMPARED = (
-    *(bytes, tuple, Record, Holding, Request, Answer, Driver, PlatformDriver, osb.Work),
+    *(bytes, tuple, Record, Holding, Request, Answer, Driver, UpdateDriver, PlatformDriver, osb.Work),
     *(Settings, UpdateHolding, UpdateWork, MaintenanceConflict, Found),
 )
 """The types of results that a column has as they are."""
@@ -647,7 +699,7 @@ def test_a_call(call: str) -> None:
 
 def check(case: Case) -> None:
     of = Given(case.given)
-    if any(NUMBER[name == "driver"].match(case.given.get(name) or b"") for name in NUMBERED):
+    if any(NUMBER[name.endswith("driver")].match(case.given.get(name) or b"") for name in NUMBERED):
         with pytest.raises(ValueError):  # the enums don't take a number that has no name
             CALLS[case.call](of)
         return

@@ -73,13 +73,17 @@ both : (a b : Bool) → (a && b) ≡ true → a ≡ true
 both true b h = refl
 both false b h = cc
 
+pub not_nobody : (d : OsbDriver) (number : List ℕ) (worker : Bool) → (is_number d.number && worker) ≡ true
+    → number ≡ nobody → is_owner d number ≡ false
+not_nobody d number worker there e =
+    ap (λ (n : List ℕ). bytes_eq d.number n) e
+    ∙ is_nobody (bytes_eq d.number nobody) (both (is_number d.number) worker there)
+
 pub nobody_owns : (d : OsbDriver) (number : List ℕ) → IsSome (driver_of d) → number ≡ nobody
     → is_owner d number ≡ false
 nobody_owns d number there e =
-    ap (λ (n : List ℕ). bytes_eq d.number n) e
-    ∙ is_nobody (bytes_eq d.number nobody)
-    (both (is_number d.number) (has_worker d) (number_there (is_number d.number && has_worker d)
-    (option_and_then (possible (attempt_of d.is_request)) (stage_of d)) there))
+    not_nobody d number (has_worker d) (number_there (is_number d.number && has_worker d)
+    (option_and_then (possible (attempt_of d.is_request)) (stage_of d)) there) e
 
 -- the driver that a struct of its members stands for
 pub stands : (n : OsbDriver) (d : Driver) → is_number n.number ≡ true → has_worker n ≡ true

@@ -1,3 +1,3 @@
 pub mod Possible
 pub mod Crossing
-pub mod Worked
+pub mod Working

@@ -27,7 +27,7 @@ use Rattle.osb_c_driver.specs.Workers.{stage_after}
 
 -- ---- what is reported
 
-locked_kept : (a : Option ℕ) (stage : Stage) → can_be a stage ≡ true → can_be a (locked stage) ≡ true
+pub locked_kept : (a : Option ℕ) (stage : Stage) → can_be a stage ≡ true → can_be a (locked stage) ≡ true
 locked_kept a Stage.TryLock h = cc
 locked_kept (Some n) Stage.AwaitLock h = refl
 locked_kept None Stage.AwaitLock h = refl
@@ -39,7 +39,7 @@ locked_kept a Stage.Unsure h = h
 locked_kept a (Stage.Answer x) h = h
 locked_kept a Stage.Done h = h
 
-missed_kept : (a : Option ℕ) (stage : Stage) → can_be a stage ≡ true → can_be a (missed a stage) ≡ true
+pub missed_kept : (a : Option ℕ) (stage : Stage) → can_be a stage ≡ true → can_be a (missed a stage) ≡ true
 missed_kept a Stage.TryLock h = cc
 missed_kept (Some n) Stage.AwaitLock h = refl
 missed_kept None Stage.AwaitLock h = refl
@@ -70,7 +70,7 @@ pub begun_attempt : (is_request has : Bool) → attempt_of is_request ≡ (begun
 begun_attempt is_request true = refl
 begun_attempt is_request false = refl
 
-worked_kept : (o : WorkOutcome) (ok : Bool) (a : Option ℕ) (stage : Stage) → can_be a stage ≡ true
+pub worked_kept : (o : WorkOutcome) (ok : Bool) (a : Option ℕ) (stage : Stage) → can_be a stage ≡ true
     → can_be a (finished ok (worked_by o stage)) ≡ true
 worked_kept o ok (Some n) (Stage.Work (Task.Pending q)) h = refl
 worked_kept o ok None (Stage.Work (Task.Pending q)) h = refl
@@ -102,19 +102,19 @@ first_by_kept n l put_off row q after (Answered x) = refl
 first_by_kept n true put_off row q after (Begun.Work w) = refl
 first_by_kept n false put_off row q after (Begun.Work w) = refl
 
-first_kept : (n : ℕ) (l own put_off : Bool) (row : Held) (q : Request) (begun : Held × Begun)
+pub first_kept : (n : ℕ) (l own put_off : Bool) (row : Held) (q : Request) (begun : Held × Begun)
     → can_be (Some n) (first l own put_off row q begun).stage ≡ true
 first_kept n l true put_off row q begun = refl
 first_kept n l false put_off row q begun = first_by_kept n l put_off row q begun.0 begun.1
 
-take_up_kept : (work : Option Request) (operating waiting : Bool) (row : Held)
+pub take_up_kept : (work : Option Request) (operating waiting : Bool) (row : Held)
     → can_be None (take_up_by work operating waiting row).stage ≡ true
 take_up_kept (Some q) operating waiting row = refl
 take_up_kept None true waiting row = refl
 take_up_kept None false true row = refl
 take_up_kept None false false row = refl
 
-resume_kept : (a : Option ℕ) (own : Bool) (row : Held) (work : Option Request)
+pub resume_kept : (a : Option ℕ) (own : Bool) (row : Held) (work : Option Request)
     → can_be a (resume own row work).stage ≡ true
 resume_kept (Some n) false row work = refl
 resume_kept None false row work = refl
@@ -137,7 +137,7 @@ end_of_kept None mode row o (Some x) None h = cc
 end_of_kept (Some n) mode row o before (Some q) h = if_kept (can_end q.kind o) (Some n) _ _ refl refl
 end_of_kept None mode row o before (Some q) h = if_kept (can_end q.kind o) None _ _ refl refl
 
-end_kept : (a : Option ℕ) (own : Bool) (mode : Option Mode) (row : Held) (o : WorkOutcome) (before : Option Answer)
+pub end_kept : (a : Option ℕ) (own : Bool) (mode : Option Mode) (row : Held) (o : WorkOutcome) (before : Option Answer)
     (work : Option Request) → can_be a (Stage.End o before) ≡ true
     → can_be a (end a own mode row o before work).stage ≡ true
 end_kept (Some n) false mode row o before work h = refl
@@ -151,7 +151,7 @@ finish_by_kept (Some n) false row ok = refl
 finish_by_kept None true row ok = refl
 finish_by_kept None false row ok = refl
 
-finish_kept : (a : Option ℕ) (own : Bool) (row : Held) (ok : Bool) → can_be a (finish own row ok).stage ≡ true
+pub finish_kept : (a : Option ℕ) (own : Bool) (row : Held) (ok : Bool) → can_be a (finish own row ok).stage ≡ true
 finish_kept (Some n) false row ok = refl
 finish_kept None false row ok = refl
 finish_kept a true row ok = finish_by_kept a (is_operating row) row ok

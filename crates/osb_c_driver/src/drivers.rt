@@ -52,8 +52,8 @@ pub struct OsbDriver {
     pub ok: bool,
 }
 
-// The number of nobody.
-pub(crate) const NOBODY: [u8; 16] = [0; 16];
+/// The number of nobody.
+pub const NOBODY: [u8; 16] = [0; 16];
 
 const ZERO_ID: OsbId = OsbId { high: 0, low: 0 };
 
@@ -84,8 +84,8 @@ fn stage_out(stage: &Stage) -> u8
     }
 }
 
-// The number of an outcome.
-pub(crate) fn outcome_out(outcome: WorkOutcome) -> u8
+/// The number of an outcome. It takes no memory.
+pub fn outcome_out(outcome: WorkOutcome) -> u8
     ensures outcome { outcome_of result ≡ Some outcome }
 {
     match outcome {
@@ -108,8 +108,8 @@ fn task_from(driver: &OsbDriver) -> Option<Task>
     Some(Task::Pending(request))
 }
 
-// The answer of an earlier try that crossed, or none.
-fn before_from(driver: &OsbDriver) -> Option<Answer>
+/// The answer of an earlier try that crossed, or none. It takes no memory.
+pub fn before_from(driver: &OsbDriver) -> Option<Answer>
     ensures before { result ≡ before_of driver.now }
 {
     if driver.has_answer {
@@ -119,8 +119,8 @@ fn before_from(driver: &OsbDriver) -> Option<Answer>
     }
 }
 
-// The stage that crossed, if its numbers stand for something.
-fn stage_from(driver: &OsbDriver) -> Option<Stage>
+/// The stage that crossed, if its numbers stand for something. It takes no memory.
+pub fn stage_from(driver: &OsbDriver) -> Option<Stage>
     ensures stage { result ≡ stage_of driver.now }
 {
     match driver.stage {
@@ -148,8 +148,8 @@ fn stage_from(driver: &OsbDriver) -> Option<Stage>
     }
 }
 
-// Whether a driver of a request (`attempt`) or of a take-up can be at a stage.
-fn can_be(attempt: Option<u64>, stage: Stage) -> bool
+/// Whether a driver of a request (`attempt`) or of a take-up can be at a stage. It takes no memory.
+pub fn can_be(attempt: Option<u64>, stage: Stage) -> bool
     ensures can { result ≡ can_be attempt stage }
 {
     match (attempt, stage) {
@@ -164,8 +164,8 @@ fn can_be(attempt: Option<u64>, stage: Stage) -> bool
     }
 }
 
-// The attempt of the driver of a request, which a broker doesn't know, or none of a take-up.
-pub(crate) fn attempt_from(is_request: bool) -> Option<u64>
+/// The attempt of the driver of a request, which a broker doesn't know, or none of a take-up. It takes no memory.
+pub fn attempt_from(is_request: bool) -> Option<u64>
     ensures attempt { result ≡ attempt_of is_request }
 {
     if is_request { Some(0) } else { None }
@@ -203,22 +203,22 @@ pub fn driver_from(driver: &OsbDriver) -> Option<Driver>
     possible(Driver { attempt, stage })
 }
 
-// Whether a row has the driver's number.
-pub(crate) fn is_owner(driver: &OsbDriver, number: &[u8; 16]) -> bool
+/// Whether a row has the driver's number. It takes no memory.
+pub fn is_owner(driver: &OsbDriver, number: &[u8; 16]) -> bool
     ensures owner { result ≡ is_owner driver.now number.now }
 {
     driver.number == *number
 }
 
-// Whether there is an answer.
-fn is_there(answer: Option<Answer>) -> bool
+/// Whether there is an answer. It takes no memory.
+pub fn is_there(answer: Option<Answer>) -> bool
     ensures there { result ≡ is_some answer }
 {
     answer.is_some()
 }
 
-// The answer as it crosses, or zeroes.
-fn some_answer_out(answer: Option<Answer>) -> OsbAnswer
+/// The answer as it crosses, or zeroes. It takes no memory.
+pub fn some_answer_out(answer: Option<Answer>) -> OsbAnswer
     ensures answer { IfSome answer (λ a. answer_of result ≡ a) }
     ensures none { IfNone answer (result ≡ zero_answer) }
     ensures numbered { IsNumbered result }
@@ -283,8 +283,8 @@ fn with_stage(number: [u8; 16], is_request: bool, code: u8, stage: Stage) -> Osb
     }
 }
 
-// The driver of a request or of a take-up at a stage, as it crosses.
-pub(crate) fn stage_of_driver(number: [u8; 16], is_request: bool, stage: Stage) -> OsbDriver
+/// The driver of a request or of a take-up at a stage, as it crosses. It takes no memory.
+pub fn stage_of_driver(number: [u8; 16], is_request: bool, stage: Stage) -> OsbDriver
     ensures stage { stage_of result ≡ Some stage }
     ensures number { result.number ≡ number }
     ensures request { result.is_request ≡ is_request }

@@ -16,3 +16,13 @@ mod reads;
 mod transactions;
 mod worker_calls;
 mod workers;
+
+pub use drivers::{
+    NOBODY, OsbDriver, attempt_from, before_from, can_be, is_owner, is_there, outcome_out,
+    some_answer_out, stage_from, stage_of_driver,
+};
+pub use readings::{OsbReading, is_fit, mode_for, permit_from};
+pub use transactions::{effect_out, number_after, work_at};
+pub use workers::{
+    call_out, rejection_from, rejection_out, there_from, worked, worker_for, worker_from,
+};

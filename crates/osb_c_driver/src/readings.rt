@@ -34,8 +34,8 @@ pub struct OsbReading {
     pub may_give_up: bool,
 }
 
-// Whether the row can come about at its plan, and its pending work is of its id.
-pub(crate) fn is_fit(reading: &OsbReading, row_mode: Option<Mode>, held: Holding) -> bool
+/// Whether the row can come about at its plan, and its pending work is of its id. It takes no memory.
+pub fn is_fit(reading: &OsbReading, row_mode: Option<Mode>, held: Holding) -> bool
     ensures fit { result ≡ is_fit reading.now row_mode held }
 {
     let id: InstanceId = id_from(reading.id);
@@ -46,8 +46,8 @@ pub(crate) fn is_fit(reading: &OsbReading, row_mode: Option<Mode>, held: Holding
     held.fits(row_mode) && has_id
 }
 
-// The mode by which the driver's transaction goes.
-pub(crate) fn mode_for(driver: &Driver, row_mode: Option<Mode>, mode: Option<Mode>) -> Option<Mode>
+/// The mode by which the driver's transaction goes. It takes no memory.
+pub fn mode_for(driver: &Driver, row_mode: Option<Mode>, mode: Option<Mode>) -> Option<Mode>
     ensures mode { result ≡ mode_for driver.now row_mode mode }
 {
     match (driver.attempt, driver.stage) {
@@ -56,8 +56,8 @@ pub(crate) fn mode_for(driver: &Driver, row_mode: Option<Mode>, mode: Option<Mod
     }
 }
 
-// What the transaction may do.
-pub(crate) fn permit_from(reading: &OsbReading) -> Permit
+/// What the transaction may do. It takes no memory.
+pub fn permit_from(reading: &OsbReading) -> Permit
     ensures permit { result ≡ permit_of reading.now }
 {
     Permit {

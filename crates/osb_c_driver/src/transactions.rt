@@ -34,8 +34,8 @@ pub struct OsbTransaction {
     pub writes: bool,
 }
 
-// The number of an event.
-fn effect_out(effect: Effect) -> u8
+/// The number of an event. It takes no memory.
+pub fn effect_out(effect: Effect) -> u8
     ensures code { result ≡ effect_code effect }
 {
     match effect {
@@ -59,8 +59,8 @@ fn operation_of(row: Option<HoldingRow>) -> Option<Work>
     }
 }
 
-// The work to do at a stage.
-fn work_at(mode: Option<Mode>, row: Holding, stage: Stage) -> Option<Work>
+/// The work to do at a stage. It takes no memory.
+pub fn work_at(mode: Option<Mode>, row: Holding, stage: Stage) -> Option<Work>
     ensures work { result ≡ work_at mode row stage }
 {
     match stage {
@@ -81,8 +81,8 @@ fn writes(read: Holding, transaction: &Transaction) -> bool
     transaction.takes_over || transaction.row != read
 }
 
-// The number that the row has after the transaction.
-fn number_after(takes_over: bool, own: [u8; 16], number: [u8; 16]) -> [u8; 16]
+/// The number that the row has after the transaction. It takes no memory.
+pub fn number_after(takes_over: bool, own: [u8; 16], number: [u8; 16]) -> [u8; 16]
     ensures number { result ≡ number_after takes_over own number }
 {
     if takes_over { own } else { number }

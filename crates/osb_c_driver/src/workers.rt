@@ -24,8 +24,8 @@ pub fn rejection_from(status: u16) -> Option<Option<Rejection>>
     }
 }
 
-// The status of a rejection, and 0 for none.
-fn rejection_out(rejection: Option<Rejection>) -> u16
+/// The status of a rejection, and 0 for none. It takes no memory.
+pub fn rejection_out(rejection: Option<Rejection>) -> u16
     ensures status { result ≡ rejection_code rejection }
 {
     match rejection {
@@ -72,8 +72,8 @@ fn look_out(look: Look) -> u8
     }
 }
 
-// The number of the call to make next, or 0 for none.
-fn call_out(call: Option<Call>) -> u8
+/// The number of the call to make next, or 0 for none. It takes no memory.
+pub fn call_out(call: Option<Call>) -> u8
     ensures code { result ≡ call_code call }
 {
     match call {
@@ -174,8 +174,8 @@ fn look_of_stage(stage: WorkerStage) -> u8
     }
 }
 
-// The worker that has the work to do, or has it done already.
-pub(crate) fn worker_for(work: Option<Work>) -> Worker
+/// The worker that has the work to do, or has it done already. It takes no memory.
+pub fn worker_for(work: Option<Work>) -> Worker
     ensures worker { result ≡ worker_for work }
     ensures can { can_work result ≡ true }
 {
@@ -229,8 +229,8 @@ fn ended(driver: Driver, outcome: WorkOutcome) -> Driver
     driver.worked(outcome).finished(ok)
 }
 
-// What follows for the driver that crossed, `before`, once its worker stands so.
-pub(crate) fn worked(driver: &OsbDriver, before: Driver, worker: Worker) -> OsbDriver
+/// What follows for the driver that crossed, `before`, once its worker stands so. It takes no memory.
+pub fn worked(driver: &OsbDriver, before: Driver, worker: Worker) -> OsbDriver
     ensures worked { (was : Driver) → driver_of driver.now ≡ Some was → before.attempt ≡ was.attempt
         → can_be before.attempt before.stage ≡ true → can_work worker ≡ true → IsWorked before worker result }
     ensures number { result.number ≡ driver.now.number }

@@ -18,5 +18,7 @@ mod requests;
 mod settings;
 mod texts;
 
-pub use requests::OsbUpdate;
-pub use settings::{OsbChange, OsbSettings, no_settings, settings_out};
+pub use holdings::{OsbUpdateHolding, holding_from, holding_out};
+pub use outcomes::{outcome_from, way_from};
+pub use requests::{OsbUpdate, allowed_from, update_from};
+pub use settings::{OsbChange, OsbSettings, no_settings, settings_from, settings_out};

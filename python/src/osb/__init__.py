@@ -4,7 +4,8 @@ osb-platform, with an API over HTTP (docs/platform-guide.md).
 
 - `Record` and `Holding`: one instance as a value, as a platform and as a broker keep it in a database, with its text.
 - `UpdateHolding`: the updates of one instance, as a broker keeps them.
-- `Driver`: what a broker does next. `PlatformDriver`: what a platform does next.
+- `Driver`: what a broker does next. `UpdateDriver`: the same at an instance that can be updated. `PlatformDriver`: what
+  a platform does next.
 - `osb.wire`: requests and answers as HTTP and JSON have them. `osb.binding_wire`: those of bindings.
   `osb.update_wire`: Updates and Fetches.
 - `osb.tables`: two of the platform's tables.
@@ -45,6 +46,7 @@ from osb.messages import Answer, BrokerRow, Endpoints, Plan, PlatformRow, Reques
 from osb.platform_driver import PlatformDriver, PlatformReading, PlatformTransaction
 from osb.record import Record
 from osb.update import Change, Found, MaintenanceConflict, Settings, Update, UpdateHolding, UpdateWork
+from osb.update_driver import UpdateDriver, UpdateReading, UpdateTransaction
 
 __version__ = f"{VERSION // 10000}.{VERSION // 100 % 100}.{VERSION % 100}"
 """The version of this package, and of the header that it is written for."""
@@ -89,9 +91,12 @@ __all__ = [
     "There",
     "Transaction",
     "Update",
+    "UpdateDriver",
     "UpdateHolding",
     "UpdateOutcome",
     "UpdatePhase",
+    "UpdateReading",
+    "UpdateTransaction",
     "UpdateWork",
     "Work",
     "__version__",

@@ -148,6 +148,46 @@ class CTransaction(c.Structure):
     ]
 
 
+class CUpdateDriver(c.Structure):
+    _fields_ = [
+        ("driver", CDriver),
+        ("to", CSettings),
+        ("before", CSettings),
+        ("outcome", c.c_uint8),
+        ("is_update", c.c_bool),
+        ("has_before", c.c_bool),
+    ]
+
+
+class CUpdateReading(c.Structure):
+    _fields_ = [
+        ("reading", CReading),
+        ("change", CUpdateHolding),
+        ("update", CUpdate),
+        ("parameters", c.c_uint8 * 32),
+        ("version", c.c_uint8 * 32),
+        ("update_mode", c.c_uint8),
+        ("allowed", c.c_uint8),
+        ("is_update", c.c_bool),
+    ]
+
+
+class CUpdateTransaction(c.Structure):
+    _fields_ = [
+        ("holding", CHolding),
+        ("change", CUpdateHolding),
+        ("number", c.c_uint8 * 16),
+        ("committed", CUpdateDriver),
+        ("unsure", CUpdateDriver),
+        ("effect", c.c_uint8),
+        ("outcome", c.c_uint8),
+        ("update_outcome", c.c_uint8),
+        ("ok", c.c_bool),
+        ("writes", c.c_bool),
+        ("writes_change", c.c_bool),
+    ]
+
+
 class CPlatformDriver(c.Structure):
     _fields_ = [
         ("number", c.c_uint8 * 16),
@@ -391,6 +431,12 @@ EXPORTS: list[tuple[str, Any, list[Any]]] = [
     ("osb_driver_called", c.c_uint32, [_AT(CDriver), c.c_bool, c.c_uint16]),
     ("osb_driver_read", c.c_uint32, [_AT(CDriver), _AT(CReading), _AT(CTransaction)]),
     ("osb_binding_driver_read", c.c_uint32, [_AT(CDriver), _AT(CReading), _AT(CHolding), _AT(CTransaction)]),
+    ("osb_update_driver_new", c.c_uint32, [c.c_char_p, c.c_bool, c.c_bool, _AT(CUpdateDriver)]),
+    ("osb_update_driver_locked", c.c_uint32, [_AT(CUpdateDriver), c.c_bool]),
+    ("osb_update_driver_looked", c.c_uint32, [_AT(CUpdateDriver), c.c_uint8, _AT(CSettings)]),
+    ("osb_update_driver_synced", c.c_uint32, [_AT(CUpdateDriver)]),
+    ("osb_update_driver_called", c.c_uint32, [_AT(CUpdateDriver), c.c_bool, c.c_uint16]),
+    ("osb_update_driver_read", c.c_uint32, [_AT(CUpdateDriver), _AT(CUpdateReading), _AT(CUpdateTransaction)]),
     ("osb_platform_driver_new", c.c_uint32, [c.c_char_p, c.c_bool, _AT(CPlatformDriver)]),
     ("osb_platform_driver_read", c.c_uint32, [_AT(CPlatformDriver), _AT(CPlatformReading), _AT(CPlatformTransaction)]),
     ("osb_platform_driver_answered", c.c_uint32, [_AT(CPlatformDriver), c.c_bool, CAnswer, c.c_bool]),

@@ -60,38 +60,38 @@ class Driver:
         number. Raises BAD_DRIVER if they are zeroes.
         """
         driver = CDriver()
-        check(lib.osb_driver_new(bytes(_number(number)), is_request, has_lock, driver))
-        return _from(driver)
+        check(lib.osb_driver_new(bytes(number_of(number)), is_request, has_lock, driver))
+        return driver_from(driver)
 
     def locked(self, has_lock: bool) -> Driver:
         """Reports at AWAIT_LOCK whether the driver has the lock of its key after it has waited. A lock of which nobody
         knows isn't had. Raises WRONG_STAGE.
         """
-        driver = _to(self)
+        driver = driver_to(self)
         check(lib.osb_driver_locked(driver, has_lock))
-        return _from(driver)
+        return driver_from(driver)
 
     def looked(self, there: There) -> Driver:
         """Reports what the look of LOOK has found. A look that shows how the work has ended moves the driver on, to END
         or FINISH. If a look has failed, nobody knows how the work ended: step the driver no more. Raises WRONG_STAGE.
         """
-        driver = _to(self)
+        driver = driver_to(self)
         check(lib.osb_driver_looked(driver, There(there).value))
-        return _from(driver)
+        return driver_from(driver)
 
     def synced(self) -> Driver:
         """Reports that what exists is on disk (SYNC). If that failed, step the driver no more. Raises WRONG_STAGE."""
-        driver = _to(self)
+        driver = driver_to(self)
         check(lib.osb_driver_synced(driver))
-        return _from(driver)
+        return driver_from(driver)
 
     def called(self, ok: bool, rejection: int = 0) -> Driver:
         """Reports that CREATE or DELETE has returned, and whether without an error. `rejection` is 400 or 422 if the
         backend has rejected the creation with that status, and else 0. Raises NOT_REFUSED, WRONG_STAGE.
         """
-        driver = _to(self)
+        driver = driver_to(self)
         check(lib.osb_driver_called(driver, ok, rejection))
-        return _from(driver)
+        return driver_from(driver)
 
     def read(self, row: Reading) -> Transaction:
         """The transaction of an instance's driver, at BEGIN, END, FINISH and UNSURE.
@@ -102,7 +102,7 @@ class Driver:
         left alone.
         """
         transaction = CTransaction()
-        check(lib.osb_driver_read(_to(self), _reading_to(row), transaction))
+        check(lib.osb_driver_read(driver_to(self), reading_to(row), transaction))
         return _transaction_from(transaction)
 
     def read_binding(self, row: Reading, instance: Holding) -> Transaction:
@@ -112,7 +112,7 @@ class Driver:
         those of binding.
         """
         transaction = CTransaction()
-        check(lib.osb_binding_driver_read(_to(self), _reading_to(row), holding_to(instance), transaction))
+        check(lib.osb_binding_driver_read(driver_to(self), reading_to(row), holding_to(instance), transaction))
         return _transaction_from(transaction)
 
 
@@ -162,15 +162,15 @@ class Transaction:
     """Of the effect FINISH: whether the operation succeeded."""
 
 
-def _number(number: bytes) -> ctypes.Array[ctypes.c_char]:
+def number_of(number: bytes) -> ctypes.Array[ctypes.c_char]:
     return ctypes.create_string_buffer(number_to(number), 16)
 
 
-def _reading_to(row: Reading) -> CReading:
+def reading_to(row: Reading) -> CReading:
     made = CReading(
         holding=holding_to(row.holding),
         id=id_to(row.id),
-        number=(ctypes.c_uint8 * 16)(*bytes(_number(row.number))),
+        number=(ctypes.c_uint8 * 16)(*bytes(number_of(row.number))),
         attributes=digest_to(row.attributes),
         row_mode=mode_to(row.row_mode),
         mode=mode_to(row.mode),
@@ -183,10 +183,10 @@ def _reading_to(row: Reading) -> CReading:
     return made
 
 
-def _to(driver: Driver) -> CDriver:
+def driver_to(driver: Driver) -> CDriver:
     stage = Stage(driver.stage)
     made = CDriver(
-        number=(ctypes.c_uint8 * 16)(*bytes(_number(driver.number))),
+        number=(ctypes.c_uint8 * 16)(*bytes(number_of(driver.number))),
         rejection=driver.rejection,
         stage=stage.value,
         call=CALL_NONE if driver.call is None else Call(driver.call).value,
@@ -208,7 +208,7 @@ def _to(driver: Driver) -> CDriver:
     return made
 
 
-def _from(driver: CDriver) -> Driver:
+def driver_from(driver: CDriver) -> Driver:
     stage = Stage(driver.stage)
     call = None if driver.call == CALL_NONE else Call(driver.call)
     has_answer = stage is Stage.ANSWER or driver.has_answer
@@ -234,8 +234,8 @@ def _transaction_from(transaction: CTransaction) -> Transaction:
         holding_from(transaction.holding),
         bytes(transaction.number),
         bool(transaction.writes),
-        _from(transaction.committed),
-        _from(transaction.unsure),
+        driver_from(transaction.committed),
+        driver_from(transaction.unsure),
         effect,
         Outcome(transaction.outcome) if effect is Effect.END else None,
         bool(transaction.ok),

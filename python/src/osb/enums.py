@@ -219,6 +219,7 @@ class Call(Named):
     SYNC = 2, "write to disk what exists, and report that by osb_driver_synced"
     CREATE = 3, "create the resource, and report that by osb_driver_called"
     DELETE = 4, "delete the resource, and report that by osb_driver_called"
+    UPDATE = 5, "change the settings of the resource, and report that by osb_update_driver_called"
 
 
 class Look(Named):
@@ -247,6 +248,9 @@ class Effect(Named):
     END = 3, "the pending work ends, with the outcome of the struct"
     FINISH = 4, "the operation ends: it succeeded if ok is true"
     GIVE_UP_WAITING = 5, "the instance has waited too long for its first Poll"
+    UPDATE = 6, "the Update arrives"
+    END_UPDATE = 7, "the pending work of an Update ends, with update_outcome"
+    FINISH_UPDATE = 8, "an operation of an Update ends: succeeded if ok is true"
 
 
 class PlatformStage(Named):

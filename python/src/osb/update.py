@@ -40,8 +40,8 @@ class Settings:
         what there was.
         """
         asked = CSettings()
-        lib.osb_update_asked_for(_settings_to(self), _change_to(change), asked)
-        return _settings_from(asked)
+        lib.osb_update_asked_for(settings_to(self), _change_to(change), asked)
+        return settings_from(asked)
 
 
 @dataclass(frozen=True)
@@ -110,8 +110,8 @@ class UpdateHolding:
     def new(cls, settings: Settings) -> UpdateHolding:
         """That of an instance of which no Update was judged, with the settings of its Provision."""
         holding = CUpdateHolding()
-        lib.osb_update_new(_settings_to(settings), holding)
-        return _holding_from(holding)
+        lib.osb_update_new(settings_to(settings), holding)
+        return update_holding_from(holding)
 
     @property
     def is_under_way(self) -> bool:
@@ -129,7 +129,7 @@ class UpdateHolding:
         holding, begun = update_holding_to(self), CUpdateBegun()
         beside, asked = holding_to(instance), update_to(update)
         check(lib.osb_update_begin(holding, beside, Allowed(allowed).value, asked, begun))
-        return _holding_from(holding), _begun_from(begun)
+        return update_holding_from(holding), _begun_from(begun)
 
     def end(self, mode: Mode, outcome: UpdateOutcome) -> tuple[UpdateHolding, Answer]:
         """Ends the pending work of an Update with this outcome, and gives the answer to the Update. The mode is that of
@@ -137,7 +137,7 @@ class UpdateHolding:
         """
         holding, answer = update_holding_to(self), CAnswer()
         check(lib.osb_update_end(holding, mode_to(mode), UpdateOutcome(outcome).value, answer))
-        return _holding_from(holding), answer_from(answer)
+        return update_holding_from(holding), answer_from(answer)
 
     def finish(self, ok: bool) -> UpdateHolding:
         """Ends the operation of an Update, which succeeded (ok) or failed. If it succeeded, the holding is settled with
@@ -145,7 +145,7 @@ class UpdateHolding:
         """
         holding = update_holding_to(self)
         check(lib.osb_update_finish(holding, ok))
-        return _holding_from(holding)
+        return update_holding_from(holding)
 
     def poll(self, instance: Holding) -> Answer:
         """The answer to a Poll of an instance that is available: 200, in progress while an update is under way,
@@ -164,7 +164,7 @@ class UpdateHolding:
         fetched = CUpdateFetched()
         check(lib.osb_update_fetch(update_holding_to(self), holding_to(instance), fetched))
         if fetched.is_found:
-            return Found(_settings_from(fetched.settings), fetched.number)
+            return Found(settings_from(fetched.settings), fetched.number)
         return answer_from(fetched.answer)
 
     def begin_instance(
@@ -210,7 +210,7 @@ class UpdateHolding:
         """
         holding, given = CUpdateHolding(), utf8(text)
         check(lib.osb_update_holding_from_text(given, len(given), holding))
-        return _holding_from(holding)
+        return update_holding_from(holding)
 
 
 def number_to(number: int) -> int:
@@ -220,7 +220,7 @@ def number_to(number: int) -> int:
     return number
 
 
-def _settings_to(settings: Settings) -> CSettings:
+def settings_to(settings: Settings) -> CSettings:
     return CSettings(
         id_to(settings.plan),
         digest_to(settings.parameters),
@@ -228,7 +228,7 @@ def _settings_to(settings: Settings) -> CSettings:
     )
 
 
-def _settings_from(settings: CSettings) -> Settings:
+def settings_from(settings: CSettings) -> Settings:
     return Settings(id_from(settings.plan), bytes(settings.parameters), bytes(settings.version))
 
 
@@ -268,22 +268,22 @@ def update_from(update: CUpdate) -> Update:
 def update_holding_to(held: UpdateHolding) -> CUpdateHolding:
     if (held.to is not None) != (held.phase in WITH_GOAL):
         raise ValueError("an UpdateHolding has the settings to which it leads exactly while an update is under way")
-    goal = CSettings() if held.to is None else _settings_to(held.to)
+    goal = CSettings() if held.to is None else settings_to(held.to)
     return CUpdateHolding(
-        _settings_to(held.settings),
+        settings_to(held.settings),
         goal,
         number_to(held.number),
         UpdatePhase(held.phase).value,
     )
 
 
-def _holding_from(held: CUpdateHolding) -> UpdateHolding:
+def update_holding_from(held: CUpdateHolding) -> UpdateHolding:
     phase = UpdatePhase(held.phase)
-    goal = _settings_from(held.to) if phase in WITH_GOAL else None
-    return UpdateHolding(_settings_from(held.settings), held.number, phase, goal)
+    goal = settings_from(held.to) if phase in WITH_GOAL else None
+    return UpdateHolding(settings_from(held.settings), held.number, phase, goal)
 
 
 def _begun_from(begun: CUpdateBegun) -> UpdateBegun:
     if begun.has_work:
-        return UpdateWork(Mode(begun.mode), _settings_from(begun.to))
+        return UpdateWork(Mode(begun.mode), settings_from(begun.to))
     return MaintenanceConflict() if begun.is_maintenance_conflict else answer_from(begun.answer)

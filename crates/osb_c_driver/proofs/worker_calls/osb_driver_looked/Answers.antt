@@ -6,7 +6,7 @@ use Rattle.osb_c_instance.proofs.Crossed.{some_and}
 use Rattle.osb_c_driver.specs.Drivers.{IsWorked}
 use Rattle.osb_c_driver.specs.Workers.{can_work, there_of}
 use Rattle.osb_c_driver.proofs.Crossing.{reported, worker_there}
-use Rattle.osb_c_driver.proofs.Worked.{looked_can}
+use Rattle.osb_c_driver.proofs.Working.{looked_can}
 use Rattle.osb_c_driver.proofs.worker_calls.osb_driver_looked.Goals as goal
 
 pub returns-clause-looked : goal.returns-clause-looked

@@ -4,7 +4,7 @@ use Rattle.osb_driver.specs.declared.worker.Worker.{Worker}
 use Rattle.osb_c_driver.specs.Drivers.{IsWorked}
 use Rattle.osb_c_driver.specs.Workers.{can_work}
 use Rattle.osb_c_driver.proofs.Crossing.{reported, worker_there}
-use Rattle.osb_c_driver.proofs.Worked.{synced_can}
+use Rattle.osb_c_driver.proofs.Working.{synced_can}
 use Rattle.osb_c_driver.proofs.worker_calls.osb_driver_synced.Goals as goal
 
 pub returns-clause-synced : goal.returns-clause-synced

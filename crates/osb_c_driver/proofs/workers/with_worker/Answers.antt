@@ -4,7 +4,7 @@ use Rattle.osb_driver.specs.Worker.{call_of}
 use Rattle.osb_driver.specs.declared.worker.Call.{Call}
 use Rattle.osb_driver.specs.declared.worker.Worker.{Worker}
 use Rattle.osb_c_driver.specs.Workers.{call_code}
-use Rattle.osb_c_driver.proofs.Worked.{no_look, with_worker}
+use Rattle.osb_c_driver.proofs.Working.{no_look, with_worker}
 use Rattle.osb_c_driver.proofs.workers.with_worker.Goals as goal
 
 pub returns-clause-worker : goal.returns-clause-worker

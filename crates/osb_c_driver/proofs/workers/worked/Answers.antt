@@ -3,7 +3,7 @@ use Rattle.std.specs.Prelude.{Some}
 use Rattle.osb_driver.specs.Driver.{at_stage}
 use Rattle.osb_driver.specs.declared.driver.Stage.{Stage}
 use Rattle.osb_c_driver.proofs.Crossing.{moved}
-use Rattle.osb_c_driver.proofs.Worked.{going, has_on, plain_on, same_stage, worked_on}
+use Rattle.osb_c_driver.proofs.Working.{going, has_on, plain_on, same_stage, worked_on}
 use Rattle.osb_c_driver.proofs.workers.worked.Goals as goal
 
 pub returns-in_default : goal.returns-in_default

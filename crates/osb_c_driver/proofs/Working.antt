@@ -20,7 +20,7 @@ use Rattle.osb_c_driver.specs.declared.drivers.OsbDriver.{OsbDriver}
 
 -- ---- it comes back
 
-rejection_back : (r : Option Rejection) → rejection_of (rejection_code r) ≡ Some r
+pub rejection_back : (r : Option Rejection) → rejection_of (rejection_code r) ≡ Some r
 rejection_back None = refl
 rejection_back (Some Rejection.BadRequest) = refl
 rejection_back (Some Rejection.UnprocessableEntity) = refl

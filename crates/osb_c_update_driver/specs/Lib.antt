@@ -1,0 +1,4 @@
+pub mod Workers
+pub mod Drivers
+pub mod Transactions
+pub mod Reads
