@@ -9,6 +9,7 @@ import (
 	"time"
 
 	"pippinterm/internal/crash"
+	"pippinterm/internal/vault"
 	"pippinterm/platform"
 )
 
@@ -87,14 +88,15 @@ func replace(ctx context.Context, store platform.Store, before, after string) er
 // begin has the store know that its key is being replaced, and returns the fingerprints that are written then. After
 // that, whoever starts with the old key alone is stopped by Fits.
 func (v *Vault) begin(ctx context.Context, store platform.Store) (mark string, err error) {
-	last := v.keys[len(v.keys)-1]
-	if last.fingerprint == v.Fingerprint() {
+	keys := v.Keys()
+	last := keys[len(keys)-1]
+	if last.Fingerprint == v.Fingerprint() {
 		return "", ErrSameKey
 	}
 	if err := withoutWorkers(ctx, store); err != nil {
 		return "", err
 	}
-	written, err := store.Fingerprint(ctx, last.fingerprint)
+	written, err := store.Fingerprint(ctx, last.Fingerprint)
 	if err != nil {
 		return "", err
 	}
@@ -341,11 +343,11 @@ func (v *Vault) marks(written string) (mark, target string, err error) {
 		if of == nil {
 			return "", "", ErrStoreKey
 		}
-		if field == of.former {
+		if field == of.Former {
 			former = append(former, field)
 		}
-		if !has[of.fingerprint] {
-			now, has[of.fingerprint] = append(now, of.fingerprint), true
+		if !has[of.Fingerprint] {
+			now, has[of.Fingerprint] = append(now, of.Fingerprint), true
 		}
 	}
 	if len(now) > 1 && now[0] != v.Fingerprint() {
@@ -355,10 +357,10 @@ func (v *Vault) marks(written string) (mark, target string, err error) {
 }
 
 // keyOf is the key with a fingerprint, of this version or of version 0.3, or nil.
-func (v *Vault) keyOf(fingerprint string) *key {
-	for at := range v.keys {
-		if key := &v.keys[at]; key.fingerprint == fingerprint || key.former == fingerprint {
-			return key
+func (v *Vault) keyOf(fingerprint string) *vault.Key {
+	for _, key := range v.Keys() {
+		if key.Fingerprint == fingerprint || key.Former == fingerprint {
+			return &key
 		}
 	}
 	return nil
@@ -439,10 +441,10 @@ func (v *Vault) renewPassword(broker platform.Broker, all *Renewal) (sealed []by
 	if _, err := v.Open(broker.Password, platform.PasswordContext(broker)); err == nil {
 		return nil, nil, nil // sealed before the end of an earlier Renew
 	}
-	plain, by, err := v.open(broker.Password, formerContext(broker.Name))
+	plain, by, err := v.OpenBy(broker.Password, formerContext(broker.Name))
 	if err != nil {
 		return nil, &all.Unopened, nil
 	}
-	sealed, err = v.sealBy(by, plain, platform.PasswordContext(broker))
+	sealed, err = v.SealBy(by, plain, platform.PasswordContext(broker))
 	return sealed, &all.Brokers, err
 }

@@ -19,8 +19,15 @@ import (
 
 var (
 	background = context.Background()
+	one        = []byte("the first key, of forty bytes, and more.")
+	other      = []byte("another key, which has forty bytes, too.")
 	third      = []byte("a third key, which has forty bytes, too.")
 )
+
+func newVault(t *testing.T, keys ...[]byte) *Vault {
+	t.Helper()
+	return diff.Value(New(keys...))(t)
+}
 
 // instance is that of all bindings here.
 var instance = osb.MustParseID("00000000-0000-0000-0000-000000000001")
@@ -576,7 +583,7 @@ func TestRenewAtOnce(t *testing.T) {
 func TestRenewDuringRotation(t *testing.T) {
 	store, _ := storeOf03(t)
 	both := newVault(t, other, one)
-	check(t, store.ReplaceFingerprint(background, former, both.keys[0].former+" "+former))
+	check(t, store.ReplaceFingerprint(background, former, both.Keys()[0].Former+" "+former))
 	diff.ErrorIs(t, diff.Err(newVault(t, one).Renew(background, store)), ErrRotating, "with the old key alone")
 	diff.NoError(t, diff.Err(both.Renew(background, store)), "with both keys")
 	diff.ErrorIs(t, newVault(t, one).Fits(writtenIn(t, store)), ErrRotating, "the fingerprints")

@@ -1,206 +1,39 @@
-// Package vault seals secrets by AES-256 in Galois/Counter Mode, with a key from a file.
-//
-// What is sealed is
-//
-//	1 byte    the version of this layout: 1
-//	8 bytes   the id of the key
-//	12 bytes  a random nonce
-//	the rest  the ciphertext, and 16 bytes that authenticate it
-//
-// The first 9 bytes and the context are the additional data, so nothing of it can be changed, and nothing be moved to
-// another row. Of the key in the file three are derived by HKDF-SHA256 (RFC 5869): the one that seals, the id, and the
-// fingerprint. So neither the id nor the fingerprint shows anything of the one that seals. The layout and the names in
-// the derivation are this project's choice.
+// Package vault seals the credentials and the passwords in the store of a platform, and replaces the key with which
+// they are sealed.
 package vault
 
 import (
-	"crypto/aes"
-	"crypto/cipher"
-	"crypto/hmac"
-	"crypto/rand"
-	"crypto/sha256"
-	"encoding/hex"
-	"errors"
-	"fmt"
-	"io"
-
-	"pippinterm/internal/secrets"
+	"pippinterm/internal/vault"
 	"pippinterm/platform"
 )
 
-const (
-	version   = 1
-	idSize    = 8
-	headSize  = 1 + idSize
-	nonceSize = 12 // as GCM has it
-	tagSize   = 16 // as GCM has it
-	leastSize = headSize + nonceSize + tagSize
-)
-
 // ShortestKey is the least length of a key, in bytes.
-const ShortestKey = 32
+const ShortestKey = vault.ShortestKey
 
+// The errors of a Vault.
 var (
-	// ErrShortKey reports a key of less than ShortestKey bytes.
-	ErrShortKey = fmt.Errorf("the key is shorter than %d bytes", ShortestKey)
-	// ErrMalformed reports that a text was never sealed by a Vault: it is too short, or has another version.
-	ErrMalformed = errors.New("it isn't encrypted in a form that this version knows")
-	// ErrOtherKey reports that a text was sealed with a key that the Vault doesn't have.
-	ErrOtherKey = errors.New("it was encrypted with a key that isn't given")
-	// ErrChanged reports that a text has been changed since it was encrypted, or was sealed under another context.
-	ErrChanged = errors.New("it has been changed since it was encrypted, or belongs elsewhere")
+	ErrShortKey  = vault.ErrShortKey  // a key has less than ShortestKey bytes
+	ErrMalformed = vault.ErrMalformed // a text was never sealed by a Vault
+	ErrOtherKey  = vault.ErrOtherKey  // a text was sealed with a key that the Vault doesn't have
+	ErrChanged   = vault.ErrChanged   // a text was changed since it was sealed, or sealed under another context
 )
 
-// A Vault seals and opens secrets. Any number of goroutines use it. It is a platform.Vault.
-type Vault struct {
-	keys   []key // the first one seals
-	random io.Reader
-}
+// A Vault seals and opens secrets. Any number of goroutines use it. It is a platform.Vault. Its Fingerprint isn't the
+// one of version 0.3: by it a store says that its passwords are sealed under platform.PasswordContext (Renew).
+type Vault struct{ *vault.Vault }
 
 var _ platform.Vault = (*Vault)(nil)
-
-type key struct {
-	id          [idSize]byte
-	fingerprint string
-	former      string // the fingerprint that version 0.3 writes
-	aead        cipher.AEAD
-}
 
 // New makes a vault. The first key seals, and all of them open: while a key is replaced, give the new one first and the
 // old one after it. A key should be random: its fingerprint lets everybody who reads it try guesses.
 //
 // Errors: there is no key; ErrShortKey. No error contains a part of a key.
 func New(keys ...[]byte) (*Vault, error) {
-	if len(keys) == 0 {
-		return nil, errors.New("a vault needs a key")
-	}
-	v := &Vault{random: rand.Reader}
-	for at, secret := range keys {
-		made, err := newKey(secret)
-		if err != nil {
-			return nil, fmt.Errorf("key %d of %d: %w", at+1, len(keys), err)
-		}
-		v.keys = append(v.keys, made)
-	}
-	return v, nil
-}
-
-func newKey(secret []byte) (key, error) {
-	if len(secret) < ShortestKey {
-		return key{}, ErrShortKey
-	}
-	extracted := extract(secret)
-	block, err := aes.NewCipher(expand(extracted, "seal"))
+	made, err := vault.New(vault.OfPlatform, keys...)
 	if err != nil {
-		return key{}, err
+		return nil, err
 	}
-	aead, err := cipher.NewGCM(block)
-	if err != nil {
-		return key{}, err
-	}
-	named := func(purpose string) string { return hex.EncodeToString(expand(extracted, purpose)[:16]) }
-	made := key{aead: aead, fingerprint: named("fingerprint 2"), former: named("fingerprint")}
-	copy(made.id[:], expand(extracted, "id"))
-	return made, nil
-}
-
-// Seal returns the sealed form of a secret. Two calls never return the same. What was sealed under a context can only
-// be opened under it. One key may seal 2^32 secrets (NIST SP 800-38D, section 8.3).
-//
-// Errors: the system gives no random bytes.
-func (v *Vault) Seal(plain []byte, context string) ([]byte, error) {
-	return v.sealBy(v.keys[0], plain, context)
-}
-
-func (v *Vault) sealBy(by key, plain []byte, context string) ([]byte, error) {
-	sealed := make([]byte, headSize+nonceSize, leastSize+len(plain))
-	sealed[0] = version
-	copy(sealed[1:], by.id[:])
-	nonce := sealed[headSize:]
-	if _, err := io.ReadFull(v.random, nonce); err != nil {
-		return nil, fmt.Errorf("random bytes: %w", err)
-	}
-	return by.aead.Seal(sealed, nonce, plain, additional(sealed[:headSize], context)), nil
-}
-
-// Open returns the secret of its sealed form.
-//
-// Errors: ErrMalformed, ErrOtherKey, ErrChanged.
-func (v *Vault) Open(sealed []byte, context string) ([]byte, error) {
-	plain, _, err := v.open(sealed, context)
-	return plain, err
-}
-
-// open is Open, with the key that has opened it.
-func (v *Vault) open(sealed []byte, context string) (plain []byte, by key, err error) {
-	if len(sealed) < leastSize || sealed[0] != version {
-		return nil, key{}, ErrMalformed
-	}
-	nonce, rest := sealed[headSize:headSize+nonceSize], sealed[headSize+nonceSize:]
-	failed := ErrOtherKey
-	for _, key := range v.keys {
-		if string(key.id[:]) != string(sealed[1:headSize]) {
-			continue
-		}
-		if plain, err := key.aead.Open(nil, nonce, rest, additional(sealed[:headSize], context)); err == nil {
-			return plain, key, nil
-		}
-		failed = ErrChanged
-	}
-	return nil, key{}, failed
-}
-
-// Rekey returns the secret of a sealed form sealed anew with the first key, or the form as it is and false if the first
-// key has sealed it. Once every sealed form has been replaced, the old keys aren't needed any more.
-//
-// Errors: those of Open and Seal.
-func (v *Vault) Rekey(sealed []byte, context string) (again []byte, isChanged bool, err error) {
-	plain, err := v.Open(sealed, context)
-	if err != nil {
-		return nil, false, err
-	}
-	if string(v.keys[0].id[:]) == string(sealed[1:headSize]) {
-		return sealed, false, nil
-	}
-	again, err = v.Seal(plain, context)
-	return again, err == nil, err
-}
-
-// Fingerprint is the same for the same first key, and shows nothing of it. It is 32 hexadecimal digits. It isn't the
-// one of version 0.3: by it a store says that its passwords are sealed under platform.PasswordContext (Renew).
-func (v *Vault) Fingerprint() string { return v.keys[0].fingerprint }
-
-// Knows reports whether one of the keys has this fingerprint. While a key is replaced, a store still has that of the
-// old one.
-func (v *Vault) Knows(fingerprint string) bool {
-	for _, key := range v.keys {
-		if key.fingerprint == fingerprint {
-			return true
-		}
-	}
-	return false
-}
-
-// additional is the additional data: the head, whose length is fixed, and the context.
-func additional(head []byte, context string) []byte {
-	return append(append(make([]byte, 0, len(head)+len(context)), head...), context...)
-}
-
-// salt separates what is derived here from what else might be derived of the same key.
-const salt = "osb-platform vault 1"
-
-// extract is HKDF-Extract with SHA-256 (RFC 5869, section 2.2).
-func extract(secret []byte) []byte { return mac([]byte(salt), secret) }
-
-// expand is the first block of HKDF-Expand with SHA-256 (RFC 5869, section 2.3): 32 bytes for a purpose.
-func expand(extracted []byte, purpose string) []byte {
-	return mac(extracted, append([]byte(purpose), 1))
-}
-
-func mac(key, text []byte) []byte {
-	made := hmac.New(sha256.New, key)
-	made.Write(text) // never fails
-	return made.Sum(nil)
+	return &Vault{made}, nil
 }
 
 // FromFiles makes a vault with the keys that stand in files, the one that seals first. A file has its key on one line
@@ -209,24 +42,11 @@ func mac(key, text []byte) []byte {
 //
 // The warnings are for the log: there is one for each file whose mode is beyond 0600.
 //
-// Errors: a name is empty; those of secrets.Secret for a file; those of New.
+// Errors: a name is empty; a file can't be read, or its text is no such line; those of New.
 func FromFiles(files ...string) (v *Vault, warnings []string, err error) {
-	var keys [][]byte
-	for _, file := range files {
-		if file == "" {
-			return nil, nil, errors.New("the file of a key has no name")
-		}
-		secret, warning, err := secrets.Secret("", file)
-		if err != nil {
-			return nil, nil, err
-		}
-		if warning != "" {
-			warnings = append(warnings, warning)
-		}
-		keys = append(keys, []byte(secret))
-	}
-	if v, err = New(keys...); err != nil {
+	made, warnings, err := vault.FromFiles(vault.OfPlatform, files...)
+	if err != nil {
 		return nil, nil, err
 	}
-	return v, warnings, nil
+	return &Vault{made}, warnings, nil
 }
