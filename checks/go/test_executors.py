@@ -11,11 +11,12 @@ LONGEST = 150
 
 CALLS = {
     "broker": {
-        r"\bs\.(tryLock|lock|change)\(|\bcalls\.(look|settle|create|delete)\(": {"executor.go"},
-        r"\bdriver\.(Locked|Looked|Synced|Called)\(|\btransaction\.Unsure\(": {"executor.go"},
+        r"\bs\.(tryLock|lock|change)\(|\bcalls\.(look|settle|create|delete|change)\(": {"executor.go"},
+        r"\b(at|d)\.(locked|looked|synced|called)\(|\bit\.Unsure\(": {"executor.go"},
+        r"\.(Locked|Looked|Synced|Called)\(": {"driver.go"},
         r"\bstore\.Change\(|\blocks\.Lock\(": {"service.go"},
         r"\b(gate\.tryLock|locks\.TryLock)\(": {"locks.go", "service.go"},
-        r"\bbackend\.(Look|Create|Delete|Sync|Credentials)\w*\(": {"worker.go"},
+        r"\bbackend\.(Look|Create|Delete|Update|Sync|Credentials)\w*\(": {"worker.go"},
     },
     "platform": {
         r"\be\.(ask|fetch)\(|\.transaction\.(Committed|Unsure|Failed)\(\)": {"executor.go"},

@@ -20,12 +20,12 @@ LIST = Path(__file__).resolve().parent / "unreached.txt"
 
 ROOT = "pippinterm/"
 PACKAGES = (
-    *(f"broker{name}" for name in ("", "/journal", "/postgres", "/sqlite")),
+    *(f"broker{name}" for name in ("", "/journal", "/postgres", "/sealed", "/sqlite")),
     *(f"broker/backend/{name}" for name in ("command", "folders", "postgres")),
     *(f"platform{name}" for name in ("", "/journal", "/postgres", "/sqlite", "/vault")),
-    *(f"internal/{name}" for name in ("filelock", "pg", "sqlitefile")),
+    *(f"internal/{name}" for name in ("filelock", "pg", "sqlitefile", "vault")),
 )
-"""The broker, the platform, their stores, backends and locks, and the vault."""
+"""The broker, the platform, their stores, backends and locks, and the vaults."""
 
 BLOCK = re.compile(r"(\S+):(\d+)\.(\d+),(\d+)\.(\d+) \d+ (\d+)")
 """A block of statements in a profile: the file, where it begins and ends, and how often it was run."""

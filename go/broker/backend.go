@@ -65,13 +65,71 @@ type SyncBackend interface {
 	Sync(ctx context.Context, request Request) error
 }
 
+// An UpdateBackend is a Backend that can update its instances. An update neither creates nor deletes an instance, and
+// leaves the credentials of its bindings valid. What counts is what LookUpdate finds afterwards.
+type UpdateBackend interface {
+	Backend
+
+	// LookUpdate returns how much of an update is done: None if the instance is complete and has the settings of before
+	// (Update.From), Whole if it is complete and has the new ones (Update.To), and Part for anything else. If both have
+	// the same effect, it returns Whole.
+	LookUpdate(ctx context.Context, update Update) (There, error)
+
+	// Update changes the instance to the new settings, whatever settings it has: an earlier update may have failed, or
+	// was broken off. Once it returns nil, that outlives a power cut. An error may be a *Rejection, if nothing was
+	// changed, or else say by WithOutlook what can be expected. An update that can't be done is undone as far as possible.
+	Update(ctx context.Context, update Update) error
+}
+
+// Details are what answers say of an instance besides its settings (sections Provisioning, Updating a Service Instance
+// and Fetching a Service Instance).
+type Details struct {
+	// DashboardURL is where a user manages the instance, or empty.
+	DashboardURL string `json:"dashboard_url,omitempty"`
+	// Metadata is an object of JSON with labels and attributes, or nil.
+	Metadata json.RawMessage `json:"metadata,omitempty"`
+}
+
+// A DetailsBackend describes its instances. Details is called once an instance was created or updated, and may be called
+// again after a crash. What it returns is stored and sent. If it fails, the instance has the details that it had.
+type DetailsBackend interface {
+	Details(ctx context.Context, request Request) (Details, error)
+}
+
+// Abilities are what a backend can do besides what each can.
+type Abilities struct {
+	Bindings bool // as a BindingBackend
+	Updates  bool // as an UpdateBackend
+	Details  bool // as a DetailsBackend
+	// SecretParameters says that the parameters of instances have secrets: the Fetch of an instance is answered without
+	// them.
+	SecretParameters bool
+}
+
+// A LimitedBackend may have the methods of UpdateBackend and of DetailsBackend without the ability. Its Abilities say
+// what counts.
+type LimitedBackend interface {
+	Abilities() Abilities
+}
+
+// AbilitiesOf are those of a backend.
+func AbilitiesOf(backend Backend) (can Abilities) {
+	if limited, isLimited := backend.(LimitedBackend); isLimited {
+		return limited.Abilities()
+	}
+	_, can.Bindings = backend.(BindingBackend)
+	_, can.Updates = backend.(UpdateBackend)
+	_, can.Details = backend.(DetailsBackend)
+	return can
+}
+
 // A LockBackend brings its own Locks. It needs them if its work outlives the process, or is done on several machines.
 type LockBackend interface {
 	Locks() Locks
 }
 
-// A Rejection says that the backend refuses a creation, and that nothing of it exists. The platform gets that answer,
-// and doesn't clean up.
+// A Rejection says that the backend refuses a creation, and that nothing of it exists, or an update, and that nothing
+// was changed. The platform gets that answer, and doesn't clean up.
 type Rejection struct {
 	// Status is 400 or 422. Any other number counts as 400.
 	Status int
@@ -96,6 +154,42 @@ type publicError struct {
 }
 
 func (p *publicError) Unwrap() error { return p.error }
+
+// An Outlook says what a platform can expect of an instance whose update has failed (section Service Broker Errors).
+// What is nil isn't known.
+type Outlook struct {
+	// InstanceUsable is whether the instance can still be used.
+	InstanceUsable *bool `json:"instance_usable,omitempty"`
+	// UpdateRepeatable is whether the same Update may succeed if it is sent again.
+	UpdateRepeatable *bool `json:"update_repeatable,omitempty"`
+}
+
+// WithOutlook marks an error of an update with what can be expected then. The platform gets that in the answer to the
+// Update, or to a Poll, if the update has failed. What becomes of the instance doesn't depend on it.
+func WithOutlook(err error, outlook Outlook) error { return &failedUpdate{err, outlook} }
+
+// Unharmed is the Outlook of an update that has failed and left the instance as useful as it was: the same Update may
+// be sent again.
+func Unharmed() Outlook {
+	yes := true
+	return Outlook{InstanceUsable: &yes, UpdateRepeatable: &yes}
+}
+
+type failedUpdate struct {
+	error
+	outlook Outlook
+}
+
+func (f *failedUpdate) Unwrap() error { return f.error }
+
+// OutlookOf is what can be expected after an error of an update, or nil if the error doesn't say.
+func OutlookOf(err error) *Outlook {
+	var failed *failedUpdate
+	if !errors.As(err, &failed) || failed.outlook == (Outlook{}) {
+		return nil
+	}
+	return &failed.outlook
+}
 
 // Description is what the platform gets to read of an error: the description of a *Rejection or of Public, and otherwise
 // empty.

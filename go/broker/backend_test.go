@@ -31,7 +31,7 @@ const catalogue = `{"services": [{
 
 func catalogueFor(t *testing.T, document string) *broker.Catalogue {
 	t.Helper()
-	made := diff.Value(broker.NewCatalogue([]byte(document), true))(t)
+	made := diff.Value(broker.NewCatalogue([]byte(document), broker.Abilities{Bindings: true}))(t)
 	return made
 }
 

@@ -19,18 +19,28 @@ type Catalogue struct {
 	returning   []byte // the document of a broker whose ids return
 	instances   map[planIDs]osb.Mode
 	bindings    map[planIDs]osb.Mode
+	updates     map[planIDs]osb.Mode // how an update to a plan works
+	texts       map[planIDs]planTexts
+	deletions   [2]map[osb.ID]bool // services with a synchronous plan: of instances, and of bindings
 	versions    map[planIDs]string
 	retrievable map[osb.ID]bool // services whose bindings can be fetched
+	fetchable   map[osb.ID]bool // services whose instances can be fetched
 }
 
 // planIDs are the ids of a plan and its service.
 type planIDs struct{ service, plan osb.ID }
 
-// NewCatalogue reads a document as osb.CheckCatalogue does. If sellsBindings is false, no service may be bindable.
+// planTexts are the ids of a plan and its service as the catalogue has them. Another text may have the same number.
+type planTexts struct{ service, plan string }
+
+// NewCatalogue reads a document as osb.CheckCatalogue does. If the backend can't bind, no service may be bindable. If it
+// can't update, no plan may be plan_updateable.
 //
 // Errors: those of osb.CheckCatalogue, osb.BindingModes and osb.ServedCatalogue, and ErrCatalogueMember.
-func NewCatalogue(document []byte, sellsBindings bool) (*Catalogue, error) {
-	serves := osb.Endpoints{Bindings: sellsBindings, FetchingBindings: sellsBindings}
+func NewCatalogue(document []byte, can Abilities) (*Catalogue, error) {
+	serves := osb.Endpoints{
+		Updating: can.Updates, Bindings: can.Bindings, FetchingInstances: true, FetchingBindings: can.Bindings,
+	}
 	if err := osb.CheckCatalogue(document, serves); err != nil {
 		return nil, err
 	}
@@ -42,11 +52,12 @@ func NewCatalogue(document []byte, sellsBindings bool) (*Catalogue, error) {
 	if err != nil {
 		return nil, err
 	}
-	if !sellsBindings {
+	if !can.Bindings {
 		bindings = nil
 	}
 	c := &Catalogue{instances: modesOf(instances), bindings: modesOf(bindings)}
-	if c.document, err = osb.ServedCatalogue(document); err != nil {
+	c.deletions = [2]map[osb.ID]bool{deletionsOf(c.instances), deletionsOf(c.bindings)}
+	if c.document, err = served(document, can); err != nil {
 		return nil, err
 	}
 	if c.returning, err = withoutTombstones(c.document); err != nil {
@@ -55,8 +66,40 @@ func NewCatalogue(document []byte, sellsBindings bool) (*Catalogue, error) {
 	return c, c.readRest(document)
 }
 
-// readRest reads the versions of plans and which bindings can be fetched.
+// served is the document that is served.
+func served(document []byte, can Abilities) ([]byte, error) {
+	made, err := osb.ServedCatalogue(document)
+	if err == nil && can.Updates {
+		made, err = osb.ServedUpdates(made)
+	}
+	return made, err
+}
+
+// readUpdates reads how updates work, and which instances can be fetched.
+func (c *Catalogue) readUpdates(document []byte) error {
+	c.updates, c.fetchable = map[planIDs]osb.Mode{}, map[osb.ID]bool{}
+	for ids, mode := range c.instances {
+		plan, err := osb.ReadPlanUpdates(document, ids.service, ids.plan)
+		if err != nil {
+			return err
+		}
+		switch {
+		case plan.Asynchronous == nil:
+		case *plan.Asynchronous:
+			mode = osb.ModeAsync
+		default:
+			mode = osb.ModeSync
+		}
+		c.updates[ids], c.fetchable[ids.service] = mode, plan.Retrievable
+	}
+	return nil
+}
+
+// readRest reads how updates work, the versions of plans, and what can be fetched.
 func (c *Catalogue) readRest(document []byte) (err error) {
+	if err := c.readUpdates(document); err != nil {
+		return err
+	}
 	if c.versions, err = versionsOf(document, c.instances); err != nil {
 		return err
 	}
@@ -66,7 +109,52 @@ func (c *Catalogue) readRest(document []byte) (err error) {
 			return err
 		}
 	}
-	return checkMembers(document)
+	if err := checkMembers(document); err != nil {
+		return err
+	}
+	c.texts, err = textsOf(document)
+	return err
+}
+
+// textsOf are the ids of a document that was checked.
+func textsOf(document []byte) (map[planIDs]planTexts, error) {
+	var read struct {
+		Services []struct {
+			ID    string `json:"id"`
+			Plans []struct {
+				ID string `json:"id"`
+			} `json:"plans"`
+		} `json:"services"`
+	}
+	if err := json.Unmarshal(document, &read); err != nil {
+		return nil, fmt.Errorf("%w: %v", ErrCatalogueMember, err)
+	}
+	texts := map[planIDs]planTexts{}
+	for _, service := range read.Services {
+		number, err := osb.IDOfText(service.ID)
+		for _, plan := range service.Plans {
+			ids := planIDs{service: number}
+			if err == nil {
+				ids.plan, err = osb.IDOfText(plan.ID)
+			}
+			if err != nil {
+				return nil, err
+			}
+			texts[ids] = planTexts{service.ID, plan.ID}
+		}
+	}
+	return texts, nil
+}
+
+// deletionsOf are the services that have a synchronous plan.
+func deletionsOf(modes map[planIDs]osb.Mode) map[osb.ID]bool {
+	found := map[osb.ID]bool{}
+	for ids, mode := range modes {
+		if mode == osb.ModeSync {
+			found[ids.service] = true
+		}
+	}
+	return found
 }
 
 func versionsOf(document []byte, modes map[planIDs]osb.Mode) (map[planIDs]string, error) {
@@ -127,6 +215,45 @@ func (c *Catalogue) mode(isBinding bool, of planIDs) osb.Mode {
 	return osb.ModeNone
 }
 
+// mayDelete reports whether a deletion that names a plan may do its work before it is answered. After an update, it may
+// name any plan of the service, and works as the plan with which the instance or the binding was created.
+func (c *Catalogue) mayDelete(isBinding bool, of planIDs) bool {
+	services := c.deletions[0]
+	if isBinding {
+		services = c.deletions[1]
+	}
+	return services[of.service] && c.mode(isBinding, of) != osb.ModeNone
+}
+
+// named are the texts of a plan and its service: those of the catalogue, or else those that a request names.
+func (c *Catalogue) named(of planIDs, otherwise planTexts) planTexts {
+	if texts, isSold := c.texts[of]; isSold {
+		return texts
+	}
+	return otherwise
+}
+
+// updateMode is how an update to a plan works. It is osb.ModeNone if the plan isn't sold.
+func (c *Catalogue) updateMode(of planIDs) osb.Mode {
+	if mode, isSold := c.updates[of]; isSold {
+		return mode
+	}
+	return osb.ModeNone
+}
+
+// allowed is what the catalogue has for an Update of an instance that has one plan to another, which may be the same.
+func (c *Catalogue) allowed(update *AskedUpdate, held, asked osb.ID) (osb.Allowed, error) {
+	mode := c.updateMode(planIDs{update.Service, asked})
+	if mode == osb.ModeNone {
+		return osb.AllowedRejected400, nil
+	}
+	var version *string
+	if update.Change.HasVersion {
+		version = &update.Settings.Version
+	}
+	return osb.UpdateAllowed(c.document, update.Service, held, asked, version, mode)
+}
+
 // ErrCatalogueMember reports a member of a catalogue that has another form than the standard's, or that promises what
 // this broker doesn't serve. The message names the service and the plan.
 var ErrCatalogueMember = errors.New("the catalogue can't be served")
@@ -139,13 +266,14 @@ type member func(value json.RawMessage) error
 var (
 	membersOfServices = map[string]member{
 		"tags": listOfStrings, "requires": nothingRequired, "metadata": anObject, "dashboard_client": anObject,
-		"allow_context_updates": notServed("updates aren't served"),
+		"allow_context_updates": notServed("updates of the context aren't served"),
 		"binding_rotatable":     notServed("rotation isn't served"),
 	}
 	membersOfPlans = map[string]member{
 		"free": aFlag, "metadata": anObject, "schemas": anObject, "maximum_polling_duration": positive,
-		"maintenance_info":  maintenance,
-		"binding_rotatable": notServed("rotation isn't served"),
+		"x-osb-asynchronous-updates": aFlag,
+		"maintenance_info":           maintenance,
+		"binding_rotatable":          notServed("rotation isn't served"),
 	}
 )
 
@@ -154,12 +282,17 @@ func checkMembers(document []byte) error {
 	var read struct {
 		Services []map[string]json.RawMessage `json:"services"`
 		Store    json.RawMessage              `json:"x-osb-store"`
+		Updates  json.RawMessage              `json:"x-osb-updates"`
 	}
 	if err := json.Unmarshal(document, &read); err != nil {
 		return fmt.Errorf("%w: %v", ErrCatalogueMember, err)
 	}
 	if read.Store != nil {
 		return fmt.Errorf("%w: x-osb-store: the broker adds it, with the id of its store. Leave it out",
+			ErrCatalogueMember)
+	}
+	if read.Updates != nil {
+		return fmt.Errorf("%w: x-osb-updates: the broker adds it if its backend can update. Leave it out",
 			ErrCatalogueMember)
 	}
 	for _, service := range read.Services {

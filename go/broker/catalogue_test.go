@@ -37,7 +37,7 @@ func TestMembersOfACatalogue(t *testing.T) {
 		{`"requires": {},`, ``, `requires isn't an array of strings`},
 		{`"metadata": [],`, ``, `metadata isn't an object`},
 		{`"dashboard_client": null,`, ``, `dashboard_client isn't an object`},
-		{`"allow_context_updates": true,`, ``, `allow_context_updates is true, and updates aren't served`},
+		{`"allow_context_updates": true,`, ``, `allow_context_updates is true, and updates of the context aren't served`},
 		{`"allow_context_updates": "false",`, ``, `allow_context_updates isn't true or false`},
 		{`"binding_rotatable": true,`, ``, `binding_rotatable is true, and rotation isn't served`},
 		{``, `, "free": "x"`, `free isn't true or false`},
@@ -51,7 +51,7 @@ func TestMembersOfACatalogue(t *testing.T) {
 		{``, `, "binding_rotatable": true`, `binding_rotatable is true, and rotation isn't served`},
 	} {
 		t.Run(test.service+test.plan, func(t *testing.T) {
-			_, err := broker.NewCatalogue(soldWith(test.service, test.plan), true)
+			_, err := broker.NewCatalogue(soldWith(test.service, test.plan), broker.Abilities{Bindings: true})
 			text := test.service + test.plan
 			switch {
 			case test.says == "":

@@ -1,6 +1,10 @@
 package broker
 
-import "pippinterm/osb"
+import (
+	"fmt"
+
+	"pippinterm/osb"
+)
 
 // A course is the way of one driver: what it is of, and what has come of it until now.
 type course struct {
@@ -20,6 +24,15 @@ type course struct {
 	doubt    error         // why nobody knows of the latest one, or nil
 }
 
+// updateOfWork is the update whose work is to be done.
+func (c *course) updateOfWork(request Request) (*Update, error) {
+	change := c.entry.Change
+	if change == nil || change.To == nil {
+		return nil, fmt.Errorf("the row of %v has no settings that its update leads to", c.key)
+	}
+	return &Update{Request: request, From: change.Settings, To: *change.To, Origin: change.Origin}, nil
+}
+
 // requestOfWork is the request whose work is to be done.
 func (c *course) requestOfWork() (Request, error) {
 	if c.request != nil {
@@ -30,10 +43,10 @@ func (c *course) requestOfWork() (Request, error) {
 
 // report reports what a transaction has brought about that is committed. If its driver had doubts, and the work that it
 // had begun is its own, the transaction before was committed, too.
-func (c *course) report(driver osb.Driver, transaction osb.Transaction) {
+func (c *course) report(before driver, it transaction) {
 	reports := c.after
-	after := transaction.Committed().Stage()
-	if driver.Stage() == osb.StageUnsure && (after == osb.StageWork || after == osb.StageEnd) {
+	after := it.Committed().Stage()
+	if before.Stage() == osb.StageUnsure && (after == osb.StageWork || after == osb.StageEnd) {
 		reports = c.doubtful
 	}
 	c.doubt, c.doubtful = nil, nil

@@ -31,24 +31,24 @@ func (s *Service) drive(ctx context.Context, c *course) error {
 		}
 	}()
 	c.isLocked = lock != nil
-	driver := s.newDriver(c.visit != nil, c.isLocked)
+	at := s.newDriver(c.key, c.visit != nil, c.isLocked)
 	for {
 		var err error
-		switch driver.Stage() {
+		switch at.Stage() {
 		case osb.StageAwaitLock:
 			if away == nil {
 				lock, away = s.lock(ctx, c.key)
 			}
 			c.isLocked = lock != nil
-			driver, err = driver.Locked(c.isLocked)
+			at, err = at.locked(c.isLocked)
 		case osb.StageWork:
-			driver, err = s.work(lock.Context(ctx), driver, c)
+			at, err = s.work(lock.Context(ctx), at, c)
 		case osb.StageAnswer:
 			return nil
 		case osb.StageDone:
 			return c.over(either(away, c.doubt))
 		default:
-			driver, err = s.transact(ctx, driver, c)
+			at, err = s.transact(ctx, at, c)
 		}
 		if err != nil {
 			return err
@@ -57,18 +57,18 @@ func (s *Service) drive(ctx context.Context, c *course) error {
 }
 
 // transact is one transaction of a driver.
-func (s *Service) transact(ctx context.Context, driver osb.Driver, c *course) (osb.Driver, error) {
-	var transaction osb.Transaction
+func (s *Service) transact(ctx context.Context, d driver, c *course) (driver, error) {
+	var it transaction
 	var point string
 	isRead := false
-	ctx = context.WithValue(ctx, transactionKey{}, &transaction)
+	ctx = context.WithValue(ctx, transactionKey{}, &it)
 	err := s.change(ctx, c.key, func(snapshot Snapshot) (next *Entry, err error) {
 		point, c.after = "", nil
-		transaction, next, err = s.step(driver, snapshot, c)
+		it, next, err = s.step(d, snapshot, c)
 		isRead = err == nil
 		switch {
 		case isRead && next != nil:
-			point = pointOf(transaction)
+			point = pointOf(it)
 			crash.At(point + "-next")
 		case isRead && c.doubt != nil: // the commit of the same row again confirms what was read
 			return snapshot.Entry.again(), nil
@@ -77,31 +77,37 @@ func (s *Service) transact(ctx context.Context, driver osb.Driver, c *course) (o
 	})
 	if err != nil {
 		if !isRead || !errors.Is(err, ErrAway) || c.doubts == mostDoubts {
-			return driver, err // it failed
+			return d, err // it failed
 		}
 		c.doubts, c.doubt, c.doubtful = c.doubts+1, err, c.after
-		return transaction.Unsure(), nil // nobody knows whether it was committed, until the row is read again
+		return it.Unsure(), nil // nobody knows whether it was committed, until the row is read again
 	}
 	if point != "" {
 		crash.At(point + "-written")
 	}
-	c.report(driver, transaction)
-	return transaction.Committed(), nil
+	c.report(d, it)
+	return it.Committed(), nil
 }
 
 // pointOf is the name of the crash points of a transaction that writes.
-func pointOf(transaction osb.Transaction) (point string) {
-	switch effect, _, _ := transaction.Effect(); {
+func pointOf(it transaction) (point string) {
+	switch effect, _, _ := it.Effect(); {
 	case effect == osb.EffectEnd:
 		point = "end"
 	case effect == osb.EffectFinish:
 		point = "finish"
+	case effect == osb.EffectEndUpdate:
+		point = "end-update"
+	case effect == osb.EffectFinishUpdate:
+		point = "finish-update"
 	case effect == osb.EffectGiveUpWaiting:
 		point = "wait"
 	case effect == osb.EffectNothing:
 		point = "take-over"
-	case transaction.Committed().Stage() == osb.StageAnswer:
+	case it.Committed().Stage() == osb.StageAnswer:
 		point = "mark"
+	case effect == osb.EffectUpdate:
+		point = "begin-update"
 	default:
 		point = "begin"
 	}
@@ -109,33 +115,36 @@ func pointOf(transaction osb.Transaction) (point string) {
 }
 
 // work makes the call of the backend that a driver names.
-func (s *Service) work(ctx context.Context, driver osb.Driver, c *course) (osb.Driver, error) {
-	calls, err := s.callsOf(driver, c)
+func (s *Service) work(ctx context.Context, d driver, c *course) (driver, error) {
+	calls, err := s.callsOf(d, c)
 	if err != nil {
-		return driver, err
+		return d, err
 	}
-	switch driver.Call() {
+	switch d.Call() {
 	case osb.CallLook:
 		var there There
-		if there, err = calls.look(ctx); err == nil {
-			driver, err = driver.Looked(there)
+		var settings osb.Settings
+		if there, settings, err = calls.look(ctx); err == nil {
+			d, err = d.looked(there, settings)
 		}
 	case osb.CallSync:
 		if err = calls.settle(ctx); err == nil {
-			driver, err = driver.Synced()
+			d, err = d.synced()
 		}
 	case osb.CallCreate:
-		driver, err = driver.Called(calls.create(ctx))
+		d, err = d.called(calls.create(ctx))
 	case osb.CallDelete:
-		driver, err = driver.Called(calls.delete(ctx))
+		d, err = d.called(calls.delete(ctx))
+	case osb.CallUpdate:
+		d, err = d.called(calls.change(ctx))
 	default:
 		err = errPart
 	}
 	if err != nil {
-		return driver, calls.unknownOutcome(err)
+		return d, calls.unknownOutcome(err)
 	}
-	if driver.Stage() != osb.StageWork {
-		c.done, c.calls = calls.conclude(driver.IsDone()), nil
+	if d.Stage() != osb.StageWork {
+		c.done, c.calls = calls.conclude(ctx, d.IsDone()), nil
 	}
-	return driver, nil
+	return d, nil
 }

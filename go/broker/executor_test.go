@@ -170,3 +170,17 @@ func TestReturnAfterADoubt(t *testing.T) {
 		})
 	}
 }
+
+// A Bind whose lock is taken waits for it, and is carried out then.
+func TestABindWaitsForItsLock(t *testing.T) {
+	rows, shelf := rowStore{rows: map[broker.Key]broker.Entry{}}, newShelf(calm)
+	serviceWith := func(locks broker.Locks) *broker.Service {
+		return broker.NewService(catalogueFor(t, catalogue), rows, shelf, locks, broker.ServiceOptions{}, broker.Silent{})
+	}
+	create := message{method: "PUT", target: instances + "i", body: []byte(bodyOf(now, ""))}
+	diff.Equal(t, create.serve(handlerFor(t, serviceWith(newMemoryLocks()))).status, 201, "the Provision")
+	late := serviceWith(lateLocks{newMemoryLocks()})
+	late.SetWait(0)
+	bind := message{method: "PUT", target: instances + "i/service_bindings/b", body: []byte(bodyOf(now, ""))}
+	diff.Equal(t, bind.serve(handlerFor(t, late)).status, 201, "the Bind")
+}

@@ -327,15 +327,21 @@ func (h *Handler) handle(ctx context.Context, a *arrival, visit Visit) (response
 	return response, h.write(a, response, h.sentence(visit, response))
 }
 
-// mayWork reports whether a request may do work before it is answered: the creations and deletions of synchronous
-// plans.
+// mayWork reports whether a request may do work before it is answered: the creations, updates and deletions of
+// synchronous plans.
 func (h *Handler) mayWork(visit Visit) bool {
 	if visit.IsFetch {
 		return false
 	}
+	if visit.Update != nil {
+		return h.service.mayUpdate(visit.Update)
+	}
 	of := planIDs{visit.Asked.Service, visit.Asked.Plan}
+	if visit.Asked.Kind == osb.KindDeprovision {
+		return h.service.catalogue.mayDelete(visit.Key.IsBinding, of)
+	}
 	work := osb.WorkOf(visit.Asked.Kind, h.service.catalogue.mode(visit.Key.IsBinding, of))
-	return work == osb.WorkMake || work == osb.WorkDelete
+	return work == osb.WorkMake
 }
 
 // takeTurn waits until a request may do work, and returns whether that happened in time.

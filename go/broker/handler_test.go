@@ -83,9 +83,9 @@ func TestOddNames(t *testing.T) {
 func TestAllow(t *testing.T) {
 	s := newTestBroker(t, setting{})
 	for path, want := range map[string]string{
-		"i":                                     "PUT, DELETE",
-		"service_bindings":                      "PUT, DELETE",
-		"last_operation":                        "PUT, DELETE",
+		"i":                                     "GET, PATCH, PUT, DELETE",
+		"service_bindings":                      "GET, PATCH, PUT, DELETE",
+		"last_operation":                        "GET, PATCH, PUT, DELETE",
 		"i/last_operation":                      "GET",
 		"last_operation/last_operation":         "GET",
 		"i/service_bindings/b":                  "GET, PUT, DELETE",
@@ -505,7 +505,8 @@ func TestRoutesOfRejectedRequests(t *testing.T) {
 		{"PUT", "i", "{", "provision"},
 		{"DELETE", "i", "", "deprovision"},
 		{"GET", "i/last_operation?plan_id=", "", "poll"},
-		{"GET", "i", "", "other"},
+		{"GET", "i", "", "fetch"},
+		{"PATCH", "i", "{", "update"},
 		{"POST", "i", "", "other"},
 		{"PUT", "i/b", "{}", "other"},
 		{"PUT", "service_bindings", "{", "provision"},
@@ -599,7 +600,7 @@ func TestCataloguesThatAreRejected(t *testing.T) {
 		strings.Replace(catalogue, `"description": "all later"`, `"description": "d", "maintenance_info": 1`, 1),
 		strings.Replace(catalogue, `"bindings_retrievable": true`, `"bindings_retrievable": 1`, 1),
 	} {
-		_, err := broker.NewCatalogue([]byte(target), true)
+		_, err := broker.NewCatalogue([]byte(target), broker.Abilities{Bindings: true})
 		diff.Error(t, err, "%q", target)
 	}
 	if document := catalogueFor(t, catalogue).Document(); !json.Valid(document) {

@@ -129,7 +129,7 @@ func TestWithStore(t *testing.T) {
 func TestOfStore(t *testing.T) {
 	const document = `{"services": [{"id": "s", "name": "n", "description": "d", "bindable": false, "plans": [
 		{"id": "p", "name": "n", "description": "d", "x-osb-asynchronous": false}]}]}`
-	without := diff.Value(NewCatalogue([]byte(document), false))(t)
+	without := diff.Value(NewCatalogue([]byte(document), Abilities{}))(t)
 	of, err := without.OfStore("the-id")
 	diff.Must(t, err)
 	for _, text := range [][]byte{of.document, of.returning, of.Document()} {
@@ -143,7 +143,7 @@ func TestOfStore(t *testing.T) {
 	_, err = without.OfStore("two\r\nlines")
 	diff.Error(t, err, "an id of two lines")
 	named := strings.Replace(document, "{", `{"x-osb-store": "mine", `, 1)
-	if _, err := NewCatalogue([]byte(named), false); !errors.Is(err, ErrCatalogueMember) ||
+	if _, err := NewCatalogue([]byte(named), Abilities{}); !errors.Is(err, ErrCatalogueMember) ||
 		!strings.Contains(err.Error(), "x-osb-store") {
 		t.Errorf("a document that names a store: got %v, want %v", err, ErrCatalogueMember)
 	}
@@ -273,4 +273,28 @@ func TestFewestFailuresFirst(t *testing.T) {
 		}
 	}
 	diff.Equal(t, len(s.failing), 0, "keys that wait")
+}
+
+// A snapshotStore has one snapshot.
+type snapshotStore struct {
+	Store    // nothing else is called
+	snapshot Snapshot
+}
+
+func (s snapshotStore) Read(context.Context, Key) (Snapshot, error) { return s.snapshot, nil }
+
+// If a row has what a Provision asks for by the time at which the sentence of its 409 is chosen, nobody knows why it
+// was rejected.
+func TestSentenceOfAConflictThatIsOver(t *testing.T) {
+	of := osb.Request{Service: osb.ID{1}, Plan: osb.ID{2}, ID: osb.ID{3}}
+	held, _, err := osb.Holding{}.Begin(osb.ModeSync, of, osb.Rules{Attributes: osb.Digest{4}})
+	diff.Must(t, err)
+	held, _, err = held.End(osb.ModeSync, osb.OutcomeDone)
+	diff.Must(t, err)
+	h := &Handler{ctx: context.Background()}
+	h.service = &Service{store: snapshotStore{snapshot: Snapshot{Entry: Entry{Holding: held}}}}
+	visit := Visit{Asked: osb.Asked{Service: of.Service, Plan: of.Plan}, Attributes: osb.Digest{4}}
+	diff.Equal(t, h.conflictSentence(visit, nounOf(visit.Key)), idTaken, "the sentence")
+	visit.Attributes = osb.Digest{5}
+	diff.Contains(t, h.conflictSentence(visit, nounOf(visit.Key)), "other parameters", "the sentence of another one")
 }

@@ -66,7 +66,7 @@ func TestCallsOfTheLibrary(t *testing.T) {
 		status                     int
 		most                       int64
 	}{
-		{"a creation", "PUT", "", bodyOf(now, ""), 201, 12},
+		{"a creation", "PUT", "", bodyOf(now, ""), 201, 13},
 		{"the creation again", "PUT", "", bodyOf(now, ""), 200, 8},
 		{"an asynchronous creation", "PUT", "-later?accepts_incomplete=true", bodyOf(later, ""), 202, 10},
 		{"a Poll", "GET", "-later/last_operation", "", 200, 6},

@@ -67,6 +67,8 @@ func (h *Handler) sentence(visit Visit, response Response) string {
 		return notByUs
 	case response.Body == osb.BodyAsyncRequired:
 		return "The plan is asynchronous. Send the request with accepts_incomplete=true."
+	case response.Body == osb.BodyConcurrencyError && visit.IsFetch && !visit.Key.IsBinding:
+		return "An update of the instance is in progress, or has failed. Fetch the instance once an update has succeeded."
 	case response.Body == osb.BodyConcurrencyError:
 		return "Another operation on this " + of.name + " is in progress. Repeat the request once it has ended."
 	case response.Body == osb.BodyOtherError:
@@ -77,6 +79,9 @@ func (h *Handler) sentence(visit Visit, response Response) string {
 
 func (h *Handler) otherSentence(visit Visit, status uint16, of noun) string {
 	isCreation := !visit.IsFetch && visit.Asked.Kind == osb.KindProvision
+	if visit.Update != nil || visit.IsFetch && !visit.Key.IsBinding {
+		return h.updateSentence(visit, status)
+	}
 	switch status {
 	case http.StatusBadRequest:
 		return badRequest(isCreation, of)
@@ -93,6 +98,30 @@ func (h *Handler) otherSentence(visit Visit, status uint16, of noun) string {
 		return "Work on this instance is pending, or it still has bindings. Repeat the request later."
 	case http.StatusInternalServerError:
 		return "The backend failed. The broker's log has the reason."
+	}
+	return ""
+}
+
+// updateSentence is what a person reads in the answer to an Update or to the Fetch of an instance.
+func (h *Handler) updateSentence(visit Visit, status uint16) string {
+	switch {
+	case visit.IsFetch && status == http.StatusNotFound:
+		return "No instance of this id can be fetched. It doesn't exist, isn't ready, or isn't retrievable."
+	case visit.IsFetch:
+		return "The instance has another service_id, or its service has no such plan_id."
+	}
+	switch status {
+	case http.StatusNotFound:
+		return "No instance of this id exists."
+	case http.StatusBadRequest:
+		return "The instance has another service_id, or the catalogue has no such plan."
+	case http.StatusConflict:
+		return "A later Update was received: its x-osb-update is greater. Send the request with a number that is greater still."
+	case http.StatusUnprocessableEntity:
+		return "The plan of the instance can't be changed, or the backend can't update."
+	case http.StatusInternalServerError:
+		return "The update has failed, or an Update with this x-osb-update was judged before. Send it again, with a " +
+			"greater number if it has one. The broker's log has the reason."
 	}
 	return ""
 }
@@ -121,6 +150,8 @@ func (h *Handler) conflictSentence(visit Visit, of noun) string {
 		return of.an + " of this id has ended. " + h.service.options.reuse()
 	case !snapshot.Holding.IsHeld():
 		return idTaken
+	case snapshot.Change != nil:
+		return of.an + " of this id exists, and was updated. Choose another id, or send an Update."
 	case row.Service != visit.Asked.Service:
 		differs = "another service_id"
 	case row.Plan != visit.Asked.Plan:

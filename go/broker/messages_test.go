@@ -130,6 +130,41 @@ func TestSentencesOfAnswers(t *testing.T) {
 	}
 }
 
+// Each answer to an Update, and to the Fetch of an instance, says why.
+func TestSentencesOfUpdates(t *testing.T) {
+	s, backend := newUpdatingBroker(t)
+	for _, plan := range []string{now, "c4"} {
+		s.expect(t, 201, "PUT", instances+plan, bodyOf(plan, ""))
+	}
+	s.expect(t, 200, "PATCH", instances+now, updateOf(`,"parameters":{"size":1},"x-osb-update":5`))
+	backend.fail(errScripted, true)
+	for _, test := range []struct {
+		method, target, body string
+		status               int
+		description          string
+	}{
+		{"PATCH", "none", updateOf(""), 404, "No instance of this id exists."},
+		{"PATCH", now, updateOf(planMember("ff")), 400, "or the catalogue has no such plan."},
+		{"PATCH", now, updateOf(`,"x-osb-update":4`), 409, "A later Update was received: its x-osb-update is greater."},
+		{"PATCH", "c4", updateOf(planMember(now)), 422, "The plan of the instance can't be changed"},
+		{"PATCH", now, updateOf(planMember("c2")), 422, "Send the request with accepts_incomplete=true."},
+		{"PATCH", now, updateOf(`,"maintenance_info":{"version":"2.0"}`), 422,
+			"The plan has another maintenance_info.version."},
+		{"GET", "none", "", 404, "No instance of this id can be fetched."},
+		{"GET", now + "?plan_id=ff", "", 400, "or its service has no such plan_id."},
+		{"PATCH", now, updateOf(`,"parameters":{"size":2}`), 500,
+			"The update has failed, or an Update with this x-osb-update was judged before. Send it again"},
+		{"GET", now, "", 422, "An update of the instance is in progress, or has failed."},
+	} {
+		t.Run(test.method+" "+test.target, func(t *testing.T) {
+			body := s.expect(t, test.status, test.method, instances+test.target, test.body)
+			if description, _ := descriptionIn(t, body); !strings.Contains(description, test.description) {
+				t.Errorf("got %s, want %q", body, test.description)
+			}
+		})
+	}
+}
+
 // A rejection of the backend that says nothing has a sentence too, and so has a failure.
 func TestSentencesOfTheBackend(t *testing.T) {
 	for _, test := range []struct {

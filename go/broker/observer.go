@@ -16,9 +16,9 @@ type Observer interface {
 	// OnFailure is called if something went wrong that an operator has to know.
 	OnFailure(Failure)
 	// OnCallFailure is called after each call of the backend or of the Locks that fails, also if the same call is
-	// repeated. The name is look, create, delete, look-binding, create-binding, delete-binding or credentials, as for a
-	// command, or sync or lock. A creation that the backend rejects hasn't failed, nor has a lock that somebody else
-	// has.
+	// repeated. The name is look, create, delete, look-update, update, look-binding, create-binding, delete-binding,
+	// credentials or details, as for a command, or sync or lock. A creation or an update that the backend rejects hasn't
+	// failed, nor has a lock that somebody else has.
 	OnCallFailure(call string)
 	// OnCommit is called after each commit of a store that writes several changes together, with their number.
 	OnCommit(changes int)
@@ -46,7 +46,7 @@ type Exchange struct {
 	RequestID   string // the id that the platform gave the request, or one that was made up here
 	Key         Key    // what the path names, if IsNamed is true
 	IsNamed     bool
-	Route       string // catalog, provision, deprovision, poll, bind, unbind, poll-binding, fetch-binding, or other
+	Route       string // catalog, provision, update, deprovision, poll, fetch, those of bindings, or other
 	Method      string // at most 20 bytes
 	Target      string // path and query as they arrived, at most 1,000 bytes
 	Status      int
@@ -102,11 +102,23 @@ type Journal interface {
 // transactionKey is where the context of a Change has the transaction of the driver that makes it.
 type transactionKey struct{}
 
+// A Transaction is what a transaction of a driver comes to, as an osb.Transaction and an osb.UpdateTransaction have it.
+type Transaction interface {
+	// Effect is the event that the transaction is, once it is committed.
+	Effect() (effect osb.Effect, outcome osb.Outcome, ok bool)
+	// UpdateOutcome is of osb.EffectEndUpdate how the work ended.
+	UpdateOutcome() osb.UpdateOutcome
+	// Allowed is of osb.EffectUpdate what the catalogue has for the Update.
+	Allowed() osb.Allowed
+}
+
 // TransactionOf returns what the latest step of a Change has come to, by the context of that Change. So a Store of a
 // journal knows which event the driver says that the change is. It returns nil if no driver makes the change.
-func TransactionOf(ctx context.Context) *osb.Transaction {
-	transaction, _ := ctx.Value(transactionKey{}).(*osb.Transaction)
-	return transaction
+func TransactionOf(ctx context.Context) Transaction {
+	if it, isDriven := ctx.Value(transactionKey{}).(*transaction); isDriven {
+		return it
+	}
+	return nil
 }
 
 type noJournal struct{}

@@ -33,6 +33,9 @@ type Request struct {
 
 	// Deletion is the source of the Deprovision or the Unbind, and nil until one begins.
 	Deletion *Origin `json:"deletion,omitempty"`
+
+	// Details are what the backend has last said of the instance, or nil.
+	Details *Details `json:"details,omitempty"`
 }
 
 // An Origin is who sent a request, as its headers say.
@@ -54,11 +57,13 @@ func (r Request) Member(name string) json.RawMessage {
 
 // text is what is stored of the request. It has the body as it was sent, without blanks: json.Marshal would write six
 // bytes for each < of it.
-func (r *Request) text() (json.RawMessage, error) {
+func (r *Request) text() (json.RawMessage, error) { return textOf(r) }
+
+func textOf(value any) (json.RawMessage, error) {
 	text := bytes.Buffer{}
 	encoder := json.NewEncoder(&text)
 	encoder.SetEscapeHTML(false)
-	err := encoder.Encode(r)
+	err := encoder.Encode(value)
 	return bytes.TrimSuffix(text.Bytes(), []byte("\n")), err
 }
 
@@ -159,7 +164,7 @@ func (v *Visit) unknownResponse() Response {
 		Description: "Nothing exists under this id.",
 	}
 	switch {
-	case v.IsFetch:
+	case v.IsFetch || v.Update != nil:
 		response.Status = http.StatusNotFound
 	case v.Asked.Kind == osb.KindProvision:
 		response.Status = http.StatusConflict
@@ -179,8 +184,10 @@ func (h *Handler) read(a *arrival, body []byte) (visit Visit, err error) {
 	switch a.target {
 	case osb.TargetBinding, osb.TargetBindingOperation:
 		visit, err = h.readBinding(a, body)
-	default: // it rejects what names nothing
+	case osb.TargetInstance:
 		visit, err = h.readInstance(a, body)
+	default: // it rejects what names nothing
+		visit, err = h.readOfLife(a, body)
 	}
 	if err != nil {
 		return visit, err
@@ -197,6 +204,8 @@ type endpoint struct {
 
 // routes has the name of each endpoint in logs and metrics, but that of the catalogue.
 var routes = map[endpoint]string{
+	{osb.TargetInstance, http.MethodGet}:          "fetch",
+	{osb.TargetInstance, http.MethodPatch}:        "update",
 	{osb.TargetInstance, http.MethodPut}:          "provision",
 	{osb.TargetInstance, http.MethodDelete}:       "deprovision",
 	{osb.TargetInstanceOperation, http.MethodGet}: "poll",
@@ -209,7 +218,7 @@ var routes = map[endpoint]string{
 // methodsOf are those that a broker takes of what a target names.
 func methodsOf(target osb.Target) string {
 	var methods []string
-	for _, method := range []string{http.MethodGet, http.MethodPut, http.MethodDelete} {
+	for _, method := range []string{http.MethodGet, http.MethodPatch, http.MethodPut, http.MethodDelete} {
 		if routes[endpoint{target, method}] != "" {
 			methods = append(methods, method)
 		}
@@ -217,7 +226,45 @@ func methodsOf(target osb.Target) string {
 	return strings.Join(methods, ", ")
 }
 
-func (h *Handler) readInstance(a *arrival, body []byte) (visit Visit, err error) {
+// readInstance reads a request whose path names an instance.
+func (h *Handler) readInstance(a *arrival, body []byte) (Visit, error) {
+	switch a.request.Method {
+	case http.MethodGet, http.MethodPatch:
+		return h.readUpdate(a, body)
+	}
+	return h.readOfLife(a, body)
+}
+
+// readUpdate reads an Update or the Fetch of an instance.
+func (h *Handler) readUpdate(a *arrival, body []byte) (visit Visit, err error) {
+	received, err := osb.ReceiveUpdateRequest("", h.LongestBody, a.request.Method, a.request.RequestURI, body)
+	if err != nil {
+		return visit, err
+	}
+	asked := received.Asked
+	visit.Key, visit.Names.Instance = osb.InstanceKey(asked.ID), received.Names.Instance
+	visit.Asked, visit.IsFetch, visit.Origin = osb.Asked{Kind: osb.KindNone, ID: asked.ID}, asked.IsFetch, h.origin(a)
+	if asked.IsFetch {
+		visit.Asked.HasService, visit.Asked.Service = asked.HasService, asked.Service
+		visit.Asked.HasPlan, visit.Asked.Plan = asked.HasPlan, asked.Plan
+		return visit, nil
+	}
+	visit.Asked.HasService, visit.Asked.Service = true, asked.Update.Service
+	visit.Asked.HasPlan, visit.Asked.Plan = asked.Update.Change.HasPlan, asked.Update.Change.Plan
+	visit.Asked.AcceptsIncomplete = asked.Update.AcceptsIncomplete
+	texts := h.service.catalogue.named(
+		planIDs{visit.Asked.Service, visit.Asked.Plan}, planTexts{plan: received.Names.Plan})
+	visit.Update = &AskedUpdate{
+		Update: asked.Update, Settings: Settings{PlanID: texts.plan, Parameters: received.Parts.Parameters},
+	}
+	if received.Parts.Version != nil {
+		visit.Update.Settings.Version = *received.Parts.Version
+	}
+	return visit, nil
+}
+
+// readOfLife reads a Provision, a Deprovision or a Poll.
+func (h *Handler) readOfLife(a *arrival, body []byte) (visit Visit, err error) {
 	received, err := osb.ReceiveRequest("", h.LongestBody, a.request.Method, a.request.RequestURI, body)
 	if err != nil {
 		return visit, err
@@ -273,6 +320,9 @@ func (h *Handler) readBinding(a *arrival, body []byte) (visit Visit, err error) 
 // creation adds what is stored of a creation.
 func (h *Handler) creation(a *arrival, visit Visit, body []byte, request Request) (Visit, error) {
 	request.Key = visit.Key
+	texts := h.service.catalogue.named(
+		planIDs{visit.Asked.Service, visit.Asked.Plan}, planTexts{request.ServiceID, request.PlanID})
+	request.ServiceID, request.PlanID = texts.service, texts.plan
 	request.InstanceID, request.BindingID = visit.Names.Instance, visit.Names.Binding
 	request.Body, request.Origin = body, h.origin(a)
 	var err error
@@ -321,10 +371,23 @@ func (h *Handler) write(a *arrival, response Response, sentence string) answer {
 	switch {
 	case response.Binding != nil:
 		return answer{status, response.Binding}
+	case response.Instance != nil:
+		return answer{status, response.Instance}
+	case response.IsMaintenanceConflict:
+		return h.refuse(a, osb.ErrRefusedMaintenance)
+	case response.Details != nil:
+		body, err := osb.WriteSuccess(response.Status, nil, response.Details.url(), response.Details.Metadata)
+		if err == nil {
+			return answer{status, body}
+		}
+		h.report(a, "details_not_sent", err)
 	case response.Rejected != nil && isOwnCode(response.Rejected.Code):
 		return h.writeRejection(a, status, response.Rejected)
-	case response.Description != "":
-		body, err := osb.WriteDescribedAnswer(response.Answer, nil, &response.Description)
+	case response.Outlook != nil || response.Description != "":
+		if a.Reason == "" {
+			a.Reason = sentence
+		}
+		body, err := response.told(sentence)
 		if err == nil {
 			return answer{status, body}
 		}
@@ -338,6 +401,20 @@ func (h *Handler) write(a *arrival, response Response, sentence string) answer {
 		a.Reason = reasonIn(body)
 	}
 	return answer{status, body}
+}
+
+// told is the body of an answer with what the backend has said, or with the sentence in the place of its description.
+func (r *Response) told(sentence string) ([]byte, error) {
+	description := &r.Description
+	switch {
+	case r.Outlook == nil:
+		return osb.WriteDescribedAnswer(r.Answer, nil, description)
+	case r.Description == "" && sentence == "":
+		description = nil
+	case r.Description == "":
+		description = &sentence
+	}
+	return osb.WriteFailure(r.Answer, description, r.Outlook.InstanceUsable, r.Outlook.UpdateRepeatable)
 }
 
 // otherError writes an error of this status, which says the sentence.
@@ -413,7 +490,7 @@ func (h *Handler) refuse(a *arrival, err error) answer {
 	}
 	status, write := osb.BindingRefusalStatus(refusal), osb.BindingRefusalBody
 	if status == 0 {
-		status, write = osb.RefusalStatus(refusal), osb.RefusalBody
+		status, write = osb.UpdateRefusalStatus(refusal), osb.UpdateRefusalBody // it has those of a Provision, too
 	}
 	if status == 0 {
 		return h.fail(a, err)

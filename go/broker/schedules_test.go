@@ -54,6 +54,18 @@ var beginnings = map[string]string{
 	"two-bound":  "provision poll take-up bind poll-1 take-up-1 bind-2 poll-2 take-up-2",
 }
 
+// How what exists at the beginning of the scenarios of updates came about.
+var updateBeginnings = map[string]string{
+	"updated":  "provision poll take-up update take-up",
+	"updating": "provision poll take-up update@update-half",
+	"late":     "provision poll take-up update@look",
+	"synced":   "provision poll take-up update@update-end",
+	"failed":   "provision poll take-up",
+	"other":    "provision poll take-up update-3 take-up",
+
+	"other-late": "provision poll take-up update-3@look",
+}
+
 // everyBeginning returns the words of all beginnings, in order.
 func everyBeginning() (words []string) {
 	for word := range beginnings {
@@ -139,6 +151,9 @@ func scenarioOf(t *testing.T, catalogue *broker.Catalogue, text string, to *walk
 	if strings.Contains(words, "knowing") {
 		backend = simulatedKnowingBackend{} // it can tell the credentials of what exists
 	}
+	if strings.Contains(text, "update") || updateBeginnings[from] != "" {
+		backend = simulatedUpdatingBackend{}
+	}
 	options := broker.ServiceOptions{FirstPoll: s.firstPoll, WaitForPoll: time.Minute}
 	s.service = broker.NewService(catalogue, simulatedStore{}, backend, simulatedLocks{}, options, broker.Silent{})
 	for _, word := range strings.Split(tasks, " + ") {
@@ -149,11 +164,14 @@ func scenarioOf(t *testing.T, catalogue *broker.Catalogue, text string, to *walk
 	}
 	begun := newSimulation(s)
 	s.walk.follow(begun)
-	for _, word := range strings.Fields(beginnings[from]) {
+	for _, word := range strings.Fields(beginnings[from] + updateBeginnings[from]) {
 		name, until, _ := strings.Cut(word, "@")
 		task := s.task(t, name)
 		s.walk.send(task)
 		begun.runUntil(task, until)
+	}
+	if from == "failed" {
+		begun.failUpdate()
 	}
 	diff.Equal(t, begun.Wrong, "", "the beginning of %q", text)
 	s.begun = begun
@@ -163,6 +181,16 @@ func scenarioOf(t *testing.T, catalogue *broker.Catalogue, text string, to *walk
 // task reads the word of a task.
 func (s scenario) task(t *testing.T, word string) broker.Visit {
 	t.Helper()
+	switch {
+	case strings.HasPrefix(word, "update"):
+		return s.update(t, word)
+	case strings.HasPrefix(word, "provision-"):
+		return s.provision(t, word)
+	case strings.HasPrefix(word, "other-"):
+		visit := s.task(t, strings.TrimPrefix(word, "other-"))
+		visit.Asked.Plan = s.otherPlan()
+		return visit
+	}
 	kind, isKnown := taskWords[word]
 	number := strings.Count(word, "bind")
 	if at := len(word) - 2; !isKnown && at > 0 {
@@ -208,7 +236,8 @@ func (s *simulation) entryWords(as *runner, entry broker.Entry) string {
 	if as != nil && worker != as.Number || worker > 0 && s.runners[worker-1].IsOver {
 		worker = 0
 	}
-	return fmt.Sprint(walks.HoldingWords(entry.Holding), worker, string(entry.Binding), entry.Description, entry.Since.IsZero())
+	return fmt.Sprint(walks.HoldingWords(entry.Holding), worker, string(entry.Binding), entry.Description, entry.Since.IsZero(),
+		changeOf(entry))
 }
 
 // State is what exists and is locked, and what the drivers are answered.

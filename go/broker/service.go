@@ -1,9 +1,10 @@
 // Package broker is a broker under the Open Service Broker API 2.17: an http.Handler over a Store, a Backend and Locks.
 // What becomes of an instance or a binding is decided by the proved library (package osb).
 //
-// The order in which a request is locked, written, worked and answered is that of a driver (osb.Driver), which drive
-// steps. Here is what each of its transactions reads and keeps beside the holding, and what is answered. Whatever fails
-// on the way ends the request: what was committed until then stays, and the Sweeper goes on with it.
+// The order in which a request is locked, written, worked and answered is that of a driver (osb.UpdateDriver of an
+// instance, osb.Driver of a binding), which drive steps. Here is what each of its transactions reads and keeps beside the
+// holding, and what is answered. Whatever fails on the way ends the request: what was committed until then stays, and the
+// Sweeper goes on with it.
 package broker
 
 import (
@@ -28,11 +29,11 @@ type Service struct {
 	options   ServiceOptions
 	stay      time.Duration // how long a request is kept, if ids return
 	wait      time.Duration // how long a request waits for the lock of its key
-	// poller is the driver of all Polls that need no transaction. It hasn't the lock, so it takes nothing over, and its
-	// number is in no row. looker is that of the looks before all take-ups. It is made as if it had the lock, and nothing
-	// of it is written: it only says whether there is anything to do.
-	poller, looker osb.Driver
-	numbers        *numbers
+	// pollers are the drivers of all Polls that need no transaction. They haven't the lock, so they take nothing over, and
+	// their numbers are in no row. lookers are those of the looks before all take-ups. They are made as if they had the
+	// lock, and nothing of them is written: they only say whether there is anything to do.
+	pollers, lookers drivers
+	numbers          *numbers
 }
 
 // ServiceOptions are this project's choice (docs/instance.md).
@@ -63,20 +64,11 @@ func NewService(
 		catalogue: catalogue, store: store, locks: locks, observer: observer, options: options, stay: longestStay,
 		wait:    longestWait,
 		gate:    newGate(locks, options.LocksAtOnce),
-		worker:  worker{backend: backend, observer: observer},
+		worker:  worker{backend: backend, can: AbilitiesOf(backend), observer: observer},
 		numbers: newNumbers(),
 	}
-	s.poller, s.looker = s.newDriver(true, false), s.newDriver(false, true)
+	s.pollers, s.lookers = s.newDrivers(true, false), s.newDrivers(false, true)
 	return s
-}
-
-// newDriver returns the driver of a request or of a take-up, with a number of its own, that has the lock or hasn't.
-func (s *Service) newDriver(isRequest, hasLock bool) osb.Driver {
-	driver, err := osb.NewDriver(s.numbers.next(), isRequest, hasLock)
-	if err != nil {
-		panic(err) // the number is zero
-	}
-	return driver
 }
 
 // A Visit is one arrival of a request: what it asks of an instance or of a binding.
@@ -84,11 +76,12 @@ type Visit struct {
 	Key        Key
 	Names      Names
 	Asked      osb.Asked // of a binding: under the ID of the binding
-	IsFetch    bool      // whether it is the Fetch of a binding
+	IsFetch    bool      // whether it is a Fetch
 	Attributes osb.Digest
 	Request    json.RawMessage // of a creation: the text of its Request
 	Creation   *Request        // of a creation: what Request is the text of, or nil if only the text is known
-	Origin     Origin          // of a deletion
+	Update     *AskedUpdate    // of an Update, whose Asked has the kind osb.KindNone, or nil
+	Origin     Origin          // of a deletion, or of an Update
 	Arrived    time.Time       // when the broker got the request, or the zero Time if that doesn't count
 }
 
@@ -96,12 +89,17 @@ type Visit struct {
 type Response struct {
 	osb.Answer
 	Binding     json.RawMessage // the object of a binding, which is the whole body then, or nil
+	Instance    json.RawMessage // the object of an instance that was fetched, likewise
+	Details     *Details        // of the instance, in an answer of success, or nil
 	Description string          // for a person, or empty
 	Rejected    *Rejection      // the backend's, or nil
-	Effect      osb.Effect      // of an answer without work: EffectArrive or EffectPutOff
+	Outlook     *Outlook        // of an instance whose update has failed, or nil
+	Effect      osb.Effect      // of an answer without work: EffectArrive, EffectPutOff or EffectUpdate
+	Allowed     osb.Allowed     // of EffectUpdate: what the catalogue has for the Update
 
-	IsUnfinished bool // whether somebody has to go on with the key (Entry.IsUnfinished); not of a Fetch
-	IsBound      bool // whether a deletion was put off because the instance has bindings
+	IsUnfinished          bool // whether somebody has to go on with the key (Entry.IsUnfinished); not of a Fetch
+	IsBound               bool // whether a deletion was put off because the instance has bindings
+	IsMaintenanceConflict bool // whether an Update names another version than the plan has
 }
 
 // Handle carries a request out, with the work that it means, and returns the answer to send.
@@ -126,7 +124,7 @@ func (s *Service) Handle(ctx context.Context, visit Visit) (Response, error) {
 // answer answers a request. A Poll that changes nothing waits for nobody, and needs no transaction.
 func (s *Service) answer(ctx context.Context, c *course) error {
 	if c.visit.Asked.Kind == osb.KindPoll {
-		if isOver, err := s.look(ctx, s.poller, c); err != nil || isOver {
+		if isOver, err := s.look(ctx, s.pollers.of(c.key), c); err != nil || isOver {
 			return err
 		}
 	}
@@ -136,13 +134,13 @@ func (s *Service) answer(ctx context.Context, c *course) error {
 // look has a driver read what is committed, and returns whether nothing is to be written, and there is nothing more to do
 // than to answer. Then the reading counts as the transaction of a Poll. Otherwise it is dropped, as if it had not been: a
 // driver is a value, and another one reads again in a transaction (docs/agreement.md).
-func (s *Service) look(ctx context.Context, driver osb.Driver, c *course) (isOver bool, err error) {
+func (s *Service) look(ctx context.Context, d driver, c *course) (isOver bool, err error) {
 	snapshot, err := s.read(ctx, c.key)
 	if err != nil {
 		return false, err
 	}
-	transaction, next, err := s.step(driver, snapshot, c)
-	after := transaction.Committed().Stage()
+	it, next, err := s.step(d, snapshot, c)
+	after := it.Committed().Stage()
 	return next == nil && (after == osb.StageAnswer || after == osb.StageDone), err
 }
 
@@ -174,7 +172,7 @@ func (s *Service) lock(ctx context.Context, key Key) (Lock, error) {
 	return nil, err
 }
 
-// fetch answers the Fetch of a binding with what is stored.
+// fetch answers a Fetch with what is stored.
 func (s *Service) fetch(ctx context.Context, visit *Visit) (Response, error) {
 	snapshot, err := s.read(ctx, visit.Key)
 	if err == nil && !snapshot.Holding.Fits(s.modeOf(visit.Key, rowOf(snapshot.Holding))) {
@@ -189,6 +187,13 @@ func (s *Service) fetch(ctx context.Context, visit *Visit) (Response, error) {
 	if isAnother, err := visit.namesAnother(&snapshot.Entry); err != nil || isAnother {
 		return visit.unknownResponse(), err
 	}
+	if visit.Key.IsBinding {
+		return s.fetchBinding(visit, &snapshot)
+	}
+	return s.fetchInstance(visit, &snapshot)
+}
+
+func (s *Service) fetchBinding(visit *Visit, snapshot *Snapshot) (Response, error) {
 	answer, err := snapshot.Holding.Fetch()
 	if err != nil {
 		return Response{}, err
@@ -222,11 +227,11 @@ func rowOf(holding osb.Holding) osb.BrokerRow {
 }
 
 // noteEnd writes down, beside a holding whose work or operation has ended, the outcome.
-func (e *Entry) noteEnd(key Key, done result) {
+func (e *Entry) noteEnd(key Key, done result) error {
 	row, isHeld := e.Holding.Row()
 	if !e.Holding.IsHeld() {
 		*e = Entry{Holding: e.Holding, Life: e.Life, Worker: e.Worker}
-		return
+		return nil
 	}
 	e.Since = time.Time{}
 	if e.IsUnfinished() {
@@ -236,6 +241,13 @@ func (e *Entry) noteEnd(key Key, done result) {
 	if key.IsBinding && isHeld && row.Phase == osb.PhaseReady && e.Binding == nil {
 		e.Binding = done.binding
 	}
+	if done.isUpdate && e.Change != nil {
+		e.Change = e.Change.expecting(done.outlook)
+	}
+	if done.details != nil {
+		return e.noteDetails(key, done.details)
+	}
+	return nil
 }
 
 // change is one transaction over what is held.
@@ -256,44 +268,45 @@ func (s *Service) read(ctx context.Context, key Key) (Snapshot, error) {
 func now() time.Time { return time.Now().UTC().Truncate(time.Millisecond) }
 
 // step has a driver read a row. It returns what the transaction comes to, and the entry to write, or nil if that stays.
-func (s *Service) step(driver osb.Driver, snapshot Snapshot, c *course) (osb.Transaction, *Entry, error) {
-	if c.visit != nil && driver.Stage() == osb.StageBegin {
-		return s.begin(driver, &snapshot, c)
+func (s *Service) step(d driver, snapshot Snapshot, c *course) (transaction, *Entry, error) {
+	if c.visit != nil && d.Stage() == osb.StageBegin {
+		return s.begin(d, &snapshot, c)
 	}
 	row := s.reading(c.key, &snapshot)
 	row.MayGiveUp = time.Since(snapshot.Since) >= s.options.WaitForPoll
-	transaction, err := read(driver, row, c.key, snapshot.Instance.Holding)
+	it, err := s.readRow(d, row, &snapshot)
 	if err != nil {
-		return transaction, nil, err
+		return it, nil, err
 	}
-	effect, _, _ := transaction.Effect()
-	isOver := transaction.Committed().Stage() == osb.StageDone
-	if isOver && effect == osb.EffectNothing && driver.Stage() != osb.StageBegin {
-		return transaction, nil, ErrLostWork
+	effect, _, _ := it.Effect()
+	isOver := it.Committed().Stage() == osb.StageDone
+	if isOver && effect == osb.EffectNothing && d.Stage() != osb.StageBegin {
+		return it, nil, ErrLostWork
 	}
 	entry := snapshot.Entry
-	entry.Holding, entry.Worker = transaction.Row()
+	it.write(&entry, nil)
 	switch effect {
-	case osb.EffectEnd, osb.EffectFinish:
-		entry.noteEnd(c.key, c.done)
-		err = s.tellEnd(entry, transaction, c)
+	case osb.EffectEnd, osb.EffectFinish, osb.EffectEndUpdate, osb.EffectFinishUpdate:
+		if err = entry.noteEnd(c.key, c.done); err == nil {
+			err = s.tellEnd(entry, it, c)
+		}
 	case osb.EffectGiveUpWaiting:
-		entry.noteEnd(c.key, result{description: noPoll})
+		err = entry.noteEnd(c.key, result{description: noPoll})
 		s.tellLate(snapshot.Entry, c)
 	}
 	c.entry, c.request = entry, nil
-	if err != nil || !transaction.Writes() {
-		return transaction, nil, err
+	if err != nil || !it.Writes() {
+		return it, nil, err
 	}
-	return transaction, &c.entry, nil
+	return it, &c.entry, nil
 }
 
-// read has the driver of an instance or of a binding read its row.
-func read(driver osb.Driver, row osb.Reading, key Key, instance osb.Holding) (osb.Transaction, error) {
-	if key.IsBinding {
-		return driver.ReadBinding(row, instance)
+// readRow has the driver of an instance or of a binding read its row.
+func (s *Service) readRow(d driver, row osb.Reading, snapshot *Snapshot) (transaction, error) {
+	if d.isBinding {
+		return d.readBinding(row, snapshot.Instance.Holding)
 	}
-	return driver.Read(row)
+	return d.readInstance(readingOf(row, &snapshot.Entry))
 }
 
 // reading is what a driver reads of a row.
@@ -309,73 +322,84 @@ func (s *Service) modeOf(key Key, row osb.BrokerRow) osb.Mode {
 }
 
 // begin is the first transaction of a request.
-func (s *Service) begin(driver osb.Driver, snapshot *Snapshot, c *course) (
-	transaction osb.Transaction, next *Entry, err error,
-) {
+func (s *Service) begin(d driver, snapshot *Snapshot, c *course) (it transaction, next *Entry, err error) {
 	visit := c.visit
 	if s.isLate(visit) {
-		return transaction, nil, errLate
+		return it, nil, errLate
 	}
 	snapshot, returned := s.options.enter(snapshot, visit)
-	transaction, err = s.beginHolding(driver, snapshot, visit)
+	it, err = s.beginHolding(d, snapshot, visit)
 	if err != nil {
-		return transaction, nil, err
+		return it, nil, err
 	}
 	if isAnother, err := visit.namesAnother(&snapshot.Entry); err != nil || isAnother {
-		return transaction, nil, either(err, errAnother)
+		return it, nil, either(err, errAnother)
 	}
 	entry := snapshot.Entry
-	entry.Holding, entry.Worker = transaction.Row()
-	if after := transaction.Committed(); after.Stage() == osb.StageAnswer {
-		if c.response, err = s.respond(snapshot, visit, after.Answer()); err != nil {
-			return transaction, nil, err
+	it.write(&entry, visit)
+	if after := it.Committed(); after.Stage() == osb.StageAnswer {
+		if c.response, err = s.respond(snapshot, visit, after); err != nil {
+			return it, nil, err
 		}
-		c.response.Effect, _, _ = transaction.Effect()
-		if !visit.Key.IsBinding && visit.Asked.Kind == osb.KindDeprovision && c.response.Effect == osb.EffectPutOff {
+		c.response.Effect, _, _ = it.Effect()
+		c.response.Allowed = it.allowed
+		if !visit.Key.IsBinding && visit.Asked.Kind == osb.KindDeprovision && c.response.Effect == osb.EffectPutOff &&
+			!snapshot.Change.isUnderWay() {
 			c.response.Description, c.response.IsBound = "The instance has bindings. Delete them first.", true
 		}
 		c.response.IsUnfinished = entry.IsUnfinished()
 	}
-	if !transaction.Writes() {
-		return transaction, s.options.renewal(snapshot, visit), nil
+	if !it.Writes() {
+		return it, s.options.renewal(snapshot, visit), nil
 	}
 	if returned != nil {
 		c.after = append(c.after, func() { s.tellReturn(*returned) })
 	}
-	c.request, err = entry.noteBeginning(visit)
+	if visit.Update == nil || it.Committed().Stage() != osb.StageAnswer { // an Update that is answered begins nothing
+		c.request, err = entry.noteBeginning(visit)
+	}
 	c.entry = entry
-	return transaction, &c.entry, err
+	return it, &c.entry, err
 }
 
 // beginHolding has the driver of a request read its row. Nothing of an instance begins while one of its bindings is held.
-func (s *Service) beginHolding(driver osb.Driver, snapshot *Snapshot, visit *Visit) (began osb.Transaction, err error) {
-	request, err := visit.Asked.Request(snapshot.Holding.Row())
-	if err != nil {
+func (s *Service) beginHolding(d driver, snapshot *Snapshot, visit *Visit) (began transaction, err error) {
+	row := s.reading(visit.Key, snapshot)
+	row.FirstPoll, row.Attributes, row.MayBegin = s.options.FirstPoll, visit.Attributes, true
+	if visit.Update != nil {
+		return s.beginUpdate(d, row, snapshot, visit)
+	}
+	asked := s.asked(visit, snapshot)
+	if row.Request, err = asked.Request(snapshot.Holding.Row()); err != nil {
 		return began, err
 	}
-	row := s.reading(visit.Key, snapshot)
-	row.Request, row.Mode = request, s.modeOf(visit.Key, osb.BrokerRow{Service: request.Service, Plan: request.Plan})
-	row.FirstPoll, row.Attributes, row.MayBegin = s.options.FirstPoll, visit.Attributes, true
+	row.Mode = s.modeOf(visit.Key, osb.BrokerRow{Service: row.Request.Service, Plan: row.Request.Plan})
 	if visit.Key.IsBinding {
 		instance, err := visit.instance(snapshot)
+		if asked.Kind == osb.KindProvision && !snapshot.Instance.isBindable(visit.Asked.Plan) {
+			instance = osb.Holding{} // so the Bind is put off
+		}
 		if err == nil {
-			began, err = driver.ReadBinding(row, instance)
+			began, err = d.readBinding(row, instance)
 		}
 		return began, err
 	}
-	if visit.Asked.Kind != osb.KindPoll { // which begins nothing that a binding is in the way of
+	if asked.Kind != osb.KindPoll { // which begins nothing that a binding is in the way of
 		isBound, err := snapshot.AnyBinding()
 		if err != nil {
 			return began, err
 		}
 		row.MayBegin = !isBound
 	}
-	return driver.Read(row)
+	if asked.Kind == osb.KindProvision {
+		return s.beginProvision(d, row, snapshot, visit)
+	}
+	return s.readRow(d, row, snapshot)
 }
 
 // tellEnd makes the answer of work that ends, or has a take-up's end reported.
-func (s *Service) tellEnd(entry Entry, transaction osb.Transaction, c *course) (err error) {
-	done, answer := c.done, transaction.Committed().Answer()
+func (s *Service) tellEnd(entry Entry, it transaction, c *course) (err error) {
+	done, answer := c.done, it.Committed().Answer()
 	isUnfinished := entry.IsUnfinished()
 	if c.visit == nil {
 		c.after = append(c.after, func() { c.went = done.went(isUnfinished) })
@@ -383,28 +407,35 @@ func (s *Service) tellEnd(entry Entry, transaction osb.Transaction, c *course) (
 			c.after = append(c.after, func() { s.observer.OnEnd(c.key, done.isDone) })
 		}
 	}
-	c.response = Response{Answer: answer, Description: done.description, Rejected: done.rejected}
+	c.response = Response{Answer: answer, Description: done.description, Rejected: done.rejected, Outlook: done.outlook}
 	row, _ := entry.Holding.Row()
 	if c.key.IsBinding && row.Phase == osb.PhaseReady && (c.visit == nil || answer.Status == http.StatusCreated) {
 		c.response, err = s.withBinding(c.key, answer, entry.Binding)
+	} else {
+		c.response, err = entry.withDetails(c.key, c.response)
 	}
 	c.response.IsUnfinished = isUnfinished
 	return err
 }
 
 // respond returns an answer that needs no work, with what is stored beside the holding.
-func (s *Service) respond(snapshot *Snapshot, visit *Visit, answer osb.Answer) (Response, error) {
+func (s *Service) respond(snapshot *Snapshot, visit *Visit, after driver) (Response, error) {
+	answer := after.Answer()
+	if after.IsUpdate() {
+		conflict := osb.Answer{Status: http.StatusUnprocessableEntity, Body: osb.BodyOtherError}
+		return Response{Answer: conflict, IsMaintenanceConflict: true}, nil
+	}
 	isBind := visit.Key.IsBinding && visit.Asked.Kind == osb.KindProvision
 	if isBind && answer.Status == http.StatusOK && answer.Body == osb.BodyEmpty {
 		return s.withBinding(visit.Key, answer, snapshot.Binding)
 	}
 	if answer.Body == osb.BodyFailed {
-		return Response{Answer: answer, Description: snapshot.Description}, nil
+		return Response{Answer: answer, Description: snapshot.Description, Outlook: snapshot.outlook(answer)}, nil
 	}
 	if visit.Asked.Kind == osb.KindProvision && answer.Status == http.StatusInternalServerError {
 		return failedBefore(snapshot, visit, answer)
 	}
-	return Response{Answer: answer}, nil
+	return snapshot.withDetails(visit.Key, Response{Answer: answer})
 }
 
 // failedBefore answers the creation of what has failed. It says why, unless a deletion has failed since.

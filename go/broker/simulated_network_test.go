@@ -34,16 +34,50 @@ func (r *runner) arrival(held osb.Holding) (osb.Holding, osb.Begun) {
 	key := r.task.Key
 	request, err := r.task.Asked.Request(held.Row())
 	must(err)
-	rules, mode := osb.Rules{FirstPoll: r.scenario.firstPoll}, modeOf(r.scenario.plan, key.IsBinding)
+	rules := osb.Rules{FirstPoll: r.scenario.firstPoll, Attributes: r.task.Attributes}
+	mode := modeOf(r.scenario.plan, key.IsBinding)
 	var after osb.Holding
 	var begun osb.Begun
 	if key.IsBinding {
-		after, begun, err = held.BeginBinding(r.rows[osb.InstanceKey(key.Instance)].Holding, mode, request, rules)
+		of := r.rows[osb.InstanceKey(key.Instance)]
+		after, begun, err = held.BeginBinding(r.boundTo(of, held, &request), mode, request, rules)
 	} else {
-		after, begun, err = held.BeginIf(mode, request, rules, !r.anyBinding())
+		after, begun, err = r.beginBeside(held, mode, request, rules)
 	}
 	must(err)
 	return after, begun
+}
+
+// boundTo is what the request of a binding finds of its instance. Once an Update of the instance was judged, the
+// request names the plan of the binding, whichever it names. That of a new binding has to name the plan that the
+// instance has now, for which the first plan stands. If it doesn't, or while an update is under way, it is put off, as
+// if there were no instance.
+func (r *runner) boundTo(instance broker.Entry, held osb.Holding, request *osb.Request) osb.Holding {
+	row, isHeld := instance.Holding.Row()
+	if instance.Change == nil || !isHeld {
+		return instance.Holding
+	}
+	change, isNew := instance.Change.Holding, request.Kind == osb.KindProvision
+	isPutOff := isNew && (change.IsUnderWay() || request.Plan != change.Settings().Plan)
+	switch of := rowOf(held); {
+	case held.IsHeld():
+		request.Plan = of.Plan
+	case request.Plan == change.Settings().Plan:
+		request.Plan = row.Plan
+	}
+	if isPutOff {
+		return osb.Holding{}
+	}
+	return instance.Holding
+}
+
+// rowOf is the row of a holding, or the one that its pending work would make.
+func rowOf(held osb.Holding) osb.BrokerRow {
+	row, isHeld := held.Row()
+	if work, _ := held.Work(); !isHeld {
+		row.Service, row.Plan = work.Service, work.Plan
+	}
+	return row
 }
 
 // noteReading is called when a runner has read a row. If its request is answered at once by that, and nothing changes,
@@ -51,7 +85,11 @@ func (r *runner) arrival(held osb.Holding) (osb.Holding, osb.Begun) {
 func (r *runner) noteReading(key broker.Key) {
 	entry := r.rows[key]
 	isOwn := r.workers[key] == r.Number && r.numbers[entry.Worker] == r.Number
-	if r.task.Asked.Kind == osb.KindNone || key != r.task.Key || isOwn {
+	if r.isTakeUp() || key != r.task.Key || isOwn {
+		return
+	}
+	if r.task.Update != nil {
+		r.noteUpdateReading(entry)
 		return
 	}
 	after, begun := r.arrival(entry.Holding)
@@ -76,6 +114,9 @@ func (s *simulation) judgeCommit(of *runner, key broker.Key, before, after broke
 				walks.HoldingWords(after.Holding), walks.HoldingWords(before.Holding), s.things[key].there)
 		}
 		s.event(key, event, of)
+	}
+	if after.Change != nil && changeOf(after) != changeOf(before) {
+		s.judgeChange(of, before, after)
 	}
 	s.judgeState()
 }
@@ -144,7 +185,11 @@ func (s *simulation) isTrue(key broker.Key, isCreation, isDone bool) bool {
 // judgeAnswer is called when a request is answered.
 func (r *runner) judgeAnswer(response broker.Response) {
 	given := response.Answer
-	if given == (osb.Answer{}) || given != r.answered && given != r.ended {
+	isEnd := given == r.ended
+	for _, answer := range r.mayBe {
+		isEnd = isEnd || given == answer
+	}
+	if given == (osb.Answer{}) || given != r.answered && !isEnd {
 		r.Fail("%d is answered %d %v, and no event has given that", r.Number, given.Status, given.Body)
 	}
 	if response.Binding != nil && !bytes.Equal(response.Binding, r.object) {
@@ -161,6 +206,9 @@ func (r *runner) judgeEnd(err error) {
 
 // judgeCall is called when the backend does something.
 func (s *simulation) judgeCall(key broker.Key, name string) {
+	if s.rows[key].Change != nil && s.rows[key].Change.Holding.IsUnderWay() {
+		return
+	}
 	held := s.rows[key].Holding
 	row, _ := held.Row()
 	work, isPending := held.Work()
@@ -201,6 +249,14 @@ func (s *simulation) judgeState() {
 		}
 		if there != want {
 			s.Fail("a row has %q, and what exists is %v", walks.HoldingWords(entry.Holding), there)
+		}
+		if change := changeOf(entry); !key.IsBinding && row.Phase == osb.PhaseReady &&
+			change.Phase() == osb.UpdatePhaseSettled && s.scenario.numberOf(change.Settings()) != s.things[key].settings {
+			s.Fail("a row has the settings %v, and the resource has %d", change, s.things[key].settings)
+		}
+		if change := entry.Change; change != nil && change.Holding.Phase() == osb.UpdatePhaseSettled &&
+			!s.scenario.hasTexts(change.Settings, s.scenario.numberOf(change.Holding.Settings())) {
+			s.Fail("a row has the texts %+v with the digests of %v", change.Settings, change.Holding)
 		}
 		if key.IsBinding && row.Phase == osb.PhaseReady {
 			if object := `{"credentials":` + string(s.credentials(key)) + `}`; string(entry.Binding) != object {

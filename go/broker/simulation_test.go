@@ -35,8 +35,9 @@ type simulation struct {
 
 // A simulatedThing is a resource: what exists of it, what outlives a power cut, and the number of its credentials.
 type simulatedThing struct {
-	there, onDisk broker.There
-	token         int // of a binding that is whole, and the latest one otherwise
+	there, onDisk       broker.There
+	token               int // of a binding that is whole, and the latest one otherwise
+	settings, settledOn int // the settings of an instance by their number, and those on disk
 }
 
 // A doubtfulCommit is one that nobody knows of. It is decided before another runner's Change of the instance or of its
@@ -63,13 +64,14 @@ type simulatedLock struct {
 type runner struct {
 	*schedule.Runner
 	*simulation
-	task broker.Visit // a Visit of no kind is a take-up
+	task broker.Visit // a Visit of no kind is a take-up, unless it is an Update
 	key  broker.Key   // of the call at which it is
 	lock *simulatedLock
 
-	answered osb.Answer // the answer that the model gives by what the runner has read last
-	ended    osb.Answer // the answer that the model has given by the end of the runner's work
-	object   []byte     // the object of the binding beside that answer, or nil
+	answered osb.Answer   // the answer that the model gives by what the runner has read last
+	ended    osb.Answer   // the answer that the model has given by the end of the runner's work
+	object   []byte       // the object of the binding beside that answer, or nil
+	mayBe    []osb.Answer // of an Update: the answers of the ends that the commit of its end may be
 }
 
 var (
@@ -100,10 +102,12 @@ type runnerKey struct{}
 
 func runnerIn(ctx context.Context) *runner { return ctx.Value(runnerKey{}).(*runner) }
 
+func (r *runner) isTakeUp() bool { return r.task.Asked.Kind == osb.KindNone && r.task.Update == nil }
+
 // carryOut carries out the request or the take-up.
 func (r *runner) carryOut() {
 	service, ctx := r.scenario.service, context.WithValue(context.Background(), runnerKey{}, r)
-	if r.task.Asked.Kind == osb.KindNone {
+	if r.isTakeUp() {
 		r.judgeEnd(service.TakeUp(ctx, r.task.Key))
 		return
 	}
@@ -177,8 +181,8 @@ func (s *simulation) Died(of *schedule.Runner) {
 func (s *simulation) cutPower() {
 	s.Stop()
 	for key, thing := range s.things {
-		if thing.there != thing.onDisk {
-			thing.there = thing.onDisk
+		if thing.there != thing.onDisk || thing.settings != thing.settledOn {
+			thing.there, thing.settings = thing.onDisk, thing.settledOn
 			s.work(key, thing)
 		}
 	}
@@ -281,7 +285,7 @@ func (simulatedStore) Change(ctx context.Context, key broker.Key, step broker.St
 // write commits an entry.
 func (s *simulation) write(of *runner, key broker.Key, next broker.Entry) {
 	before := s.rows[key]
-	if s.rows[key] = next; next.Holding == before.Holding {
+	if s.rows[key] = next; next.Holding == before.Holding && changeOf(next) == changeOf(before) {
 		of.noteReading(key)
 	}
 	s.judgeCommit(of, key, before, next)
@@ -379,13 +383,14 @@ func (simulatedBackend) Sync(ctx context.Context, of broker.Request) error {
 // sync has what exists outlive a power cut.
 func (s *simulation) sync(key broker.Key) {
 	thing := s.things[key]
-	thing.onDisk = thing.there
+	thing.onDisk, thing.settledOn = thing.there, thing.settings
 	s.things[key] = thing
 }
 
 // become changes what exists.
 func (s *simulation) become(key broker.Key, there broker.There) {
 	thing := s.things[key]
+	thing.settings = 0
 	if thing.there = there; there == broker.Whole && key.IsBinding {
 		thing.token++
 	}

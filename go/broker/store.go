@@ -18,12 +18,15 @@ type Entry struct {
 	Holding osb.Holding
 	// Request is the text of a Request, or nil: it is kept while the Holding is held.
 	Request json.RawMessage
+	// Change is what is kept of the updates of an instance, or nil until the first Update is judged. It is nil of a
+	// binding.
+	Change *Change
 	// Binding is the object of a binding with its credentials, as a Bind and a Fetch are answered, or nil: it is kept
 	// from the transaction on in which the row becomes ready, and never changes (docs/binding.md).
 	Binding json.RawMessage
 	// Description is why the last operation failed, for the platform, or empty.
 	Description string
-	// Since is when the pending work, the operation or the waiting began, or the zero Time.
+	// Since is when the pending work, the operation or the waiting began, also of an update, or the zero Time.
 	Since time.Time
 	// Life is how many lives of the instance have ended before this one: 0 unless its id has returned
 	// (ServiceOptions.IDsReturnAfter). Of a binding it is the Life of its instance when the entry was written.
@@ -34,9 +37,10 @@ type Entry struct {
 	Worker osb.ID
 }
 
-// IsUnfinished reports whether somebody has to go on: work is pending, or the row is making, deleting or waiting.
+// IsUnfinished reports whether somebody has to go on: work is pending, the row is making, deleting or waiting, or an
+// update is under way.
 func (e Entry) IsUnfinished() bool {
-	if _, isPending := e.Holding.Work(); isPending {
+	if _, isPending := e.Holding.Work(); isPending || e.Change.isUnderWay() {
 		return true
 	}
 	row, isHeld := e.Holding.Row()

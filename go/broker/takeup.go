@@ -36,7 +36,7 @@ const (
 // Errors: those of the store, the locks and the backend; ErrStillTaken. What isn't done stays as it is, to be taken up
 // again.
 func (s *Service) takeUp(ctx context.Context, key Key) (backendResult, error) {
-	if isOver, err := s.look(ctx, s.looker, &course{key: key}); err != nil || isOver {
+	if isOver, err := s.look(ctx, s.lookers.of(key), &course{key: key}); err != nil || isOver {
 		return backendUnused, err
 	}
 	c := &course{key: key}

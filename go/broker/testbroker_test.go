@@ -30,11 +30,12 @@ type testBroker struct {
 
 // A setting changes how a testBroker is made.
 type setting struct {
-	atOnce  int
-	over    func(*shelf) broker.Backend
-	options broker.ServiceOptions
-	limiter broker.Limiter
-	users   map[string][]string
+	atOnce    int
+	over      func(*shelf) broker.Backend
+	catalogue string // or empty for the usual one
+	options   broker.ServiceOptions
+	limiter   broker.Limiter
+	users     map[string][]string
 }
 
 func newTestBroker(t *testing.T, s setting) *testBroker {
@@ -48,7 +49,11 @@ func newTestBroker(t *testing.T, s setting) *testBroker {
 	if s.over != nil {
 		backend = s.over(it.shelf)
 	}
-	named := diff.Value(catalogueFor(t, catalogue).OfStore(storeID))(t)
+	if s.catalogue == "" {
+		s.catalogue = catalogue
+	}
+	sold := diff.Value(broker.NewCatalogue([]byte(s.catalogue), broker.AbilitiesOf(backend)))(t)
+	named := diff.Value(sold.OfStore(storeID))(t)
 	service := broker.NewService(named, it.store, backend, newMemoryLocks(), s.options, it.observed)
 	sweeper := broker.NewSweeper(service, it.observed)
 	stop, cancel := context.WithCancel(ctx)

@@ -17,6 +17,7 @@ import (
 // and how the work went: by what exists in the end, and by nothing else.
 type worker struct {
 	backend  Backend
+	can      Abilities
 	observer Observer
 }
 
@@ -24,15 +25,18 @@ type worker struct {
 type result struct {
 	isDone      bool            // whether what was asked for is the case
 	binding     json.RawMessage // of a binding that exists: its object with its credentials
+	details     *Details        // of an instance that was created or updated, or nil
 	description string          // why it failed, for the platform
-	rejected    *Rejection      // why a creation was refused
+	rejected    *Rejection      // why a creation or an update was refused
+	isUpdate    bool            // whether it was the work of an update
+	outlook     *Outlook        // what can be expected of an update that has failed, or nil
 }
 
 // errPart reports that work can't go on.
 var errPart = errors.New("a part exists, and can't be deleted")
 
 // callsOf returns the calls of the work that a driver does.
-func (s *Service) callsOf(driver osb.Driver, c *course) (*calls, error) {
+func (s *Service) callsOf(d driver, c *course) (*calls, error) {
 	if c.calls != nil {
 		return c.calls, nil
 	}
@@ -40,38 +44,74 @@ func (s *Service) callsOf(driver osb.Driver, c *course) (*calls, error) {
 	if err != nil {
 		return nil, err
 	}
+	var update *Update
+	if d.IsUpdate() {
+		if update, err = c.updateOfWork(request); err != nil {
+			return nil, err
+		}
+	}
 	point := "operation"
-	if _, isPending := driver.Task(); isPending {
+	if d.IsPending() {
 		point = "work"
 	}
 	crash.At(point + "-next")
-	c.calls = &calls{worker: s.worker, request: request, isCreation: driver.Creates(), point: point}
+	c.calls = &calls{worker: s.worker, request: request, update: update, isCreation: d.Creates(), point: point}
+	c.calls.before, c.calls.to = d.settings()
 	return c.calls, nil
 }
 
 // conclude returns the result of work after which it is known what exists: isDone is whether that is what was asked for.
-func (c *calls) conclude(isDone bool) result {
+func (c *calls) conclude(ctx context.Context, isDone bool) result {
 	what, exists, failed := "delete", "it still exists", c.failed
-	if c.isCreation {
+	switch {
+	case c.update != nil:
+		what, exists = "update", "it hasn't the new settings"
+	case c.isCreation:
 		what, exists = "create", "not all of it exists"
 	}
 	if !isDone && failed == nil {
 		failed = fmt.Errorf("the backend returned no error, but Look reports that %s", exists)
 	}
-	isRejection := !isDone && c.rejected != nil
+	isRejection := !isDone && c.rejected != nil && c.found == None
 	event := "backend_failed_to_" + what
 	if isRejection {
 		event = "backend_rejected"
 	}
 	c.report(Failure{Event: "credentials_useless", Err: c.useless})
 	c.report(Failure{Event: event, Err: failed, IsRejection: isRejection})
-	done := result{isDone: true, binding: c.binding}
+	done := result{isDone: true, binding: c.binding, details: c.details(ctx, isDone)}
 	if !isDone {
-		done = result{description: Description(failed), rejected: c.rejected}
+		done = result{description: Description(failed)}
+	}
+	switch done.isUpdate = c.update != nil; {
+	case isRejection:
+		done.rejected = c.rejected
+	case done.isUpdate && !isDone:
+		done.outlook = OutlookOf(failed)
 	}
 	point := c.point
 	crash.At(point + "-done")
 	return done
+}
+
+// details are what the backend says of an instance that was created or updated, or nil.
+func (c *calls) details(ctx context.Context, isDone bool) *Details {
+	backend, describes := c.backend.(DetailsBackend)
+	if !describes || !c.can.Details || !isDone || c.request.Key.IsBinding || !c.isCreation && c.update == nil {
+		return nil
+	}
+	var found Details
+	err := c.call("details", func() (err error) {
+		if found, err = backend.Details(ctx, c.request); err == nil {
+			err = found.check()
+		}
+		return err
+	})
+	if err != nil {
+		c.report(Failure{Event: "details_unknown", Err: err})
+		return nil
+	}
+	return &found
 }
 
 // report has a failure of the work reported, if there is one.
@@ -116,14 +156,17 @@ func (w worker) sync(ctx context.Context, request Request) error {
 	return nil
 }
 
-// calls are the backend's calls for one request: those of an instance, or those of a binding.
+// calls are the backend's calls for one request: those of an instance, those of its update, or those of a binding.
 type calls struct {
 	worker
 	request    Request
+	update     *Update         // nil of a creation or a deletion
+	before, to osb.Settings    // of an update: those of From and To
 	isCreation bool            // whether the credentials of a binding count
 	point      string          // how the names of the crash points begin
-	failed     error           // how a call has failed first that creates or deletes, or nil
-	rejected   *Rejection      // with which the backend has refused the creation, or nil
+	found      There           // by the last look: what exists, or how much of the update is done
+	failed     error           // how a call has failed first that creates, deletes or updates, or nil
+	rejected   *Rejection      // with which the backend has refused the creation or the update, or nil
 	binding    json.RawMessage // the object of the binding, once its credentials are known
 	isUnusable bool            // whether the last look found all of the binding, whose credentials nobody knows
 	useless    error           // why the credentials of a binding that existed couldn't be read or sent, or nil
@@ -132,6 +175,8 @@ type calls struct {
 // requestID is the id of the request that began the work, or empty if it isn't known.
 func (c *calls) requestID() string {
 	switch {
+	case c.update != nil:
+		return c.update.Origin.RequestID
 	case c.isCreation:
 		return c.request.RequestID
 	case c.request.Deletion != nil:
@@ -158,8 +203,59 @@ func (c *calls) call(name string, do func() error) error {
 	return err
 }
 
-// look returns what exists. To a creation, a binding whose credentials nobody knows is a part.
-func (c *calls) look(ctx context.Context) (there There, err error) {
+// look returns what exists, and of an update which settings the instance has.
+func (c *calls) look(ctx context.Context) (there There, settings osb.Settings, err error) {
+	if c.update == nil {
+		there, err = c.lookWhether(ctx)
+		c.found = there
+		return there, settings, err
+	}
+	there, err = c.lookUpdate(ctx)
+	switch c.found = there; there {
+	case None:
+		there, settings = Whole, c.before
+	case Whole:
+		settings = c.to
+	}
+	return there, settings, err
+}
+
+// updates is the backend, if it updates instances.
+func (c *calls) updates() (UpdateBackend, error) {
+	if backend, ok := c.backend.(UpdateBackend); ok {
+		return backend, nil
+	}
+	return nil, errors.New("the backend updates no instances")
+}
+
+// lookUpdate returns how much of the update is done.
+func (c *calls) lookUpdate(ctx context.Context) (done There, err error) {
+	err = c.call("look-update", func() error {
+		backend, err := c.updates()
+		if err == nil {
+			done, err = backend.LookUpdate(ctx, *c.update)
+		}
+		return err
+	})
+	return done, err
+}
+
+// change does the update, and returns with which status the backend has rejected that, or 0.
+func (c *calls) change(ctx context.Context) (ok bool, rejection uint16) {
+	err := c.try(ctx, func(ctx context.Context) error {
+		return c.call("update", func() error {
+			backend, err := c.updates()
+			if err == nil {
+				err = backend.Update(ctx, *c.update)
+			}
+			return err
+		})
+	})
+	return err == nil, c.rejection(err)
+}
+
+// lookWhether returns what exists. To a creation, a binding whose credentials nobody knows is a part.
+func (c *calls) lookWhether(ctx context.Context) (there There, err error) {
 	c.isUnusable = false
 	if c.request.Key.IsBinding {
 		there, err = c.lookBinding(ctx)
@@ -253,7 +349,7 @@ func (c *calls) settle(ctx context.Context) error {
 	return c.call("sync", func() error { return c.sync(ctx, c.request) })
 }
 
-// try makes a call that creates or deletes.
+// try makes a call that creates, deletes or updates.
 func (c *calls) try(ctx context.Context, call func(context.Context) error) error {
 	crash.Soon("work-running")
 	err := call(ctx)
@@ -264,13 +360,18 @@ func (c *calls) try(ctx context.Context, call func(context.Context) error) error
 // create creates what the request asks for, and returns with which status the backend has rejected that, or 0.
 func (c *calls) create(ctx context.Context) (ok bool, rejection uint16) {
 	err := c.try(ctx, c.createWhole)
-	if errors.As(err, &c.rejected) {
-		rejection = http.StatusBadRequest
-		if c.rejected.Status == http.StatusUnprocessableEntity {
-			rejection = http.StatusUnprocessableEntity
-		}
+	return err == nil, c.rejection(err)
+}
+
+// rejection is the status with which the backend has rejected what a call asked for that has ended so, or 0.
+func (c *calls) rejection(err error) uint16 {
+	switch {
+	case !errors.As(err, &c.rejected):
+		return 0
+	case c.rejected.Status == http.StatusUnprocessableEntity:
+		return http.StatusUnprocessableEntity
 	}
-	return err == nil, rejection
+	return http.StatusBadRequest
 }
 
 // delete deletes what exists. A deletion can't be rejected.

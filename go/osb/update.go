@@ -86,6 +86,16 @@ func NewUpdateHolding(settings Settings) UpdateHolding {
 // Settings are those of the Provision, or of the last update that has succeeded.
 func (u UpdateHolding) Settings() Settings { return u.settings }
 
+// WithPlan is the holding in which the plan of the Settings goes by another id. It is for an UpdateReading of a
+// Provision that names the plan that the instance has now, if the row of the instance keeps the plan with which it was
+// created: give both, the holding and the Request, the plan of the row. Then UpdateDriver.Read compares the other
+// settings, and the table of the instance finds its own plan. Such a holding is never written: a Provision of an
+// instance that has a row changes nothing of the updates.
+func (u UpdateHolding) WithPlan(plan ID) UpdateHolding {
+	u.settings.Plan = plan
+	return u
+}
+
 // Number is the greatest number of an Update that was judged, or 0.
 func (u UpdateHolding) Number() uint64 { return u.number }
 

@@ -190,3 +190,14 @@ func TestAnUpdate(t *testing.T) {
 	fetched := need(settled.Fetch(instance))(t)
 	equal(t, "the Fetch", fetched, osb.UpdateFetched{Settings: begun.To, Number: 1, IsFound: true})
 }
+
+// A holding in which the plan goes by another id is the same in all else.
+func TestWithPlan(t *testing.T) {
+	settings := osb.Settings{Plan: plan, Parameters: osb.Digest{1}, Version: osb.Digest{2}}
+	held := osb.NewUpdateHolding(settings)
+	other := held.WithPlan(async)
+	settings.Plan = async
+	if other != osb.NewUpdateHolding(settings) || held.Settings().Plan != plan {
+		t.Errorf("got %v of %v, want the plan alone changed, and the first as it was", other, held)
+	}
+}

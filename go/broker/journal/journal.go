@@ -70,12 +70,27 @@ type visitState struct {
 	number   int64
 	request  string // its X-Broker-API-Request-Identity
 	key      broker.Key
-	saw      *holdings // what it has read last, or nil
-	isChange bool      // whether it has changed what is held of its key
+	saw      *seen // what it has read last, or nil
+	isChange bool  // whether it has changed what is held of its key, or what is kept of its updates
 }
 
-// holdings are what is held of the key of a visit, and of a binding's instance.
-type holdings struct{ of, instance osb.Holding }
+// seen are the row of the key of a visit, and that of a binding's instance.
+type seen struct{ of, instance row }
+
+// A row is what the lines have of an entry: what is held, and what is kept of the updates of an instance.
+type row struct {
+	holding   osb.Holding
+	updates   osb.UpdateHolding
+	isUpdated bool // whether anything is kept of updates
+}
+
+func rowOf(entry broker.Entry) row {
+	it := row{holding: entry.Holding}
+	if entry.Change != nil {
+		it.updates, it.isUpdated = entry.Change.Holding, true
+	}
+	return it
+}
 
 // visitKey is where a context has its visit.
 type visitKey struct{}
@@ -94,7 +109,7 @@ func visitOf(ctx context.Context) int64 { return visitIn(ctx).number }
 // sees notes what a visit has read.
 func (v *visitState) sees(key broker.Key, snapshot broker.Snapshot) {
 	if key == v.key {
-		v.saw = &holdings{snapshot.Holding, snapshot.Instance.Holding}
+		v.saw = &seen{rowOf(snapshot.Entry), rowOf(snapshot.Instance)}
 	}
 }
 
@@ -110,7 +125,34 @@ type arrivalLine struct {
 	Service    string `json:"service,omitempty"`
 	Plan       string `json:"plan,omitempty"`
 	Attributes string `json:"attributes,omitempty"` // of a creation: the digest that the holding's text has
-	Committed  int64  `json:"committed,omitempty"`  // no change up to this one is still to be committed
+	Number     uint64 `json:"number,omitempty"`     // of an Update, as are the parameters: their digest
+	Parameters string `json:"parameters,omitempty"`
+	Version    string `json:"version,omitempty"`   // the digest that an Update or the creation of an instance names
+	Committed  int64  `json:"committed,omitempty"` // no change up to this one is still to be committed
+}
+
+// ask adds what an Update asks for, besides its service and its plan.
+func (l *arrivalLine) ask(update *broker.AskedUpdate) {
+	l.Kind, l.Number = "update", update.Number
+	if update.Change.HasParameters {
+		l.Parameters = hex.EncodeToString(update.Change.Parameters[:])
+	}
+	if update.Change.HasVersion {
+		l.Version = hex.EncodeToString(update.Change.Version[:])
+	}
+}
+
+// create adds what the creation of an instance or of a binding asks for.
+func (l *arrivalLine) create(visit *broker.Visit) error {
+	l.Attributes = hex.EncodeToString(visit.Attributes[:])
+	if visit.Key.IsBinding || visit.Creation == nil {
+		return nil
+	}
+	version, err := osb.VersionDigest(visit.Creation.Version())
+	if version != (osb.Digest{}) {
+		l.Version = hex.EncodeToString(version[:])
+	}
+	return err
 }
 
 // OnArrival writes down a request.
@@ -127,11 +169,14 @@ func (j *Journal) OnArrival(
 	}
 	line.InstanceID = other(visit.Names.Instance, line.Instance)
 	line.BindingID = other(visit.Names.Binding, line.Binding)
-	if visit.IsFetch {
+	var err error
+	switch {
+	case visit.IsFetch:
 		line.Kind = "fetch"
-	}
-	if visit.Asked.Kind == osb.KindProvision {
-		line.Attributes = hex.EncodeToString(visit.Attributes[:])
+	case visit.Update != nil:
+		line.ask(visit.Update)
+	case visit.Asked.Kind == osb.KindProvision:
+		err = line.create(&visit)
 	}
 	if visit.Asked.HasService {
 		line.Service = visit.Asked.Service.String()
@@ -139,7 +184,11 @@ func (j *Journal) OnArrival(
 	if visit.Asked.HasPlan {
 		line.Plan = visit.Asked.Plan.String()
 	}
-	j.to.Write("arrived", line)
+	if err != nil {
+		j.to.Lose(err)
+	} else {
+		j.to.Write("arrived", line)
+	}
 	return context.WithValue(ctx, visitKey{}, it)
 }
 
@@ -156,12 +205,58 @@ type answerLine struct {
 	Visit   int64  `json:"visit"`
 	Request string `json:"request"`
 	subject
-	Status      uint16  `json:"status"`
-	Body        string  `json:"body"`
-	Credentials string  `json:"credentials,omitempty"` // the digest of the binding's object, if the answer has it
-	Saw         *string `json:"saw,omitempty"`         // what was held, if the request has changed nothing
-	SawInstance *string `json:"saw_instance,omitempty"`
-	Effect      string  `json:"effect,omitempty"` // which event the request is then
+	Status      uint16 `json:"status"`
+	Body        string `json:"body"`
+	Credentials string `json:"credentials,omitempty"` // the digest of the binding's object, if the answer has it
+	fetchedLine
+	sawLine
+	Effect string `json:"effect,omitempty"` // which event the request is then
+}
+
+// A fetchedLine is with which settings the Fetch of an instance is answered: the number of the plan, the digests of the
+// parameters and the version, if the answer has them, and the number of the Update.
+type fetchedLine struct {
+	Plan       string `json:"plan,omitempty"`
+	Parameters string `json:"parameters,omitempty"`
+	Version    string `json:"version,omitempty"`
+	Number     uint64 `json:"number,omitempty"`
+}
+
+// fetchedIn is what the body of the answer to a Fetch of an instance says.
+//
+// Errors: the body isn't one.
+func fetchedIn(body []byte) (line fetchedLine, err error) {
+	var read struct {
+		Plan        string          `json:"plan_id"`
+		Parameters  json.RawMessage `json:"parameters"`
+		Maintenance struct {
+			Version string `json:"version"`
+		} `json:"maintenance_info"`
+		Number uint64 `json:"x-osb-update"`
+	}
+	var plan osb.ID
+	var parameters, version osb.Digest
+	if err = json.Unmarshal(body, &read); err == nil {
+		plan, err = osb.IDOfText(read.Plan)
+	}
+	if err == nil && read.Parameters != nil {
+		parameters, err = osb.ParametersDigest(read.Parameters)
+		line.Parameters = hex.EncodeToString(parameters[:])
+	}
+	if err == nil && read.Maintenance.Version != "" {
+		version, err = osb.VersionDigest(read.Maintenance.Version)
+		line.Version = hex.EncodeToString(version[:])
+	}
+	line.Plan, line.Number = plan.String(), read.Number
+	return line, err
+}
+
+// A sawLine is what a request was decided on that has changed nothing.
+type sawLine struct {
+	Saw                *string `json:"saw,omitempty"`
+	SawUpdates         string  `json:"saw_updates,omitempty"`
+	SawInstance        *string `json:"saw_instance,omitempty"` // of a binding
+	SawInstanceUpdates string  `json:"saw_instance_updates,omitempty"`
 }
 
 // OnAnswer writes down an answer that is about to leave, and adds the time to its headers.
@@ -172,10 +267,15 @@ func (j *Journal) OnAnswer(ctx context.Context, header http.Header, given broker
 		Credentials: journalfile.Digest(given.Binding),
 	}
 	if it.saw != nil && !it.isChange {
-		if given.Effect != osb.EffectNothing {
-			line.Effect = given.Effect.String()
+		line.Effect = effectOfAnswer(given)
+		var err error
+		if given.Instance != nil {
+			line.fetchedLine, err = fetchedIn(given.Instance)
 		}
-		if err := j.see(&line, *it.saw, it.key.IsBinding); err != nil {
+		if err == nil {
+			line.sawLine, err = j.see(*it.saw, it.key.IsBinding)
+		}
+		if err != nil {
 			j.to.Lose(err)
 		}
 	}
@@ -183,19 +283,30 @@ func (j *Journal) OnAnswer(ctx context.Context, header http.Header, given broker
 	header.Set(journalfile.Header, j.to.Time())
 }
 
-// see adds what a request has seen to the line of its answer.
-func (j *Journal) see(line *answerLine, saw holdings, isBinding bool) error {
-	text, err := j.texts.text(saw.of, isBinding)
+// effectOfAnswer is the event that a request is which changes nothing, or empty if no driver has answered it.
+func effectOfAnswer(given broker.Response) string {
+	switch given.Effect {
+	case osb.EffectNothing:
+		return ""
+	case osb.EffectUpdate:
+		return ofUpdate(given.Allowed)
+	}
+	return given.Effect.String()
+}
+
+// see is what a request has seen.
+func (j *Journal) see(saw seen, isBinding bool) (line sawLine, err error) {
+	text, updates, err := j.texts.row(saw.of, isBinding)
 	if err != nil {
-		return err
+		return line, err
 	}
-	line.Saw = &text
+	line.Saw, line.SawUpdates = &text, updates
 	if isBinding {
-		instance, err := j.texts.text(saw.instance, false)
-		line.SawInstance = &instance
-		return err
+		instance, updates, err := j.texts.row(saw.instance, false)
+		line.SawInstance, line.SawInstanceUpdates = &instance, updates
+		return line, err
 	}
-	return nil
+	return line, nil
 }
 
 // startLine are the members of the line started.
@@ -218,6 +329,7 @@ type startPlan struct {
 	Mode          string `json:"mode"`
 	Binding       string `json:"binding"`
 	IsRetrievable bool   `json:"retrievable,omitempty"`
+	IsFetchable   bool   `json:"instances_retrievable"`
 }
 
 // StartMembers returns the members of the line started of a broker: of this version, with the document of its catalogue
@@ -266,6 +378,11 @@ func plansOf(document []byte) (plans []startPlan, err error) {
 			if made.IsRetrievable, err = osb.BindingsRetrievable(document, made.ServiceNumber); err != nil {
 				return nil, err
 			}
+			updates, err := osb.ReadPlanUpdates(document, made.ServiceNumber, made.PlanNumber)
+			if err != nil {
+				return nil, err
+			}
+			made.IsFetchable = updates.Retrievable
 			numbers := [2]osb.ID{made.ServiceNumber, made.PlanNumber}
 			made.Mode, made.Binding = wordOf(instances, numbers), wordOf(bindings, numbers)
 			plans = append(plans, made)

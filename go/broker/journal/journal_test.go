@@ -2,8 +2,11 @@ package journal
 
 import (
 	"context"
+	"encoding/hex"
 	"encoding/json"
 	"errors"
+	"io"
+	"net/http"
 	"net/http/httptest"
 	"os"
 	"os/signal"
@@ -309,7 +312,7 @@ func TestSaw(t *testing.T) {
 		s.ask(request[0], request[1], later)
 	}
 	s.ask("PUT", one, "unknown-plan")
-	s.ask("PATCH", one, atOnce)
+	s.ask("POST", one, atOnce)
 	bad := s.request("PUT", one, atOnce)
 	bad.SetBasicAuth("platform", "wrong")
 	s.ServeHTTP(httptest.NewRecorder(), bad)
@@ -361,6 +364,157 @@ func TestResults(t *testing.T) {
 	diff.Contains(t, s.events(1), "look begun; look ended failed; answered Internal", "after a panic")
 }
 
+// An Update has its arrival, its changes, the calls of the backend and its answer.
+func TestUpdates(t *testing.T) {
+	s, _ := newUpdatingBroker(t)
+	s.ask("PUT", one, atOnce)
+	from := len(s.lines())
+	diff.Equal(t, s.update(one, `,"parameters":{"size":2}`).Code, 200, "an update")
+	want(t, "update", s.events(from), "arrived; changed; look-update begun; look-update ended absent done; update begun; "+
+		"update ended done; look-update begun; look-update ended whole done; changed; answered OK empty")
+	from = len(s.lines())
+	diff.Equal(t, s.update(one, `,"parameters":{"size":2}`).Code, 200, "the same again")
+	want(t, "again", s.events(from), "arrived; answered OK empty")
+}
+
+// A backend that updates keeps its abilities, and its details aren't written down.
+func TestUpdatingBackend(t *testing.T) {
+	s, backend := newUpdatingBroker(t)
+	made := New(s.writer, nil).Backend(backend)
+	diff.Equal(t, broker.AbilitiesOf(made), broker.Abilities{Bindings: true, Updates: true, Details: true}, "the abilities")
+	key := osb.InstanceKey(osb.ID{1})
+	details := diff.Value(made.(broker.DetailsBackend).Details(context.Background(), broker.Request{Key: key}))(t)
+	diff.Equal(t, details.DashboardURL, "https://d", "the details")
+	diff.Equal(t, len(s.lines()), 1, "the lines")
+}
+
+// Each change of what is kept of updates, and each Update that changes nothing, has the event that its driver names.
+func TestEffectsOfUpdates(t *testing.T) {
+	const sized, numbered = `,"parameters":{"size":2}`, `,"x-osb-update":7`
+	const grows, isUnknown = `,"plan_id":"` + grown + `"`, `,"plan_id":"unknown"`
+	refused := func(status int) error { return &broker.Rejection{Status: status, Description: "full"} }
+	for _, test := range []struct {
+		name, plan, asks string
+		fails            error // of each update
+		isBetween        bool
+		want             string
+	}{
+		{"an update", atOnce, sized, nil, false, "update sync; end-update done; -"},
+		{"an update that fails", atOnce, sized, errFull, false, "update sync; end-update before; -"},
+		{"an update that is half done", atOnce, sized, errFull, true, "update sync; end-update failed; -"},
+		{"an update that the backend rejects", atOnce, sized, refused(400), false, "update sync; end-update refused-400; -"},
+		{"an update that doesn't fit", atOnce, sized, refused(422), false, "update sync; end-update refused-422; -"},
+		{"an operation", atOnce, grows, nil, false, "update async; end-update done; -; finish-update ok"},
+		{"an operation that fails", atOnce, grows, errFull, false, "update async; end-update done; -; finish-update fail"},
+		{"nothing to do", atOnce, "", nil, false, "update sync"},
+		{"nothing to do, with a number", atOnce, numbered, nil, false, "update sync; -"},
+		{"a plan that isn't sold", atOnce, isUnknown, nil, false, "update rejected-400"},
+		{"a plan that isn't sold, with a number", atOnce, isUnknown + numbered, nil, false, "update rejected-400; -"},
+		{"a plan that can't be left", bound, grows, nil, false, "update rejected-422"},
+		{"another version", atOnce, `,"maintenance_info":{"version":"2.0"}`, nil, false, "update maintenance-conflict"},
+	} {
+		t.Run(test.name, func(t *testing.T) {
+			s, backend := newUpdatingBroker(t)
+			s.ask("PUT", one, test.plan)
+			s.seller.fails, backend.isBetween = test.fails, test.isBetween
+			before := s.effects()
+			if answer := s.update(one, test.asks); answer.Code == http.StatusAccepted {
+				brokertest.Sweep(t, s.service, s.store, diff.Value(osb.KeyOfTexts(one, ""))(t))()
+			}
+			want(t, test.asks, strings.TrimPrefix(s.effects(), before+"; "), test.want)
+		})
+	}
+}
+
+// What an Update names stands in the line of its arrival, and what is kept of updates in those of changes.
+func TestMembersOfUpdates(t *testing.T) {
+	s, _ := newUpdatingBroker(t)
+	key := diff.Value(osb.KeyOfTexts(one, ""))(t)
+	s.ask("PUT", one, atOnce)
+	s.update(one, `,"parameters":{"size":1},"x-osb-update":3`)
+	from := len(s.lines())
+	s.update(one, `,"parameters":{"size":2},"maintenance_info":{"version":"1.0"},"x-osb-update":4`)
+	lines := s.lines()
+	sized, version := diff.Value(osb.ParametersDigest([]byte(`{"size":2}`)))(t), diff.Value(osb.VersionDigest("1.0"))(t)
+	arrived := lines[from]
+	diff.Equal(t, arrived.Kind+" "+arrived.Service+arrived.Plan, "update "+service, "the arrival")
+	diff.Equal(t, arrived.Number, 4, "the number")
+	diff.Equal(t, arrived.Parameters, hex.EncodeToString(sized[:]), "the parameters")
+	diff.Equal(t, arrived.Version, hex.EncodeToString(version[:]), "the version")
+	diff.Equal(t, lines[1].Version, "", "the version of a Provision that names none")
+	held, kept := "", ""
+	for _, line := range lines {
+		if line.Event == "changed" {
+			diff.Equal(t, line.Before+line.UpdatesBefore, held+kept, "the row before change %d", line.Change)
+			held, kept = line.After, line.UpdatesAfter
+		}
+	}
+	var holding osb.UpdateHolding
+	check(t, holding.UnmarshalJSON([]byte(kept)))
+	diff.Equal(t, holding, s.store.entries[key].Change.Holding, "the journal")
+	diff.Equal(t, holding.Number(), uint64(4), "the number")
+}
+
+// The arrival of a creation has the digest of the version that it names.
+func TestVersionOfACreation(t *testing.T) {
+	s, _ := newUpdatingBroker(t)
+	r := s.request("PUT", one, "")
+	r.Body = io.NopCloser(strings.NewReader(`{"service_id":"` + service + `","plan_id":"` + atOnce +
+		`","organization_guid":"o","space_guid":"s","maintenance_info":{"version":"1.0"}}`))
+	s.ServeHTTP(httptest.NewRecorder(), r)
+	version := diff.Value(osb.VersionDigest("1.0"))(t)
+	diff.Equal(t, s.lines()[1].Version, hex.EncodeToString(version[:]), "the version")
+}
+
+// What a request was decided on has what was kept of updates, also of a binding's instance.
+func TestSawOfUpdates(t *testing.T) {
+	s, backend := newUpdatingBroker(t)
+	s.ask("PUT", one, atOnce)
+	s.ask("POLL", one, "")
+	diff.Equal(t, s.last().SawUpdates, "", "before an update")
+	s.seller.fails, backend.isBetween = errFull, true
+	s.update(one, `,"parameters":{"size":2}`)
+	lines := s.lines()
+	kept := lines[len(lines)-2].UpdatesAfter
+	diff.Contains(t, kept, `"phase":"failed"`, "what is kept")
+	for _, test := range []struct{ method, target, want string }{
+		{"POLL", one, "200 failed arrive"},
+		{"GET", one, "422 concurrency-error "},
+		{"PUT", one, "409 other-error arrive"},
+	} {
+		s.ask(test.method, test.target, grown)
+		got := s.last()
+		diff.Equal(t, strconv.Itoa(got.Status)+" "+got.Body+" "+got.Effect, test.want, test.method)
+		diff.Equal(t, got.SawUpdates+got.SawInstanceUpdates, kept, test.method)
+	}
+	s.ask("PUT", one+"/"+bind, grown)
+	got := s.last()
+	diff.Equal(t, strconv.Itoa(got.Status)+" "+got.Effect, "503 put-off", "a Bind that names another plan")
+	diff.Equal(t, got.SawInstanceUpdates, kept, "of the instance")
+	diff.Equal(t, got.SawUpdates, "", "of the binding")
+}
+
+// The Fetch of an instance says what it has seen, and no event.
+func TestFetchOfAnInstance(t *testing.T) {
+	s, _ := newUpdatingBroker(t)
+	s.ask("PUT", one, atOnce)
+	s.ask("GET", one, "")
+	got := s.last()
+	diff.Equal(t, strconv.Itoa(got.Status)+" "+got.Body+got.Effect, "200 empty", "the answer")
+	diff.Contains(t, got.Saw, `"phase":"ready"`, "what was seen")
+	given := diff.Value(osb.ParametersDigest([]byte(`{"password":"` + parameter + `"}`)))(t)
+	diff.Equal(t, got.Plan+" "+got.Parameters+got.Version, atOnce+" "+hex.EncodeToString(given[:]), "the settings")
+
+	s.update(one, `,"plan_id":"`+bound+`","parameters":{"size":2},"maintenance_info":{"version":"1.0"},"x-osb-update":7`)
+	s.ask("GET", one, "")
+	got = s.last()
+	sized, version := diff.Value(osb.ParametersDigest([]byte(`{"size":2}`)))(t), diff.Value(osb.VersionDigest("1.0"))(t)
+	diff.Equal(t, got.Plan+" "+got.Parameters, bound+" "+hex.EncodeToString(sized[:]), "the settings after an update")
+	diff.Equal(t, got.Version, hex.EncodeToString(version[:]), "the version")
+	diff.Equal(t, got.Number, 7, "the number")
+	diff.Error(t, diff.Err(fetchedIn([]byte(`{"plan_id":1}`))), "a body that isn't one")
+}
+
 // A request that has the time of another journal is followed by later lines.
 func TestTimes(t *testing.T) {
 	s := newTestBroker(t)
@@ -394,6 +548,13 @@ func TestNoSecrets(t *testing.T) {
 		diff.Lacks(t, string(text), secret, "the journal")
 	}
 	diff.Contains(t, string(text), bind, "")
+
+	updated, _ := newUpdatingBroker(t)
+	updated.ask("PUT", one, atOnce)
+	updated.ask("PATCH", one, "")
+	text = diff.Value(os.ReadFile(updated.path))(t)
+	diff.Lacks(t, string(text), another, "the journal of an update")
+	diff.Contains(t, string(text), `"updates_after":`, "the journal of an update")
 }
 
 // If the journal can't be written, requests are answered as before.
@@ -472,12 +633,15 @@ func TestStarted(t *testing.T) {
 			plan := got.Plans[at]
 			if plan["service"] != service || plan["service_number"] != service || plan["plan"] != test.plan ||
 				plan["plan_number"] != test.number || plan["mode"] != test.mode || plan["binding"] != test.binding ||
-				plan["retrievable"] != true {
+				plan["retrievable"] != true || plan["instances_retrievable"] != false {
 				t.Errorf("got %v, want %v", plan, test)
 			}
 		})
 	}
 	diff.Error(t, diff.Err(StartMembers("1.2", []byte(`[]`), broker.ServiceOptions{}, false)), "a catalogue that can't be read")
+	made = diff.Value(StartMembers("1.2", []byte(updatingCatalogue), broker.ServiceOptions{}, false))(t)
+	text = diff.Value(json.Marshal(made))(t)
+	diff.Contains(t, string(text), `"instances_retrievable":true`, "instances that can be fetched")
 }
 
 // A change is undone once, also if the step writes nothing when it is called again.

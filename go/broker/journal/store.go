@@ -57,10 +57,10 @@ func (s store) Change(ctx context.Context, key broker.Key, step broker.Step) err
 	return err
 }
 
-// isAnother reports whether a change changes the holding. Otherwise it only has the age of a tombstone start again, or
-// another worker takes the work over.
+// isAnother reports whether a change changes the holding, or what is kept of updates. Otherwise it only has the age of
+// a tombstone start again, or another worker takes the work over.
 func isAnother(before, after broker.Entry) bool {
-	return before.Holding != after.Holding || before.Life != after.Life
+	return rowOf(before) != rowOf(after) || before.Life != after.Life
 }
 
 // undoneLine is the line of a change that wasn't committed.
@@ -75,31 +75,42 @@ type changeLine struct {
 	Change int64 `json:"change"`
 	Visit  int64 `json:"visit,omitempty"` // of the request that changes it
 	subject
-	Life        int64  `json:"life,omitempty"`
-	LifeBefore  *int64 `json:"life_before,omitempty"` // if it is another one
-	Before      string `json:"before"`
-	After       string `json:"after"`
-	Credentials string `json:"credentials,omitempty"` // the digest of the binding's object
-	Effect      string `json:"effect,omitempty"`      // which event its driver says that it is
+	Life       int64  `json:"life,omitempty"`
+	LifeBefore *int64 `json:"life_before,omitempty"` // if it is another one
+	Before     string `json:"before"`
+	After      string `json:"after"`
+	// What is kept of the updates of an instance, or empty.
+	UpdatesBefore string `json:"updates_before,omitempty"`
+	UpdatesAfter  string `json:"updates_after,omitempty"`
+	Credentials   string `json:"credentials,omitempty"` // the digest of the binding's object
+	Effect        string `json:"effect,omitempty"`      // which event its driver says that it is
 }
 
 // effectOf is the event of the network that a transaction is (docs/network-schedule.md), or empty if no driver has made
 // it.
-func effectOf(transaction *osb.Transaction) string {
+func effectOf(transaction broker.Transaction) string {
 	if transaction == nil {
 		return ""
 	}
 	effect, outcome, ok := transaction.Effect()
-	switch {
-	case effect == osb.EffectEnd:
-		return "end " + outcome.String()
-	case effect == osb.EffectFinish && ok:
-		return "finish ok"
-	case effect == osb.EffectFinish:
-		return "finish fail"
+	switch effect {
+	case osb.EffectEnd:
+		return effect.String() + " " + outcome.String()
+	case osb.EffectEndUpdate:
+		return effect.String() + " " + transaction.UpdateOutcome().String()
+	case osb.EffectUpdate:
+		return ofUpdate(transaction.Allowed())
+	case osb.EffectFinish, osb.EffectFinishUpdate:
+		if ok {
+			return effect.String() + " ok"
+		}
+		return effect.String() + " fail"
 	}
 	return effect.String()
 }
+
+// ofUpdate is the event that an Update is which may be done as allowed says.
+func ofUpdate(allowed osb.Allowed) string { return osb.EffectUpdate.String() + " " + allowed.String() }
 
 // writeChange writes down a change, and returns its number.
 func (j *Journal) writeChange(ctx context.Context, key broker.Key, before, after broker.Entry) int64 {
@@ -110,8 +121,8 @@ func (j *Journal) writeChange(ctx context.Context, key broker.Key, before, after
 		Credentials: journalfile.Digest(after.Binding), Effect: effectOf(broker.TransactionOf(ctx)),
 	}
 	var err error
-	if line.Before, err = j.texts.text(before.Holding, key.IsBinding); err == nil {
-		line.After, err = j.texts.text(after.Holding, key.IsBinding)
+	if line.Before, line.UpdatesBefore, err = j.texts.row(rowOf(before), key.IsBinding); err == nil {
+		line.After, line.UpdatesAfter, err = j.texts.row(rowOf(after), key.IsBinding)
 	}
 	if err != nil {
 		j.to.Lose(err)
@@ -163,26 +174,35 @@ func (c *changes) endedUpTo() int64 {
 	return first - 1
 }
 
-// texts are the texts of holdings that were written lately. The holding before a change is most often the one after the
-// last change, and polls read the same one again and again.
+// texts are those of rows that were written lately. The row before a change is most often the one after the last
+// change, and polls read the same one again and again.
 type texts struct {
 	turn                sync.Mutex
 	instances, bindings map[osb.Holding]string
+	updates             map[osb.UpdateHolding]string
 }
 
 const fewTexts = 1024
 
-// text is the text of a holding as a store has it, or empty if nothing is held.
-func (t *texts) text(of osb.Holding, isBinding bool) (string, error) {
-	if of == (osb.Holding{}) {
-		return "", nil
-	}
+// row is the text of what is held, and that of what is kept of updates, as a store has them. It is empty for nothing.
+func (t *texts) row(of row, isBinding bool) (holding, updates string, err error) {
 	t.turn.Lock()
 	defer t.turn.Unlock()
-	all, write := &t.instances, of.MarshalJSON
-	if isBinding {
-		all, write = &t.bindings, of.BindingText
+	switch {
+	case of.holding == (osb.Holding{}):
+	case isBinding:
+		holding, err = textIn(&t.bindings, of.holding, of.holding.BindingText)
+	default:
+		holding, err = textIn(&t.instances, of.holding, of.holding.MarshalJSON)
 	}
+	if err == nil && of.isUpdated {
+		updates, err = textIn(&t.updates, of.updates, of.updates.MarshalJSON)
+	}
+	return holding, updates, err
+}
+
+// textIn is the text of a value, which is written unless it was lately.
+func textIn[T comparable](all *map[T]string, of T, write func() ([]byte, error)) (string, error) {
 	if known, isKnown := (*all)[of]; isKnown {
 		return known, nil
 	}
@@ -191,43 +211,43 @@ func (t *texts) text(of osb.Holding, isBinding bool) (string, error) {
 		return "", err
 	}
 	if *all == nil || len(*all) >= fewTexts {
-		*all = make(map[osb.Holding]string, fewTexts)
+		*all = make(map[T]string, fewTexts)
 	}
 	(*all)[of] = string(text)
 	return string(text), nil
 }
 
 // Backend returns a backend whose calls are written down. It has those of the optional methods that the backend has
-// which a broker.Service calls.
+// which a broker.Service calls, or says by its Abilities which of them count.
 func (j *Journal) Backend(of broker.Backend) broker.Backend {
 	it := backend{of, j}
 	binding, sells := of.(broker.BindingBackend)
 	known, knows := of.(broker.CredentialsBackend)
 	syncing, syncs := of.(broker.SyncBackend)
-	bindings := bindings{it, binding}
+	bindings := selling{it, binding}
 	credentials := credentials{known, j}
 	switch {
 	case sells && knows && syncs:
 		return struct {
-			broker.BindingBackend
+			selling
 			broker.CredentialsBackend
 			broker.SyncBackend
 		}{bindings, credentials, syncing}
 	case sells && knows:
 		return struct {
-			broker.BindingBackend
+			selling
 			broker.CredentialsBackend
 		}{bindings, credentials}
 	case sells && syncs:
 		return struct {
-			broker.BindingBackend
+			selling
 			broker.SyncBackend
 		}{bindings, syncing}
 	case sells:
 		return bindings
 	case syncs:
 		return struct {
-			broker.Backend
+			backend
 			broker.SyncBackend
 		}{it, syncing}
 	}
@@ -305,13 +325,37 @@ func (b backend) Delete(ctx context.Context, request broker.Request) (err error)
 	return err
 }
 
-// bindings write down the calls of bindings, too.
-type bindings struct {
+// Abilities are those of the backend.
+func (b backend) Abilities() broker.Abilities { return broker.AbilitiesOf(b.of) }
+
+func (b backend) LookUpdate(ctx context.Context, update broker.Update) (done broker.There, err error) {
+	b.journal.do(ctx, update.Request, "look-update", func() (string, json.RawMessage, error) {
+		done, err = b.of.(broker.UpdateBackend).LookUpdate(ctx, update)
+		return done.String(), nil, err
+	})
+	return done, err
+}
+
+func (b backend) Update(ctx context.Context, update broker.Update) (err error) {
+	b.journal.do(ctx, update.Request, "update", func() (string, json.RawMessage, error) {
+		err = b.of.(broker.UpdateBackend).Update(ctx, update)
+		return "", nil, err
+	})
+	return err
+}
+
+// Details isn't written down: it changes nothing, and nobody judges what it returns.
+func (b backend) Details(ctx context.Context, request broker.Request) (broker.Details, error) {
+	return b.of.(broker.DetailsBackend).Details(ctx, request)
+}
+
+// A selling backend writes down the calls of bindings, too.
+type selling struct {
 	backend
 	of broker.BindingBackend
 }
 
-func (b bindings) LookBinding(ctx context.Context, request broker.Request) (there broker.There, err error) {
+func (b selling) LookBinding(ctx context.Context, request broker.Request) (there broker.There, err error) {
 	b.journal.do(ctx, request, "look", func() (string, json.RawMessage, error) {
 		there, err = b.of.LookBinding(ctx, request)
 		return there.String(), nil, err
@@ -319,7 +363,7 @@ func (b bindings) LookBinding(ctx context.Context, request broker.Request) (ther
 	return there, err
 }
 
-func (b bindings) CreateBinding(ctx context.Context, request broker.Request) (made json.RawMessage, err error) {
+func (b selling) CreateBinding(ctx context.Context, request broker.Request) (made json.RawMessage, err error) {
 	b.journal.do(ctx, request, "create", func() (string, json.RawMessage, error) {
 		made, err = b.of.CreateBinding(ctx, request)
 		return "", made, err
@@ -327,7 +371,7 @@ func (b bindings) CreateBinding(ctx context.Context, request broker.Request) (ma
 	return made, err
 }
 
-func (b bindings) DeleteBinding(ctx context.Context, request broker.Request) (err error) {
+func (b selling) DeleteBinding(ctx context.Context, request broker.Request) (err error) {
 	b.journal.do(ctx, request, "delete", func() (string, json.RawMessage, error) {
 		err = b.of.DeleteBinding(ctx, request)
 		return "", nil, err

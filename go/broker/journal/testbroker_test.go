@@ -4,6 +4,7 @@ import (
 	"context"
 	"encoding/json"
 	"errors"
+	"io"
 	"net/http"
 	"net/http/httptest"
 	"os"
@@ -21,6 +22,7 @@ import (
 const (
 	password   = "password-of-the-platform"
 	parameter  = "value-of-a-parameter"
+	another    = "value-of-an-update"
 	credential = "secret-of-a-binding"
 )
 
@@ -38,6 +40,15 @@ const catalogue = `{"services": [{"id": "` + service + `", "name": "s", "descrip
 	{"id": "` + later + `", "name": "later", "description": "d", "x-osb-asynchronous": true},
 	{"id": "` + bound + `", "name": "bound", "description": "d", "x-osb-asynchronous-bindings": true},
 	{"id": "unbound", "name": "unbound", "description": "d", "bindable": false}]}]}`
+
+const grown = "00000000-0000-0000-0000-0000000000b4" // updates to it are asynchronous
+
+// Its instances can be updated and fetched.
+const updatingCatalogue = `{"services": [{"id": "` + service + `", "name": "s", "description": "d", "bindable": true,
+	"instances_retrievable": true, "plan_updateable": true, "plans": [
+	{"id": "` + atOnce + `", "name": "at-once", "description": "d", "maintenance_info": {"version": "1.0"}},
+	{"id": "` + grown + `", "name": "grown", "description": "d", "x-osb-asynchronous-updates": true},
+	{"id": "` + bound + `", "name": "bound", "description": "d", "plan_updateable": false}]}]}`
 
 var errFull = errors.New("the disk is full")
 
@@ -112,7 +123,7 @@ func (m *memory) HeldBindings(_ context.Context, instance osb.ID) (ids []osb.ID,
 type seller struct {
 	things map[broker.Key]broker.There
 	called func(call string) // is called before each call
-	fails  error             // of each creation
+	fails  error             // of each creation, and of each update
 }
 
 func (s *seller) Look(_ context.Context, request broker.Request) (broker.There, error) {
@@ -153,6 +164,36 @@ func (s *seller) Credentials(context.Context, broker.Request) (json.RawMessage, 
 
 func (s *seller) Sync(context.Context, broker.Request) error { return nil }
 
+// An updatingSeller can update, and describes what it sells.
+type updatingSeller struct {
+	*seller
+	has       string // the text of the settings of the instance, or empty if it was never updated
+	isBetween bool   // whether an update that fails leaves settings between
+}
+
+func (s *updatingSeller) LookUpdate(_ context.Context, update broker.Update) (broker.There, error) {
+	s.called("look-update")
+	return update.Done(s.has)
+}
+
+func (s *updatingSeller) Update(_ context.Context, update broker.Update) error {
+	s.called("update")
+	to, err := update.To.Text()
+	switch {
+	case err != nil:
+		return err
+	case s.fails == nil:
+		s.has = to
+	case s.isBetween:
+		s.has = "between"
+	}
+	return s.fails
+}
+
+func (s *updatingSeller) Details(context.Context, broker.Request) (broker.Details, error) {
+	return broker.Details{DashboardURL: "https://d"}, s.fails
+}
+
 // A line is one of a journal.
 type line struct {
 	Time                         int64
@@ -163,12 +204,17 @@ type line struct {
 	Request, Kind, Service, Plan string
 	Accepts, Doubtful            bool
 	Attributes                   string
-	Committed                    int64
+	Number, Committed            int64
+	Parameters                   string
 	Before, After, Effect        string
+	UpdatesBefore                string `json:"updates_before"`
+	UpdatesAfter                 string `json:"updates_after"`
 	Call, Stage, Found, Result   string
 	Status                       int
 	Body, Credentials, Saw       string
+	SawUpdates                   string  `json:"saw_updates"`
 	SawInstance                  *string `json:"saw_instance"`
+	SawInstanceUpdates           string  `json:"saw_instance_updates"`
 	Count                        int
 	Version                      string
 	FirstPoll                    bool    `json:"first_poll"`
@@ -195,11 +241,29 @@ var errDoubt = errors.New("nobody knows")
 
 func newTestBroker(t *testing.T) *testBroker {
 	t.Helper()
+	of := newSeller()
+	return newBrokerOf(t, catalogue, of, of)
+}
+
+// newUpdatingBroker is a testBroker whose instances can be updated.
+func newUpdatingBroker(t *testing.T) (*testBroker, *updatingSeller) {
+	t.Helper()
+	of := &updatingSeller{seller: newSeller()}
+	return newBrokerOf(t, updatingCatalogue, of.seller, of), of
+}
+
+func newSeller() *seller {
+	return &seller{things: map[broker.Key]broker.There{}, called: func(string) {}}
+}
+
+// newBrokerOf is a testBroker of a catalogue. The seller is the backend, or what the backend is made of.
+func newBrokerOf(t *testing.T, document string, of *seller, backend broker.Backend) *testBroker {
+	t.Helper()
 	s := &testBroker{
 		t: t, path: filepath.Join(t.TempDir(), "journal"), store: &memory{entries: map[broker.Key]broker.Entry{}},
-		seller: &seller{things: map[broker.Key]broker.There{}, called: func(string) {}},
+		seller: of,
 	}
-	sold := diff.Value(broker.NewCatalogue([]byte(catalogue), true))(t)
+	sold := diff.Value(broker.NewCatalogue([]byte(document), broker.AbilitiesOf(backend)))(t)
 	locks, err := broker.NewFileLocks(filepath.Join(t.TempDir(), "locks"))
 	check(t, err)
 	s.writer, err = Open(Options{
@@ -208,7 +272,7 @@ func newTestBroker(t *testing.T) *testBroker {
 	check(t, err)
 	to := New(s.writer, func(err error) bool { return errors.Is(err, errDoubt) })
 	options := broker.ServiceOptions{FirstPoll: true}
-	s.service = broker.NewService(sold, to.Store(s.store), to.Backend(s.seller), locks, options, broker.Silent{})
+	s.service = broker.NewService(sold, to.Store(s.store), to.Backend(backend), locks, options, broker.Silent{})
 	users, err := broker.NewUsers(map[string][]string{"platform": {password}})
 	check(t, err)
 	s.Handler, err = broker.NewHandler(context.Background(), s.service, broker.HandlerOptions{
@@ -227,6 +291,14 @@ func (s *testBroker) ask(method, target, plan string) *httptest.ResponseRecorder
 	return given
 }
 
+// update sends an Update with these members besides the service.
+func (s *testBroker) update(target, members string) *httptest.ResponseRecorder {
+	given, r := httptest.NewRecorder(), s.request("PATCH", target, "")
+	r.Body = io.NopCloser(strings.NewReader(`{"service_id":"` + service + `"` + members + `}`))
+	s.ServeHTTP(given, r)
+	return given
+}
+
 func (s *testBroker) request(method, target, plan string) *http.Request {
 	body := ""
 	path := "/v2/service_instances/" + strings.Replace(target, "/", "/service_bindings/", 1)
@@ -236,6 +308,9 @@ func (s *testBroker) request(method, target, plan string) *http.Request {
 	case method == "PUT":
 		body = `{"service_id":"` + service + `","plan_id":"` + plan + `","organization_guid":"o","space_guid":"s",
 			"parameters":{"password":"` + parameter + `"}}`
+		path += "?accepts_incomplete=true"
+	case method == "PATCH":
+		body = `{"service_id":"` + service + `","parameters":{"password":"` + another + `"}}`
 		path += "?accepts_incomplete=true"
 	case method == "DELETE":
 		path += "?accepts_incomplete=true&service_id=" + service + "&plan_id=" + plan

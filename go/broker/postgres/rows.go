@@ -18,7 +18,7 @@ import (
 // A row has the columns of an entry. All are NULL if there is no row.
 type row struct {
 	holding, request, object, description sql.NullString
-	worker                                sql.NullString
+	worker, change                        sql.NullString
 	since                                 sql.NullTime
 	life                                  sql.NullInt64
 	endedAgo                              sql.NullFloat64 // in seconds
@@ -27,7 +27,7 @@ type row struct {
 // into are the variables to scan the columns into.
 func (r *row) into(more ...any) []any {
 	return append([]any{
-		&r.holding, &r.request, &r.object, &r.description, &r.since, &r.life, &r.worker, &r.endedAgo,
+		&r.holding, &r.request, &r.object, &r.description, &r.since, &r.life, &r.worker, &r.change, &r.endedAgo,
 	}, more...)
 }
 
@@ -45,6 +45,9 @@ func (r *row) entry(known *texts.Memory, key broker.Key) (entry broker.Entry, er
 		entry.Since = r.since.Time.UTC()
 	}
 	entry.Life = r.life.Int64
+	if entry.Change, err = broker.ChangeOfText(raw(r.change)); err != nil {
+		return broker.Entry{}, fmt.Errorf("what is held of %v: %w", key, err)
+	}
 	if r.worker.Valid {
 		err = entry.Worker.Scan(r.worker.String)
 	}
@@ -200,13 +203,15 @@ func (s *Store) each(ctx context.Context, query string, arguments []any, call fu
 	})
 }
 
-// Partial indexes have the rows that are unfinished.
+// Partial indexes have the rows that are unfinished. The phase of updates is taken from the text as it is written, since
+// PostgreSQL reads no JSON with \u0000 in it, which parameters may have.
 const unfinishedStats = `
 WITH unfinished AS (
-    SELECT holding::json, since FROM osb_holdings WHERE unfinished
-    UNION ALL SELECT holding::json, since FROM osb_bindings WHERE unfinished)
-SELECT count(*) FILTER (WHERE holding ->> 'work' IS NOT NULL),
-    count(*) FILTER (WHERE holding #>> '{row,phase}' IN ('making', 'deleting')),
+    SELECT holding::json, substring(change FROM '^{"holding":{"number":[0-9]+,"phase":"([a-z]+)"') AS updates, since
+    FROM osb_holdings WHERE unfinished
+    UNION ALL SELECT holding::json, NULL, since FROM osb_bindings WHERE unfinished)
+SELECT count(*) FILTER (WHERE holding ->> 'work' IS NOT NULL OR updates IN ('pending', 'mending')),
+    count(*) FILTER (WHERE holding #>> '{row,phase}' IN ('making', 'deleting') OR updates = 'updating'),
     count(*) FILTER (WHERE holding #>> '{row,phase}' = 'waiting'),
     min(since)
 FROM unfinished
@@ -372,12 +377,18 @@ func (c change) write(entry broker.Entry) error {
 	if err != nil {
 		return err
 	}
+	change, err := entry.Change.Text()
+	if err != nil {
+		return err
+	}
 	arguments := []any{
 		text, entry.IsUnfinished(), orNull(entry.Request), storable(entry.Description), timeOrNull(entry.Since),
 		entry.Life, entry.Holding.HasTombstone(), numberOrNull(entry.Worker), c.key.Instance,
 	}
 	if c.key.IsBinding {
 		arguments = append(arguments, entry.Holding.IsHeld(), orNull(entry.Binding), c.key.Binding)
+	} else {
+		arguments = append(arguments, orNull(change))
 	}
 	done, err := c.statement(of(c.key, writeInstance, writeBinding)).ExecContext(c.ctx, arguments...)
 	if err != nil {

@@ -189,9 +189,9 @@ func (s *Store) tellRetry(key *broker.Key, err error) {
 
 // The statements of reads and changes, which the server parses and plans once for each session.
 const (
-	findInstance = "SELECT holding, request, NULL, description, since, life, worker, " + endedAgo +
+	findInstance = "SELECT holding, request, NULL, description, since, life, worker, change, " + endedAgo +
 		" FROM osb_holdings WHERE id = $1"
-	findBinding = "SELECT holding, request, object, description, since, life, worker, " + endedAgo +
+	findBinding = "SELECT holding, request, object, description, since, life, worker, NULL, " + endedAgo +
 		" FROM osb_bindings WHERE instance = $1 AND binding = $2"
 	// How many seconds ago the tombstone was written. A statement that waits for a row takes the time at which it began
 	// to wait.
@@ -202,7 +202,7 @@ const (
 	insertBinding  = "INSERT INTO osb_bindings (instance, binding, holding, held, unfinished) " +
 		"VALUES ($1, $2, $3, false, false) ON CONFLICT DO NOTHING"
 	writeInstance = "UPDATE osb_holdings SET holding = $1, unfinished = $2, request = $3, description = $4, " +
-		"since = $5, life = $6, " + ended + ", worker = $8 WHERE id = $9"
+		"since = $5, life = $6, " + ended + ", worker = $8, change = $10 WHERE id = $9"
 	writeBinding = "UPDATE osb_bindings SET holding = $1, unfinished = $2, request = $3, description = $4, since = $5, " +
 		"life = $6, " + ended + ", worker = $8, held = $10, object = $11 WHERE instance = $9 AND binding = $12"
 	ended = "ended = CASE WHEN $7::boolean THEN clock_timestamp() END"
@@ -210,9 +210,9 @@ const (
 	anyBinding = "SELECT EXISTS (SELECT FROM osb_bindings WHERE instance = $1 AND held)"
 	// One statement reads a binding and its instance, so both are of the same moment.
 	readBinding = `
-SELECT b.holding, b.request, b.object, b.description, b.since, b.life, b.worker,
+SELECT b.holding, b.request, b.object, b.description, b.since, b.life, b.worker, NULL,
     extract(epoch FROM statement_timestamp() - b.ended),
-    i.holding, i.request, NULL, i.description, i.since, i.life, i.worker, NULL
+    i.holding, i.request, NULL, i.description, i.since, i.life, i.worker, i.change, NULL
 FROM (SELECT $1::uuid AS instance, $2::uuid AS binding) AS k
 LEFT JOIN osb_bindings AS b ON b.instance = k.instance AND b.binding = k.binding
 LEFT JOIN osb_holdings AS i ON i.id = k.instance
@@ -292,7 +292,8 @@ func of(key broker.Key, instance, binding string) string {
 
 // The tables. Version 0.2 had osb_holdings with its first three columns, osb_workers and osb_store. The column ended
 // has the time at which the tombstone was written. A tombstone of an earlier version gets the time of now. That reads
-// all rows, so no statement may be too long for it.
+// all rows, so no statement may be too long for it. The column change has what is kept of the updates of the instance,
+// and is NULL until the first.
 //
 // Version 0.3 had the numbers of workers in tables of their own. Views have their names now: a broker of 0.3 would neither
 // know the numbers in the rows nor write its own there. One that runs fails at the views before it works, and one that
@@ -311,7 +312,8 @@ CREATE TABLE IF NOT EXISTS osb_bindings (instance uuid NOT NULL, binding uuid NO
 CREATE INDEX IF NOT EXISTS osb_held_bindings ON osb_bindings (instance) WHERE held;
 CREATE INDEX IF NOT EXISTS osb_unfinished_bindings ON osb_bindings (instance, binding) WHERE unfinished;
 ALTER TABLE osb_holdings ADD COLUMN IF NOT EXISTS life bigint NOT NULL DEFAULT 0,
-    ADD COLUMN IF NOT EXISTS ended timestamptz, ADD COLUMN IF NOT EXISTS worker uuid;
+    ADD COLUMN IF NOT EXISTS ended timestamptz, ADD COLUMN IF NOT EXISTS worker uuid,
+    ADD COLUMN IF NOT EXISTS change text;
 ALTER TABLE osb_bindings ADD COLUMN IF NOT EXISTS life bigint NOT NULL DEFAULT 0,
     ADD COLUMN IF NOT EXISTS ended timestamptz, ADD COLUMN IF NOT EXISTS worker uuid;
 DO $$
@@ -333,10 +335,10 @@ UPDATE osb_bindings SET ended = clock_timestamp() WHERE ended IS NULL AND NOT he
 CREATE TABLE IF NOT EXISTS osb_identity (one boolean PRIMARY KEY DEFAULT true CHECK (one), id text NOT NULL);
 `
 
-// isCurrent asks whether nothing is missing: all that is missing is added in one transaction, and the column worker is the
+// isCurrent asks whether nothing is missing: all that is missing is added in one transaction, and the column change is the
 // last that came.
-const isCurrent = "SELECT EXISTS (SELECT FROM pg_attribute WHERE attrelid = to_regclass('osb_bindings') " +
-	"AND attname = 'worker')"
+const isCurrent = "SELECT EXISTS (SELECT FROM pg_attribute WHERE attrelid = to_regclass('osb_holdings') " +
+	"AND attname = 'change')"
 
 // tablesLock is the number of an advisory lock for brokers that create the tables at the same time: IF NOT EXISTS is no
 // lock. Version 0.2 takes the same lock.

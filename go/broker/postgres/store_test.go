@@ -2,6 +2,7 @@ package postgres_test
 
 import (
 	"context"
+	"encoding/json"
 	"errors"
 	"fmt"
 	"strconv"
@@ -214,8 +215,10 @@ func TestWorkersOf03(t *testing.T) {
 		for _, key := range []broker.Key{osb.InstanceKey(id(2)), osb.BindingKey(id(1), id(2))} {
 			entry := diff.Value(store.Read(context.Background(), key))(t).Entry
 			diff.Equal(t, entry.Worker, map[bool]osb.ID{true: id(9)}[n > 0], "%v", key)
+			diff.Equal(t, entry.Change != nil, n > 0 && !key.IsBinding, "%v was updated", key)
 			check(t, store.Change(context.Background(), key, func(snapshot broker.Snapshot) (*broker.Entry, error) {
 				snapshot.Worker = id(9)
+				snapshot.Change = &broker.Change{Settings: broker.Settings{PlanID: "p"}}
 				return &snapshot.Entry, nil
 			}))
 		}
@@ -226,6 +229,54 @@ func TestWorkersOf03(t *testing.T) {
 		_, err := db.Exec("SELECT worker FROM " + table)
 		diff.ErrorContains(t, err, "worker", "what version 0.3 reads of %s", table)
 	}
+}
+
+// PostgreSQL reads no JSON with \u0000 in it. Parameters may have it, and the rows are counted all the same.
+func TestStatsOfOddParameters(t *testing.T) {
+	url := pgtest.Schema(t, pgtest.URL(t), "osb_store_odd")
+	store, ctx := open(t, url), context.Background()
+	for n, phase := range []string{"pending", "mending", "updating"} {
+		change := updatingIn(t, `{"phase":"settled","a":"\u0000"}`)
+		check(t, store.Change(ctx, osb.InstanceKey(id(n+1)), func(broker.Snapshot) (*broker.Entry, error) { return change, nil }))
+		pgtest.Exec(t, pgtest.DB(t, url), `UPDATE osb_holdings SET change = replace(change, '"phase":"pending"', '"phase":"`+phase+
+			`"') WHERE id = '`+osb.InstanceKey(id(n+1)).Instance.String()+`'`)
+	}
+	for _, count := range []func(context.Context) (broker.Stats, error){store.UnfinishedStats, store.Stats} {
+		stats := diff.Value(count(ctx))(t)
+		diff.Equal(t, stats.Pending, 2, "pending")
+		diff.Equal(t, stats.Operating, 1, "operating")
+	}
+}
+
+// updatingIn is the entry of an instance whose update to these parameters is pending.
+func updatingIn(t *testing.T, parameters string) *broker.Entry {
+	t.Helper()
+	service, plan := osb.MustParseID("00000000-0000-0000-0000-0000000000a0"), osb.MustParseID("00000000-0000-0000-0000-0000000000b1")
+	held, _, err := osb.Holding{}.Begin(osb.ModeSync, osb.Request{Service: service, Plan: plan}, osb.Rules{})
+	check(t, err)
+	held, _, err = held.End(osb.ModeSync, osb.OutcomeDone)
+	check(t, err)
+	digest := diff.Value(osb.ParametersDigest([]byte(parameters)))(t)
+	updates, _, err := osb.NewUpdateHolding(osb.Settings{Plan: plan}).Begin(held, osb.AllowedSync,
+		osb.Update{Service: service, Change: osb.Change{Parameters: digest, HasParameters: true}})
+	check(t, err)
+	to := broker.Settings{PlanID: "p", Parameters: json.RawMessage(parameters)}
+	return &broker.Entry{Holding: held, Change: &broker.Change{Holding: updates, To: &to}}
+}
+
+// What is kept of updates has to be readable, or nobody changes the row.
+func TestChangeOfARowWithWrongUpdates(t *testing.T) {
+	url := pgtest.Schema(t, pgtest.URL(t), "osb_store_wrong_updates")
+	store := open(t, url)
+	check(t, store.Change(context.Background(), osb.InstanceKey(id(1)), func(broker.Snapshot) (*broker.Entry, error) {
+		return &broker.Entry{}, nil
+	}))
+	pgtest.Exec(t, pgtest.DB(t, url), `UPDATE osb_holdings SET change = '{"holding":{}}'`)
+	err := store.Change(context.Background(), osb.InstanceKey(id(1)), func(it broker.Snapshot) (*broker.Entry, error) {
+		t.Errorf("the step: got a call with %+v, want none", it)
+		return nil, nil
+	})
+	diff.ErrorContains(t, err, id(1).String(), "")
 }
 
 // A tombstone without a time gets that of the migration, once. Rows without a tombstone get none.

@@ -32,12 +32,13 @@ const entryColumns = "+holding, CAST(request AS BLOB), +description, +since, +li
 func prepare(ctx context.Context, conn *sqlitefile.Conn) (*connection, error) {
 	c := &connection{Conn: conn}
 	for to, text := range map[**sqlitefile.Statement]string{
-		&c.readInstance: "SELECT " + entryColumns + " FROM holdings WHERE id = ?",
+		&c.readInstance: "SELECT " + entryColumns + ", CAST(change AS BLOB) FROM holdings WHERE id = ?",
 		&c.putInstance: "INSERT INTO holdings (id, holding, unfinished, request, description, since, life, ended, " +
-			"worker) VALUES (?, ?, ?, CAST(? AS TEXT), ?, ?, ?, ?, ?) " +
+			"worker, change) VALUES (?, ?, ?, CAST(? AS TEXT), ?, ?, ?, ?, ?, CAST(? AS TEXT)) " +
 			"ON CONFLICT (id) DO UPDATE SET holding = excluded.holding, " +
 			"unfinished = excluded.unfinished, request = excluded.request, description = excluded.description, " +
-			"since = excluded.since, life = excluded.life, ended = excluded.ended, worker = excluded.worker",
+			"since = excluded.since, life = excluded.life, ended = excluded.ended, worker = excluded.worker, " +
+			"change = excluded.change",
 		&c.readBinding: "SELECT " + entryColumns + ", CAST(object AS BLOB) FROM bindings " +
 			"WHERE instance = ? AND binding = ?",
 		&c.putBinding: "INSERT INTO bindings (instance, binding, holding, unfinished, request, description, since, " +
@@ -102,7 +103,10 @@ func (c *connection) instance(id osb.ID) (entry broker.Entry, endedAgo time.Dura
 	if err != nil || row == nil {
 		return entry, 0, err
 	}
-	if entry, err = c.entry(row, false); err != nil {
+	if entry, err = c.entry(row, false); err == nil {
+		entry.Change, err = broker.ChangeOfText(optional(row[7]))
+	}
+	if err != nil {
 		return entry, 0, unreadable{fmt.Errorf("sqlite: what is held of %v: %w", id, err)}
 	}
 	return entry, ago(row[5]), nil
@@ -165,6 +169,10 @@ func (c *connection) put(key broker.Key, entry broker.Entry) error {
 	if err != nil {
 		return err
 	}
+	change, err := entry.Change.Text()
+	if err != nil {
+		return err
+	}
 	isUnfinished := entry.IsUnfinished()
 	var description, since, ended, worker driver.Value
 	if entry.Description != "" {
@@ -188,7 +196,7 @@ func (c *connection) put(key broker.Key, entry broker.Entry) error {
 	if key.IsBinding {
 		_, err = c.putBinding.Run(append(values, []byte(entry.Binding), entry.Holding.IsHeld())...)
 	} else {
-		_, err = c.putInstance.Run(values...)
+		_, err = c.putInstance.Run(append(values, []byte(change))...)
 	}
 	if err != nil {
 		return fmt.Errorf("sqlite: %w", err)

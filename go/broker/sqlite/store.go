@@ -210,13 +210,17 @@ func (s *Store) UnfinishedStats(ctx context.Context) (stats broker.Stats, err er
 }
 
 // The unfinished rows of a table, by whether work is pending and by the phase. A text that isn't JSON isn't counted.
-const unfinishedBy = `SELECT json_extract(holding, '$.work') IS NOT NULL, json_extract(holding, '$.row.phase'),
+const unfinishedBy = `SELECT json_extract(holding, '$.work') IS NOT NULL%s, json_extract(holding, '$.row.phase'),
     count(*), min(since) FROM %s WHERE unfinished AND json_valid(holding) GROUP BY 1, 2`
+
+// isUpdatePending is whether the work of an update is pending: its operation doesn't run yet.
+const isUpdatePending = ` OR CASE WHEN json_valid(change)
+    THEN json_extract(change, '$.holding.phase') IN ('pending', 'mending') ELSE 0 END`
 
 // countUnfinished counts the unfinished rows.
 func (c *connection) countUnfinished() (stats broker.Stats, err error) {
-	for _, table := range []string{"holdings", "bindings"} {
-		err := c.each(fmt.Sprintf(unfinishedBy, table), func(row []driver.Value) error {
+	for table, isPendingToo := range map[string]string{"holdings": isUpdatePending, "bindings": ""} {
+		err := c.each(fmt.Sprintf(unfinishedBy, isPendingToo, table), func(row []driver.Value) error {
 			isPending, _ := row[0].(int64)
 			phase, _ := row[1].(string)
 			add(&stats, isPending != 0, phase, row[2], row[3])
@@ -340,7 +344,7 @@ var tables = []string{
 // The columns of holdings that 0.2 didn't have, and those that bindings didn't have at first. The column ended has the
 // time at which the tombstone was written.
 var columns = map[string][][2]string{
-	"holdings": {{"request", "TEXT"}, {"description", "TEXT"}, {"since", "INTEGER"}, life, ended, worker},
+	"holdings": {{"request", "TEXT"}, {"description", "TEXT"}, {"since", "INTEGER"}, life, ended, worker, change},
 	"bindings": {life, ended, worker},
 }
 
@@ -348,6 +352,7 @@ var (
 	life   = [2]string{"life", "INTEGER NOT NULL DEFAULT 0"}
 	ended  = [2]string{"ended", "INTEGER"}
 	worker = [2]string{"worker", "BLOB"}
+	change = [2]string{"change", "TEXT"} // of the updates of the instance: NULL until the first
 )
 
 // Texts of holdings have no spaces: docs/instance.md. Before 0.3.0 a tombstone was written as marked.

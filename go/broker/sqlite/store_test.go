@@ -313,8 +313,10 @@ func TestWorkersOf03(t *testing.T) {
 		for _, key := range []broker.Key{keyOf(1), key} {
 			entry := diff.Value(s.Read(context.Background(), key))(t).Entry
 			diff.Equal(t, entry.Worker, map[bool]osb.ID{true: keyOf(9).Instance}[n > 0], "%v", key)
+			diff.Equal(t, entry.Change != nil, n > 0 && !key.IsBinding, "%v was updated", key)
 			check(t, s.Change(context.Background(), key, func(snapshot broker.Snapshot) (*broker.Entry, error) {
 				snapshot.Worker = keyOf(9).Instance
+				snapshot.Change = &broker.Change{Settings: broker.Settings{PlanID: "p"}}
 				return &snapshot.Entry, nil
 			}))
 		}
@@ -325,6 +327,18 @@ func TestWorkersOf03(t *testing.T) {
 	diff.NoError(t, err, "what version 0.3 makes first")
 	diff.Error(t, diff.Err(old.Prepare("SELECT worker FROM workers WHERE id = ?")), "what version 0.3 reads next")
 	check(t, old.Close())
+}
+
+// What is kept of updates has to be readable, or nobody changes the row.
+func TestChangeOfARowWithWrongUpdates(t *testing.T) {
+	s := open(t, filepath.Join(t.TempDir(), "store"), broker.Silent{})
+	check(t, s.Change(context.Background(), keyOf(1), provision(keyOf(1))))
+	alter(t, s, `UPDATE holdings SET change = '{"holding":{}}'`)
+	err := s.Change(context.Background(), keyOf(1), func(snapshot broker.Snapshot) (*broker.Entry, error) {
+		t.Errorf("the step: got a call with %+v, want none", snapshot)
+		return nil, nil
+	})
+	diff.ErrorContains(t, err, keyOf(1).String(), "")
 }
 
 // A row whose worker has no number is changed by nobody.
@@ -516,3 +530,17 @@ func TestOpeningThatFails(t *testing.T) {
 }
 
 var check = diff.Must
+
+// A row whose text of updates is damaged doesn't keep the others from being counted, nor do parameters with any character.
+func TestStatsOfOddUpdates(t *testing.T) {
+	s := open(t, filepath.Join(t.TempDir(), "store"), broker.Silent{})
+	for n := 1; n < 4; n++ {
+		check(t, s.Change(context.Background(), keyOf(n), provision(keyOf(n))))
+	}
+	const pending = `{"holding":{"number":0,"phase":"pending"},"to":{"plan_id":"p","parameters":{"a":"\u0000"}}}`
+	alter(t, s, `UPDATE holdings SET change = '{' WHERE id = (SELECT min(id) FROM holdings)`)
+	alter(t, s, `UPDATE holdings SET change = '`+pending+`', holding = json_remove(holding, '$.work')
+		WHERE id = (SELECT max(id) FROM holdings)`)
+	diff.Equal(t, diff.Value(s.UnfinishedStats(context.Background()))(t).Pending, 3, "pending")
+	diff.Equal(t, diff.Value(s.Stats(context.Background()))(t).Pending, 3, "pending, of all that is counted")
+}

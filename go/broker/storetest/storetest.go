@@ -143,7 +143,15 @@ func sameEntry(got, want broker.Entry) bool {
 	return got.Holding == want.Holding && string(got.Request) == string(want.Request) &&
 		(got.Request == nil) == (want.Request == nil) && string(got.Binding) == string(want.Binding) &&
 		(got.Binding == nil) == (want.Binding == nil) && got.Description == want.Description &&
-		got.Since.Equal(want.Since) && got.Life == want.Life
+		got.Since.Equal(want.Since) && got.Life == want.Life && textOfChange(got) == textOfChange(want)
+}
+
+func textOfChange(entry broker.Entry) string {
+	text, err := entry.Change.Text()
+	if err != nil {
+		return err.Error()
+	}
+	return string(text)
 }
 
 // changeError is the error of a Change. A panic of the step counts as one, if Change lets it through.
@@ -316,10 +324,13 @@ func testStats(t *testing.T, open func(*testing.T) broker.NamedStore) {
 		{instance(6), broker.Entry{Holding: tombstone(t)}},
 		{instance(7), broker.Entry{Holding: tombstone(t)}},
 		{binding(6, 1), broker.Entry{Holding: tombstone(t)}},
+		{instance(8), broker.Entry{Holding: in(t, "ready"), Change: changeIn(t, osb.UpdatePhasePending), Since: at(5)}},
+		{instance(9), broker.Entry{Holding: in(t, "ready"), Change: changeIn(t, osb.UpdatePhaseUpdating)}},
+		{instance(10), broker.Entry{Holding: in(t, "ready"), Change: changeIn(t, osb.UpdatePhaseFailed)}},
 	} {
 		write(t, store, test.key, test.entry)
 	}
-	wantStats(t, open, "with some", broker.Stats{Pending: 2, Operating: 3, Waiting: 1, Tombstones: 3, Oldest: at(6)})
+	wantStats(t, open, "with some", broker.Stats{Pending: 3, Operating: 4, Waiting: 1, Tombstones: 3, Oldest: at(5)})
 }
 
 // wantStats asks a new store, since a store may keep a count for a while.
@@ -363,8 +374,35 @@ func entries(t *testing.T, key broker.Key) []broker.Entry {
 	less := broker.Entry{Holding: in(t, "ready")}
 	if key.IsBinding {
 		full.Binding = json.RawMessage(`{"credentials" : {"password":"\"\\ é"}}`)
+		return []broker.Entry{full, less, {Holding: tombstone(t), Life: 1 << 40}}
 	}
-	return []broker.Entry{full, less, {Holding: tombstone(t), Life: 1 << 40}}
+	updating, failed := less, less
+	updating.Change, failed.Change = changeIn(t, osb.UpdatePhaseUpdating), changeIn(t, osb.UpdatePhaseFailed)
+	return []broker.Entry{full, less, updating, failed, less, {Holding: tombstone(t), Life: 1 << 40}}
+}
+
+// changeIn is what is kept of the updates of an instance whose latest update has come so far.
+func changeIn(t *testing.T, phase osb.UpdatePhase) *broker.Change {
+	t.Helper()
+	update := osb.Update{Service: service, Change: osb.Change{Plan: id(7), HasPlan: true}, Number: 3, AcceptsIncomplete: true}
+	held := osb.NewUpdateHolding(osb.Settings{Plan: plan})
+	held, _, err := held.Begin(in(t, "ready"), osb.AllowedAsync, update)
+	if err == nil && phase != osb.UpdatePhasePending {
+		held, _, err = held.End(osb.ModeAsync, osb.UpdateOutcomeDone)
+	}
+	if err == nil && phase == osb.UpdatePhaseFailed {
+		held, err = held.Finish(false)
+	}
+	if err != nil || held.Phase() != phase {
+		t.Fatalf("got %v and %v, want %v", held, err, phase)
+	}
+	it := &broker.Change{
+		Holding: held, Settings: broker.Settings{PlanID: "p", Parameters: json.RawMessage(`{"a":"<&>\u0000"}`), Version: "1"},
+	}
+	if _, hasGoal := held.Goal(); hasGoal {
+		it.To, it.Origin = &broker.Settings{PlanID: "q"}, broker.Origin{RequestID: "r"}
+	}
+	return it
 }
 
 func testWritten(t *testing.T, open func(*testing.T) broker.NamedStore) {
@@ -433,6 +471,9 @@ func testInstanceOfBinding(t *testing.T, open func(*testing.T) broker.NamedStore
 	first, second := openStore(t, open), openStore(t, open)
 	for _, phase := range []string{"ready", "deleting"} {
 		of := broker.Entry{Holding: in(t, phase), Request: json.RawMessage(`{"instance_id":"` + phase + `"}`), Life: 2}
+		if phase == "ready" {
+			of.Change = changeIn(t, osb.UpdatePhasePending)
+		}
 		write(t, first, instance(1), of)
 		for _, key := range []broker.Key{binding(1, 1), binding(2, 1)} {
 			wantEntry(t, "the instance, by Read of "+key.String(), read(t, second, key).Instance, of)

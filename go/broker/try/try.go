@@ -5,9 +5,10 @@
 //   - A deletion leaves nothing of a resource, and can be repeated.
 //   - The work of one instance or binding leaves all others alone.
 //   - If the backend reports credentials later, they are those of the creation.
+//   - An update leaves the new settings, can be repeated after it was broken off, and leaves the bindings valid.
 //
-// What a crash leaves and what happens to calls that run at the same time isn't tested. The order of the calls is this
-// project's choice.
+// What else a crash leaves and what happens to calls that run at the same time isn't tested. The order of the calls is
+// this project's choice.
 package try
 
 import (
@@ -32,6 +33,11 @@ type Options struct {
 	Plan Plan
 	// Parameters are those of each Provision: an object of JSON, or empty for none.
 	Parameters json.RawMessage
+	// UpdateTo is the plan to which the first instance is updated, and back, or nil for the same plan. UpdateParameters
+	// are the parameters that it has then, or empty for the same. If the backend can't update, or if both are missing,
+	// no update is tried.
+	UpdateTo         *Plan
+	UpdateParameters json.RawMessage
 	// LockWait is how long a call waits for the lock of its instance or binding. Zero stands for DefaultLockWait.
 	LockWait time.Duration
 	// CleanUp is how long the deletions may take after the context of Run is done.
@@ -146,17 +152,23 @@ func (t *trial) resources() []*resource { return append(t.instances[:2:2], t.bin
 
 // capabilities reports what the backend supports.
 func (t *trial) capabilities() {
-	found := "neither bindings nor credentials"
+	found, remarks := "neither bindings nor credentials", ""
 	if t.calls.bindings != nil {
 		found = "bindings"
 		if _, hasCredentials := t.calls.backend.(broker.CredentialsBackend); hasCredentials {
 			found += ", credentials"
 		}
 		if !t.options.Plan.IsBindable {
-			found += ". The plan isn't bindable, so no bindings are tried"
+			remarks += ". The plan isn't bindable, so no bindings are tried"
 		}
 	}
-	t.count(Call{Name: "capabilities", Found: found})
+	if broker.AbilitiesOf(t.calls.backend).Updates {
+		found += ", updates"
+		if _, areTried := t.updates(); !areTried {
+			remarks += ". No updates are tried: the plan can't be changed, and no other parameters are given"
+		}
+	}
+	t.count(Call{Name: "capabilities", Found: found + remarks})
 }
 
 // count reports a call, and returns whether it succeeded.
@@ -209,6 +221,7 @@ func (t *trial) run(ctx context.Context) {
 	}
 	t.isUntouched(ctx, first)
 	t.bind(ctx)
+	t.update(ctx, first)
 	t.unbind(ctx)
 	t.delete(ctx, first)
 	t.deleteAgain(ctx, first)

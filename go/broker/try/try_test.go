@@ -750,3 +750,218 @@ func same(t *testing.T, got, wanted []string) {
 	}
 	diff.Check(t, got, wanted, "the lines")
 }
+
+// An updatingFake is a fake whose instances can be updated. An update takes `before` until it has changed something, and
+// then `after` until it has changed all.
+type updatingFake struct {
+	*fake
+	before, after time.Duration
+	settings      map[broker.Key]string
+	update        func(broker.Update) error                 // in the place of its own, or nil
+	lookAt        func(broker.Update) (broker.There, error) // likewise
+}
+
+func newUpdatingFake(t *testing.T) *updatingFake {
+	return &updatingFake{fake: newFake(t), settings: map[broker.Key]string{}}
+}
+
+func (f *updatingFake) LookUpdate(ctx context.Context, update broker.Update) (broker.There, error) {
+	f.begins(ctx, update.Request, false)
+	if f.lookAt != nil {
+		return f.lookAt(update)
+	}
+	return update.Done(f.settings[update.Key])
+}
+
+func (f *updatingFake) Update(ctx context.Context, update broker.Update) error {
+	f.begins(ctx, update.Request, false)
+	if f.update != nil {
+		return f.update(update)
+	}
+	if err := wait(ctx, f.before); err != nil {
+		return err
+	}
+	f.settings[update.Key] = "half"
+	if err := wait(ctx, f.after); err != nil {
+		return err
+	}
+	return f.ownUpdate(update)
+}
+
+// wait waits unless the context is done earlier.
+func wait(ctx context.Context, d time.Duration) error {
+	if d == 0 {
+		return nil
+	}
+	select {
+	case <-time.After(d):
+		return nil
+	case <-ctx.Done():
+		return ctx.Err()
+	}
+}
+
+func (f *updatingFake) ownUpdate(update broker.Update) (err error) {
+	f.settings[update.Key], err = update.To.Text()
+	return err
+}
+
+var larger = Plan{ServiceID: "s", ID: "q", Service: "database", Name: "large", IsBindable: true}
+
+var updateSteps = []string{
+	"look-update instance 1: none",
+	"update instance 1", "look-update instance 1: whole", "update instance 1 again", "look-update instance 1: whole",
+	"update instance 1 back", "look-update instance 1: whole",
+	"update instance 1, broken off: whole",
+	"update instance 1 after it was broken off", "look-update instance 1: whole",
+	"update instance 1 back", "look-update instance 1: whole", "update instance 1 to an unknown plan: whole",
+	"update instance 1 to an unknown plan, and back", "look-update instance 1: whole",
+}
+
+func TestUpdates(t *testing.T) {
+	f := newUpdatingFake(t)
+	found := tries(ctx, t, f, locks{}, Options{Plan: bindable, UpdateTo: &larger})
+	same(t, found.failed, nil)
+	at := 0
+	for _, line := range found.ok {
+		if at < len(updateSteps) && line == updateSteps[at] {
+			at++
+		}
+	}
+	diff.Equal(t, at, len(updateSteps), "steps of updates in their order, among %q", found.ok)
+	diff.Equal(t, found.ok[0], "capabilities: bindings, credentials, updates", "the capabilities")
+	const digest = "980a0e200a8efc1825682c21bdd9a6387a50be56aba587f3cece370f67037ca3" // SHA-256 of {"plan_id":"p"}
+	diff.Equal(t, f.settings[f.order[0]], digest, "the settings in the end")
+
+	without := tries(ctx, t, newUpdatingFake(t), locks{}, Options{Plan: bindable})
+	diff.Equal(t, without.ok[0], "capabilities: bindings, credentials, updates. No updates are tried: "+
+		"the plan can't be changed, and no other parameters are given", "the capabilities without another plan")
+	diff.Equal(t, without.OK, len(allSteps), "the calls without another plan")
+	parameters := tries(ctx, t, newUpdatingFake(t), locks{}, Options{
+		Plan: bindable, UpdateParameters: json.RawMessage(`{"a":1}`),
+	})
+	diff.Equal(t, parameters.OK, found.OK, "the calls with other parameters")
+}
+
+// An update is broken off after half of the time that another one took. Then it has changed something, but not all.
+func TestUpdateBrokenOff(t *testing.T) {
+	f := newUpdatingFake(t)
+	f.before, f.after = 40*time.Millisecond, 160*time.Millisecond
+	found := tries(ctx, t, f, locks{}, Options{Plan: bindable, UpdateTo: &larger})
+	same(t, found.failed, nil)
+	diff.Contains(t, strings.Join(found.ok, "\n"), "\nupdate instance 1, broken off: part\n", "the calls")
+}
+
+// An update that fails before it is broken off has failed by itself.
+func TestUpdateThatFailsEarlier(t *testing.T) {
+	f := newUpdatingFake(t)
+	calls := 0
+	f.update = func(update broker.Update) error {
+		if calls++; calls == 4 { // after one to the other plan, its repetition, and one back
+			return errors.New("no")
+		}
+		time.Sleep(100 * time.Millisecond)
+		return f.ownUpdate(update)
+	}
+	found := tries(ctx, t, f, locks{}, Options{Plan: bindable, UpdateTo: &larger})
+	same(t, found.failed, []string{"update instance 1, broken off: no"})
+}
+
+// What an update must not do is found.
+func TestMistakesOfUpdates(t *testing.T) {
+	rejects := func(f *updatingFake, update broker.Update) error {
+		if update.To.PlanID == "osb-broker-try-no-plan" {
+			return &broker.Rejection{Status: 400, Description: "no such plan"}
+		}
+		return f.ownUpdate(update)
+	}
+	for name, test := range map[string]struct {
+		mistake func(*updatingFake)
+		failed  []string
+	}{
+		"rejects what doesn't exist": {func(f *updatingFake) {
+			f.update = func(update broker.Update) error { return rejects(f, update) }
+		}, nil},
+		"half of it before": {func(f *updatingFake) {
+			isFirst := true
+			f.lookAt = func(update broker.Update) (broker.There, error) {
+				if isFirst {
+					isFirst = false
+					return broker.Part, nil
+				}
+				return update.Done(f.settings[update.Key])
+			}
+		}, []string{"look-update instance 1: part, and not none"}},
+		"rejects, and changes": {func(f *updatingFake) {
+			f.update = func(update broker.Update) error {
+				_ = f.ownUpdate(update)
+				return rejects(f, update)
+			}
+		}, []string{"update instance 1 to an unknown plan: it was rejected, and whole of it is done"}},
+		"changes nothing": {func(f *updatingFake) {
+			f.update = func(update broker.Update) error { return nil }
+		}, []string{
+			"look-update instance 1: none, and not whole", "look-update instance 1: none, and not whole",
+			"look-update instance 1: none, and not whole", "look-update instance 1: none, and not whole",
+			"look-update instance 1: none, and not whole",
+			"update instance 1 to an unknown plan: it has succeeded, and none of it is done",
+			"look-update instance 1: none, and not whole",
+		}},
+		"nobody can look": {func(f *updatingFake) {
+			f.lookAt = func(broker.Update) (broker.There, error) { return broker.Part, errors.New("no") }
+		}, []string{
+			"look-update instance 1: no", "look-update instance 1: no", "look-update instance 1: no",
+			"look-update instance 1: no", "update instance 1, broken off: no", "look-update instance 1: no",
+			"look-update instance 1: no", "update instance 1 to an unknown plan: no", "look-update instance 1: no",
+		}},
+		"deletes a binding": {func(f *updatingFake) {
+			f.update = func(update broker.Update) error {
+				delete(f.there, f.order[2])
+				return f.ownUpdate(update)
+			}
+		}, []string{
+			"look-binding 1: none, and not whole",
+		}},
+	} {
+		t.Run(name, func(t *testing.T) {
+			f := newUpdatingFake(t)
+			test.mistake(f)
+			found := tries(ctx, t, f, locks{}, Options{Plan: bindable, UpdateTo: &larger})
+			same(t, found.failed, test.failed)
+		})
+	}
+}
+
+// If both settings have the same effect, the report says that no change is tried.
+func TestUpdatesOfTheSameEffect(t *testing.T) {
+	f := newUpdatingFake(t)
+	f.lookAt = func(broker.Update) (broker.There, error) { return broker.Whole, nil }
+	found := tries(ctx, t, f, locks{}, Options{Plan: bindable, UpdateTo: &larger})
+	same(t, found.failed, nil)
+	diff.Contains(t, strings.Join(found.ok, "\n"),
+		"\nlook-update instance 1: whole: both settings have the same effect, so no change is tried\n", "the calls")
+}
+
+func TestNext(t *testing.T) {
+	document := []byte(`{"services": [{"id": "s", "plan_updateable": true, "plans": [
+		{"id": "p"}, {"id": "q"}, {"id": "r", "plan_updateable": false}]}, {"id": "o", "plans": [{"id": "p"}]}]}`)
+	plans := []Plan{{ServiceID: "o", ID: "p"}, {ServiceID: "s", ID: "p"}, {ServiceID: "s", ID: "q"}}
+	for of, want := range map[Plan]string{
+		{ServiceID: "s", ID: "p"}: "q", {ServiceID: "s", ID: "q"}: "p", {ServiceID: "s", ID: "r"}: "",
+		{ServiceID: "o", ID: "p"}: "",
+	} {
+		next, err := Next(document, plans, of)
+		got := ""
+		if next != nil {
+			got = next.ID
+		}
+		if err != nil || got != want {
+			t.Errorf("%v: got %q and %v, want %q", of, got, err, want)
+		}
+	}
+	updateable := []byte(`{"services": [{"id": "s", "plan_updateable": true, "plans": [{"id": "p"}]}]}`)
+	next, err := Next(updateable, plans[1:2], plans[1])
+	if next != nil || err != nil {
+		t.Errorf("the only plan: got %v and %v, want none", next, err)
+	}
+}

@@ -10,6 +10,7 @@ import (
 	"golang.org/x/sys/unix"
 
 	"pippinterm/broker"
+	"pippinterm/broker/sealed"
 	"pippinterm/internal/diff"
 	"pippinterm/internal/journalfile"
 	"pippinterm/internal/pg"
@@ -87,11 +88,13 @@ func TestJournalTaken(t *testing.T) {
 	}
 }
 
-// Without --journal nothing is wrapped, and no time is sent.
+// Without --journal nothing writes one, and no time is sent. The store is wrapped by what decrypts alone.
 func TestNoJournal(t *testing.T) {
 	parts := &parts{store: &ownStore{}, backend: &ownBackend{}}
 	with, err := (&server{settings: &settings{}, parts: parts}).withJournal(nil)
-	if err != nil || with.store != broker.Store(parts.store) || with.backend != parts.backend || with.journal != nil {
+	over, isOver := with.store.(*sealed.Store)
+	isSame := isOver && over.Store == broker.Store(parts.store) && with.backend == parts.backend
+	if err != nil || !isSame || with.journal != nil {
 		t.Errorf("got %+v and the error %v, want the parts as they are", with, err)
 	}
 	for _, arguments := range [][]string{nil, {"--journal", t.TempDir()}} {

@@ -43,9 +43,9 @@ password: each binding has a role and a password of its own.`,
 
 // keyCommand makes a key.
 func keyCommand() *cobra.Command {
-	return cli.KeyCommand("Make a new key for the passwords of the databases",
-		`Make a new random key for the passwords of the databases. It is printed, or written to the new file that --to
-names.`,
+	return cli.KeyCommand("Make a new key for the store, or for the passwords of the databases",
+		`Make a new random key, which encrypts parameters and credentials in the store (--key-file), or from which the
+passwords of the databases are made (--backend-key-file). It is printed, or written to the new file that --to names.`,
 		`  osb-broker key --to key`)
 }
 

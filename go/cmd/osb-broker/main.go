@@ -46,11 +46,14 @@ of your own without a broker.`,
 var standard []byte
 
 // catalogueOf is the catalogue of a file, or the standard one, in which the service has the name of what is sold.
-func catalogueOf(file, sells string, sellsBindings bool) (*broker.Catalogue, error) {
+func catalogueOf(file, sells string, can broker.Abilities) (*broker.Catalogue, error) {
 	document, name := bytes.ReplaceAll(standard, []byte("SOLD"), []byte(sells)), "the standard catalogue"
-	if !sellsBindings {
+	if !can.Bindings {
 		document = bytes.ReplaceAll(document, []byte(`"bindable": true`), []byte(`"bindable": false`))
 		document = bytes.ReplaceAll(document, []byte(`"bindings_retrievable": true`), []byte(`"bindings_retrievable": false`))
+	}
+	if !can.Updates {
+		document = bytes.ReplaceAll(document, []byte(`"plan_updateable": true`), []byte(`"plan_updateable": false`))
 	}
 	if file != "" {
 		var err error
@@ -59,7 +62,7 @@ func catalogueOf(file, sells string, sellsBindings bool) (*broker.Catalogue, err
 		}
 		name = file
 	}
-	catalogue, err := broker.NewCatalogue(document, sellsBindings)
+	catalogue, err := broker.NewCatalogue(document, can)
 	if err != nil {
 		return nil, cli.Unusable(fmt.Errorf("%s can't be the catalogue: %w", name, err))
 	}

@@ -167,6 +167,9 @@ func TestUnusable(t *testing.T) {
 		{78, []string{password}, []string{"serve", "--state", empty, "--tls-certificate", "/nowhere/t", "--tls-key", "/n/k"},
 			"/nowhere/t"},
 		{78, []string{password}, []string{"serve", "--state", empty, "--listen", "192.0.2.1:1"}, "--listen 192.0.2.1:1"},
+		{78, []string{password}, []string{"serve", "--state", empty, "--key-file", "/nowhere/k"}, "/nowhere/k"},
+		{78, []string{password}, []string{"serve", "--state", empty, "--key-file", file("k", "short")},
+			"osb-broker key --to FILE"},
 		{78, nil, []string{"serve", "--users-file", file("u", "nobody\n")}, "user:password"},
 		{78, nil, []string{"password", "one"}, "OSB_BACKEND_KEY"},
 		{78, nil, []string{"rekey", "--backend", "folder"}, "postgresql://"},
@@ -607,7 +610,7 @@ func TestOwnCatalogue(t *testing.T) {
 		got, want := map[string]any{}, map[string]any{}
 		check(t, json.Unmarshal([]byte(ownCatalogue), &want))
 		check(t, json.Unmarshal([]byte(s.expect(200, "GET", "/v2/catalog", "")), &got))
-		want["x-osb-tombstones"], want["x-osb-store"] = true, got["x-osb-store"]
+		want["x-osb-tombstones"], want["x-osb-updates"], want["x-osb-store"] = true, true, got["x-osb-store"]
 		diff.Check(t, got, want, "the catalogue that is served")
 		id, _ := got["x-osb-store"].(string)
 		diff.Equal(t, len(id), 36, "the store, %v", got["x-osb-store"])

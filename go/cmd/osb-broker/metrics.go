@@ -136,7 +136,7 @@ const other = "other"
 
 func routeLabel(route string) string {
 	switch route {
-	case "catalog", "provision", "deprovision", "poll", "bind", "unbind", "poll-binding", "fetch-binding":
+	case "catalog", "provision", "update", "deprovision", "poll", "fetch", "bind", "unbind", "poll-binding", "fetch-binding":
 		return route
 	}
 	return other
@@ -144,7 +144,8 @@ func routeLabel(route string) string {
 
 func callLabel(call string) string {
 	switch call {
-	case "look", "create", "delete", "look-binding", "create-binding", "delete-binding", "credentials", "sync", "lock":
+	case "look", "create", "delete", "look-update", "update", "look-binding", "create-binding", "delete-binding", "credentials",
+		"details", "sync", "lock":
 		return call
 	}
 	return other

@@ -21,6 +21,7 @@ type settings struct {
 	store, backend                string
 	user, passwordFile, usersFile string
 	keyFile                       string
+	storeKeys                     []string // the files of --key-file
 	certificate, key, clientCA    string
 	firstPoll                     bool
 	waitForPoll                   time.Duration
@@ -113,6 +114,9 @@ func (s *settings) addAccess(flags *pflag.FlagSet) {
 		"a `file` with the platform's password; a second line is a second valid password")
 	flags.StringVar(&s.usersFile, "users-file", "",
 		"a `file` with lines user:password, in place of --user and its password")
+	flags.StringArrayVar(&s.storeKeys, "key-file", nil,
+		"a `file` with the key that encrypts parameters and credentials in the store (default: none, and nothing is "+
+			"encrypted). May be given several times: the first encrypts, and all decrypt")
 	flags.StringVar(&s.keyFile, "backend-key-file", "", "a `file` with the key of the databases' passwords")
 	flags.StringVar(&s.certificate, "tls-certificate", "", "a `file` with the certificates, to speak TLS")
 	flags.StringVar(&s.key, "tls-key", "", "the `file` with the key of --tls-certificate")

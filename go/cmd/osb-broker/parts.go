@@ -16,12 +16,14 @@ import (
 	"pippinterm/broker/backend/folders"
 	"pippinterm/broker/backend/postgres"
 	pgstore "pippinterm/broker/postgres"
+	"pippinterm/broker/sealed"
 	"pippinterm/broker/sqlite"
 	"pippinterm/internal/cli"
 	"pippinterm/internal/logs"
 	"pippinterm/internal/pg"
 	"pippinterm/internal/secrets"
 	"pippinterm/internal/sqlitefile"
+	"pippinterm/internal/vault"
 )
 
 // parts are what a broker is made of.
@@ -29,7 +31,8 @@ type parts struct {
 	backend broker.Backend
 	store   broker.NamedStore
 	locks   broker.Locks
-	sells   string // what an instance is called in the standard catalogue
+	keys    *vault.Vault // of what is encrypted in the store, or nil
+	sells   string       // what an instance is called in the standard catalogue
 	close   []func()
 }
 
@@ -48,6 +51,9 @@ func partsOf(ctx context.Context, s *settings, log *logs.Logger, observer broker
 		return p, ofFiles("the state folder can't be created", err)
 	}
 	warnOfFolder(s.state, log)
+	if err := p.openKeys(s, log); err != nil {
+		return p, err
+	}
 	if err := p.openBackend(ctx, s, log); err != nil {
 		return p, err
 	}
@@ -72,6 +78,27 @@ func warnOfFolder(folder string, log *logs.Logger) {
 	if mode, isOpen := cli.IsOpen(folder); isOpen {
 		log.Warning("folder_open").Str("folder", folder).Str("mode", fmt.Sprintf("%04o", mode)).Send()
 	}
+}
+
+// openKeys reads the keys of the store, if there are any. The log says which they are.
+func (p *parts) openKeys(s *settings, log *logs.Logger) error {
+	if len(s.storeKeys) == 0 {
+		return nil
+	}
+	keys, warnings, err := sealed.ReadKeys(s.storeKeys...)
+	if err != nil {
+		return cli.Unusable(fmt.Errorf("--key-file: %w. Make a key with: osb-broker key --to FILE", err))
+	}
+	for _, warning := range warnings {
+		log.Warning("secret").Str("warning", warning).Send()
+	}
+	var ids []string
+	for _, key := range keys.Keys() {
+		ids = append(ids, key.ID())
+	}
+	log.Info("store_encrypted").Strs("keys", ids).Send()
+	p.keys = keys
+	return nil
 }
 
 // remedy is what to do about a store and a backend that don't belong together.
@@ -148,6 +175,9 @@ func (p *parts) openDatabases(ctx context.Context, s *settings, log *logs.Logger
 	if options.Host, options.Port, err = customersOf(s.customers, s.backend); err != nil {
 		return cli.Unusable(fmt.Errorf("--customer-address: %w", err))
 	}
+	if options.Plans, err = plansOf(s.catalogue); err != nil {
+		return err
+	}
 	databases, err := postgres.Open(ctx, s.backend, options)
 	if err != nil {
 		return away("the backend can't be used", err)
@@ -162,6 +192,22 @@ func (p *parts) openDatabases(ctx context.Context, s *settings, log *logs.Logger
 		log.Warning("backend").Str("warning", warning).Send()
 	}
 	return nil
+}
+
+// plansOf are the limits of the plans of a catalogue's file, or none without a file.
+func plansOf(file string) (map[string]postgres.Limits, error) {
+	if file == "" {
+		return nil, nil
+	}
+	document, err := os.ReadFile(file)
+	if err != nil {
+		return nil, cli.Unusable(fmt.Errorf("the catalogue can't be read: %w", err))
+	}
+	plans, err := postgres.ReadPlans(document)
+	if err != nil {
+		return nil, cli.Unusable(fmt.Errorf("%s can't be the catalogue: %w", file, err))
+	}
+	return plans, nil
 }
 
 // customersOf is the address at which applications reach the databases, or an empty host and 0 for that of the backend.

@@ -15,6 +15,7 @@ import (
 
 	"pippinterm/broker"
 	"pippinterm/broker/journal"
+	"pippinterm/broker/sealed"
 	"pippinterm/internal/cli"
 	"pippinterm/internal/cli/notify"
 	"pippinterm/internal/crash"
@@ -102,8 +103,11 @@ func (r *server) open(ctx, stop context.Context, queue *logs.Queue) (err error) 
 			r.parts.closeAll()
 		}
 	}()
-	_, sellsBindings := r.parts.backend.(broker.BindingBackend)
-	catalogue, err := catalogueOf(s.catalogue, r.parts.sells, sellsBindings)
+	can := broker.AbilitiesOf(r.parts.backend)
+	if can.SecretParameters && r.parts.keys == nil {
+		r.log.Warning("secret_parameters_in_clear").Send()
+	}
+	catalogue, err := catalogueOf(s.catalogue, r.parts.sells, can)
 	if err != nil {
 		return err
 	}
@@ -403,7 +407,7 @@ type serviceParts struct {
 // withJournal returns the parts, which write the journal if there is one.
 func (r *server) withJournal(catalogue *broker.Catalogue) (serviceParts, error) {
 	s := r.settings
-	with := serviceParts{store: r.parts.store, backend: r.parts.backend}
+	with := serviceParts{store: sealed.New(r.parts.store, r.parts.keys), backend: r.parts.backend}
 	if s.journal == "" {
 		return with, nil
 	}

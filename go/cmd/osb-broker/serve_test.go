@@ -408,3 +408,72 @@ func TestLogHasNoPasswordOfATarget(t *testing.T) {
 	}
 	diff.Equal(t, seen, true, "the target is in the log")
 }
+
+// With --key-file, the store has no parameters and no credentials in clear. A broker without the key changes nothing,
+// and says which key is missing. Another key is added before it, and both decrypt.
+func TestStoreKey(t *testing.T) {
+	state, folder := t.TempDir(), t.TempDir()
+	key := func(name string) string {
+		path := filepath.Join(folder, name)
+		diff.NoError(t, osbBroker(nil, "key", "--to", path).Run(), "key")
+		return path
+	}
+	first, second := key("first"), key("second")
+	with := func(files ...string) (arguments []string) {
+		arguments = []string{"--state", state}
+		for _, file := range files {
+			arguments = append(arguments, "--key-file", file)
+		}
+		return arguments
+	}
+	s := start(t, []string{password}, with(first)...)
+	var started struct{ Keys []string }
+	for _, line := range s.Seen {
+		if hasEvent([]byte(line), "store_encrypted") {
+			diff.Must(t, json.Unmarshal([]byte(line), &started))
+		}
+	}
+	s.expect(201, "PUT", one, strings.TrimSuffix(order, "}")+`,"parameters":{"label":"hunter2"}}`)
+	s.expect(200, "PATCH", one, `{"service_id":"`+service+`","parameters":{"label":"hunter3"}}`)
+	bound := s.expect(201, "PUT", one+"/service_bindings/b", bind)
+	s.stop()
+	var credentials struct{ Credentials struct{ Token string } }
+	diff.Must(t, json.Unmarshal([]byte(bound), &credentials))
+	for _, name := range diff.Value(filepath.Glob(filepath.Join(state, "holdings.sqlite*")))(t) {
+		text := string(diff.Value(os.ReadFile(name))(t))
+		for _, secret := range []string{"hunter2", "hunter3", credentials.Credentials.Token} {
+			diff.Lacks(t, text, secret, "%s", filepath.Base(name))
+		}
+	}
+	s = start(t, []string{password}, with()...)
+	for _, asked := range [][2]string{{"GET", one}, {"DELETE", one + names}, {"GET", one + "/last_operation"},
+		{"GET", one + "/service_bindings/b"}, {"DELETE", one + "/service_bindings/b" + names}} {
+		s.expect(500, asked[0], asked[1], "")
+	}
+	diff.Contains(t, s.Event("request_failed")["error"].(string), started.Keys[0], "which key is missing")
+	s.stop()
+	s = start(t, []string{password}, with(second, first)...)
+	diff.Contains(t, s.expect(200, "GET", one, ""), `"label":"hunter3"`, "the parameters")
+	diff.Equal(t, s.expect(200, "GET", one+"/service_bindings/b", ""), bound, "the credentials")
+	s.expect(200, "PATCH", one, `{"service_id":"`+service+`","parameters":{"label":"hunter4"}}`)
+	s.stop()
+	s = start(t, []string{password}, with(second)...)
+	diff.Contains(t, s.expect(200, "GET", one, ""), `"label":"hunter4"`, "what the second key has encrypted")
+	s.expect(500, "GET", one+"/service_bindings/b", "") // which the first key has encrypted
+	s.stop()
+}
+
+// A backend whose parameters are secret wants a key, and without one the log says so.
+func TestSecretParameters(t *testing.T) {
+	program := filepath.Join(t.TempDir(), "program")
+	check(t, os.WriteFile(program, []byte("#!/bin/sh\ncat >/dev/null\necho '{\"secret_parameters\": true}'\n"), 0o700))
+	for name, further := range map[string][]string{"no key": nil, "a key": {"--key-file", program + ".key"}} {
+		t.Run(name, func(t *testing.T) {
+			diff.Must(t, os.WriteFile(program+".key", []byte(strings.Repeat("k", 32)), 0o600))
+			command := osbBroker([]string{password}, append([]string{"serve", "--listen", "192.0.2.1:1", "--state",
+				t.TempDir(), "--backend", "command:" + program}, further...)...)
+			out, _ := command.CombinedOutput()
+			diff.Equal(t, hasEvent(out, "secret_parameters_in_clear"), further == nil, "%s", out)
+		})
+	}
+}

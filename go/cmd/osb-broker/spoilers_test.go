@@ -178,6 +178,8 @@ func validMessages() map[int][]message {
 		200: {
 			{method: "GET", isCatalogue: true},
 			{method: "GET", instance: "kept", isPoll: true},
+			{method: "GET", instance: "kept"},
+			{method: "PATCH", instance: "kept", body: bind},
 			{method: "GET", instance: "kept", binding: "b", isPoll: true},
 			{method: "GET", instance: "kept", binding: "b"},
 			{method: "DELETE", instance: "kept", binding: "c", query: idQuery},
@@ -269,7 +271,7 @@ var (
 	), nil, []string{"X-Broker-API-Version:"}, []string{versionLine, versionLine}, []string{versionLine, "X-Broker-API-Version: 3.0"},
 		[]string{"X-Broker-API: 2.17"}, []string{"Broker-API-Version: 2.17"})
 	wrongMethods = []string{
-		"POST", "PATCH", "HEAD", "TRACE", "OPTIONS", "CONNECT", "BREW", "get", "put", "Put", "delete", "PUTS", "PRI",
+		"POST", "Patch", "HEAD", "TRACE", "OPTIONS", "CONNECT", "BREW", "get", "put", "Put", "delete", "PUTS", "PRI",
 		"M-SEARCH",
 	}
 )

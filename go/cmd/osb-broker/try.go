@@ -56,7 +56,9 @@ type tryOptions struct {
 	plans      []string
 	areAll     bool // whether all plans are tried
 	parameters string
-	isOwn      bool // whether the state folder is a new temporary one
+	// updateParameters are those to which the first instance is updated.
+	updateParameters string
+	isOwn            bool // whether the state folder is a new temporary one
 }
 
 // sharedOptions are the options of serve that configure backends, and how long the end may take.
@@ -94,6 +96,8 @@ func (t *tryOptions) add(flags *pflag.FlagSet) {
 		"try the plan with this `name or id`; may be given several times. Default: the first plan of the first service")
 	flags.BoolVar(&t.areAll, "all-plans", false, "try all plans, one after the other")
 	flags.StringVar(&t.parameters, "parameters", "", "the parameters of each instance, an object of `JSON`")
+	flags.StringVar(&t.updateParameters, "update-parameters", "",
+		"the parameters to which the first instance is updated, an object of `JSON`")
 	flags.StringVar(&t.settings.state, "state", "", "the `folder` with what --backend doesn't place elsewhere. "+
 		"Default: a new temporary folder, which is removed if nothing has failed")
 }
@@ -138,15 +142,23 @@ func (t *tryOptions) run(ctx context.Context, out, stderr io.Writer) (status int
 
 // checkParameters checks that the parameters are an object, if there are any.
 func (t *tryOptions) checkParameters() error {
-	if t.parameters == "" {
+	if err := checkObject("--parameters", t.parameters); err != nil {
+		return err
+	}
+	return checkObject("--update-parameters", t.updateParameters)
+}
+
+// checkObject returns an error if the value of an option is neither empty nor an object of JSON.
+func checkObject(option, value string) error {
+	if value == "" {
 		return nil
 	}
 	var object map[string]json.RawMessage
-	err := json.Unmarshal([]byte(t.parameters), &object)
+	err := json.Unmarshal([]byte(value), &object)
 	if err == nil && object == nil {
 		err = errors.New("want an object")
 	}
-	return wrap("--parameters", err)
+	return wrap(option, err)
 }
 
 // openState creates the state folder, a temporary one if none is named.
@@ -199,8 +211,7 @@ func (t *tryOptions) tryAll(ctx context.Context, log *logs.Logger, report *tryRe
 	if err := hasOwner(ctx, p.backend); err != nil {
 		return err
 	}
-	_, sellsBindings := p.backend.(broker.BindingBackend)
-	catalogue, err := catalogueOf(t.settings.catalogue, p.sells, sellsBindings)
+	catalogue, err := catalogueOf(t.settings.catalogue, p.sells, broker.AbilitiesOf(p.backend))
 	if err != nil {
 		return err
 	}
@@ -209,7 +220,7 @@ func (t *tryOptions) tryAll(ctx context.Context, log *logs.Logger, report *tryRe
 		return cli.Unusable(err)
 	}
 	for _, plan := range plans {
-		if err := t.tryPlan(ctx, p, plan, report); err != nil {
+		if err := t.tryPlan(ctx, p, catalogue.Document(), plan, report); err != nil {
 			return err
 		}
 	}
@@ -257,15 +268,25 @@ func (t *tryOptions) choose(document []byte) ([]try.Plan, error) {
 }
 
 // tryPlan tries one plan, unless ctx is done.
-func (t *tryOptions) tryPlan(ctx context.Context, p *parts, plan try.Plan, report *tryReport) error {
+func (t *tryOptions) tryPlan(
+	ctx context.Context, p *parts, document []byte, plan try.Plan, report *tryReport,
+) error {
 	if ctx.Err() != nil {
 		report.writeStop()
 		return nil
 	}
 	report.line("try", plan.String())
+	all, err := try.Plans(document)
+	if err != nil {
+		return err
+	}
+	next, err := try.Next(document, all, plan)
+	if err != nil {
+		return err
+	}
 	result, err := try.Run(ctx, p.backend, p.locks, try.Options{
 		Plan: plan, Parameters: json.RawMessage(t.parameters), CleanUp: t.settings.stopTime,
-		Report: report.call,
+		UpdateTo: next, UpdateParameters: json.RawMessage(t.updateParameters), Report: report.call,
 	})
 	if err != nil {
 		return err

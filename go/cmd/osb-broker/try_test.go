@@ -110,9 +110,9 @@ func TestTryFolders(t *testing.T) {
 	state := t.TempDir()
 	run := runTry(t, nil, nil, "--state", state, "--all-plans")
 	plans := strings.Join(run.lines("try"), ", ")
-	if run.status != 0 || run.last() != "104 ok, 0 failed" || run.stderr != "" ||
+	if run.status != 0 || run.last() != "150 ok, 0 failed" || run.stderr != "" ||
 		plans != "plan at-once of service folder, plan by-worker of service folder" {
-		t.Errorf("got the status %d and %s%s, want 0 and 104 ok of both plans", run.status, run.stdout, run.stderr)
+		t.Errorf("got the status %d and %s%s, want 0 and 150 ok of both plans", run.status, run.stdout, run.stderr)
 	}
 	if _, err := os.Stat(state + "/instances"); err != nil || len(soldInstances(t, state)) > 0 || len(run.temporary) > 0 {
 		t.Errorf("got %v, %v and %v, want the folder, and nothing in it", err, soldInstances(t, state), run.temporary)

@@ -306,27 +306,30 @@ func TestAsk(t *testing.T) {
 	before, asked := rowsOf(t, store), s.requests()
 	const head = "state\tunsettled\nbroker\tlocal\nlast operation status\t"
 	const said = "(last operation (error|description)\t[^\n]*\n)*"
+	const found, missing = "fetch status\t200\n", "fetch status\t404\n(fetch (error|description)\t[^\n]*\n)*"
 	wantLines(t, store, []line{
-		{"ask one", 0, "id\tone\n" + head + "410\n" + said + "what to do\tthe broker has nothing. " +
+		{"ask one", 0, "id\tone\n" + head + "410\n" + said + missing + "what to do\tthe broker has nothing. " +
 			"Run 'osb-platform remove one': the record becomes gone", ``},
-		{"ask two", 0, "id\ttwo\n" + head + "200\nlast operation state\tsucceeded\nwhat to do\tthe broker holds " +
-			"something else under this id. Leave it, or end the record: 'osb-platform abandon two --because TEXT'", ``},
-		{"ask three", 0, "id\tthree\n" + head + "400\n" + said + "what to do\tthe broker holds something else under this " +
-			"id. Leave it, or end the record: 'osb-platform abandon three --because TEXT'", ``},
+		{"ask two", 0, "id\ttwo\n" + head + "200\nlast operation state\tsucceeded\n" + found + "what to do\tthe broker " +
+			"holds something else under this id. Leave it, or end the record: 'osb-platform abandon two --because TEXT'", ``},
+		{"ask three", 0, "id\tthree\n" + head + "400\n" + said + missing + "what to do\tthe broker holds something else " +
+			"under this id. Leave it, or end the record: 'osb-platform abandon three --because TEXT'", ``},
 		{"ask four", 1, ``, `osb-platform: the instance four is unknown`},
 	})
 	s.answer(http.StatusNotFound)
 	wantLines(t, store, []line{{"ask two", 0, "id\ttwo\n" + head + "404\nlast operation error\tOdd\n" +
-		"last operation description\t" + `"no \\x1b\[2J place"` + "\n" +
+		"last operation description\t" + `"no \\x1b\[2J place"` + "\n" + found +
 		"what to do\tthe answer doesn't say what the broker holds: ask its operator", ``}})
-	const two = "GET /v2/service_instances/two/last_operation?"
-	for _, request := range s.since(asked) {
-		diff.HasPrefix(t, request, "GET /v2/service_instances/", "the request")
-		diff.Contains(t, request, "/last_operation?", "the request")
+	sent := s.since(asked)
+	for at := range sent {
+		sent[at], _, _ = strings.Cut(sent[at], "?")
 	}
-	if sent := s.since(asked); len(sent) != 4 || !strings.HasPrefix(sent[3], two) {
-		t.Errorf("the requests: got %q, want four, the last of the second", sent)
+	wanted := []string{}
+	for _, id := range []string{"one", "two", "three", "two"} {
+		path := "GET /v2/service_instances/" + id
+		wanted = append(wanted, path+"/last_operation", path)
 	}
+	diff.Check(t, sent, wanted, "the requests")
 	diff.Check(t, rowsOf(t, store), before, "the rows, and what they were")
 }
 

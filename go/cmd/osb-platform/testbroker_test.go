@@ -44,9 +44,9 @@ func newTestBroker(t *testing.T) *testBroker {
 func newTestBrokerFor(t *testing.T, observer broker.Observer) *testBroker {
 	t.Helper()
 	document := diff.Value(os.ReadFile("../osb-broker/catalogue.json"))(t)
-	catalogue := diff.Value(broker.NewCatalogue(document, true))(t)
 	folder, ctx := t.TempDir(), context.Background()
 	backend := diff.Value(folders.New(filepath.Join(folder, "instances")))(t)
+	catalogue := diff.Value(broker.NewCatalogue(document, broker.AbilitiesOf(backend)))(t)
 	store := diff.Value(sqlite.Open(ctx, filepath.Join(folder, "holdings"), broker.Silent{}))(t)
 	locks := diff.Value(broker.NewFileLocks(filepath.Join(folder, "locks")))(t)
 	service := broker.NewService(catalogue, store, backend, locks, broker.ServiceOptions{

@@ -70,7 +70,7 @@ func serve(ctx, stop context.Context, listener net.Listener, state, password str
 }
 
 func newService(store broker.Store, state string) (*broker.Service, error) {
-	catalogue, err := broker.NewCatalogue(document, true)
+	catalogue, err := broker.NewCatalogue(document, broker.Abilities{Bindings: true})
 	if err != nil {
 		return nil, err
 	}

@@ -99,7 +99,7 @@ func serveBroker(t *testing.T, sold *shelf) (port string) {
 	t.Helper()
 	document, err := os.ReadFile("../folders/catalogue.json")
 	need(t, err)
-	catalogue, err := broker.NewCatalogue(document, true)
+	catalogue, err := broker.NewCatalogue(document, broker.Abilities{Bindings: true})
 	need(t, err)
 	store, err := holdings.Open(context.Background(), filepath.Join(t.TempDir(), "holdings.sqlite"), broker.Silent{})
 	need(t, err)

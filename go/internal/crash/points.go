@@ -3,10 +3,11 @@ package crash
 // points are the names of all points, in the order in which a request reaches them. A test compares them with the calls
 // of At and Soon.
 var points = []string{
-	"begin-next", "begin-written", "mark-next", "mark-written",
+	"begin-next", "begin-written", "begin-update-next", "begin-update-written", "mark-next", "mark-written",
 	"work-next", "work-running", "work-half", "binding-half", "work-done",
-	"end-next", "end-written",
+	"end-next", "end-written", "end-update-next", "end-update-written",
 	"take-over-next", "take-over-written", "operation-next", "operation-done", "finish-next", "finish-written",
+	"finish-update-next", "finish-update-written",
 	"wait-next", "wait-written",
 }
 

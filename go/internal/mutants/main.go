@@ -34,6 +34,7 @@ var ordinary = []string{
 	"./platform", "./platform/client", "./platform/journal", "./platform/postgres", "./platform/sqlite",
 	"./platform/vault", "./internal/ciphers", "./internal/cli/...", "./internal/httpserver/...", "./internal/journalfile",
 	"./internal/latest", "./internal/logs", "./internal/pg", "./internal/secrets", "./internal/sqlitefile",
+	"./internal/vault",
 }
 
 const usage = `usage:

@@ -3,21 +3,25 @@
 //	PROGRAM look            what exists of an instance
 //	PROGRAM create          create an instance
 //	PROGRAM delete          delete an instance
+//	PROGRAM look-update     how much of an update of an instance is done
+//	PROGRAM update          update an instance
+//	PROGRAM details         report the dashboard and the metadata of an instance
 //	PROGRAM look-binding    what exists of a binding
 //	PROGRAM create-binding  create a binding, and report its credentials
 //	PROGRAM delete-binding  delete a binding
 //	PROGRAM credentials     report the credentials of a binding that exists
 //	PROGRAM capabilities    report which of these calls the program supports; it is run once, at the start
 //
-// The calls are those of broker.Backend, broker.BindingBackend and broker.CredentialsBackend, and promise the same. In
-// particular, each call may be repeated after a crash, and what create and delete have done is on disk once the program
-// exits with status 0. The protocol is this project's choice.
+// The calls are those of broker.Backend, broker.BindingBackend, broker.CredentialsBackend, broker.UpdateBackend and
+// broker.DetailsBackend, and promise the same. In particular, each call may be repeated after a crash, and what create,
+// update and delete have done is on disk once the program exits with status 0. The protocol is this project's choice.
 //
 // # What the program gets
 //
 // Standard input is the broker.Request, as one object of JSON. Its members are instance_id, binding_id, service_id,
-// plan_id, body, originating_identity, request_identity and deletion, and besides "state". For capabilities, it has
-// "state" alone. The program needn't read it.
+// plan_id, body, originating_identity, request_identity, deletion and details, and besides "state". For look-update and
+// update, it is the broker.Update, which has the members from, to and update besides: the settings of before, the new
+// ones, and who sent the Update. For capabilities, it has "state" alone. The program needn't read it.
 // The working directory is the folder for the program's own use. The environment has these variables, and no others:
 //
 //	OSB_STATE               the absolute path of that folder, as the member "state"
@@ -36,17 +40,25 @@
 //
 //	look, look-binding              {"exists": "none"}, or "part", or "whole"
 //	create, delete, delete-binding  nothing, or {}
+//	look-update                     {"updated": "none"}, or "part", or "whole": none if the instance has the settings of
+//	                                before, whole if it has the new ones, and part for anything else
+//	update                          nothing, or {}
+//	details                         {"dashboard_url": a URL, "metadata": an object}; each may be missing
 //	create-binding, credentials     {"credentials": any JSON}
-//	capabilities                    {"bindings": true, "credentials": true}; a member that is missing is false
+//	capabilities                    {"bindings": true, "credentials": true, "updates": true, "details": true,
+//	                                "secret_parameters": true}; a member that is missing is false. With
+//	                                secret_parameters, the broker doesn't send the parameters of an instance back
 //
 // The exit status says how the call went:
 //
 //	0                    done
-//	3                    rejected, for create and create-binding: nothing of it exists. Standard output is
-//	                     {"status": 400 or 422, "error": a code for programs, "description": a text for the platform}.
-//	                     Without that status, the call has failed
-//	4                    failed. Standard output is {"description": a text for the platform}
-//	5                    the program doesn't support the call. For capabilities: neither bindings nor credentials
+//	3                    rejected, for create and create-binding: nothing of it exists; and for update: nothing was
+//	                     changed. Standard output is {"status": 400 or 422, "error": a code for programs,
+//	                     "description": a text for the platform}. Without that status, the call has failed
+//	4                    failed. Standard output is {"description": a text for the platform}. For update, it may also
+//	                     have "instance_usable", whether the instance can still be used, and "update_repeatable",
+//	                     whether the same update may succeed later
+//	5                    the program doesn't support the call. For capabilities: none of those that it reports
 //	any other, a signal  failed
 //
 // If a call fails by its status, the last line of standard error is in the text of the error. No other output is.
@@ -128,7 +140,7 @@ type program struct {
 // New returns the backend that runs a program. program is a path, or a name that is looked up in PATH. New asks the
 // program for its capabilities. The backend is a broker.LockBackend and a broker.LateTiedBackend. It is a
 // broker.BindingBackend only if the program supports bindings, and a broker.CredentialsBackend only if it supports
-// credentials too.
+// credentials too. Its Abilities say whether the program supports updates and details.
 //
 // Errors: if the program doesn't exist or isn't executable; if the command timeout of coreutils isn't in PATH; those of
 // creating the folder and its file .locks; if Options.Existing is true and the file doesn't exist; if Options.Limit is
@@ -143,13 +155,16 @@ func New(ctx context.Context, program string, options Options) (broker.Backend, 
 	if err != nil {
 		return nil, err
 	}
+	all := instances{p, broker.Abilities{
+		Bindings: found.Bindings, Updates: found.Updates, Details: found.Details, SecretParameters: found.HasSecrets,
+	}}
 	switch {
 	case found.Credentials:
-		return bindingsWithCredentials{bindings{instances{p}}}, nil
+		return bindingsWithCredentials{bindings{all}}, nil
 	case found.Bindings:
-		return bindings{instances{p}}, nil
+		return bindings{all}, nil
 	}
-	return instances{p}, nil
+	return all, nil
 }
 
 func newProgram(name string, options Options) (*program, error) {
@@ -260,7 +275,10 @@ func names(key broker.Key) []string {
 }
 
 // instances is a program that sells no bindings.
-type instances struct{ *program }
+type instances struct {
+	*program
+	can broker.Abilities
+}
 
 // bindings is a program that sells bindings, and can't report their credentials later.
 type bindings struct{ instances }
@@ -270,6 +288,9 @@ type bindingsWithCredentials struct{ bindings }
 
 var (
 	_ broker.LockBackend        = instances{}
+	_ broker.UpdateBackend      = instances{}
+	_ broker.DetailsBackend     = instances{}
+	_ broker.LimitedBackend     = instances{}
 	_ broker.BindingBackend     = bindings{}
 	_ broker.CredentialsBackend = bindingsWithCredentials{}
 )
@@ -290,6 +311,38 @@ func (i instances) Create(ctx context.Context, request broker.Request) error {
 // Delete runs "PROGRAM delete".
 func (i instances) Delete(ctx context.Context, request broker.Request) error {
 	return i.work(ctx, "delete", request)
+}
+
+// Abilities are those that the program has reported.
+func (i instances) Abilities() broker.Abilities { return i.can }
+
+// LookUpdate runs "PROGRAM look-update".
+func (i instances) LookUpdate(ctx context.Context, update broker.Update) (broker.There, error) {
+	var found updateResult
+	if err := i.callWith(ctx, "look-update", update.Key, i.inputOf(update), &found); err != nil {
+		return broker.Part, err
+	}
+	return found.there()
+}
+
+// Update runs "PROGRAM update".
+func (i instances) Update(ctx context.Context, update broker.Update) error {
+	return i.callWith(ctx, "update", update.Key, i.inputOf(update), &nothing{})
+}
+
+// inputOf is what the program gets of an update.
+func (i instances) inputOf(update broker.Update) any {
+	return struct {
+		broker.Update
+		State string `json:"state"`
+	}{update, i.state}
+}
+
+// Details runs "PROGRAM details".
+func (i instances) Details(ctx context.Context, request broker.Request) (broker.Details, error) {
+	var found detailsResult
+	err := i.call(ctx, "details", request, &found)
+	return found.Details, err
 }
 
 // LookBinding runs "PROGRAM look-binding".
@@ -337,13 +390,18 @@ func (p *program) credentials(ctx context.Context, call string, request broker.R
 
 // call runs the program for a request, and reads what it reports.
 func (p *program) call(ctx context.Context, call string, request broker.Request, into result) error {
-	input, err := json.Marshal(struct {
+	return p.callWith(ctx, call, request.Key, struct {
 		broker.Request
 		State string `json:"state"`
-	}{request, p.state})
+	}{request, p.state}, into)
+}
+
+// callWith runs the program with something as its input, and reads what it reports.
+func (p *program) callWith(ctx context.Context, call string, key broker.Key, with any, into result) error {
+	input, err := json.Marshal(with)
 	if err == nil {
-		err = p.run(ctx, call, input, names(request.Key), func(run exit) error {
-			return run.read(into, call == "create" || call == "create-binding")
+		err = p.run(ctx, call, input, names(key), func(run exit) error {
+			return run.read(into, call == "create" || call == "create-binding" || call == "update")
 		})
 	}
 	return p.wrap(call, err)

@@ -63,6 +63,7 @@ func TestCapabilities(t *testing.T) {
 		bindings, credentials bool
 		isRejected            bool
 	}{
+		"updates and details":     {`echo '{"updates": true, "details": true}'`, false, false, false},
 		"nothing":                 {"", false, false, false},
 		"status 5":                {"echo 'unknown call'; exit 5", false, false, false},
 		"an empty object":         {"echo '{}'", false, false, false},
@@ -89,6 +90,9 @@ func TestCapabilities(t *testing.T) {
 			_, hasCredentials := backend.(broker.CredentialsBackend)
 			diff.Equal(t, hasBindings, c.bindings, "")
 			diff.Equal(t, hasCredentials, c.credentials, "")
+			hasMore := strings.Contains(c.text, "updates")
+			wanted := broker.Abilities{Bindings: c.bindings, Updates: hasMore, Details: hasMore}
+			diff.Equal(t, broker.AbilitiesOf(backend), wanted, "the abilities")
 			_, hasLocks := backend.(broker.LockBackend)
 			diff.Equal(t, hasLocks, true, "the backend has locks")
 			_, hasSync := backend.(broker.SyncBackend)
@@ -386,9 +390,11 @@ func TestExitStatuses(t *testing.T) {
 				if rejected != nil && *rejected != *c.rejected {
 					t.Errorf("%s: got the rejection %+v, want %+v", call, rejected, *c.rejected)
 				}
-				if (isCreation || !strings.Contains(c.text, "exit 3")) && !strings.Contains(err.Error(), c.wanted) {
-					t.Errorf("%s: got %q, want %q in it", call, err, c.wanted)
+				wanted := c.wanted
+				if !isCreation && strings.Contains(c.text, "exit 3") {
+					wanted = "exit status 3: this call can't be rejected"
 				}
+				diff.ErrorContains(t, err, wanted, "%s", call)
 				described := c.public
 				if rejected != nil {
 					described = c.rejected.Description
@@ -567,7 +573,7 @@ type bench struct {
 func benchOf(t *testing.T, backend lockingBackend, observer broker.Observer) *bench {
 	t.Helper()
 	document := diff.Value(os.ReadFile(examples + "own-catalogue.json"))(t)
-	catalogue := diff.Value(broker.NewCatalogue(document, true))(t)
+	catalogue := diff.Value(broker.NewCatalogue(document, broker.Abilities{Bindings: true}))(t)
 	store := diff.Value(sqlite.Open(ctx, filepath.Join(t.TempDir(), "holdings.sqlite"), broker.Silent{}))(t)
 	t.Cleanup(func() { _ = store.Close() })
 	options := broker.ServiceOptions{WaitForPoll: time.Minute}
@@ -631,3 +637,74 @@ func isPending(snapshot broker.Snapshot) bool {
 }
 
 var check = diff.Must
+
+// The program gets an update with the settings of before and the new ones, and says how much of the update is done.
+func TestUpdates(t *testing.T) {
+	program := script(t, `case $1 in
+capabilities) echo '{"updates": true, "details": true}' ;;
+look-update) if [ -f "$OSB_STATE/$OSB_NAME" ]; then echo '{"updated": "whole"}'; else echo '{"updated": "none"}'; fi ;;
+update) cat > "$OSB_STATE/$OSB_NAME" ;;
+details) echo '{"dashboard_url": "https://d", "metadata": {"labels": {"a": "b"}}}' ;;
+esac`)
+	state := t.TempDir()
+	backend := diff.Value(New(ctx, program, Options{State: state}))(t).(instances)
+	update := broker.Update{
+		Request: instance, From: broker.Settings{PlanID: "p"},
+		To:     broker.Settings{PlanID: "q", Parameters: json.RawMessage(`{"a":1}`), Version: "2"},
+		Origin: broker.Origin{RequestID: "r"},
+	}
+	diff.Equal(t, diff.Value(backend.LookUpdate(ctx, update))(t), broker.None, "before")
+	check(t, backend.Update(ctx, update))
+	diff.Equal(t, diff.Value(backend.LookUpdate(ctx, update))(t), broker.Whole, "after")
+	var got struct {
+		Instance string          `json:"instance_id"`
+		State    string          `json:"state"`
+		From, To broker.Settings // as their tags have them
+		Update   broker.Origin
+	}
+	text := diff.Value(os.ReadFile(filepath.Join(state, instance.Key.Instance.String())))(t)
+	check(t, json.Unmarshal(text, &got))
+	if got.Instance != instance.InstanceID || got.State != state || got.Update.RequestID != "r" {
+		t.Errorf("got %s, want the instance, the state and the request", text)
+	}
+	diff.Check(t, got.From, update.From, "the settings of before")
+	diff.Check(t, got.To, update.To, "the new settings")
+	details := diff.Value(backend.Details(ctx, instance))(t)
+	diff.Equal(t, details.DashboardURL, "https://d", "the dashboard")
+	diff.Equal(t, string(details.Metadata), `{"labels": {"a": "b"}}`, "the metadata")
+}
+
+// A program may reject an update, and what isn't a word of the protocol is an error.
+func TestErrorsOfUpdates(t *testing.T) {
+	backend := diff.Value(New(ctx, script(t, `case $1 in
+capabilities) echo '{"updates": true}' ;;
+look-update) echo '{"updated": "half"}' ;;
+update) echo '{"status": 422, "error": "QuotaExceeded", "description": "too many"}'; exit 3 ;;
+details) exit 1 ;;
+esac`), Options{State: t.TempDir()}))(t).(instances)
+	_, err := backend.LookUpdate(ctx, broker.Update{Request: instance})
+	if err == nil || !strings.Contains(err.Error(), `"updated" is "half"`) {
+		t.Errorf("got %v, want which member is wrong", err)
+	}
+	var rejected *broker.Rejection
+	err = backend.Update(ctx, broker.Update{Request: instance})
+	if !errors.As(err, &rejected) || rejected.Code != "QuotaExceeded" {
+		t.Errorf("got %v, want the rejection", err)
+	}
+	if _, err := backend.Details(ctx, instance); err == nil {
+		t.Error("details that fail: got no error, want one")
+	}
+	yes, no := true, false
+	for text, want := range map[string]*broker.Outlook{
+		`{"description": "x", "instance_usable": true}`:         {InstanceUsable: &yes},
+		`{"instance_usable": false, "update_repeatable": true}`: {InstanceUsable: &no, UpdateRepeatable: &yes},
+		`{"description": "x"}`:                                  nil,
+	} {
+		failing := script(t, `case $1 in
+capabilities) echo '{"updates": true}' ;;
+update) echo '`+text+`'; exit 4 ;;
+esac`)
+		backend := diff.Value(New(ctx, failing, Options{State: t.TempDir()}))(t).(instances)
+		diff.Check(t, broker.OutlookOf(backend.Update(ctx, broker.Update{Request: instance})), want, "%s", text)
+	}
+}

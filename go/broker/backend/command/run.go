@@ -226,12 +226,35 @@ func (l lookResult) check() error {
 
 // there returns what exists.
 func (l lookResult) there() (broker.There, error) {
-	there, isWord := map[string]broker.There{"none": broker.None, "part": broker.Part, "whole": broker.Whole}[l.Exists]
+	return thereOf("exists", l.Exists)
+}
+
+// thereOf is what the word of a member stands for.
+func thereOf(member, word string) (broker.There, error) {
+	there, isWord := map[string]broker.There{"none": broker.None, "part": broker.Part, "whole": broker.Whole}[word]
 	if !isWord {
-		return broker.None, fmt.Errorf(`"exists" is %q, and not none, part or whole`, l.Exists)
+		return broker.None, fmt.Errorf(`"%s" is %q, and not none, part or whole`, member, word)
 	}
 	return there, nil
 }
+
+// updateResult is the result of look-update.
+type updateResult struct {
+	Updated string `json:"updated"`
+}
+
+func (u updateResult) check() error {
+	_, err := u.there()
+	return err
+}
+
+// there returns how much of the update is done.
+func (u updateResult) there() (broker.There, error) { return thereOf("updated", u.Updated) }
+
+// detailsResult is the result of details.
+type detailsResult struct{ broker.Details }
+
+func (detailsResult) check() error { return nil }
 
 // credentialsResult is the result of create-binding and credentials.
 type credentialsResult struct {
@@ -249,6 +272,9 @@ func (k credentialsResult) check() error {
 type capable struct {
 	Bindings    bool `json:"bindings"`
 	Credentials bool `json:"credentials"`
+	Updates     bool `json:"updates"`
+	Details     bool `json:"details"`
+	HasSecrets  bool `json:"secret_parameters"`
 }
 
 func (c capable) check() error {
@@ -277,6 +303,8 @@ func (e exit) read(into result, isCreation bool) error {
 		return into.check()
 	case status == statusRejected && isCreation:
 		return e.rejection()
+	case status == statusRejected:
+		return e.failure("this call can't be rejected")
 	case status == statusDescribed:
 		return e.descriptionError()
 	case status == statusUnsupported:
@@ -310,15 +338,17 @@ func (e exit) rejection() error {
 	return fmt.Errorf("%w (%v)", rejected, e.failure(""))
 }
 
-// descriptionError is the error of a call that failed with a description for the platform.
+// descriptionError is the error of a call that failed with a description for the platform. For an update, it may say
+// what can be expected.
 func (e exit) descriptionError() error {
 	var given struct {
 		Description string `json:"description"`
+		broker.Outlook
 	}
 	if err := e.decode(&given); err != nil {
 		return err
 	}
-	return broker.Public(e.failure(given.Description), given.Description)
+	return broker.WithOutlook(broker.Public(e.failure(given.Description), given.Description), given.Outlook)
 }
 
 // decode reads standard output, if there is any.

@@ -328,7 +328,7 @@ type hasty struct {
 func (h hasty) Create(ctx context.Context, request broker.Request) error {
 	limited := *h.program
 	limited.limit = h.limit
-	return instances{&limited}.Create(ctx, request)
+	return instances{program: &limited}.Create(ctx, request)
 }
 
 // failures keeps what a broker reports.

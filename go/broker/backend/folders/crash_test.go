@@ -65,3 +65,20 @@ func crashes(point string, call func()) (isCrashed bool) {
 	call()
 	return false
 }
+
+// After a crash in the middle of an update the folder has the settings of before, and another backend does the update.
+func TestCrashOfAnUpdate(t *testing.T) {
+	f := newFolders(t, t.TempDir())
+	check(t, f.Create(ctx, first))
+	update := updateTo(broker.Settings{PlanID: plan2})
+	diff.Equal(t, crashes("work-half", func() { _ = f.Update(ctx, update) }), true, "a crash at work-half")
+	after := newFolders(t, f.top)
+	isUpdated(t, after, update, broker.None)
+	check(t, after.Update(ctx, update))
+	isUpdated(t, after, update, broker.Whole)
+
+	back := broker.Update{Request: first, From: update.To, To: update.From}
+	diff.Equal(t, crashes("work-half", func() { _ = f.Update(ctx, back) }), true, "a crash at work-half")
+	check(t, newFolders(t, f.top).Delete(ctx, first))
+	diff.Empty(t, names(t, f.settings()), "left of settings after the deletion")
+}

@@ -27,6 +27,7 @@ import (
 //	INSTANCE                      a folder that is sold, with what its user puts into it
 //	.part-INSTANCE                a folder that is being created or deleted
 //	.bindings/INSTANCE-BINDING    the credentials of a binding
+//	.settings/INSTANCE            the settings of a folder that was updated
 //	.owner, .locks                the name of the store, and the locks
 //
 // INSTANCE and BINDING are the numbers of the ids, written as GUIDs. What exists is decided by these names alone. A
@@ -46,17 +47,20 @@ import (
 //     the power cut, with a part of its content. Delete fsyncs the top once more after it has deleted the part.
 //   - CreateBinding fsyncs the file before the rename, and the folder .bindings after it. DeleteBinding fsyncs the
 //     folder .bindings.
+//   - Update does the same with the folder .settings.
 type Folders struct {
 	top          string
 	locks        broker.Locks
 	topSync      together
 	bindingsSync together
+	settingsSync together
 	setAttribute func(path, name string, value []byte, flags int) error
 	attributes   sync.Map // of folders: soldAs to []byte
 }
 
 var (
 	_ broker.BindingBackend     = (*Folders)(nil)
+	_ broker.UpdateBackend      = (*Folders)(nil)
 	_ broker.CredentialsBackend = (*Folders)(nil)
 	_ broker.LockBackend        = (*Folders)(nil)
 	_ broker.SyncBackend        = (*Folders)(nil)
@@ -85,6 +89,7 @@ func New(top string) (*Folders, error) {
 	}
 	f.topSync.init(func() error { return syncFolder(top) })
 	f.bindingsSync.init(func() error { return syncFolder(f.bindings()) })
+	f.settingsSync.init(func() error { return syncFolder(f.settings()) })
 	if f.locks, err = broker.NewFileLocks(filepath.Join(top, ".locks")); err != nil {
 		return nil, fmt.Errorf("folders: %w", err)
 	}
@@ -169,6 +174,9 @@ func (f *Folders) Delete(ctx context.Context, request broker.Request) error {
 		return wrap(err)
 	}
 	crash.At("work-half")
+	if err := f.forgetSettings(ctx, instance); err != nil {
+		return wrap(err)
+	}
 	if err := os.RemoveAll(f.part(instance)); err != nil {
 		return wrap(err)
 	}
@@ -187,14 +195,21 @@ func (f *Folders) retract(instance osb.ID) error {
 	return renameFolder(f.whole(instance), f.part(instance))
 }
 
-// Sync returns once what Look or LookBinding returns for a request would outlive a power cut.
+// Sync returns once what Look, LookUpdate or LookBinding returns for a request would outlive a power cut.
 //
 // Errors: those of fsync, and that of ctx.
 func (f *Folders) Sync(ctx context.Context, request broker.Request) error {
 	if request.Key.IsBinding {
 		return wrap(f.bindingsSync.do(ctx))
 	}
-	return wrap(f.topSync.do(ctx))
+	wasUpdated, err := exists(f.settingsOf(request.Key.Instance))
+	if err == nil && wasUpdated {
+		err = f.settingsSync.do(ctx)
+	}
+	if err == nil {
+		err = f.topSync.do(ctx)
+	}
+	return wrap(err)
 }
 
 func (f *Folders) whole(instance osb.ID) string { return f.top + "/" + instance.String() }

@@ -39,7 +39,8 @@ const (
 	idle      = 5 * time.Minute  // so long a transaction of the broker does nothing
 )
 
-// Databases is a broker.BindingBackend, and a LockBackend, TiedBackend, SyncBackend and CredentialsBackend.
+// Databases is a broker.BindingBackend, and an UpdateBackend, LockBackend, TiedBackend, SyncBackend and
+// CredentialsBackend.
 //
 // A statement that the server runs goes on if its client is killed. So the lock of a key is held by the very session
 // that runs the key's statements: the server releases it once the last of them has ended. Every call for a key needs
@@ -189,6 +190,8 @@ type Options struct {
 	// can lift the limit of its database, but no role can lift its own. So an instance with n bindings has at most n +
 	// 1 times as many connections.
 	ConnectionsPerInstance int
+	// Plans are the limits of plans, by their ids. A plan without a limit has that of ConnectionsPerInstance.
+	Plans map[string]Limits
 	// TempFileLimit is how many bytes of temporary files each session of a customer may have, 1 GiB by default, and no
 	// limit if negative. It is only set if the broker's role may set it (Warnings).
 	TempFileLimit int64
@@ -347,39 +350,45 @@ func quote(name string) string { return pq.QuoteIdentifier(name) }
 //
 // Errors: ErrForeign, ErrWrongKey; those of the server.
 func (d *Databases) Create(ctx context.Context, request broker.Request) error {
+	limits, err := d.limitsOf(broker.Settings{PlanID: request.PlanID, Parameters: request.Member("parameters")})
+	if err != nil {
+		return err
+	}
 	conn, f, err := instance(ctx, request)
 	if err != nil {
 		return err
 	}
-	if err := d.remove(ctx, conn, f); err != nil {
+	if err := d.remove(ctx, conn, request.Key, f); err != nil {
 		return err
 	}
 	name := quote(f.name)
-	if err := d.createRole(ctx, conn, request.Key, "NOLOGIN"); err != nil {
+	if err := d.createRole(ctx, conn, request.Key, "NOLOGIN", limits.Connections); err != nil {
 		return err
 	}
 	crash.At("work-half")
 	err = exec(ctx, conn, "CREATE DATABASE "+name+" OWNER "+name+" TEMPLATE "+quote(d.template)+
-		" ALLOW_CONNECTIONS false CONNECTION LIMIT "+strconv.Itoa(d.options.ConnectionsPerInstance))
+		" ALLOW_CONNECTIONS false CONNECTION LIMIT "+strconv.Itoa(limits.Connections))
 	if err != nil {
 		return err
 	}
-	return persist(func() error { return open(ctx, conn, name) }) // a Rekey may have the role
+	return persist(func() error { return open(ctx, conn, name, limits) }) // a Rekey may have the role
 }
 
 // open lets the customer in.
-func open(ctx context.Context, conn *sql.Conn, name string) error {
+func open(ctx context.Context, conn *sql.Conn, name string, limits Limits) error {
 	return pg.Transaction(ctx, conn, func(tx *sql.Tx) (bool, error) {
 		return true, execAll(ctx, tx,
 			"REVOKE ALL ON DATABASE "+name+" FROM PUBLIC",
+			timeoutStatement(name, limits),
 			"ALTER DATABASE "+name+" ALLOW_CONNECTIONS true",
 			"ALTER ROLE "+name+" LOGIN")
 	})
 }
 
 // createRole creates the role of a key with its label, in one transaction: no role of the broker's is without one. The
-// broker's role becomes a member, as it needs to be to delete what the role has created, and to end its sessions.
-func (d *Databases) createRole(ctx context.Context, conn *sql.Conn, key broker.Key, login string) error {
+// broker's role becomes a member, as it needs to be to delete what the role has created, and to end its sessions. The
+// role of a binding may have as many connections as that of its instance.
+func (d *Databases) createRole(ctx context.Context, conn *sql.Conn, key broker.Key, login string, limit int) error {
 	verifier, err := verifierOf(PasswordOf(d.options.Key, key))
 	if err != nil {
 		return err
@@ -389,15 +398,20 @@ func (d *Databases) createRole(ctx context.Context, conn *sql.Conn, key broker.K
 		if err != nil {
 			return false, err
 		}
-		return true, execAll(ctx, tx, d.roleStatements(key, login, verifier, kept.store)...)
+		if key.IsBinding {
+			if limit, err = lockLimit(ctx, tx, osb.InstanceKey(key.Instance)); err != nil {
+				return false, err
+			}
+		}
+		return true, execAll(ctx, tx, d.roleStatements(key, login, verifier, kept.store, limit)...)
 	})
 }
 
-func (d *Databases) roleStatements(key broker.Key, login, verifier, store string) []string {
+func (d *Databases) roleStatements(key broker.Key, login, verifier, store string, limit int) []string {
 	name := quote(NameOf(key))
 	statements := []string{
-		"CREATE ROLE " + name + " " + login + " CONNECTION LIMIT " + strconv.Itoa(d.options.ConnectionsPerInstance) +
-			" PASSWORD " + pq.QuoteLiteral(verifier),
+		"CREATE ROLE " + name + " " + login + " CONNECTION LIMIT " + strconv.Itoa(limit) + " PASSWORD " +
+			pq.QuoteLiteral(verifier),
 		"COMMENT ON ROLE " + name + " IS " + pq.QuoteLiteral(labelOf(store)),
 		"GRANT " + name + " TO CURRENT_USER",
 	}
@@ -586,7 +600,7 @@ func (d *Databases) CreateBinding(ctx context.Context, request broker.Request) (
 	if err := d.removeBinding(ctx, conn, request.Key, own, of); err != nil {
 		return nil, err
 	}
-	if err := d.createRole(ctx, conn, request.Key, "LOGIN"); err != nil {
+	if err := d.createRole(ctx, conn, request.Key, "LOGIN", 0); err != nil {
 		return nil, err
 	}
 	return d.credentials(request.Key)

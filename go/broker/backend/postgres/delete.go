@@ -32,13 +32,16 @@ func (d *Databases) Delete(ctx context.Context, request broker.Request) error {
 	if err != nil {
 		return err
 	}
-	return d.remove(ctx, conn, f)
+	return d.remove(ctx, conn, request.Key, f)
 }
 
 // remove deletes what was found of an instance. The role goes last: its label shows that the rest is this store's.
-func (d *Databases) remove(ctx context.Context, conn *sql.Conn, f resource) error {
+func (d *Databases) remove(ctx context.Context, conn *sql.Conn, key broker.Key, f resource) error {
 	if !f.hasRole {
 		return nil // then there is no database either (check)
+	}
+	if _, err := conn.ExecContext(ctx, "DELETE FROM osb_settings WHERE instance = $1", key.Instance); err != nil {
+		return err
 	}
 	bindings, err := bindingRoles(ctx, conn, f.name)
 	if err != nil {
@@ -61,14 +64,20 @@ func (d *Databases) remove(ctx context.Context, conn *sql.Conn, f resource) erro
 	return nil
 }
 
-// bindingRoles are the roles of the bindings of an instance. There are none, unless somebody has created them by hand.
-func bindingRoles(ctx context.Context, conn *sql.Conn, name string) (roles []string, err error) {
-	return column(ctx, conn, "SELECT rolname FROM pg_roles WHERE starts_with(rolname, $1)", name+"_")
+// bindingRoles are the roles of the bindings of an instance. There are none if the instance is deleted, unless somebody
+// has created them by hand.
+func bindingRoles(ctx context.Context, from querying, name string) (roles []string, err error) {
+	return column(ctx, from, "SELECT rolname FROM pg_roles WHERE starts_with(rolname, $1)", name+"_")
+}
+
+// querying is a session or a transaction.
+type querying interface {
+	QueryContext(ctx context.Context, query string, arguments ...any) (*sql.Rows, error)
 }
 
 // column returns the only column of a query.
-func column(ctx context.Context, conn *sql.Conn, query string, arguments ...any) (found []string, err error) {
-	rows, err := conn.QueryContext(ctx, query, arguments...)
+func column(ctx context.Context, from querying, query string, arguments ...any) (found []string, err error) {
+	rows, err := from.QueryContext(ctx, query, arguments...)
 	if err != nil {
 		return nil, err
 	}
@@ -97,7 +106,7 @@ func persist(call func() error) error {
 
 func isInTheWay(err error) bool {
 	return pg.IsCode(err, pg.LockNotAvailable, pg.ObjectInUse, pg.DeadlockDetected,
-		pg.InternalError, pg.DependentObjects)
+		pg.InternalError, pg.DependentObjects, pg.UndefinedObject) // the last if an Unbind drops a role that was found
 }
 
 // dropDatabase closes the database and its roles, ends the sessions that are in the way, and drops the database.

@@ -3,6 +3,7 @@ package postgres_test
 import (
 	"context"
 	"database/sql"
+	"encoding/json"
 	"fmt"
 	"os"
 	"strings"
@@ -457,12 +458,22 @@ func TestStatementsThatFail(t *testing.T) {
 	}
 	look, lookBinding := seen(i, d.Look), seen(b, d.LookBinding)
 	credentials := under(b, func(ctx context.Context) error { _, err := d.Credentials(ctx, b); return err })
+	before := broker.Settings{PlanID: i.PlanID}
+	there := broker.Update{Request: i, From: before, To: broker.Settings{
+		PlanID: i.PlanID, Parameters: json.RawMessage(`{"connection_limit":4}`)}}
+	back := broker.Update{Request: i, From: there.To, To: before}
+	update := func(it broker.Update) func() error {
+		return under(i, func(ctx context.Context) error { return d.Update(ctx, it) })
+	}
+	lookUpdate := seen(i, func(ctx context.Context, _ broker.Request) (broker.There, error) { return d.LookUpdate(ctx, there) })
 	for _, call := range []faultyCall{
 		{"Create", create, look, broker.Whole, remove},
 		{"Look", look.call, look, broker.Whole, doNothing},
 		{"CreateBinding", bind, lookBinding, broker.Whole, unbind},
 		{"LookBinding", lookBinding.call, lookBinding, broker.Whole, doNothing},
 		{"Credentials", credentials, lookBinding, broker.Whole, doNothing},
+		{"Update", update(there), lookUpdate, broker.Whole, update(back)},
+		{"LookUpdate", lookUpdate.call, lookUpdate, broker.Whole, doNothing},
 		{"Own", func() error { _, err := d.Own(context.Background(), store); return err }, look, broker.Whole, doNothing},
 		{"DeleteBinding", unbind, lookBinding, broker.None, bind},
 		{"Delete", remove, look, broker.None, create},

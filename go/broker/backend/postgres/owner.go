@@ -20,19 +20,18 @@ import (
 // ErrWrongKey reports that the passwords of the databases are derived from another key.
 var ErrWrongKey = errors.New("the key isn't the one that the passwords of the databases are derived from")
 
-// The table in the brokers' database, as version 0.2 had it, and the new columns. A row that exists by then is of
-// version 0.2, which created roles without labels.
+// The table in the brokers' database, as version 0.2 had it, the new columns, and the table of the settings of databases
+// that were updated. A row of osb_owner that exists by then is of version 0.2, which created roles without labels.
 const ownerTable = `
 CREATE TABLE IF NOT EXISTS osb_owner (one boolean PRIMARY KEY DEFAULT true CHECK (one), store uuid NOT NULL);
 ALTER TABLE osb_owner ADD COLUMN IF NOT EXISTS fingerprint text,
     ADD COLUMN IF NOT EXISTS has_unlabelled boolean NOT NULL DEFAULT true;
-ALTER TABLE osb_owner ALTER COLUMN has_unlabelled SET DEFAULT false
+ALTER TABLE osb_owner ALTER COLUMN has_unlabelled SET DEFAULT false;
+CREATE TABLE IF NOT EXISTS osb_settings (instance uuid PRIMARY KEY, settings text NOT NULL)
 `
 
-const isOwnerTableCurrent = `
-SELECT EXISTS (SELECT FROM pg_attribute
-    WHERE attrelid = to_regclass('osb_owner') AND attname = 'has_unlabelled' AND NOT attisdropped)
-`
+// All that is missing is created in one transaction, and the table osb_settings is the last that came.
+const isCurrent = "SELECT to_regclass('osb_settings') IS NOT NULL"
 
 // ownerLock is the number of an advisory lock for brokers that create the table at the same time. Version 0.2 takes the
 // same lock.
@@ -40,7 +39,7 @@ const ownerLock = 0x6F73625F6F776E72
 
 func migrate(ctx context.Context, db *sql.DB) error {
 	var isDone bool
-	if err := db.QueryRowContext(ctx, isOwnerTableCurrent).Scan(&isDone); err != nil || isDone {
+	if err := db.QueryRowContext(ctx, isCurrent).Scan(&isDone); err != nil || isDone {
 		return err
 	}
 	return inTransaction(ctx, db, func(tx *sql.Tx) (bool, error) {
